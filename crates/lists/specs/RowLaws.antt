@@ -1,0 +1,247 @@
+-- The laws of rows: what a look-up finds after each change, that keys go on rising, and that two lists of rows with
+-- rising keys are equal if every look-up finds the same in both.
+-- Assumes nothing.
+use Prim.Native.Nat.{ℕ, zero, suc, _<_, _≤_, zero-le, suc-le-suc}
+use native.Mathlib.Nat.{le-refl, le-trans, le-step, not-suc-le-zero}
+use native.Mathlib.Omega.{arith}
+use mathlib.Core.Path.{_≡_, refl, sym, ap, _∙_, subst}
+use mathlib.Core.Logic.{_⊎_, inl, inr, ⊎-elim}
+use mathlib.Core.Bool.{Bool, true, false, not}
+use mathlib.Core.List.{List, [], _∷_, _++_, List·Memᴰ, List·Memᴰ·head, List·Memᴰ·tail}
+use mathlib.Core.Option.{Option, none, some, Option·getD, Option·map}
+use lib.ListN.{length}
+use Rattle.lists.specs.Tests.{pick, both, maybe, present, same, less, atMost, within, cases, clash, same-true, same-false, same-yes, same-no, same-refl, less-true, less-false, less-yes, less-no}
+use Rattle.lists.specs.Rows.{Row, row, look, insert, delete, assign, lay, between, keys, From, Rising, mapItems, any, filter, has, distinct}
+
+-- ---- look-up
+
+pub look-nil : {A : Type 0} (k : ℕ) → look {A = A} [] k ≡ none
+unfolding look
+look-nil k = refl
+
+pub look-here : {A : Type 0} (r : Row A) (rs : List (Row A)) (k : ℕ) → r .key ≡ k → look (r ∷ rs) k ≡ some (r .item)
+unfolding look
+look-here r rs k e = rw (same-yes {m = r .key} {n = k} e)
+
+pub look-there : {A : Type 0} (r : Row A) (rs : List (Row A)) (k : ℕ) → (r .key ≡ k → ⊥) → look (r ∷ rs) k ≡ look rs k
+unfolding look
+look-there r rs k h = rw (same-no {m = r .key} {n = k} h)
+
+pub look-insert : {A : Type 0} (k : ℕ) (a : A) (rs : List (Row A)) (j : ℕ) → look (insert k a rs) j ≡ pick (same k j) (some a) (look rs j)
+unfolding look insert
+look-insert k a [] j = refl
+look-insert k a (r ∷ rs) j =
+    ⊎-elim (λ e. rw e)
+    (λ e. rw e (⊎-elim
+    (λ f. rw f (⊎-elim (λ g. rw g) (λ g. rw (g, same-no {m = r .key} {n = j} (λ q. same-false k j g (same-true k (r .key) f ∙ q)))) (cases (same k j))))
+    (λ f. rw f (ap (pick (same (r .key) j) (some (r .item))) (look-insert k a rs j) ∙
+    ⊎-elim (λ g. rw (g, same-no {m = r .key} {n = j} (λ q. same-false k (r .key) f (same-true k j g ∙ sym q)))) (λ g. rw g) (cases (same k j))))
+    (cases (same k (r .key)))))
+    (cases (less k (r .key)))
+
+pub look-delete : {A : Type 0} (k : ℕ) (rs : List (Row A)) (j : ℕ) → look (delete k rs) j ≡ pick (same k j) none (look rs j)
+unfolding look delete
+look-delete k [] j = ⊎-elim (λ e. rw e) (λ e. rw e) (cases (same k j))
+look-delete k (r ∷ rs) j =
+    ⊎-elim
+    (λ e. rw e (look-delete k rs j ∙
+    ⊎-elim (λ g. rw g) (λ g. rw (g, same-no {m = r .key} {n = j} (λ q. same-false k j g (sym (same-true (r .key) k e) ∙ q)))) (cases (same k j))))
+    (λ e. rw e (ap (pick (same (r .key) j) (some (r .item))) (look-delete k rs j) ∙
+    ⊎-elim (λ g. rw (g, same-no {m = r .key} {n = j} (λ q. same-false (r .key) k e (q ∙ sym (same-true k j g))))) (λ g. rw g) (cases (same k j))))
+    (cases (same (r .key) k))
+
+pub look-assign : {A : Type 0} (k : ℕ) (o : Option A) (rs : List (Row A)) (j : ℕ) → look (assign k o rs) j ≡ pick (same k j) o (look rs j)
+unfolding assign
+look-assign k none rs j = look-delete k rs j
+look-assign k (some a) rs j = look-insert k a rs j
+
+-- the rows laid over decide where they have the key
+pub look-lay : {A : Type 0} (es : List (Row (Option A))) (rs : List (Row A)) (k : ℕ) → look (lay es rs) k ≡ Option·getD (look es k) (look rs k)
+unfolding look lay
+look-lay [] rs k = refl
+look-lay (e ∷ es) rs k =
+    look-assign (e .key) (e .item) (lay es rs) k
+    ∙ ⊎-elim (λ g. rw g) (λ g. rw g (look-lay es rs k)) (cases (same (e .key) k))
+
+pub look-between : {A : Type 0} (lo hi : ℕ) (rs : List (Row A)) (k : ℕ) → look (between lo hi rs) k ≡ pick (within lo hi k) (look rs k) none
+unfolding look between
+look-between lo hi [] k = ⊎-elim (λ e. rw e) (λ e. rw e) (cases (within lo hi k))
+look-between lo hi (r ∷ rs) k =
+    ⊎-elim
+    (λ e. rw e (ap (pick (same (r .key) k) (some (r .item))) (look-between lo hi rs k) ∙
+    ⊎-elim
+    (λ g. rw (g, sym (ap (within lo hi) (same-true (r .key) k g)) ∙ e))
+    (λ g. rw g) (cases (same (r .key) k))))
+    (λ e. rw e (look-between lo hi rs k ∙
+    ⊎-elim
+    (λ g. rw (g, sym (ap (within lo hi) (same-true (r .key) k g)) ∙ e))
+    (λ g. rw g) (cases (same (r .key) k))))
+    (cases (within lo hi (r .key)))
+
+pub look-mapItems : {A B : Type 0} (f : A → B) (rs : List (Row A)) (k : ℕ) → look (mapItems f rs) k ≡ Option·map f (look rs k)
+unfolding look mapItems
+look-mapItems f [] k = refl
+look-mapItems f (r ∷ rs) k = ⊎-elim (λ e. rw e) (λ e. rw e (look-mapItems f rs k)) (cases (same (r .key) k))
+
+-- ---- rising keys
+
+pub from-weaken : {A : Type 0} (rs : List (Row A)) {lo lo' : ℕ} → lo' ≤ lo → From lo rs → From lo' rs
+unfolding From
+from-weaken [] h f = tt
+from-weaken (r ∷ rs) h f = (le-trans h (f .0), f .1)
+
+pub from-rising : {A : Type 0} (lo : ℕ) (rs : List (Row A)) → From lo rs → Rising rs
+unfolding Rising
+from-rising lo rs f = from-weaken rs zero-le f
+
+pub look-low : {A : Type 0} (rs : List (Row A)) {lo : ℕ} (k : ℕ) → k < lo → From lo rs → look rs k ≡ none
+unfolding From look
+look-low [] k h f = refl
+look-low (r ∷ rs) {lo} k h f =
+    rw (same-no {m = r .key} {n = k} (λ q. let g : lo ≤ r .key = f .0 in omega arith))
+    (look-low rs k (le-trans h (le-step (f .0))) (f .1))
+
+pub from-insert : {A : Type 0} (k : ℕ) (a : A) (rs : List (Row A)) {lo : ℕ} → lo ≤ k → From lo rs → From lo (insert k a rs)
+unfolding From insert
+from-insert k a [] h f = (h, tt)
+from-insert k a (r ∷ rs) {lo} h f =
+    ⊎-elim
+    (λ e. rw e (h, (less-true k (r .key) e, f .1)))
+    (λ e. rw e (⊎-elim
+    (λ g. rw g (h, from-weaken rs (let q : k ≡ r .key = same-true k (r .key) g in omega arith) (f .1)))
+    (λ g. rw g (f .0, from-insert k a rs (let p : r .key ≤ k = less-false k (r .key) e in let q : k ≡ r .key → ⊥ = same-false k (r .key) g in omega arith) (f .1)))
+    (cases (same k (r .key)))))
+    (cases (less k (r .key)))
+
+pub from-delete : {A : Type 0} (k : ℕ) (rs : List (Row A)) (lo : ℕ) → From lo rs → From lo (delete k rs)
+unfolding From delete
+from-delete k [] lo f = tt
+from-delete k (r ∷ rs) lo f =
+    ⊎-elim
+    (λ e. rw e (from-weaken (delete k rs) (le-step (f .0)) (from-delete k rs _ (f .1))))
+    (λ e. rw e (f .0, from-delete k rs _ (f .1)))
+    (cases (same (r .key) k))
+
+pub from-assign : {A : Type 0} (k : ℕ) (o : Option A) (rs : List (Row A)) {lo : ℕ} → lo ≤ k → From lo rs → From lo (assign k o rs)
+unfolding assign
+from-assign k none rs h f = from-delete k rs _ f
+from-assign k (some a) rs h f = from-insert k a rs h f
+
+pub rising-assign : {A : Type 0} (k : ℕ) (o : Option A) (rs : List (Row A)) → Rising rs → Rising (assign k o rs)
+unfolding Rising
+rising-assign k o rs f = from-assign k o rs zero-le f
+
+pub rising-lay : {A : Type 0} (es : List (Row (Option A))) (rs : List (Row A)) → Rising rs → Rising (lay es rs)
+unfolding lay
+rising-lay [] rs f = f
+rising-lay (e ∷ es) rs f = rising-assign (e .key) (e .item) (lay es rs) (rising-lay es rs f)
+
+pub rising-nil : (A : Type 0) → Rising {A = A} []
+unfolding Rising From
+rising-nil A = tt
+
+pub from-between : {A : Type 0} (lo hi : ℕ) (rs : List (Row A)) (b : ℕ) → From b rs → From b (between lo hi rs)
+unfolding From between
+from-between lo hi [] b f = tt
+from-between lo hi (r ∷ rs) b f =
+    ⊎-elim
+    (λ e. rw e (f .0, from-between lo hi rs _ (f .1)))
+    (λ e. rw e (from-weaken (between lo hi rs) (le-step (f .0)) (from-between lo hi rs _ (f .1))))
+    (cases (within lo hi (r .key)))
+
+pub from-mapItems : {A B : Type 0} (f : A → B) (rs : List (Row A)) (b : ℕ) → From b rs → From b (mapItems f rs)
+unfolding From mapItems
+from-mapItems f [] b h = tt
+from-mapItems f (r ∷ rs) b h = (h .0, from-mapItems f rs _ (h .1))
+
+pub rising-between : {A : Type 0} (lo hi : ℕ) (rs : List (Row A)) → Rising rs → Rising (between lo hi rs)
+unfolding Rising
+rising-between lo hi rs f = from-between lo hi rs _ f
+
+pub rising-mapItems : {A B : Type 0} (f : A → B) (rs : List (Row A)) → Rising rs → Rising (mapItems f rs)
+unfolding Rising
+rising-mapItems f rs h = from-mapItems f rs _ h
+
+-- ---- when two lists of rows are equal
+
+some-not-none : {A : Type 0} (a : A) → Path (Option A) (some a) none → ⊥
+some-not-none a e = let z : _≡_ {A = ℕ} 0 1 = cc in omega arith
+
+-- the first key of one is the first key of the other
+first-key : {A : Type 0} (r : Row A) (rs : List (Row A)) (s : Row A) (ss : List (Row A))
+    → From (suc (s .key)) ss → ((k : ℕ) → look (r ∷ rs) k ≡ look (s ∷ ss) k) → s .key ≤ r .key
+first-key r rs s ss f h =
+    ⊎-elim
+    (λ e. absurd (some-not-none (r .item)
+    (sym (look-here r rs (r .key) refl) ∙ h (r .key)
+    ∙ look-there s ss (r .key) (λ q. let g : r .key < s .key = less-true (r .key) (s .key) e in omega arith)
+    ∙ look-low ss (r .key) (le-step (less-true (r .key) (s .key) e)) f)))
+    (λ e. less-false (r .key) (s .key) e)
+    (cases (less (r .key) (s .key)))
+
+pub rows-equal-from : {A : Type 0} (lo : ℕ) (xs ys : List (Row A)) → From lo xs → From lo ys
+    → ((k : ℕ) → look xs k ≡ look ys k) → xs ≡ ys
+unfolding From
+rows-equal-from lo [] [] f g h = refl
+rows-equal-from lo [] (s ∷ ss) f g h =
+    absurd (some-not-none (s .item) (sym (look-here s ss (s .key) refl) ∙ sym (h (s .key)) ∙ look-nil (s .key)))
+rows-equal-from lo (r ∷ rs) [] f g h =
+    absurd (some-not-none (r .item) (sym (look-here r rs (r .key) refl) ∙ h (r .key) ∙ look-nil (r .key)))
+rows-equal-from lo (r ∷ rs) (s ∷ ss) f g h =
+    let a : s .key ≤ r .key = first-key r rs s ss (g .1) h in
+    let b : r .key ≤ s .key = first-key s ss r rs (f .1) (λ k. sym (h k)) in
+    let e : r .key ≡ s .key = omega arith in
+    let v : some (r .item) ≡ some (s .item) = sym (look-here r rs (r .key) refl) ∙ h (r .key) ∙ look-here s ss (r .key) (sym e) in
+    let i : r .item ≡ s .item = cc in
+    let t : rs ≡ ss = rows-equal-from (suc (r .key)) rs ss (f .1) (subst (λ (n : ℕ). From (suc n) ss) (sym e) (g .1)) (tails e) in
+    λ j. record { key = e j; item = i j } ∷ t j
+  where
+    tails : r .key ≡ s .key → (k : ℕ) → look rs k ≡ look ss k
+    tails e k =
+        ⊎-elim
+        (λ q. look-low rs k (le-step' q) (f .1) ∙ sym (look-low ss k (le-step'' e q) (g .1)))
+        (λ q. sym (look-there r rs k (same-false (r .key) k q)) ∙ h k ∙ look-there s ss k (λ p. same-false (r .key) k q (e ∙ p)))
+        (cases (same (r .key) k))
+      where
+        le-step' : same (r .key) k ≡ true → k < suc (r .key)
+        le-step' q = let p : r .key ≡ k = same-true (r .key) k q in omega arith
+
+        le-step'' : r .key ≡ s .key → same (r .key) k ≡ true → k < suc (s .key)
+        le-step'' e q = let p : r .key ≡ k = same-true (r .key) k q in omega arith
+
+-- two lists of rows with rising keys are equal if every look-up finds the same in both
+pub rows-equal : {A : Type 0} (xs ys : List (Row A)) → Rising xs → Rising ys → ((k : ℕ) → look xs k ≡ look ys k) → xs ≡ ys
+unfolding Rising
+rows-equal xs ys f g h = rows-equal-from 0 xs ys f g h
+
+-- ---- tests over a list
+
+any-skip : {A : Type 0} (p : A → Bool) (y : A) (ys : List A) → p y ≡ false → any p (y ∷ ys) ≡ any p ys
+unfolding any
+any-skip p y ys f = rw f
+
+pub any-false : {A : Type 0} (p : A → Bool) (xs : List A) → any p xs ≡ false → (x : A) → List·Memᴰ x xs → p x ≡ false
+unfolding any
+any-false p (y ∷ ys) e x (List·Memᴰ·head q) =
+    ⊎-elim (λ t. clash {b = any p (y ∷ ys)} (rw t) e) (λ f. ap p q ∙ f) (cases (p y))
+any-false p (y ∷ ys) e x (List·Memᴰ·tail m) =
+    ⊎-elim (λ t. clash {b = any p (y ∷ ys)} (rw t) e) (λ f. any-false p ys (sym (any-skip p y ys f) ∙ e) x m) (cases (p y))
+
+pub any-true : {A : Type 0} (p : A → Bool) (xs : List A) → any p xs ≡ true → (x : A) × List·Memᴰ x xs × (p x ≡ true)
+unfolding any
+any-true p [] e = clash e refl
+any-true p (y ∷ ys) e =
+    ⊎-elim
+    (λ t. (y, List·Memᴰ·head refl, t))
+    (λ f. let r = any-true p ys (sym (any-skip p y ys f) ∙ e) in (r .0, List·Memᴰ·tail (r .1), r .2))
+    (cases (p y))
+
+pub none-any : {A : Type 0} (p : A → Bool) (xs : List A) → ((x : A) → List·Memᴰ x xs → p x ≡ false) → any p xs ≡ false
+unfolding any
+none-any p [] h = refl
+none-any p (y ∷ ys) h = rw (h y (List·Memᴰ·head refl)) (none-any p ys (λ x m. h x (List·Memᴰ·tail m)))
+
+pub some-any : {A : Type 0} (p : A → Bool) (xs : List A) (x : A) → List·Memᴰ x xs → p x ≡ true → any p xs ≡ true
+unfolding any
+some-any p (y ∷ ys) x (List·Memᴰ·head q) e = rw (sym (ap p q) ∙ e)
+some-any p (y ∷ ys) x (List·Memᴰ·tail m) e = ⊎-elim (λ t. rw t) (λ t. rw t (some-any p ys x m e)) (cases (p y))

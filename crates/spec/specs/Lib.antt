@@ -1,0 +1,11 @@
+pub mod Refusals
+pub mod Records
+pub mod Leaves
+pub mod Slots
+pub mod Maps
+pub mod Steps
+pub mod Sequential
+pub mod Claim
+pub mod Runs
+pub mod Computing
+pub mod Lies

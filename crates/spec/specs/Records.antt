@@ -1,0 +1,77 @@
+-- Document 01, "Map words": addresses, values, records, the limits.
+--
+-- Addresses, values and numbers are natural numbers: no width stands here. What a record carries besides its commit
+-- number is one type, `Payload`, compared by one test.
+-- Assumes nothing.
+use Prim.Native.Nat.{ℕ}
+use mathlib.Core.Bool.{Bool, true, false}
+use mathlib.Core.List.{List}
+use mathlib.Core.Option.{Option, none, some}
+use Rattle.lists.specs.Tests.{both, same}
+use Rattle.lists.specs.Rows.{Row}
+
+-- The limits of a map, as document 01 and the requests give them.
+pub record Settings : Type 0 where
+  pub workers : ℕ  -- seats
+  pub readLimit : ℕ  -- record entries of a log
+  pub leafSetLimit : ℕ  -- marks of a log
+  pub writeLimit : ℕ  -- edited addresses of a job
+  pub waitingLimit : ℕ  -- waiting and locked addresses
+  pub mapLimit : ℕ  -- index, waiting and locked addresses
+  pub leafLimit : ℕ  -- records of a leaf that stays whole
+  pub run : ℕ  -- records of a run cut off a larger leaf
+  pub lastNumber : ℕ  -- serial numbers end here
+  pub bytes : ℕ  -- bytes of an address, for the home slot
+
+abbrev pub standard : Settings
+standard =
+    record {
+      workers = 8;
+      readLimit = 64;
+      leafSetLimit = 32;
+      writeLimit = 16;
+      waitingLimit = 192;
+      mapLimit = 1024;
+      leafLimit = 16;
+      run = 8;
+      lastNumber = 1000000;
+      bytes = 4;
+    }
+
+-- What a put gives a record (document 01: a value).
+pub record Payload : Type 0 where
+  pub value : ℕ
+
+-- A present record but for its address: the payload, and the commit number of its writer (document 01: stamp).
+pub record Record : Type 0 where
+  pub payload : Payload
+  pub commit : ℕ
+
+-- An edit: put, or gone.
+pub data Write : Type 0 where
+  written : Payload → Write
+  deleted : Write
+
+-- what a write leaves at its address, under the writer's commit number
+unfoldable pub outcome : ℕ → Write → Option Record
+outcome n (written p) = some (record { payload = p; commit = n })
+outcome n deleted = none
+
+-- what the writer itself sees there
+unfoldable pub ownView : Write → Option Payload
+ownView (written p) = some p
+ownView deleted = none
+
+unfoldable pub payloadOf : Option Record → Option Payload
+payloadOf none = none
+payloadOf (some r) = some (r .payload)
+
+unfoldable pub samePayload : Payload → Payload → Bool
+samePayload p q = same (p .value) (q .value)
+
+-- the same presence, payload and commit number
+unfoldable pub sameRecord : Option Record → Option Record → Bool
+sameRecord none none = true
+sameRecord none (some r) = false
+sameRecord (some r) none = false
+sameRecord (some r) (some s) = both (samePayload (r .payload) (s .payload)) (same (r .commit) (s .commit))

@@ -1,0 +1,155 @@
+-- The starred runs of document 01, "Runs to keep": one table, and one fact proved over it by computing.
+-- Assumes nothing.
+use Prim.Native.Nat.{ℕ}
+use mathlib.Core.Path.{_≡_, refl}
+use mathlib.Core.List.{List, [], _∷_, _++_, map}
+use mathlib.Core.Option.{Option, none, some}
+use lib.ListN.{replicate}
+use Rattle.lists.specs.Rows.{Row, row, has}
+use Rattle.spec.specs.declared.Refusal.the-variants.{NoWorker, Backward, UnderLock, Phantom}
+use Rattle.spec.specs.Records.{standard, Payload, Record}
+use Rattle.spec.specs.Leaves.{runs, cuts}
+use Rattle.spec.specs.Slots.{homeSlot, holds}
+use Rattle.spec.specs.Maps.{contents, each}
+use Rattle.spec.specs.Steps.{fresh, Step, begin, read, scan, put, remove, lock, validate, install, merge, Answer, refused, done, found, listed, numbered, counted, answer, Event, final, history}
+use Rattle.spec.specs.Computing.{model}
+
+abbrev pub value : ℕ → Payload
+value n = record { value = n }
+
+abbrev pub event : Step → Answer → Event
+event s a = record { step = s; answer = a }
+
+abbrev pub entryOf : ℕ → ℕ → ℕ → Row Record
+entryOf k n c = row k (record { payload = value n; commit = c })
+
+abbrev pub stepsOf : List Event → List Step
+stepsOf [] = []
+stepsOf (e ∷ es) = e .step ∷ stepsOf es
+
+-- A row of the table: a home slot; the leaves that so many records make; a script with its answers and the contents that
+-- it leaves.
+pub data Run : Type 0 where
+  home : ℕ → ℕ → Run
+  leaves : ℕ → List ℕ → Run
+  script : List Event → List (Row Record) → Run
+
+-- what the row says of the model
+abbrev pub Holds : Run → Type 0
+Holds (home a h) = homeSlot (standard .bytes) a ≡ h
+Holds (leaves n ns) = cuts standard n ≡ ns
+Holds (script h rs) =
+    (history (fresh standard) (stepsOf h) ≡ h) × (contents (final (fresh standard) (stepsOf h) .map) ≡ rs)
+
+abbrev pub AllHold : List Run → Type 0
+AllHold [] = Unit {0}
+AllHold (r ∷ rs) = Holds r × AllHold rs
+
+-- a transaction of worker w that has been begun, from its lock to its install, numbered n
+abbrev committed : ℕ → ℕ → List Event
+committed w n = event (lock w) done ∷ event (validate w) (numbered n) ∷ event (install w) done ∷ []
+
+-- one section is put at 4,096; a scan before its merge meets a phantom, one after it shows it
+abbrev pub fullRun : List Event
+fullRun =
+    event (begin 0) done
+    ∷ event (put 0 4096 (value 32)) done
+    ∷ event (lock 0) done
+    ∷ event (validate 0) (numbered 1)
+    ∷ event (install 0) done
+    ∷ event (begin 1) done
+    ∷ event (scan 1 4000 5000 64 64) (listed [])
+    ∷ event (lock 1) done
+    ∷ event (validate 1) (refused Phantom)
+    ∷ event (merge 4096) (counted 1)
+    ∷ event (begin 1) done
+    ∷ event (scan 1 4000 5000 64 64) (listed (row 4096 (value 32) ∷ []))
+    ∷ event (lock 1) done
+    ∷ event (validate 1) (numbered 2)
+    ∷ event (install 1) done
+    ∷ []
+
+-- each reads what the other edits, and both lock
+abbrev pub crossing : List Event
+crossing =
+    event (begin 0) done
+    ∷ event (begin 1) done
+    ∷ event (read 0 1) (found none)
+    ∷ event (put 0 2 (value 20)) done
+    ∷ event (read 1 2) (found none)
+    ∷ event (put 1 1 (value 10)) done
+    ∷ event (lock 0) done
+    ∷ event (lock 1) done
+    ∷ event (validate 0) (refused UnderLock)
+    ∷ event (validate 1) (numbered 1)
+    ∷ event (install 1) done
+    ∷ []
+
+-- the order is 0, 1 although 1 installs first
+abbrev pub installedLater : List Event
+installedLater =
+    event (begin 0) done
+    ∷ event (read 0 2) (found none)
+    ∷ event (put 0 1 (value 10)) done
+    ∷ event (lock 0) done
+    ∷ event (validate 0) (numbered 1)
+    ∷ event (begin 1) done
+    ∷ event (put 1 2 (value 20)) done
+    ∷ event (lock 1) done
+    ∷ event (validate 1) (numbered 2)
+    ∷ event (install 1) done
+    ∷ event (install 0) done
+    ∷ []
+
+-- the index holds 7 and its removal waits; a put at 7 is locked, and a merge drops the record under the lock
+abbrev pub removedUnderLock : List Event
+removedUnderLock =
+    event (begin 0) done
+    ∷ event (put 0 7 (value 70)) done
+    ∷ event (lock 0) done
+    ∷ event (validate 0) (numbered 1)
+    ∷ event (install 0) done
+    ∷ event (merge 7) (counted 1)
+    ∷ event (begin 0) done
+    ∷ event (remove 0 7) done
+    ∷ event (lock 0) done
+    ∷ event (validate 0) (numbered 2)
+    ∷ event (install 0) done
+    ∷ event (begin 0) done
+    ∷ event (put 0 7 (value 71)) done
+    ∷ event (lock 0) done
+    ∷ event (merge 7) (counted 1)
+    ∷ event (begin 1) done
+    ∷ event (scan 1 0 10 64 64) (listed [])
+    ∷ event (lock 1) done
+    ∷ event (validate 1) (refused Phantom)
+    ∷ []
+
+-- Document 01's starred runs, in its order.
+abbrev pub starred : List Run
+starred =
+    home 0 144
+    ∷ home 1 233
+    ∷ home 4096 160
+    ∷ leaves 16 (16 ∷ [])
+    ∷ leaves 17 (8 ∷ 9 ∷ [])
+    ∷ leaves 24 (8 ∷ 8 ∷ 8 ∷ [])
+    ∷ leaves 31 (8 ∷ 8 ∷ 15 ∷ [])
+    ∷ script fullRun (entryOf 4096 32 1 ∷ [])
+    ∷ script (event (merge 0) (counted 0) ∷ []) []
+    ∷ script
+    (event (begin 0) done
+    ∷ event (scan 0 5 5 64 64) (listed [])
+    ∷ event (scan 0 5 4 64 64) (refused Backward)
+    ∷ [])
+    []
+    ∷ script (event (begin 7) done ∷ event (begin 8) (refused NoWorker) ∷ []) []
+    ∷ script crossing (entryOf 1 10 1 ∷ [])
+    ∷ script installedLater (entryOf 1 10 1 ∷ entryOf 2 20 2 ∷ [])
+    ∷ script removedUnderLock []
+    ∷ []
+
+pub starred-hold : AllHold starred
+unfolding model
+starred-hold =
+    (refl, (refl, (refl, (refl, (refl, (refl, (refl, ((refl, refl), ((refl, refl), ((refl, refl), ((refl, refl), ((refl, refl), ((refl, refl), ((refl, refl), tt))))))))))))))

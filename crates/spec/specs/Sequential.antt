@@ -1,0 +1,51 @@
+-- Document 01, "The plain sorted list": entries of address, value and stamp by rising address, at first none, without
+-- limits; and what it answers when a transaction's steps are run on it alone.
+-- Nothing here knows leaves, slots, locks or refusals.
+-- Assumes nothing.
+use Prim.Native.Nat.{ℕ, zero, suc}
+use mathlib.Core.Path.{_≡_}
+use mathlib.Core.List.{List, [], _∷_, _++_}
+use mathlib.Core.Option.{Option, none, some}
+use Rattle.lists.specs.Rows.{Row, look, assign, between, mapItems}
+use Rattle.spec.specs.Records.{Payload, Record, written, deleted, outcome, payloadOf}
+use Rattle.spec.specs.Steps.{Step, begin, read, scan, put, remove, lock, validate, install, abort, merge, Answer, found, listed, Event}
+
+-- the list after a step of the transaction numbered n
+unfoldable pub after : ℕ → List (Row Record) → Step → List (Row Record)
+after n l (begin w) = l
+after n l (read w k) = l
+after n l (scan w lo hi a b) = l
+after n l (put w k p) = assign k (outcome n (written p)) l
+after n l (remove w k) = assign k (outcome n deleted) l
+after n l (lock w) = l
+after n l (validate w) = l
+after n l (install w) = l
+after n l (abort w) = l
+after n l (merge a) = l
+
+-- what the list answers to a scan: addresses and values from lo to hi, rising
+unfoldable pub listScan : List (Row Record) → ℕ → ℕ → List (Row Payload)
+listScan l lo hi = mapItems (λ (r : Record). r .payload) (between lo hi l)
+
+-- the list answers a step as it was answered. Compared are a read's value or absence and a scan's count and places.
+unfoldable pub Agrees : List (Row Record) → Step → Answer → Type 0
+Agrees l (begin w) a = Unit {0}
+Agrees l (read w k) a = a ≡ found (payloadOf (look l k))
+Agrees l (scan w lo hi m n) a = a ≡ listed (listScan l lo hi)
+Agrees l (put w k p) a = Unit {0}
+Agrees l (remove w k) a = Unit {0}
+Agrees l (lock w) a = Unit {0}
+Agrees l (validate w) a = Unit {0}
+Agrees l (install w) a = Unit {0}
+Agrees l (abort w) a = Unit {0}
+Agrees l (merge a) b = Unit {0}
+
+-- the list after all steps of the transaction numbered n
+unfoldable pub afterAll : ℕ → List (Row Record) → List Event → List (Row Record)
+afterAll n l [] = l
+afterAll n l (e ∷ es) = afterAll n (after n l (e .step)) es
+
+-- the list answers each step, as it stands when the step's turn comes, as it was answered
+unfoldable pub AllAgree : ℕ → List (Row Record) → List Event → Type 0
+AllAgree n l [] = Unit {0}
+AllAgree n l (e ∷ es) = Agrees l (e .step) (e .answer) × AllAgree n (after n l (e .step)) es

@@ -1,0 +1,344 @@
+-- Document 01, "Seats and steps" and "Refusals by number": workers, the ten steps, when each is refused, what a granted
+-- one answers and changes, and a run of steps.
+-- Assumes nothing.
+use Prim.Native.Nat.{ℕ, zero, suc, _+_, min}
+use mathlib.Core.Bool.{Bool, true, false, not}
+use mathlib.Core.List.{List, [], _∷_, _++_, map}
+use mathlib.Core.Option.{Option, none, some}
+use lib.ListN.{length, getD, set, replicate}
+use Rattle.lists.specs.Tests.{pick, both, either, maybe, present, same, less, atMost}
+use Rattle.lists.specs.Rows.{Row, row, look, insert, lay, between, keys, mapItems, any}
+use Rattle.spec.specs.declared.Refusal.{Refusal}
+use Rattle.spec.specs.declared.Refusal.the-variants.{NoWorker, WorkerFree, WorkerTaken, WrongStage, Backward, LogFull, WritesFull, ShortBuffer, Held, IndexletFull, MapFull, Changed, UnderLock, Phantom, Spent}
+use Rattle.spec.specs.declared.Stage.{Stage}
+use Rattle.spec.specs.declared.Stage.the-variants.{Free, Open, Locked, Checked}
+use Rattle.spec.specs.Refusals.{ends}
+use Rattle.spec.specs.Records.{Settings, Payload, Record, Write, written, deleted, ownView, payloadOf, sameRecord}
+use Rattle.spec.specs.Leaves.{live, meeting}
+use Rattle.spec.specs.Slots.{Content, entries, contentOf}
+use Rattle.spec.specs.Maps.{MapState, freshMap, current, indexedBetween, heldByOther, hides, waitingWith, addressesWith, merging, lockAll, unlockAll, installAll, Merged, mergeAt}
+
+-- ---- state
+
+-- A worker and its transaction (document 01: a seat and its job).
+pub record Worker : Type 0 where
+  pub stage : Stage
+  pub reads : List (Row (Option Record))  -- the log's record entries: address and present record, or its absence
+  pub versions : List ℕ  -- the log's marks
+  pub writes : List (Row Write)  -- the edits, by rising address
+  pub number : ℕ  -- the commit number, once checked
+
+abbrev pub freeWorker : Worker
+freeWorker = record { stage = Free; reads = []; versions = []; writes = []; number = 0 }
+
+-- The last commit number and the last leaf version given (document 01: serial number and mark).
+pub record Counters : Type 0 where
+  pub number : ℕ
+  pub version : ℕ
+
+pub record State : Type 0 where
+  pub settings : Settings
+  pub counters : Counters
+  pub map : MapState
+  pub workers : List Worker
+
+-- a fresh map: empty, nothing waiting or locked, no number given, every worker free
+abbrev pub fresh : Settings → State
+fresh s =
+    record {
+      settings = s;
+      counters = record { number = 0; version = 0 };
+      map = freshMap;
+      workers = replicate (s .workers) freeWorker;
+    }
+
+unfoldable pub workerOf : State → ℕ → Worker
+workerOf σ w = getD (σ .workers) w freeWorker
+
+-- ---- steps and answers
+
+-- Each names its worker first but merge. A scan has lo, hi and the places of its two buffers.
+pub data Step : Type 0 where
+  begin : ℕ → Step
+  read : ℕ → ℕ → Step
+  scan : ℕ → ℕ → ℕ → ℕ → ℕ → Step
+  put : ℕ → ℕ → Payload → Step
+  remove : ℕ → ℕ → Step
+  lock : ℕ → Step
+  validate : ℕ → Step
+  install : ℕ → Step
+  abort : ℕ → Step
+  merge : ℕ → Step
+
+-- the worker that a step names
+unfoldable pub workerIn : Step → Option ℕ
+workerIn (begin w) = some w
+workerIn (read w k) = some w
+workerIn (scan w lo hi m n) = some w
+workerIn (put w k p) = some w
+workerIn (remove w k) = some w
+workerIn (lock w) = some w
+workerIn (validate w) = some w
+workerIn (install w) = some w
+workerIn (abort w) = some w
+workerIn (merge a) = none
+
+pub data Answer : Type 0 where
+  refused : Refusal → Answer
+  done : Answer  -- granted, nothing more to tell
+  found : Option Payload → Answer  -- a read: the value, or absent
+  listed : List (Row Payload) → Answer  -- a scan: the first places of its buffers, as many as it counts
+  numbered : ℕ → Answer  -- a validation: the commit number
+  counted : ℕ → Answer  -- a merge: how many writes entered the index
+
+-- ---- what steps look at
+
+unfoldable pub isFree : Stage → Bool
+isFree Free = true
+isFree Open = false
+isFree Locked = false
+isFree Checked = false
+
+unfoldable pub isOpen : Stage → Bool
+isOpen Free = false
+isOpen Open = true
+isOpen Locked = false
+isOpen Checked = false
+
+unfoldable pub isLocked : Stage → Bool
+isLocked Free = false
+isLocked Open = false
+isLocked Locked = true
+isLocked Checked = false
+
+unfoldable pub isChecked : Stage → Bool
+isChecked Free = false
+isChecked Open = false
+isChecked Locked = false
+isChecked Checked = true
+
+-- the worker's own write at an address
+unfoldable pub ownWrite : State → ℕ → ℕ → Option Write
+ownWrite σ w k = look (workerOf σ w .writes) k
+
+-- the records a scan shows: index addresses with their present records, and the worker's own writes laid over
+unfoldable pub scanned : State → ℕ → ℕ → ℕ → List (Row Payload)
+scanned σ w lo hi =
+    lay (mapItems ownView (between lo hi (workerOf σ w .writes)))
+    (lay (mapItems payloadOf (indexedBetween (σ .map) lo hi)) [])
+
+-- what a scan logs
+unfoldable pub scanReads : State → ℕ → ℕ → List (Row (Option Record))
+scanReads σ lo hi = indexedBetween (σ .map) lo hi
+
+unfoldable pub scanVersions : State → ℕ → ℕ → List ℕ
+scanVersions σ lo hi = meeting (σ .map .leaves) lo hi
+
+-- ---- refusals
+
+pub record Cause : Type 0 where
+  pub holds : Bool
+  pub refusal : Refusal
+
+abbrev pub cause : Bool → Refusal → Cause
+cause b r = record { holds = b; refusal = r }
+
+unfoldable pub noWorker : State → ℕ → Cause
+noWorker σ w = cause (not (less w (σ .settings .workers))) NoWorker
+
+unfoldable pub workerFree : State → ℕ → Cause
+workerFree σ w = cause (isFree (workerOf σ w .stage)) WorkerFree
+
+unfoldable pub wrongStage : (Stage → Bool) → State → ℕ → Cause
+wrongStage right σ w = cause (not (right (workerOf σ w .stage))) WrongStage
+
+unfoldable pub readLogFull : State → ℕ → ℕ → Bool
+readLogFull σ w k =
+    both (not (present (ownWrite σ w k))) (not (less (length (workerOf σ w .reads)) (σ .settings .readLimit)))
+
+unfoldable pub scanLogFull : State → ℕ → ℕ → ℕ → Bool
+scanLogFull σ w lo hi =
+    either
+    (less (σ .settings .readLimit) (length (workerOf σ w .reads) + length (scanReads σ lo hi)))
+    (less (σ .settings .leafSetLimit) (length (workerOf σ w .versions) + length (scanVersions σ lo hi)))
+
+unfoldable pub writesFull : State → ℕ → ℕ → Bool
+writesFull σ w k =
+    both (not (present (ownWrite σ w k))) (not (less (length (workerOf σ w .writes)) (σ .settings .writeLimit)))
+
+-- another worker has the lock of k
+unfoldable pub lockedByOther : State → ℕ → ℕ → Bool
+lockedByOther σ w k = heldByOther w (contentOf (σ .map .slots) k)
+
+unfoldable pub writeKeys : State → ℕ → List ℕ
+writeKeys σ w = keys (workerOf σ w .writes)
+
+-- a logged address now has another presence, value or stamp
+unfoldable pub changedSince : State → Row (Option Record) → Bool
+changedSince σ r = not (sameRecord (current (σ .map) (r .key)) (r .item))
+
+-- a logged mark is gone, or its leaf hides a key
+unfoldable pub phantomIn : State → ℕ → ℕ → Bool
+phantomIn σ w v = either (not (live (σ .map .leaves) v)) (hides (σ .map) w v)
+
+-- The causes of a step's refusals, in the order in which they are answered.
+unfoldable pub causes : State → Step → List Cause
+causes σ (begin w) = noWorker σ w ∷ cause (not (isFree (workerOf σ w .stage))) WorkerTaken ∷ []
+causes σ (read w k) =
+    noWorker σ w ∷ workerFree σ w ∷ wrongStage isOpen σ w ∷ cause (readLogFull σ w k) LogFull ∷ []
+causes σ (scan w lo hi m n) =
+    noWorker σ w
+    ∷ workerFree σ w
+    ∷ wrongStage isOpen σ w
+    ∷ cause (less hi lo) Backward
+    ∷ cause (scanLogFull σ w lo hi) LogFull
+    ∷ cause (less (min m n) (length (scanned σ w lo hi))) ShortBuffer
+    ∷ []
+causes σ (put w k p) =
+    noWorker σ w ∷ workerFree σ w ∷ wrongStage isOpen σ w ∷ cause (writesFull σ w k) WritesFull ∷ []
+causes σ (remove w k) =
+    noWorker σ w ∷ workerFree σ w ∷ wrongStage isOpen σ w ∷ cause (writesFull σ w k) WritesFull ∷ []
+causes σ (lock w) =
+    noWorker σ w
+    ∷ workerFree σ w
+    ∷ wrongStage isOpen σ w
+    ∷ cause (any (lockedByOther σ w) (writeKeys σ w)) Held
+    ∷ cause (less (σ .settings .waitingLimit) (waitingWith (σ .map) (writeKeys σ w))) IndexletFull
+    ∷ cause (less (σ .settings .mapLimit) (addressesWith (σ .map) (writeKeys σ w))) MapFull
+    ∷ []
+causes σ (validate w) =
+    noWorker σ w
+    ∷ workerFree σ w
+    ∷ wrongStage isLocked σ w
+    ∷ cause (any (changedSince σ) (workerOf σ w .reads)) Changed
+    ∷ cause (any (lockedByOther σ w) (keys (workerOf σ w .reads))) UnderLock
+    ∷ cause (any (phantomIn σ w) (workerOf σ w .versions)) Phantom
+    ∷ cause (not (less (σ .counters .number) (σ .settings .lastNumber))) Spent
+    ∷ []
+causes σ (install w) = noWorker σ w ∷ workerFree σ w ∷ wrongStage isChecked σ w ∷ []
+causes σ (abort w) = noWorker σ w ∷ workerFree σ w ∷ []
+causes σ (merge a) = []
+
+-- the first cause that holds
+unfoldable pub firstCause : List Cause → Option Refusal
+firstCause [] = none
+firstCause (c ∷ cs) = pick (c .holds) (some (c .refusal)) (firstCause cs)
+
+unfoldable pub refusal : State → Step → Option Refusal
+refusal σ s = firstCause (causes σ s)
+
+-- ---- granted steps
+
+unfoldable pub granted : State → Step → Answer
+granted σ (begin w) = done
+granted σ (read w k) = found (maybe (ownWrite σ w k) (payloadOf (current (σ .map) k)) ownView)
+granted σ (scan w lo hi m n) = listed (scanned σ w lo hi)
+granted σ (put w k p) = done
+granted σ (remove w k) = done
+granted σ (lock w) = done
+granted σ (validate w) = numbered (suc (σ .counters .number))
+granted σ (install w) = done
+granted σ (abort w) = done
+granted σ (merge a) = counted (length (merging (σ .map) a))
+
+unfoldable pub withWorker : State → ℕ → Worker → State
+withWorker σ w x =
+    record { settings = σ .settings; counters = σ .counters; map = σ .map; workers = set (σ .workers) w x }
+
+unfoldable pub withMap : State → MapState → State
+withMap σ m = record { settings = σ .settings; counters = σ .counters; map = m; workers = σ .workers }
+
+unfoldable pub withCounters : State → ℕ → ℕ → State
+withCounters σ n v =
+    record {
+      settings = σ .settings;
+      counters = record { number = n; version = v };
+      map = σ .map;
+      workers = σ .workers;
+    }
+
+unfoldable pub atStage : Stage → Worker → Worker
+atStage st x =
+    record { stage = st; reads = x .reads; versions = x .versions; writes = x .writes; number = x .number }
+
+unfoldable pub logged : List (Row (Option Record)) → List ℕ → Worker → Worker
+logged rs vs x =
+    record {
+      stage = x .stage;
+      reads = x .reads ++ rs;
+      versions = x .versions ++ vs;
+      writes = x .writes;
+      number = x .number;
+    }
+
+unfoldable pub writing : ℕ → Write → Worker → Worker
+writing k e x =
+    record {
+      stage = x .stage;
+      reads = x .reads;
+      versions = x .versions;
+      writes = insert k e (x .writes);
+      number = x .number;
+    }
+
+unfoldable pub checkedAs : ℕ → Worker → Worker
+checkedAs n x =
+    record { stage = Checked; reads = x .reads; versions = x .versions; writes = x .writes; number = n }
+
+-- what a read logs: nothing, where the worker's own write answered it
+unfoldable pub readRows : State → ℕ → ℕ → List (Row (Option Record))
+readRows σ w k = maybe (ownWrite σ w k) (row k (current (σ .map) k) ∷ []) (λ (e : Write). [])
+
+-- the transaction of w is over: its locks go, and the worker is free
+unfoldable pub dropped : State → ℕ → State
+dropped σ w = withWorker (withMap σ (unlockAll (σ .settings) w (σ .map) (writeKeys σ w))) w freeWorker
+
+unfoldable pub merged : State → Merged → State
+merged σ r = withCounters (withMap σ (r .map)) (σ .counters .number) (r .version)
+
+-- the state after a granted step
+unfoldable pub effect : State → Step → State
+effect σ (begin w) = withWorker σ w (atStage Open freeWorker)
+effect σ (read w k) = withWorker σ w (logged (readRows σ w k) [] (workerOf σ w))
+effect σ (scan w lo hi m n) = withWorker σ w (logged (scanReads σ lo hi) (scanVersions σ lo hi) (workerOf σ w))
+effect σ (put w k p) = withWorker σ w (writing k (written p) (workerOf σ w))
+effect σ (remove w k) = withWorker σ w (writing k deleted (workerOf σ w))
+effect σ (lock w) =
+    withWorker (withMap σ (lockAll (σ .settings) w (σ .map) (writeKeys σ w))) w (atStage Locked (workerOf σ w))
+effect σ (validate w) =
+    withWorker (withCounters σ (suc (σ .counters .number)) (σ .counters .version)) w
+    (checkedAs (suc (σ .counters .number)) (workerOf σ w))
+effect σ (install w) =
+    withWorker
+    (withMap σ (installAll (σ .settings) (workerOf σ w .number) (σ .map) (workerOf σ w .writes))) w freeWorker
+effect σ (abort w) = dropped σ w
+effect σ (merge a) = merged σ (mergeAt (σ .settings) (σ .counters .version) (σ .map) a)
+
+-- ---- steps, granted or refused
+
+-- the state after a refused step: 12, 13 and 14 end the transaction, all others leave everything
+unfoldable pub afterRefusal : State → Step → Refusal → State
+afterRefusal σ s r = pick (ends r) (maybe (workerIn s) σ (dropped σ)) σ
+
+unfoldable pub answer : State → Step → Answer
+answer σ s = maybe (refusal σ s) (granted σ s) refused
+
+unfoldable pub next : State → Step → State
+next σ s = maybe (refusal σ s) (effect σ s) (afterRefusal σ s)
+
+-- ---- runs
+
+-- A step that was taken, and its answer.
+pub record Event : Type 0 where
+  pub step : Step
+  pub answer : Answer
+
+-- the state after the steps
+unfoldable pub final : State → List Step → State
+final σ [] = σ
+final σ (s ∷ ss) = final (next σ s) ss
+
+-- the steps with their answers, in the order in which they were taken
+unfoldable pub history : State → List Step → List Event
+history σ [] = []
+history σ (s ∷ ss) = record { step = s; answer = answer σ s } ∷ history (next σ s) ss

@@ -11,7 +11,10 @@ use mathlib.Core.List.{List, [], _∷_, _++_, List·Memᴰ, List·Memᴰ·head, 
 use mathlib.Core.Option.{Option, none, some, Option·getD, Option·map}
 use lib.ListN.{length}
 use Rattle.lists.specs.Tests.{pick, both, maybe, present, same, less, atMost, within, cases, clash, same-true, same-false, same-yes, same-no, same-refl, less-true, less-false, less-yes, less-no}
-use Rattle.lists.specs.Rows.{Row, row, look, insert, delete, assign, lay, between, keys, From, Rising, mapItems, any, filter, has, distinct}
+use Rattle.lists.specs.Rows.{Row, row, look, insert, delete, assign, lay, between, keys, From, Rising, mapItems, any, filter, has, distinct, Different}
+
+pub some-not-none : {A : Type 0} {a : A} → some a ≡ none → ⊥
+some-not-none {a = a} e = let z : _≡_ {A = ℕ} 0 1 = cc in omega arith
 
 -- ---- look-up
 
@@ -164,15 +167,12 @@ rising-mapItems f rs h = from-mapItems f rs _ h
 
 -- ---- when two lists of rows are equal
 
-some-not-none : {A : Type 0} (a : A) → Path (Option A) (some a) none → ⊥
-some-not-none a e = let z : _≡_ {A = ℕ} 0 1 = cc in omega arith
-
 -- the first key of one is the first key of the other
 first-key : {A : Type 0} (r : Row A) (rs : List (Row A)) (s : Row A) (ss : List (Row A))
     → From (suc (s .key)) ss → ((k : ℕ) → look (r ∷ rs) k ≡ look (s ∷ ss) k) → s .key ≤ r .key
 first-key r rs s ss f h =
     ⊎-elim
-    (λ e. absurd (some-not-none (r .item)
+    (λ e. absurd (some-not-none
     (sym (look-here r rs (r .key) refl) ∙ h (r .key)
     ∙ look-there s ss (r .key) (λ q. let g : r .key < s .key = less-true (r .key) (s .key) e in omega arith)
     ∙ look-low ss (r .key) (le-step (less-true (r .key) (s .key) e)) f)))
@@ -184,9 +184,9 @@ pub rows-equal-from : {A : Type 0} (lo : ℕ) (xs ys : List (Row A)) → From lo
 unfolding From
 rows-equal-from lo [] [] f g h = refl
 rows-equal-from lo [] (s ∷ ss) f g h =
-    absurd (some-not-none (s .item) (sym (look-here s ss (s .key) refl) ∙ sym (h (s .key)) ∙ look-nil (s .key)))
+    absurd (some-not-none (sym (look-here s ss (s .key) refl) ∙ sym (h (s .key)) ∙ look-nil (s .key)))
 rows-equal-from lo (r ∷ rs) [] f g h =
-    absurd (some-not-none (r .item) (sym (look-here r rs (r .key) refl) ∙ h (r .key) ∙ look-nil (r .key)))
+    absurd (some-not-none (sym (look-here r rs (r .key) refl) ∙ h (r .key) ∙ look-nil (r .key)))
 rows-equal-from lo (r ∷ rs) (s ∷ ss) f g h =
     let a : s .key ≤ r .key = first-key r rs s ss (g .1) h in
     let b : r .key ≤ s .key = first-key s ss r rs (f .1) (λ k. sym (h k)) in
@@ -245,3 +245,43 @@ pub some-any : {A : Type 0} (p : A → Bool) (xs : List A) (x : A) → List·Mem
 unfolding any
 some-any p (y ∷ ys) x (List·Memᴰ·head q) e = rw (sym (ap p q) ∙ e)
 some-any p (y ∷ ys) x (List·Memᴰ·tail m) e = ⊎-elim (λ t. rw t) (λ t. rw t (some-any p ys x m e)) (cases (p y))
+
+has-key : {A : Type 0} (r : Row A) (rs : List (Row A)) (k : ℕ) → has k (keys (r ∷ rs)) ≡ pick (same k (r .key)) true (has k (keys rs))
+unfolding has any keys
+has-key r rs k = refl
+
+-- a key stands among the keys if a look-up finds it
+pub has-keys : {A : Type 0} (rs : List (Row A)) (k : ℕ) → has k (keys rs) ≡ present (look rs k)
+has-keys [] k = unfold has any keys look in refl
+has-keys (r ∷ rs) k =
+    has-key r rs k
+    ∙ ⊎-elim
+    (λ e. rw e (sym (ap present (look-here r rs k (sym (same-true k (r .key) e))))))
+    (λ e. rw e (has-keys rs k ∙ sym (ap present (look-there r rs k (λ q. same-false k (r .key) e (sym q))))))
+    (cases (same k (r .key)))
+
+pub length-keys : {A : Type 0} (rs : List (Row A)) → length (keys rs) ≡ length rs
+unfolding keys
+length-keys [] = refl
+length-keys (r ∷ rs) = ap suc (length-keys rs)
+
+from-different : {A : Type 0} (lo : ℕ) (rs : List (Row A)) → From lo rs → Different (keys rs)
+unfolding From keys Different
+from-different lo [] f = tt
+from-different lo (r ∷ rs) f =
+    (has-keys rs (r .key) ∙ ap present (look-low rs (r .key) (le-refl (suc (r .key))) (f .1)), from-different (suc (r .key)) rs (f .1))
+
+pub rising-different : {A : Type 0} (rs : List (Row A)) → Rising rs → Different (keys rs)
+unfolding Rising
+rising-different rs f = from-different 0 rs f
+
+pub member-keys : {A : Type 0} (rs : List (Row A)) (k : ℕ) (a : A) → List·Memᴰ (row k a) rs → List·Memᴰ k (keys rs)
+unfolding keys
+member-keys (r ∷ rs) k a (List·Memᴰ·head e) = List·Memᴰ·head (ap (λ (x : Row _). x .key) e)
+member-keys (r ∷ rs) k a (List·Memᴰ·tail m) = List·Memᴰ·tail (member-keys rs k a m)
+
+pub has-any : (p : ℕ → Bool) (ks : List ℕ) → any p ks ≡ false → (k : ℕ) → has k ks ≡ true → p k ≡ false
+unfolding has
+has-any p ks e k h =
+    let m = any-true (same k) ks h in
+    ap p (same-true k (m .0) (m .2)) ∙ any-false p ks e (m .0) (m .1)

@@ -79,3 +79,8 @@ has k ks = any (same k) ks
 unfoldable pub distinct : List ℕ → ℕ
 distinct [] = 0
 distinct (k ∷ ks) = pick (has k ks) (distinct ks) (suc (distinct ks))
+
+-- no number stands twice
+unfoldable pub Different : List ℕ → Type 0
+Different [] = Unit {0}
+Different (k ∷ ks) = (has k ks ≡ false) × Different ks

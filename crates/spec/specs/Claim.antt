@@ -12,7 +12,7 @@ use mathlib.Core.Bool.{Bool, true, false}
 use mathlib.Core.List.{List, [], _∷_, _++_, List·Memᴰ}
 use mathlib.Core.Option.{Option, none, some}
 use Rattle.lists.specs.Tests.{pick, maybe}
-use Rattle.lists.specs.Rows.{Row, row, look, insert, delete, keys, has}
+use Rattle.lists.specs.Rows.{Row, row, look, insert, delete, keys, Different}
 use Rattle.spec.specs.Records.{Record}
 use Rattle.spec.specs.Steps.{Step, begin, read, scan, put, remove, lock, validate, install, abort, merge, Answer, refused, done, found, listed, numbered, counted, Event}
 use Rattle.spec.specs.Sequential.{afterAll, AllAgree}
@@ -139,11 +139,6 @@ unfoldable pub listAfter : List (Row Transaction) → ℕ → List (Row Record)
 listAfter ts zero = []
 listAfter ts (suc m) =
     maybe (look ts (suc m)) (listAfter ts m) (λ (t : Transaction). afterAll (suc m) (listAfter ts m) (t .events))
-
--- no number stands twice
-unfoldable pub Different : List ℕ → Type 0
-Different [] = Unit {0}
-Different (n ∷ ns) = (has n ns ≡ false) × Different ns
 
 -- What demand 3 says of what was read of a history, and of the contents at the end.
 pub record Serial (ρ : Reading) (contents : List (Row Record)) : Type 0 where

@@ -1,0 +1,11 @@
+pub mod Probes
+pub mod SlotLaws
+pub mod LeafParts
+pub mod LeafLaws
+pub mod LeafCuts
+pub mod LeafSwaps
+pub mod SettleLaws
+pub mod MapLaws
+pub mod MergeLaws
+pub mod ContentLaws
+pub mod RecordLaws

@@ -1,0 +1,13 @@
+pub mod Stages
+pub mod Feeding
+pub mod Invariant
+pub mod Keeping
+pub mod Validating
+pub mod Installing
+pub mod Concluding
+pub mod Observing
+pub mod Model
+pub mod Continuing
+pub mod Locking
+pub mod Finishing
+pub mod Theorem

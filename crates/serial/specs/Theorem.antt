@@ -1,0 +1,201 @@
+-- Demand 3 over the model: every list of steps from a fresh map is a serial run.
+-- Assumes nothing.
+use Prim.Native.Nat.{ℕ, zero, suc, _<_, _≤_, zero-le}
+use native.Mathlib.Nat.{le-refl, le-trans, le-step, le-of-eq, lt-of-le-of-lt}
+use native.Mathlib.Omega.{arith}
+use mathlib.Core.Path.{_≡_, refl, sym, ap, _∙_, subst}
+use mathlib.Core.Logic.{_⊎_, inl, inr, ⊎-elim}
+use mathlib.Core.Bool.{Bool, true, false, not}
+use mathlib.Core.List.{List, [], _∷_, _++_, List·Memᴰ, List·Memᴰ·not-nil}
+use mathlib.Core.Option.{Option, none, some, Option·getD}
+use lib.ListN.{length, replicate}
+use Rattle.lists.specs.Tests.{pick, maybe, present, same, less, cases, clash, less-true, less-false}
+use Rattle.lists.specs.Rows.{Row, look, keys, has, Different}
+use Rattle.lists.specs.RowLaws.{has-any, look-nil}
+use Rattle.spec.specs.declared.Refusal.{Refusal}
+use Rattle.spec.specs.Refusals.{ends}
+use Rattle.spec.specs.Records.{Settings, standard, Payload, Record}
+use Rattle.spec.specs.Slots.{slotCount, Content, idle, emptySlot, entries, contentOf}
+use Rattle.spec.specs.Maps.{freshMap, outcomeOf, current, contents, waitingWith}
+use Rattle.spec.specs.Steps.{Worker, freeWorker, State, fresh, workerOf, Step, begin, read, scan, put, remove, lock, validate, install, abort, merge, workerIn, Answer, refused, isFree, isOpen, isLocked, isChecked, Cause, noWorker, workerFree, wrongStage, causes, firstCause, refusal, granted, effect, afterRefusal, answer, next, Event, final, history}
+use Rattle.spec.specs.Claim.{Reading, nothingRead, isGranted, passed, readGranted, advance, readOn, reading, listAfter, SerialRun}
+use Rattle.laws.specs.MapLaws.{LockRoom}
+use Rattle.laws.specs.ContentLaws.{look-contents, rising-contents}
+use Rattle.serial.specs.Stages.{free-free, checked-busy}
+use Rattle.serial.specs.Invariant.{Facts, Invariant}
+use Rattle.serial.specs.Concluding.{serial}
+use Rattle.serial.specs.Model.{facts, GoodSettings, standard-good, Fine, fine-fresh, worker-fresh, cause-passed, not-false}
+use Rattle.serial.specs.Continuing.{Sound, IsOpen, put-sound, remove-sound, read-sound, scan-sound}
+use Rattle.serial.specs.Locking.{begin-sound, Lockable, lock-sound, dropped-sound}
+use Rattle.serial.specs.Finishing.{Validatable, validate-sound, install-sound, merge-sound, same-sound}
+
+-- ---- what a granted step has passed
+
+worker-there : (σ : State) (w : ℕ) → Fine σ → noWorker σ w .holds ≡ false → w < length (σ .workers)
+unfolding noWorker
+worker-there σ w f e =
+    le-trans (less-true w (σ .settings .workers) (not-false (less w (σ .settings .workers)) e)) (le-of-eq (sym (f .crew)))
+
+module _ {σ : State} {ρ : Reading} (h : Sound σ ρ) where
+  -- the causes that all steps of an open worker share
+  is-open : (w : ℕ) (cs : List Cause) → firstCause (noWorker σ w ∷ workerFree σ w ∷ wrongStage isOpen σ w ∷ cs) ≡ none
+      → IsOpen σ w × (firstCause cs ≡ none)
+  is-open w cs e =
+      let a = cause-passed (noWorker σ w) _ e in
+      let b = cause-passed (workerFree σ w) _ (a .1) in
+      let c = cause-passed (wrongStage isOpen σ w) cs (b .1) in
+      (record { inside = worker-there σ w (h .fine) (a .0); stage = not-false (isOpen (workerOf σ w .stage)) (stage (c .0)) }, c .1)
+    where
+      stage : wrongStage isOpen σ w .holds ≡ false → not (isOpen (workerOf σ w .stage)) ≡ false
+      stage q = unfold wrongStage in q
+
+  lockable : (w : ℕ) → refusal σ (lock w) ≡ none → IsOpen σ w × Lockable σ w
+  unfolding refusal causes waitingWith
+  lockable w e =
+      let a = is-open w _ e in
+      let b = cause-passed _ _ (a .1) in
+      let c = cause-passed _ _ (b .1) in (
+        a .0,
+        record {
+          unheld = λ k q. has-any _ _ (b .0) k q;
+          room =
+              lt-of-le-of-lt
+              (less-false (σ .settings .waitingLimit) _ (c .0))
+              (h .fine .settings .roomy);
+        },
+      )
+
+  validatable : (w : ℕ) → refusal σ (validate w) ≡ none → Validatable σ w
+  unfolding refusal causes
+  validatable w e =
+      let a = cause-passed (noWorker σ w) _ e in
+      let b = cause-passed (workerFree σ w) _ (a .1) in
+      let c = cause-passed (wrongStage isLocked σ w) _ (b .1) in
+      let d = cause-passed _ _ (c .1) in
+      let f = cause-passed _ _ (d .1) in
+      let g = cause-passed _ _ (f .1) in
+      record {
+        inside = worker-there σ w (h .fine) (a .0);
+        stage = not-false (isLocked (workerOf σ w .stage)) (stage (c .0));
+        unchanged = d .0;
+        unlocked = f .0;
+        no-phantom = g .0;
+      }
+    where
+      stage : wrongStage isLocked σ w .holds ≡ false → not (isLocked (workerOf σ w .stage)) ≡ false
+      stage q = unfold wrongStage in q
+
+  installs-checked : (w : ℕ) → refusal σ (install w) ≡ none → isChecked (workerOf σ w .stage) ≡ true
+  unfolding refusal causes wrongStage
+  installs-checked w e =
+      let a = cause-passed (noWorker σ w) _ e in
+      let b = cause-passed (workerFree σ w) _ (a .1) in
+      let c = cause-passed (wrongStage isChecked σ w) _ (b .1) in
+      not-false (isChecked (workerOf σ w .stage)) (c .0)
+
+  opened-read : (w k : ℕ) → refusal σ (read w k) ≡ none → IsOpen σ w
+  unfolding refusal causes
+  opened-read w k e = is-open w _ e .0
+
+  opened-scan : (w lo hi m n : ℕ) → refusal σ (scan w lo hi m n) ≡ none → IsOpen σ w
+  unfolding refusal causes
+  opened-scan w lo hi m n e = is-open w _ e .0
+
+  opened-put : (w k : ℕ) (p : Payload) → refusal σ (put w k p) ≡ none → IsOpen σ w
+  unfolding refusal causes
+  opened-put w k p e = is-open w _ e .0
+
+  opened-remove : (w k : ℕ) → refusal σ (remove w k) ≡ none → IsOpen σ w
+  unfolding refusal causes
+  opened-remove w k e = is-open w _ e .0
+
+  begins : (w : ℕ) → refusal σ (begin w) ≡ none → w < length (σ .workers)
+  unfolding refusal causes
+  begins w e = worker-there σ w (h .fine) (cause-passed (noWorker σ w) _ e .0)
+
+  -- ---- steps
+
+  granted-sound : (s : Step) → refusal σ s ≡ none → Sound (effect σ s) (advance ρ (record { step = s; answer = granted σ s }))
+  unfolding effect granted advance isGranted readGranted
+  granted-sound (begin w) e = begin-sound σ ρ w (begins w e) h
+  granted-sound (read w k) e = read-sound h (opened-read w k e) k
+  granted-sound (scan w lo hi m n) e = scan-sound h (opened-scan w lo hi m n e) lo hi m n
+  granted-sound (put w k p) e = put-sound h (opened-put w k p e) k p
+  granted-sound (remove w k) e = remove-sound h (opened-remove w k e) k
+  granted-sound (lock w) e = let l = lockable w e in lock-sound h (l .0) (l .1)
+  granted-sound (validate w) e = validate-sound h (validatable w e)
+  granted-sound (install w) e = install-sound h w (installs-checked w e)
+  granted-sound (abort w) e = dropped-sound w h
+  granted-sound (merge a) e = merge-sound h a
+
+  -- a refused step leaves everything, or ends its own transaction
+  refused-sound : (s : Step) (r : Refusal) → Sound (afterRefusal σ s r) (passed ρ)
+  unfolding afterRefusal
+  refused-sound s r = ⊎-elim (λ e. rw e (go (workerIn s))) (λ e. rw e (same-sound h)) (cases (ends r))
+    where
+      go : (o : Option ℕ) → Sound (maybe o σ (Rattle.spec.specs.Steps.dropped σ)) (passed ρ)
+      go none = same-sound h
+      go (some w) = dropped-sound w h
+
+  -- every step keeps the invariant
+  pub step-sound : (s : Step) → Sound (next σ s) (advance ρ (record { step = s; answer = answer σ s }))
+  unfolding next answer
+  step-sound s = go (refusal σ s) refl
+    where
+      go : (o : Option Refusal) → refusal σ s ≡ o
+          → Sound (maybe o (effect σ s) (afterRefusal σ s)) (advance ρ (record { step = s; answer = maybe o (granted σ s) refused }))
+      go none e = granted-sound s e
+      go (some r) e = unfold advance isGranted in refused-sound s r
+
+-- ---- runs
+
+pub run-sound : (σ : State) (ρ : Reading) (ss : List Step) → Sound σ ρ → Sound (final σ ss) (readOn ρ (history σ ss))
+unfolding final history readOn
+run-sound σ ρ [] h = h
+run-sound σ ρ (s ∷ ss) h =
+    run-sound (next σ s) (advance ρ (record { step = s; answer = answer σ s })) ss (step-sound h s)
+
+entries-empty : (n : ℕ) → entries (replicate n emptySlot) ≡ []
+unfolding entries
+entries-empty zero = refl
+entries-empty (suc n) = entries-empty n
+
+current-fresh : (k : ℕ) → current freshMap k ≡ none
+unfolding current contentOf
+current-fresh k =
+    ap (λ (es : List (Row Content)). maybe (Option·getD (look es k) idle .pending) (look (freshMap .records) k) outcomeOf) (entries-empty slotCount)
+    ∙ ap (λ (o : Option Content). maybe (Option·getD o idle .pending) (look (freshMap .records) k) outcomeOf) (look-nil k)
+    ∙ look-nil k
+
+pub fresh-sound : (s : Settings) → GoodSettings s → Sound (fresh s) nothingRead
+fresh-sound s g =
+    record {
+      fine = fine-fresh s g;
+      invariant =
+          record {
+            numbers = refl;
+            current = λ k. current-fresh k ∙ sym (unfold listAfter in look-nil k);
+            different = unfold keys Different in tt;
+            done = λ r m. absurd (List·Memᴰ·not-nil m);
+            begun = λ r m. absurd (List·Memᴰ·not-nil m);
+            working = λ w e. clash (free w) e;
+            apart = λ w v c d e. clash (free w) (checked-busy (workerOf (fresh s) w .stage) c);
+          };
+    }
+  where
+    free : (w : ℕ) → isFree (workerOf (fresh s) w .stage) ≡ true
+    free w = ap (λ (x : Worker). isFree (x .stage)) (worker-fresh s w) ∙ free-free
+
+-- Demand 3: for every list of steps, the claim holds of the history and the contents at the end.
+pub every-run-is-serial : (s : Settings) → GoodSettings s → (ss : List Step)
+    → SerialRun (history (fresh s) ss) (contents (final (fresh s) ss .map))
+unfolding reading
+every-run-is-serial s g ss =
+    let h = run-sound (fresh s) nothingRead ss (fresh-sound s g) in
+    serial (h .invariant) (contents (final (fresh s) ss .map))
+    (rising-contents (final (fresh s) ss .map) (h .fine .records))
+    (look-contents (final (fresh s) ss .map) (h .fine .slots))
+
+-- ... under document 01's limits
+pub theorem : (ss : List Step) → SerialRun (history (fresh standard) ss) (contents (final (fresh standard) ss .map))
+theorem ss = every-run-is-serial standard standard-good ss

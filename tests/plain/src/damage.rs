@@ -1,0 +1,120 @@
+//! Scripts with one malformed line, one kind of damage for each way to fail.
+
+use crate::generate::text;
+use crate::profiles;
+use crate::random::Random;
+
+pub struct Kind {
+    pub name: &'static str,
+    /// The damaged line, with its line feed unless that is the damage.
+    damage: fn(&str, &mut Random) -> Vec<u8>,
+}
+
+const fn kind(name: &'static str, damage: fn(&str, &mut Random) -> Vec<u8>) -> Kind {
+    Kind { name, damage }
+}
+
+const NO_LINE_FEED: &str = "no line feed";
+
+pub const KINDS: [Kind; 24] = [
+    kind("empty line", |_, _| b"\n".to_vec()),
+    kind("only a space", |_, _| b" \n".to_vec()),
+    kind("carriage return", |line, _| format!("{line}\r\n").into()),
+    kind("tab", |line, random| respaced(line, "\t", random)),
+    kind("two spaces", |line, random| respaced(line, "  ", random)),
+    kind("no space", |line, random| respaced(line, "", random)),
+    kind("trailing space", |line, _| format!("{line} \n").into()),
+    kind("leading space", |line, _| format!(" {line}\n").into()),
+    kind("unknown letter", |line, random| relettered(line, b"CEFGHJKNOQTUWXYZ?#-", random)),
+    kind("small letter", |line, random| relettered(line, b"brspdlviam", random)),
+    kind("strange byte", |line, random| relettered(line, &[0, 0x7f, 0x80, 0xff, b'\r'], random)),
+    kind("no letter", |line, _| format!("{}\n", &line[2..]).into()),
+    kind("missing field", missing_field),
+    kind("extra field", |line, random| format!("{line} {}\n", random.below(9)).into()),
+    kind("only a letter", |line, _| format!("{}\n", &line[..1]).into()),
+    kind("plus sign", |line, random| numbered(line, random, |number| format!("+{number}"))),
+    kind("minus sign", |line, random| numbered(line, random, |number| format!("-{number}"))),
+    kind("no digit", |line, random| numbered(line, random, |_| "x".into())),
+    kind("hexadecimal", |line, random| numbered(line, random, |number| format!("0x{number}"))),
+    kind("point", |line, random| numbered(line, random, |number| format!("{number}.0"))),
+    kind("wide worker", |_, random| format!("B {}\n", wide(u32::MAX.into(), random)).into()),
+    kind("wide address", wide_address),
+    kind("wide value", |_, random| format!("P 0 1 {}\n", wide(u64::MAX, random)).into()),
+    kind(NO_LINE_FEED, |line, random| line[..random.between(1, line.len())].into()),
+];
+
+/// A script and the place of its damaged line, counted from 0.
+pub struct Damaged {
+    pub kind: &'static str,
+    pub line: usize,
+    pub text: Vec<u8>,
+}
+
+pub fn damaged(seed: u64, steps: usize) -> Damaged {
+    let kind = &KINDS[(seed % KINDS.len() as u64) as usize];
+    let seed = Random::new(seed).number();
+    let mut random = Random::new(seed);
+    let profile = profiles::find("any", seed).expect("any is a profile");
+    let whole = text(seed, steps.max(1), profile);
+    let lines: Vec<&[u8]> = whole.split_inclusive(|&byte| byte == b'\n').collect();
+    let at = if kind.name == NO_LINE_FEED { lines.len() - 1 } else { random.below(lines.len()) };
+    let line = std::str::from_utf8(lines[at]).expect("a script is plain text");
+    let mut text = lines[..at].concat();
+    text.extend((kind.damage)(line.trim_end(), &mut random));
+    text.extend(lines[at + 1..].concat());
+    Damaged { kind: kind.name, line: at, text }
+}
+
+/// One of the spaces made into something else. Made into nothing, it leaves the
+/// line a field short.
+fn respaced(line: &str, space: &str, random: &mut Random) -> Vec<u8> {
+    let mut words: Vec<&str> = line.split(' ').collect();
+    let at = random.below(words.len() - 1);
+    let joined = [words[at], words[at + 1]].join(space);
+    words.splice(at..=at + 1, [joined.as_str()]);
+    format!("{}\n", words.join(" ")).into()
+}
+
+fn relettered(line: &str, letters: &[u8], random: &mut Random) -> Vec<u8> {
+    let mut bytes = format!("{line}\n").into_bytes();
+    bytes[0] = random.pick(letters);
+    bytes
+}
+
+fn missing_field(line: &str, _: &mut Random) -> Vec<u8> {
+    let (kept, _) = line.rsplit_once(' ').expect("each line has a number");
+    format!("{kept}\n").into()
+}
+
+/// One of the numbers made into something else.
+fn numbered(line: &str, random: &mut Random, make: fn(&str) -> String) -> Vec<u8> {
+    let mut words: Vec<String> = line.split(' ').map(String::from).collect();
+    let at = random.between(1, words.len() - 1);
+    words[at] = make(&words[at]);
+    format!("{}\n", words.join(" ")).into()
+}
+
+fn wide_address(_: &str, random: &mut Random) -> Vec<u8> {
+    let number = wide(u32::MAX.into(), random);
+    let lines = [
+        format!("R 0 {number}\n"),
+        format!("S 0 {number} {number}\n"),
+        format!("S 0 1 {number}\n"),
+        format!("P 0 {number} 1\n"),
+        format!("D 0 {number}\n"),
+        format!("M {number}\n"),
+    ];
+    lines[random.below(lines.len())].clone().into()
+}
+
+/// A number above the limit: by one, by little, by a factor, or by many digits.
+fn wide(limit: u64, random: &mut Random) -> String {
+    let limit = u128::from(limit);
+    match random.below(5) {
+        0 => format!("{}", limit + 1),
+        1 => format!("000{}", limit + 1 + random.below(1000) as u128),
+        2 => format!("{}", (limit + 1) * (2 + random.below(5) as u128)),
+        3 => format!("{}0", limit + 1),
+        _ => format!("1{}", "0".repeat(random.between(20, 400))),
+    }
+}

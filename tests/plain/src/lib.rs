@@ -1,0 +1,17 @@
+//! A second model of the section map, written from document 01 alone: it
+//! answers scripts, makes them, and checks the claim on its own histories.
+
+pub mod choose;
+pub mod claim;
+pub mod damage;
+pub mod engine;
+pub mod generate;
+pub mod list;
+pub mod map;
+pub mod moves;
+pub mod profiles;
+pub mod random;
+pub mod rounds;
+pub mod scenarios;
+pub mod script;
+pub mod step;

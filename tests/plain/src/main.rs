@@ -1,0 +1,77 @@
+//! Commands over standard input and output; see `USAGE`.
+
+use plain::{claim, damage, generate, profiles, script};
+use std::io::{self, Read, Write};
+use std::process::ExitCode;
+
+const USAGE: &str = "\
+usage: plain answer                     answers to the script on standard input
+       plain claim                      checks the claim on that script's history
+       plain script SEED STEPS PROFILE  a random script; PROFILE may be `any`
+       plain profiles                   the names of the profiles
+       plain damaged SEED STEPS         a random script with one malformed line
+       plain damage-kinds               the kinds of damage";
+
+fn main() -> ExitCode {
+    let arguments: Vec<String> = std::env::args().skip(1).collect();
+    let words: Vec<&str> = arguments.iter().map(String::as_str).collect();
+    match command(&words) {
+        Ok(code) => code,
+        Err(error) => {
+            eprintln!("plain: {error}");
+            ExitCode::from(2)
+        }
+    }
+}
+
+fn command(words: &[&str]) -> io::Result<ExitCode> {
+    match words {
+        ["answer"] => script::answer(&input()?, &mut io::stdout().lock())?,
+        ["claim"] => return check_claim(&input()?),
+        ["script", seed, steps, profile] => {
+            let seed = number(seed)?;
+            let profile = profiles::find(profile, seed).ok_or_else(usage)?;
+            print(&generate::text(seed, number(steps)? as usize, profile))?;
+        }
+        ["profiles"] => profiles::PROFILES.iter().for_each(|profile| println!("{}", profile.name)),
+        ["damaged", seed, steps] => {
+            print(&damage::damaged(number(seed)?, number(steps)? as usize).text)?;
+        }
+        ["damage-kinds"] => damage::KINDS.iter().for_each(|kind| println!("{}", kind.name)),
+        _ => return Err(usage()),
+    }
+    Ok(ExitCode::SUCCESS)
+}
+
+fn usage() -> io::Error {
+    io::Error::other(USAGE)
+}
+
+fn number(word: &str) -> io::Result<u64> {
+    word.parse().map_err(|_| usage())
+}
+
+fn input() -> io::Result<Vec<u8>> {
+    let mut bytes = Vec::new();
+    io::stdin().lock().read_to_end(&mut bytes)?;
+    Ok(bytes)
+}
+
+fn print(text: &[u8]) -> io::Result<()> {
+    io::stdout().lock().write_all(text)
+}
+
+/// A malformed line ends the run, as it does for the answers.
+fn check_claim(script: &[u8]) -> io::Result<ExitCode> {
+    match claim::check(&claim::record(script::steps(script))) {
+        Ok(holds) => {
+            let (jobs, answers) = (holds.transactions, holds.answers);
+            println!("claim holds: {jobs} jobs, {answers} answers compared");
+            Ok(ExitCode::SUCCESS)
+        }
+        Err(failure) => {
+            println!("claim fails: {failure}");
+            Ok(ExitCode::FAILURE)
+        }
+    }
+}

@@ -1,0 +1,187 @@
+//! The text of scripts: lines into steps, and steps and answers into lines.
+
+use crate::engine::Engine;
+use crate::map::Record;
+use crate::step::{run, Answer, Buffers, Step};
+use std::io::{self, Write};
+
+const CHUNK: usize = 1 << 16;
+
+/// Steps read one by one. It stands at the start of a line.
+pub struct Parser<'a> {
+    rest: &'a [u8],
+}
+
+impl<'a> Parser<'a> {
+    pub fn new(script: &'a [u8]) -> Self {
+        Parser { rest: script }
+    }
+
+    pub fn at_end(&self) -> bool {
+        self.rest.is_empty()
+    }
+
+    /// The next line whole, with its line feed; `None` if it is malformed.
+    pub fn step(&mut self) -> Option<Step> {
+        let step = match self.byte()? {
+            b'B' => Step::Begin { worker: self.number32()? },
+            b'R' => Step::Read { worker: self.number32()?, address: self.number32()? },
+            b'S' => {
+                Step::Scan { worker: self.number32()?, lo: self.number32()?, hi: self.number32()? }
+            }
+            b'P' => Step::Put {
+                worker: self.number32()?,
+                address: self.number32()?,
+                value: self.number64()?,
+            },
+            b'D' => Step::Remove { worker: self.number32()?, address: self.number32()? },
+            b'L' => Step::Lock { worker: self.number32()? },
+            b'V' => Step::Validate { worker: self.number32()? },
+            b'I' => Step::Install { worker: self.number32()? },
+            b'A' => Step::Abort { worker: self.number32()? },
+            b'M' => Step::Merge { address: self.number32()? },
+            _ => return None,
+        };
+        (self.byte()? == b'\n').then_some(step)
+    }
+
+    fn byte(&mut self) -> Option<u8> {
+        let (&first, rest) = self.rest.split_first()?;
+        self.rest = rest;
+        Some(first)
+    }
+
+    fn digit(&mut self) -> Option<u64> {
+        let first = self.rest.first().filter(|byte| byte.is_ascii_digit())?;
+        self.rest = &self.rest[1..];
+        Some(u64::from(first - b'0'))
+    }
+
+    /// One space, then one or more digits.
+    fn number64(&mut self) -> Option<u64> {
+        if self.byte()? != b' ' {
+            return None;
+        }
+        let mut number = self.digit()?;
+        while let Some(digit) = self.digit() {
+            number = number.checked_mul(10)?.checked_add(digit)?;
+        }
+        Some(number)
+    }
+
+    fn number32(&mut self) -> Option<u32> {
+        u32::try_from(self.number64()?).ok()
+    }
+}
+
+/// The steps up to the end or the first malformed line.
+pub fn steps(script: &[u8]) -> Vec<Step> {
+    let mut parser = Parser::new(script);
+    std::iter::from_fn(|| parser.step()).collect()
+}
+
+/// Prints what `mapscript` must print.
+pub fn answer(script: &[u8], out: &mut impl Write) -> io::Result<()> {
+    let mut engine = Engine::default();
+    let mut buffers = Buffers::default();
+    let mut parser = Parser::new(script);
+    let mut text = Vec::with_capacity(2 * CHUNK);
+    while !parser.at_end() {
+        let Some(step) = parser.step() else {
+            text.extend(b"?\n");
+            return out.write_all(&text);
+        };
+        let answer = run(&mut engine, step, &mut buffers);
+        write_answer(&mut text, step, answer, &buffers);
+        if text.len() >= CHUNK {
+            out.write_all(&text)?;
+            text.clear();
+        }
+    }
+    write_contents(&mut text, &engine.map().contents());
+    out.write_all(&text)
+}
+
+pub fn write_answer(text: &mut Vec<u8>, step: Step, answer: Answer, buffers: &Buffers) {
+    text.push(letter(step));
+    match answer {
+        Answer::Refused(number) => field(text, number.into()),
+        _ => field(text, 0),
+    }
+    match answer {
+        Answer::Refused(_) | Answer::Granted => {}
+        Answer::Value(Some(value)) => field(text, value),
+        Answer::Value(None) => text.extend(b" -"),
+        Answer::Commit(commit) => field(text, commit.into()),
+        Answer::Merged(count) => field(text, count as u64),
+        Answer::Found(count) => {
+            field(text, count as u64);
+            buffers.first(count).for_each(|pair| write_pair(text, pair));
+        }
+    }
+    text.push(b'\n');
+}
+
+fn write_contents(text: &mut Vec<u8>, contents: &[Record]) {
+    text.push(b'E');
+    field(text, contents.len() as u64);
+    contents.iter().for_each(|record| write_pair(text, (record.address, record.stored.value)));
+    text.push(b'\n');
+}
+
+fn write_pair(text: &mut Vec<u8>, (address, value): (u32, u64)) {
+    field(text, address.into());
+    field(text, value);
+}
+
+pub fn write_step(text: &mut Vec<u8>, step: Step) {
+    text.push(letter(step));
+    fields(step).for_each(|number| field(text, number));
+    text.push(b'\n');
+}
+
+/// A space and the number.
+fn field(text: &mut Vec<u8>, mut number: u64) {
+    let mut digits = [0; 21];
+    let mut first = digits.len();
+    loop {
+        first -= 1;
+        digits[first] = b'0' + (number % 10) as u8;
+        number /= 10;
+        if number == 0 {
+            break;
+        }
+    }
+    first -= 1;
+    digits[first] = b' ';
+    text.extend_from_slice(&digits[first..]);
+}
+
+pub fn letter(step: Step) -> u8 {
+    match step {
+        Step::Begin { .. } => b'B',
+        Step::Read { .. } => b'R',
+        Step::Scan { .. } => b'S',
+        Step::Put { .. } => b'P',
+        Step::Remove { .. } => b'D',
+        Step::Lock { .. } => b'L',
+        Step::Validate { .. } => b'V',
+        Step::Install { .. } => b'I',
+        Step::Abort { .. } => b'A',
+        Step::Merge { .. } => b'M',
+    }
+}
+
+/// The numbers of a step's line, in their order.
+pub fn fields(step: Step) -> impl Iterator<Item = u64> {
+    let worker = step.worker().map(u64::from);
+    let (second, third) = match step {
+        Step::Scan { lo, hi, .. } => (Some(lo), Some(u64::from(hi))),
+        Step::Put { address, value, .. } => (Some(address), Some(value)),
+        Step::Read { address, .. } | Step::Remove { address, .. } | Step::Merge { address } => {
+            (Some(address), None)
+        }
+        _ => (None, None),
+    };
+    worker.into_iter().chain(second.map(u64::from)).chain(third)
+}

@@ -1,0 +1,102 @@
+//! Steps and their answers as plain data, and the engine run by them.
+
+use crate::engine::{Engine, Refusal};
+use crate::map::Commit;
+
+pub const PLACES: usize = 64;
+
+#[derive(Clone, Copy, PartialEq, Eq, Debug)]
+pub enum Step {
+    Begin { worker: u32 },
+    Read { worker: u32, address: u32 },
+    Scan { worker: u32, lo: u32, hi: u32 },
+    Put { worker: u32, address: u32, value: u64 },
+    Remove { worker: u32, address: u32 },
+    Lock { worker: u32 },
+    Validate { worker: u32 },
+    Install { worker: u32 },
+    Abort { worker: u32 },
+    Merge { address: u32 },
+}
+
+impl Step {
+    /// A merge has no worker.
+    pub fn worker(self) -> Option<u32> {
+        match self {
+            Step::Begin { worker }
+            | Step::Read { worker, .. }
+            | Step::Scan { worker, .. }
+            | Step::Put { worker, .. }
+            | Step::Remove { worker, .. }
+            | Step::Lock { worker }
+            | Step::Validate { worker }
+            | Step::Install { worker }
+            | Step::Abort { worker } => Some(worker),
+            Step::Merge { .. } => None,
+        }
+    }
+}
+
+/// What a step answers. The records of a scan stand in the buffers.
+#[derive(Clone, Copy, PartialEq, Eq, Debug)]
+pub enum Answer {
+    Refused(u8),
+    Granted,
+    Value(Option<u64>),
+    Found(usize),
+    Commit(Commit),
+    Merged(usize),
+}
+
+impl Answer {
+    pub fn granted(self) -> bool {
+        !matches!(self, Answer::Refused(_))
+    }
+}
+
+impl From<Refusal> for Answer {
+    fn from(refusal: Refusal) -> Self {
+        Answer::Refused(refusal as u8)
+    }
+}
+
+/// The two buffers lent to a scan.
+pub struct Buffers {
+    pub addresses: [u32; PLACES],
+    pub values: [u64; PLACES],
+}
+
+impl Default for Buffers {
+    fn default() -> Self {
+        Buffers { addresses: [0; PLACES], values: [0; PLACES] }
+    }
+}
+
+impl Buffers {
+    pub fn first(&self, count: usize) -> impl Iterator<Item = (u32, u64)> + '_ {
+        let pairs = self.addresses.iter().copied().zip(self.values.iter().copied());
+        pairs.take(count)
+    }
+}
+
+pub fn run(engine: &mut Engine, step: Step, buffers: &mut Buffers) -> Answer {
+    let answer = match step {
+        Step::Begin { worker } => engine.begin(worker).map(|()| Answer::Granted),
+        Step::Read { worker, address } => engine.read(worker, address).map(Answer::Value),
+        Step::Scan { worker, lo, hi } => engine
+            .scan(worker, lo, hi, &mut buffers.addresses, &mut buffers.values)
+            .map(Answer::Found),
+        Step::Put { worker, address, value } => {
+            engine.put(worker, address, value).map(|()| Answer::Granted)
+        }
+        Step::Remove { worker, address } => {
+            engine.remove(worker, address).map(|()| Answer::Granted)
+        }
+        Step::Lock { worker } => engine.lock(worker).map(|()| Answer::Granted),
+        Step::Validate { worker } => engine.validate(worker).map(Answer::Commit),
+        Step::Install { worker } => engine.install(worker).map(|()| Answer::Granted),
+        Step::Abort { worker } => engine.abort(worker).map(|()| Answer::Granted),
+        Step::Merge { address } => Ok(Answer::Merged(engine.merge(address))),
+    };
+    answer.unwrap_or_else(Answer::from)
+}

@@ -1,0 +1,190 @@
+//! What a step meets, worked out before it from the engine's stores by document
+//! 01's words, and not by the engine's own tests.
+
+use crate::observe::Observer;
+use plain::engine::{Stage, Worker, WORKERS};
+use plain::map::{Leaf, Map, Write};
+use plain::step::Step;
+use std::collections::BTreeSet;
+
+/// A step and the engine as it was before it.
+pub struct Meeting {
+    pub stage: Option<Stage>,
+    pub facts: Facts,
+}
+
+pub enum Facts {
+    Plain,
+    Read {
+        own: bool,
+        reads: usize,
+    },
+    Scan {
+        backward: bool,
+        reads: usize,
+        leaves: usize,
+        here: usize,
+        shown: usize,
+    },
+    Write {
+        old: bool,
+        count: usize,
+        removal: bool,
+    },
+    Lock {
+        count: usize,
+        held: bool,
+        waiting: usize,
+        indexlet: usize,
+        total: usize,
+    },
+    Validate {
+        changes: BTreeSet<&'static str>,
+        held: bool,
+        phantoms: BTreeSet<&'static str>,
+        calm: BTreeSet<&'static str>,
+    },
+    Merge {
+        at: usize,
+        leaves: Vec<Leaf>,
+        pending: Vec<(u32, Write, bool)>,
+        locked: Vec<(u32, usize)>,
+        range: (u32, u32),
+    },
+}
+
+impl Meeting {
+    pub fn of(observer: &Observer, step: Step) -> Meeting {
+        let engine = &observer.engine;
+        let at = step.worker().map(|worker| worker as usize).filter(|&worker| worker < WORKERS);
+        let stage = at.map(|at| engine.worker(at).stage);
+        let facts = match (step, at, stage) {
+            (Step::Merge { address }, _, _) => merge_facts(engine.map(), address),
+            (Step::Validate { .. }, Some(at), Some(Stage::Locked)) => validate_facts(observer, at),
+            (_, Some(at), Some(Stage::Open)) => open_facts(engine.map(), engine.worker(at), step),
+            _ => Facts::Plain,
+        };
+        Meeting { stage, facts }
+    }
+}
+
+fn open_facts(map: &Map, worker: &Worker, step: Step) -> Facts {
+    let own = |address: u32| worker.write_set.iter().any(|&(at, _)| at == address);
+    let count = worker.write_set.len();
+    match step {
+        Step::Read { address, .. } => {
+            Facts::Read { own: own(address), reads: worker.read_set.len() + 1 }
+        }
+        Step::Scan { lo, hi, .. } if lo > hi => Facts::Scan {
+            backward: true,
+            reads: worker.read_set.len(),
+            leaves: worker.leaf_set.len(),
+            here: 0,
+            shown: 0,
+        },
+        Step::Scan { lo, hi, .. } => scan_facts(map, worker, lo, hi),
+        Step::Put { address, .. } => Facts::Write { old: own(address), count, removal: false },
+        Step::Remove { address, .. } => Facts::Write { old: own(address), count, removal: true },
+        Step::Lock { .. } => lock_facts(map, worker),
+        _ => Facts::Plain,
+    }
+}
+
+fn scan_facts(map: &Map, worker: &Worker, lo: u32, hi: u32) -> Facts {
+    let inside = |address: u32| lo <= address && address <= hi;
+    let indexed: Vec<u32> =
+        map.index().iter().map(|record| record.address).filter(|&at| inside(at)).collect();
+    let mut shown: BTreeSet<u32> =
+        indexed.iter().copied().filter(|&at| map.current(at).is_some()).collect();
+    for &(address, write) in worker.write_set.iter().filter(|&&(at, _)| inside(at)) {
+        match write {
+            Write::Put(_) => shown.insert(address),
+            Write::Delete => shown.remove(&address),
+        };
+    }
+    let meets = |at: &usize| map.leaves()[*at].low <= hi && map.high(*at) >= lo;
+    let here = (0..map.leaves().len()).filter(meets).count();
+    Facts::Scan {
+        backward: false,
+        reads: worker.read_set.len() + indexed.len(),
+        leaves: worker.leaf_set.len() + here,
+        here,
+        shown: shown.len(),
+    }
+}
+
+fn lock_facts(map: &Map, worker: &Worker) -> Facts {
+    let written: BTreeSet<u32> = worker.write_set.iter().map(|&(at, _)| at).collect();
+    let indexlet: BTreeSet<u32> = map.indexlet().keys().copied().collect();
+    let index: BTreeSet<u32> = map.index().iter().map(|record| record.address).collect();
+    let both: BTreeSet<u32> = indexlet.union(&written).copied().collect();
+    Facts::Lock {
+        count: written.len(),
+        held: written.iter().any(|&at| map.holder(at).is_some()),
+        waiting: indexlet.len(),
+        indexlet: both.len(),
+        total: both.union(&index).count(),
+    }
+}
+
+fn validate_facts(observer: &Observer, at: usize) -> Facts {
+    let (map, worker) = (observer.engine.map(), observer.engine.worker(at));
+    let mut changes = BTreeSet::new();
+    let mut calm = BTreeSet::new();
+    let mut held = false;
+    for &(address, then) in &worker.read_set {
+        match (then, map.current(address)) {
+            (None, Some(_)) => changes.extend(["appeared"]),
+            (Some(_), None) => changes.extend(["disappeared"]),
+            (Some(then), Some(now)) if then.value != now.value => changes.extend(["other value"]),
+            (Some(then), Some(now)) if then.commit != now.commit => changes.extend(["other stamp"]),
+            (None, None) if map.pending(address).is_some() => calm.extend(["absent again"]),
+            _ => {}
+        }
+        held |= map.holder(address).is_some_and(|holder| holder != at);
+    }
+    let mut phantoms = BTreeSet::new();
+    for seen in &worker.leaf_set {
+        let Some(leaf) = map.leaves().iter().position(|leaf| leaf.version == seen.version) else {
+            phantoms.insert("version gone");
+            continue;
+        };
+        for (&address, entry) in map.indexlet() {
+            let inside = map.leaves()[leaf].low <= address && address <= map.high(leaf);
+            if !inside {
+                continue;
+            }
+            if map.index().iter().any(|record| record.address == address) {
+                if entry.lock.is_some_and(|holder| holder != at) {
+                    calm.insert("lock on an index record");
+                }
+                continue;
+            }
+            match (entry.pending.map(|pending| pending.write), entry.lock) {
+                (Some(_), Some(holder)) if holder == at => phantoms.insert("own lock and pending"),
+                (Some(Write::Put(_)), _) => phantoms.insert("pending put"),
+                (Some(Write::Delete), _) => phantoms.insert("pending removal"),
+                (None, Some(holder)) if holder == at => calm.insert("own lock"),
+                (None, Some(holder)) if observer.dropped.contains(&(address, holder)) => {
+                    phantoms.insert("lock on a dropped record")
+                }
+                (None, _) => phantoms.insert("lock"),
+            };
+        }
+    }
+    Facts::Validate { changes, held, phantoms, calm }
+}
+
+fn merge_facts(map: &Map, address: u32) -> Facts {
+    let leaves = map.leaves().to_vec();
+    let at = leaves.iter().rposition(|leaf| leaf.low <= address).expect("the first starts at 0");
+    let range = (leaves[at].low, map.high(at));
+    let inside = |address: u32| range.0 <= address && address <= range.1;
+    let indexed = |address: u32| map.index().iter().any(|record| record.address == address);
+    let entries = map.indexlet().iter().filter(|(&at, _)| inside(at));
+    let pending = entries
+        .clone()
+        .filter_map(|(&at, entry)| entry.pending.map(|pending| (at, pending.write, indexed(at))));
+    let locked = entries.filter_map(|(&at, entry)| entry.lock.map(|holder| (at, holder)));
+    Facts::Merge { at, leaves, pending: pending.collect(), locked: locked.collect(), range }
+}

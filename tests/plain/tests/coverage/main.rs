@@ -1,0 +1,187 @@
+//! The profiles together reach every refusal, limit, leaf action and end of the
+//! address range, and the claim holds on each of their scripts.
+
+mod facts;
+mod names;
+mod observe;
+
+use observe::{Observer, Seen};
+use plain::profiles::{find, Profile, PROFILES};
+use plain::step::{run, Buffers, Step};
+use plain::{claim, engine, generate, script};
+
+/// Letter and the refusals listed for it, but for 15.
+const REFUSALS: [(char, &[u8]); 10] = [
+    ('B', &[0, 1, 3]),
+    ('R', &[0, 1, 2, 4, 6]),
+    ('S', &[0, 1, 2, 4, 5, 6, 8]),
+    ('P', &[0, 1, 2, 4, 7]),
+    ('D', &[0, 1, 2, 4, 7]),
+    ('L', &[0, 1, 2, 4, 9, 10, 11]),
+    ('V', &[0, 1, 2, 4, 12, 13, 14]),
+    ('I', &[0, 1, 2, 4]),
+    ('A', &[0, 1, 2]),
+    ('M', &[0]),
+];
+
+/// Letter, answer and the stages at which it must have come up.
+const STAGES: [(&str, &str); 10] = [
+    ("B 3", "Open Locked Checked"),
+    ("R 4", "Locked Checked"),
+    ("S 4", "Locked Checked"),
+    ("P 4", "Locked Checked"),
+    ("D 4", "Locked Checked"),
+    ("L 4", "Locked Checked"),
+    ("V 4", "Open Checked"),
+    ("I 4", "Open Locked"),
+    ("A 0", "Open Locked Checked"),
+    ("A 2", "Free"),
+];
+
+const MEETINGS: [&str; 70] = [
+    "read fills the read set",
+    "read beyond the read set",
+    "own read at a full read set",
+    "backward at a full read set",
+    "scan fills the read set",
+    "scan beyond the read set",
+    "scan fills the leaf set",
+    "scan beyond the leaf set",
+    "32 leaves at once",
+    "33 leaves at once",
+    "64 places",
+    "65 places",
+    "6 before 8",
+    "16th write",
+    "17th put",
+    "17th removal",
+    "old put at a full write set",
+    "old removal at a full write set",
+    "lock fills the indexlet",
+    "lock beyond the indexlet",
+    "pending address at a full indexlet",
+    "no address at a full indexlet",
+    "lock at a full map",
+    "lock beyond the map",
+    "9 before 10",
+    "9 before 11",
+    "10 before 11",
+    "9 before 10 and 11",
+    "12 by appeared",
+    "12 by disappeared",
+    "12 by other value",
+    "12 by other stamp",
+    "12 before 13",
+    "12 before 14",
+    "13 before 14",
+    "14 by version gone",
+    "14 by pending put",
+    "14 by pending removal",
+    "14 by lock",
+    "14 by lock on a dropped record",
+    "14 by own lock and pending",
+    "0 with own lock",
+    "0 with lock on an index record",
+    "0 with absent again",
+    "number before install",
+    "merge of none",
+    "first leaf emptied",
+    "leaf joins the first",
+    "leaf joins another",
+    "1 whole",
+    "16 whole",
+    "17 cut",
+    "24 cut",
+    "31 cut",
+    "32 or more cut",
+    "record dropped under lock",
+    "merge under lock",
+    "removal of an absent address merged",
+    "R at the first address",
+    "R at the last address",
+    "S at the first address",
+    "S at the last address",
+    "P at the first address",
+    "P at the last address",
+    "D at the first address",
+    "D at the last address",
+    "M at the first address",
+    "M at the last address",
+    "B 0 Some(Free)",
+    "I 0 Some(Checked)",
+];
+
+fn required() -> Vec<String> {
+    let mut names: Vec<String> = MEETINGS.iter().map(|name| name.to_string()).collect();
+    for (letter, numbers) in REFUSALS {
+        names.extend(numbers.iter().map(|number| format!("{letter} {number}")));
+    }
+    for (answer, stages) in STAGES {
+        names.extend(stages.split(' ').map(|stage| format!("{answer} Some({stage})")));
+    }
+    names
+}
+
+fn short_profiles() -> impl Iterator<Item = &'static Profile> {
+    PROFILES.iter().filter(|profile| profile.least == 0)
+}
+
+fn observe(steps: &[Step], seen: &mut Seen) {
+    let mut observer = Observer::default();
+    steps.iter().for_each(|&step| observer.play(step, seen));
+}
+
+fn assert_claim(steps: Vec<Step>, name: &str) {
+    if let Err(failure) = claim::check(&claim::record(steps)) {
+        panic!("{name}: {failure}");
+    }
+}
+
+#[test]
+fn profiles_reach_everything() {
+    let mut seen = Seen::new();
+    for profile in short_profiles() {
+        for seed in 0..3 {
+            observe(&generate::script(seed, 20_000, profile), &mut seen);
+        }
+    }
+    let missing: Vec<String> =
+        required().into_iter().filter(|name| !seen.contains_key(name)).collect();
+    assert!(missing.is_empty(), "not reached: {missing:?}\nreached: {seen:?}");
+}
+
+#[test]
+fn claim_holds_on_every_profile() {
+    for profile in short_profiles() {
+        for (seed, steps) in [(0, 20_000), (1, 20_000), (2, 20_000), (3, 2_000), (4, 500)] {
+            assert_claim(generate::script(seed, steps, profile), profile.name);
+        }
+    }
+}
+
+#[test]
+fn ordinary_grants_every_kind_often() {
+    let profile = find("ordinary", 0).unwrap();
+    let (mut engine, mut buffers) = (engine::Engine::default(), Buffers::default());
+    let mut granted = [0; 256];
+    for step in generate::script(1, 1_000_000, profile) {
+        if run(&mut engine, step, &mut buffers).granted() {
+            granted[script::letter(step) as usize] += 1;
+        }
+    }
+    for letter in b"BRSPDLVIAM" {
+        assert!(granted[*letter as usize] >= 10_000, "{}", *letter as char);
+    }
+}
+
+#[test]
+fn commit_numbers_end() {
+    let steps = generate::script(1, 0, find("spent", 0).unwrap());
+    let mut seen = Seen::new();
+    observe(&steps, &mut seen);
+    for name in ["V 15", "12 before 15", "13 before 15", "14 before 15", "I 0", "A 0 Some(Locked)"]
+    {
+        assert!(seen.contains_key(name), "{name}");
+    }
+    assert_claim(steps, "spent");
+}

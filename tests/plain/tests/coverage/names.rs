@@ -1,0 +1,215 @@
+//! The answer held against the facts: document 01's causes, lowest number first,
+//! and the names of the limits and actions met.
+
+use crate::facts::{Facts, Meeting};
+use crate::observe::Observer;
+use plain::engine::{Engine, Stage, LEAF_LIMIT, READ_LIMIT, WORKERS, WRITE_LIMIT};
+use plain::map::{Leaf, Map, Write, INDEXLET_LIMIT, MAP_LIMIT};
+use plain::step::{Answer, PLACES};
+use std::collections::BTreeSet;
+
+/// The lowest cause must be the answer.
+fn expect(answer: Answer, causes: &[(bool, u8)]) {
+    let refusal = causes.iter().find(|cause| cause.0).map(|cause| cause.1);
+    match refusal {
+        Some(number) => assert_eq!(answer, Answer::Refused(number)),
+        None => assert!(answer.granted(), "{answer:?}"),
+    }
+}
+
+impl Meeting {
+    pub fn names(&self, observer: &mut Observer, answer: Answer) -> Vec<String> {
+        let granted = answer.granted();
+        match &self.facts {
+            Facts::Plain => Vec::new(),
+            &Facts::Read { own, reads } => {
+                expect(answer, &[(!own && reads > READ_LIMIT, 6)]);
+                chosen(&[
+                    (granted && !own && reads == READ_LIMIT, "read fills the read set"),
+                    (!granted && reads == READ_LIMIT + 1, "read beyond the read set"),
+                    (own && reads > READ_LIMIT, "own read at a full read set"),
+                ])
+            }
+            Facts::Scan { .. } => self.scan_names(answer),
+            &Facts::Write { old, count, removal } => {
+                expect(answer, &[(!old && count == WRITE_LIMIT, 7)]);
+                let full = count == WRITE_LIMIT;
+                chosen(&[
+                    (granted && !old && count == WRITE_LIMIT - 1, "16th write"),
+                    (!granted && !removal, "17th put"),
+                    (!granted && removal, "17th removal"),
+                    (full && old && !removal, "old put at a full write set"),
+                    (full && old && removal, "old removal at a full write set"),
+                ])
+            }
+            Facts::Lock { .. } => self.lock_names(answer),
+            Facts::Validate { .. } => self.validate_names(observer, answer),
+            Facts::Merge { .. } => self.merge_names(observer, answer),
+        }
+    }
+
+    fn scan_names(&self, answer: Answer) -> Vec<String> {
+        let Facts::Scan { backward, reads, leaves, here, shown } = self.facts else {
+            return vec![];
+        };
+        let (many_reads, many_leaves) = (reads > READ_LIMIT, leaves > LEAF_LIMIT);
+        let (full, short) = (many_reads || many_leaves, shown > PLACES);
+        expect(answer, &[(backward, 5), (full, 6), (short, 8)]);
+        let granted = answer.granted();
+        chosen(&[
+            (backward && reads == READ_LIMIT, "backward at a full read set"),
+            (granted && shown > 0 && reads == READ_LIMIT, "scan fills the read set"),
+            (reads == READ_LIMIT + 1 && !many_leaves, "scan beyond the read set"),
+            (granted && leaves == LEAF_LIMIT, "scan fills the leaf set"),
+            (leaves == LEAF_LIMIT + 1 && !many_reads, "scan beyond the leaf set"),
+            (granted && here == LEAF_LIMIT, "32 leaves at once"),
+            (here == LEAF_LIMIT + 1 && !many_reads, "33 leaves at once"),
+            (granted && shown == PLACES, "64 places"),
+            (!full && shown == PLACES + 1, "65 places"),
+            (full && short, "6 before 8"),
+        ])
+    }
+
+    fn lock_names(&self, answer: Answer) -> Vec<String> {
+        let Facts::Lock { count, held, waiting, indexlet, total } = self.facts else {
+            return vec![];
+        };
+        let (narrow, full) = (indexlet > INDEXLET_LIMIT, total > MAP_LIMIT);
+        expect(answer, &[(held, 9), (narrow, 10), (full, 11)]);
+        let granted = answer.granted();
+        chosen(&[
+            (
+                granted && count > 0 && waiting < indexlet && indexlet == INDEXLET_LIMIT,
+                "lock fills the indexlet",
+            ),
+            (
+                granted && count > 0 && waiting == INDEXLET_LIMIT,
+                "pending address at a full indexlet",
+            ),
+            (granted && count == 0 && waiting == INDEXLET_LIMIT, "no address at a full indexlet"),
+            (!held && indexlet == INDEXLET_LIMIT + 1, "lock beyond the indexlet"),
+            (granted && waiting < indexlet && total == MAP_LIMIT, "lock at a full map"),
+            (!held && !narrow && total == MAP_LIMIT + 1, "lock beyond the map"),
+            (held && narrow && !full, "9 before 10"),
+            (held && full && !narrow, "9 before 11"),
+            (!held && narrow && full, "10 before 11"),
+            (held && narrow && full, "9 before 10 and 11"),
+        ])
+    }
+
+    fn validate_names(&self, observer: &Observer, answer: Answer) -> Vec<String> {
+        let Facts::Validate { changes, held, phantoms, calm } = &self.facts else { return vec![] };
+        let (changed, phantom) = (!changes.is_empty(), !phantoms.is_empty());
+        let spent = observer.engine.last_commit() == 1_000_000
+            && !matches!(answer, Answer::Commit(1_000_000));
+        expect(answer, &[(changed, 12), (*held, 13), (phantom, 14), (spent, 15)]);
+        let mut names = chosen(&[
+            (changed && *held, "12 before 13"),
+            (changed && phantom, "12 before 14"),
+            (!changed && *held && phantom, "13 before 14"),
+            (changed && spent, "12 before 15"),
+            (!changed && *held && spent, "13 before 15"),
+            (!changed && !held && phantom && spent, "14 before 15"),
+        ]);
+        let only = |causes: &BTreeSet<&str>, number: u8| {
+            let name = causes.first().filter(|_| causes.len() == 1);
+            name.map(|name| format!("{number} by {name}"))
+        };
+        match answer {
+            Answer::Refused(12) => names.extend(only(changes, 12)),
+            Answer::Refused(14) => names.extend(only(phantoms, 14)),
+            Answer::Commit(_) => names.extend(calm.iter().map(|name| format!("0 with {name}"))),
+            _ => {}
+        }
+        names
+    }
+
+    fn merge_names(&self, observer: &mut Observer, answer: Answer) -> Vec<String> {
+        let Facts::Merge { at, leaves, pending, locked, range } = &self.facts else {
+            return vec![];
+        };
+        let map = observer.engine.map();
+        assert_eq!(answer, Answer::Merged(pending.len()));
+        if pending.is_empty() {
+            assert_eq!(map.leaves(), leaves);
+            return vec!["merge of none".into()];
+        }
+        let records: Vec<u32> =
+            map.indexed_between(range.0, range.1).iter().map(|record| record.address).collect();
+        check_leaves(map, leaves, *at, &records);
+        let dropped = |address| {
+            pending.iter().any(|&(to, write, was)| to == address && was && write == Write::Delete)
+        };
+        let under_lock: Vec<_> = locked.iter().copied().filter(|&(to, _)| dropped(to)).collect();
+        let count = records.len();
+        let names = chosen(&[
+            (count == 0 && *at == 0, "first leaf emptied"),
+            (count == 0 && *at == 1, "leaf joins the first"),
+            (count == 0 && *at > 1, "leaf joins another"),
+            (count == 1, "1 whole"),
+            (count == 16, "16 whole"),
+            (count == 17, "17 cut"),
+            (count == 24, "24 cut"),
+            (count == 31, "31 cut"),
+            (count >= 32, "32 or more cut"),
+            (!under_lock.is_empty(), "record dropped under lock"),
+            (!locked.is_empty() && under_lock.is_empty(), "merge under lock"),
+            (
+                pending.iter().any(|&(_, write, was)| !was && write == Write::Delete),
+                "removal of an absent address merged",
+            ),
+        ]);
+        observer.dropped.extend(under_lock);
+        names
+    }
+}
+
+/// Locked are just the write sets of locked and checked workers, and every entry
+/// of the indexlet is pending or locked.
+pub fn check_entries(engine: &Engine) {
+    let entries = engine.map().indexlet();
+    assert!(entries.values().all(|entry| entry.pending.is_some() || entry.lock.is_some()));
+    let mut locked = 0;
+    for at in 0..WORKERS {
+        let worker = engine.worker(at);
+        if matches!(worker.stage, Stage::Locked | Stage::Checked) {
+            let held = |&(address, _): &(u32, Write)| engine.map().holder(address) == Some(at);
+            assert!(worker.write_set.iter().all(held));
+            locked += worker.write_set.len();
+        }
+    }
+    assert_eq!(entries.values().filter(|entry| entry.lock.is_some()).count(), locked);
+    assert!(entries.len() <= INDEXLET_LIMIT);
+}
+
+/// The leaves after a merge that counted: lows and fresh versions by the rule.
+fn check_leaves(map: &Map, before: &[Leaf], at: usize, records: &[u32]) {
+    let mut lows: Vec<u32> = before.iter().map(|leaf| leaf.low).collect();
+    let fresh = match records.len() {
+        0 if at > 0 => {
+            lows.remove(at);
+            at - 1..at
+        }
+        0..=16 => at..at + 1,
+        count => {
+            lows.splice(at + 1..at + 1, (1..count / 8).map(|run| records[8 * run]));
+            at..at + count / 8
+        }
+    };
+    assert!(map.leaves().iter().map(|leaf| leaf.low).eq(lows));
+    let last = before.iter().map(|leaf| leaf.version).max().unwrap_or(0);
+    let mut previous = last;
+    for (place, leaf) in map.leaves().iter().enumerate() {
+        if fresh.contains(&place) {
+            assert!(leaf.version > previous, "versions rise from left to right");
+            previous = leaf.version;
+        } else {
+            assert!(before.contains(leaf), "other leaves stay");
+        }
+    }
+    assert!(map.leaves().len() <= 1025);
+}
+
+fn chosen(names: &[(bool, &str)]) -> Vec<String> {
+    names.iter().filter(|name| name.0).map(|name| name.1.to_string()).collect()
+}

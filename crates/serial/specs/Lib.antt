@@ -11,3 +11,4 @@ pub mod Continuing
 pub mod Locking
 pub mod Finishing
 pub mod Theorem
+pub mod Edited

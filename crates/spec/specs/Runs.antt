@@ -6,12 +6,12 @@ use mathlib.Core.List.{List, [], _∷_, _++_, map}
 use mathlib.Core.Option.{Option, none, some}
 use lib.ListN.{replicate}
 use Rattle.lists.specs.Rows.{Row, row, has}
-use Rattle.spec.specs.declared.Refusal.the-variants.{NoWorker, Backward, UnderLock, Phantom}
+use Rattle.spec.specs.declared.Refusal.the-variants.{NoWorker, WorkerFree, Backward, ShortBuffer, Changed, UnderLock, Phantom}
 use Rattle.spec.specs.Records.{standard, Payload, Record}
 use Rattle.spec.specs.Leaves.{runs, cuts}
 use Rattle.spec.specs.Slots.{homeSlot, holds}
 use Rattle.spec.specs.Maps.{contents, each}
-use Rattle.spec.specs.Steps.{fresh, Step, begin, read, scan, put, remove, lock, validate, install, merge, Answer, refused, done, found, listed, numbered, counted, answer, Event, final, history}
+use Rattle.spec.specs.Steps.{fresh, Step, begin, read, scan, put, remove, lock, validate, install, abort, merge, Answer, refused, done, found, listed, numbered, counted, answer, Event, final, history}
 use Rattle.spec.specs.Computing.{model}
 
 abbrev pub value : ℕ → Payload
@@ -125,6 +125,48 @@ removedUnderLock =
     ∷ event (validate 1) (refused Phantom)
     ∷ []
 
+-- ---- further runs, for rules that no starred run shows
+
+-- a put of the same value is still a change: its commit number differs
+abbrev pub sameValueAgain : List Event
+sameValueAgain =
+    event (begin 0) done
+    ∷ event (put 0 9 (value 90)) done
+    ∷ event (lock 0) done
+    ∷ event (validate 0) (numbered 1)
+    ∷ event (install 0) done
+    ∷ event (begin 1) done
+    ∷ event (read 1 9) (found (some (value 90)))
+    ∷ event (begin 0) done
+    ∷ event (put 0 9 (value 90)) done
+    ∷ event (lock 0) done
+    ∷ event (validate 0) (numbered 2)
+    ∷ event (install 0) done
+    ∷ event (lock 1) done
+    ∷ event (validate 1) (refused Changed)
+    ∷ event (lock 1) (refused WorkerFree)
+    ∷ []
+
+-- an own write is read unlogged and laid over a scan; a removal of an absent address hides its key; an abort ends it
+abbrev pub ownWrites : List Event
+ownWrites =
+    event (begin 0) done
+    ∷ event (put 0 3 (value 30)) done
+    ∷ event (read 0 3) (found (some (value 30)))
+    ∷ event (remove 0 5) done
+    ∷ event (read 0 5) (found none)
+    ∷ event (scan 0 0 9 1 2) (listed (row 3 (value 30) ∷ []))
+    ∷ event (scan 0 0 9 0 2) (refused ShortBuffer)
+    ∷ event (begin 1) done
+    ∷ event (scan 1 4 9 64 64) (listed [])
+    ∷ event (lock 1) done
+    ∷ event (lock 0) done
+    ∷ event (validate 1) (refused Phantom)
+    ∷ event (abort 0) done
+    ∷ event (abort 0) (refused WorkerFree)
+    ∷ event (install 0) (refused WorkerFree)
+    ∷ []
+
 -- Document 01's starred runs, in its order.
 abbrev pub starred : List Run
 starred =
@@ -148,6 +190,13 @@ starred =
     ∷ script installedLater (entryOf 1 10 1 ∷ entryOf 2 20 2 ∷ [])
     ∷ script removedUnderLock []
     ∷ []
+
+abbrev pub further : List Run
+further = script sameValueAgain (entryOf 9 90 2 ∷ []) ∷ script ownWrites [] ∷ []
+
+pub further-hold : AllHold further
+unfolding model
+further-hold = ((refl, refl), ((refl, refl), tt))
 
 pub starred-hold : AllHold starred
 unfolding model

@@ -14,7 +14,8 @@ use Rattle.lists.specs.RowLaws.{has-keys, look-here, look-there, look-nil, look
 use Rattle.spec.specs.Records.{Record}
 use Rattle.spec.specs.Slots.{Pending, Content, idle, Slot, entries, contentOf}
 use Rattle.spec.specs.Maps.{MapState, outcomeOf, current, pendingRows, contents, indexedBetween}
-use Rattle.laws.specs.SlotLaws.{Good, keys-differ}
+use Rattle.laws.specs.SlotCounts.{Good}
+use Rattle.laws.specs.SlotLaws.{keys-differ}
 
 -- what a pending write leaves, if one is there
 abbrev pub leaving : Option Content → Option (Option Record)

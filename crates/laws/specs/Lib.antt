@@ -1,4 +1,7 @@
 pub mod Probes
+pub mod SlotCounts
+pub mod SlotChanges
+pub mod Searches
 pub mod SlotLaws
 pub mod LeafParts
 pub mod LeafLaws

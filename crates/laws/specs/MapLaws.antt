@@ -16,7 +16,8 @@ use Rattle.lists.specs.Counting.{has-nil, has-cons, has-append, Within, distinc
 use Rattle.spec.specs.Records.{Settings, Record, Write}
 use Rattle.spec.specs.Slots.{Pending, Content, idle, isIdle, Slot, slotCount, entries, contentOf, enter}
 use Rattle.spec.specs.Maps.{MapState, outcomeOf, current, pendingRows, contents, lockKey, unlockKey, installRow, each, withSlots, lockAll, unlockAll, installAll, mergeEntry}
-use Rattle.laws.specs.SlotLaws.{Good, Room, goes, stands, fits, enter-good, content-enter, present-content, keys-differ}
+use Rattle.laws.specs.SlotCounts.{Good}
+use Rattle.laws.specs.SlotLaws.{Room, goes, stands, fits, enter-good, content-enter, present-content, keys-differ}
 
 -- ---- contents by cases
 

@@ -17,7 +17,8 @@ use Rattle.spec.specs.Records.{Settings, Record, Write}
 use Rattle.spec.specs.Leaves.{Leaf, versionAt, settle, versionsTaken}
 use Rattle.spec.specs.Slots.{Pending, Content, idle, isIdle, Slot, entries, contentOf, enter}
 use Rattle.spec.specs.Maps.{MapState, outcomeOf, current, each, mergesAt, merging, mergeEntry, recordsIn, Merged, settleMap, mergeAll, mergeAt}
-use Rattle.laws.specs.SlotLaws.{Good, Room, enter-good, content-enter, present-content}
+use Rattle.laws.specs.SlotCounts.{Good}
+use Rattle.laws.specs.SlotLaws.{Room, enter-good, content-enter, present-content}
 use Rattle.laws.specs.MapLaws.{idle-holder, idle-pending, room-old, has-entry, entries-after}
 use Rattle.laws.specs.LeafLaws.{GoodLeaves}
 use Rattle.laws.specs.LeafCuts.{GoodCut}

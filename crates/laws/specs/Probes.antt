@@ -9,7 +9,7 @@ use mathlib.Core.Bool.{Bool, true, false, not}
 use mathlib.Core.List.{List, [], _∷_}
 use mathlib.Core.Option.{Option, none, some}
 use lib.ListN.{length, getD, set, length-set}
-use lib.Seq.{getD-set-same, getD-set-other}
+use lib.Seq.{getD-set-same, getD-set-other, ext-getD}
 use Rattle.lists.specs.Tests.{pick, same, less, cases, same-true, same-false, less-yes, less-no, less-true, less-false}
 use Rattle.lists.specs.Options.{both-options, some-same}
 use Rattle.spec.specs.Slots.{slotCount, tableEntry, homeFrom, homeSlot, Slot, emptySlot, slotAt, setSlot, countPassed, distance}
@@ -101,6 +101,60 @@ at-countPassed f ss h (suc d) j l a b q =
         ap (choice (less (gap h j) d)) (getD-set-other ss i j (counted f (getD ss i emptySlot)) emptySlot (same-false j i e))
         ∙ ap (λ (t : Bool). choice t (getD ss j emptySlot))
         (less-next (gap h j) d (λ g. same-false j i e (sym (gap-back h j a q) ∙ ap (λ (n : ℕ). (h + n) % slotCount) g)))
+
+-- one slot more is passed
+pub countPassed-next : (f : ℕ → ℕ) (ss : List Slot) (h d : ℕ) → length ss ≡ slotCount → h < slotCount → d < slotCount
+    → countPassed f ss h (suc d) ≡ setSlot (countPassed f ss h d) (h + d) (counted f (slotAt (countPassed f ss h d) (h + d)))
+unfolding setSlot slotAt
+countPassed-next f ss h d l a b =
+    ext-getD emptySlot (countPassed f ss h (suc d)) (set old i new)
+    (length-countPassed f ss h (suc d) ∙ sym (length-set old i new ∙ length-countPassed f ss h d))
+    (λ j q. at j (let z : length (countPassed f ss h (suc d)) ≡ length ss = length-countPassed f ss h (suc d) in omega arith))
+  where
+    i : ℕ
+    i = (h + d) % slotCount
+
+    old : List Slot
+    old = countPassed f ss h d
+
+    new : Slot
+    new = counted f (getD old i emptySlot)
+
+    choice : Bool → Slot → Slot
+    choice t s = pick t (counted f s) s
+
+    before : (j : ℕ) → j < slotCount → getD old j emptySlot ≡ choice (less (gap h j) d) (getD ss j emptySlot)
+    before j q = at-countPassed f ss h d j l a (let z : d < slotCount = b in omega arith) q
+
+    untouched : getD old i emptySlot ≡ getD ss i emptySlot
+    untouched =
+        before i (omega arith)
+        ∙ ap (λ (t : Bool). choice t (getD ss i emptySlot)) (less-no {m = gap h i} {n = d} (let z : gap h i ≡ d = gap-at h d a b in omega arith))
+
+    at : (j : ℕ) → j < slotCount → getD (countPassed f ss h (suc d)) j emptySlot ≡ getD (set old i new) j emptySlot
+    at j q =
+        at-countPassed f ss h (suc d) j l a b q
+        ∙ ⊎-elim
+        (λ t. let e : j ≡ i = same-true j i t in
+        let g : gap h j ≡ d = ap (gap h) e ∙ gap-at h d a b in
+        ap (λ (t : Bool). choice t (getD ss j emptySlot)) (less-yes {m = gap h j} {n = suc d} (omega arith))
+        ∙ ap (λ (n : ℕ). counted f (getD ss n emptySlot)) e
+        ∙ ap (counted f) (sym untouched)
+        ∙ sym (ap (λ (n : ℕ). getD (set old i new) n emptySlot) e
+        ∙ getD-set-same old i new emptySlot (let z : length old ≡ length ss = length-countPassed f ss h d in let y : i < slotCount = omega arith in omega arith)))
+        (λ t. ap (λ (t : Bool). choice t (getD ss j emptySlot))
+        (sym (less-next (gap h j) d (λ g. same-false j i t (sym (gap-back h j a q) ∙ ap (λ (n : ℕ). (h + n) % slotCount) g))))
+        ∙ sym (getD-set-other old i j new emptySlot (same-false j i t) ∙ before j q))
+        (cases (same j i))
+
+-- the slot that a walk reaches is as it was
+pub countPassed-ahead : (f : ℕ → ℕ) (ss : List Slot) (h d : ℕ) → length ss ≡ slotCount → h < slotCount → d < slotCount
+    → slotAt (countPassed f ss h d) (h + d) ≡ slotAt ss (h + d)
+unfolding slotAt
+countPassed-ahead f ss h d l a b =
+    at-countPassed f ss h d ((h + d) % slotCount) l a (let z : d < slotCount = b in omega arith) (omega arith)
+    ∙ ap (λ (t : Bool). pick t (counted f (slotAt ss (h + d))) (slotAt ss (h + d)))
+    (less-no {m = gap h ((h + d) % slotCount)} {n = d} (let z : gap h ((h + d) % slotCount) ≡ d = gap-at h d a b in omega arith))
 
 -- ---- the first slot that passes a test
 

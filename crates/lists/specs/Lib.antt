@@ -5,3 +5,5 @@ pub mod Counting
 pub mod Sums
 pub mod Options
 pub mod Ascending
+pub mod Members
+pub mod Tabs

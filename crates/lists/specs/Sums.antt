@@ -119,3 +119,12 @@ module _ {A : Type 0} where
       let b : total (λ (n : ℕ). f (suc n)) ys + f (suc i) (getD xs i d) ≡ total (λ (n : ℕ). f (suc n)) xs + f (suc i) (getD ys i d)
       = total-change (λ (n : ℕ). f (suc n)) xs ys i d (omega arith) (le-of-suc-le-suc h) (λ j q n. o (suc j) (suc-le-suc q) (λ z. n (omega arith))) in
       omega arith
+
+  -- a sum of terms that are at most 1 is at most the length
+  pub total-most : (f : ℕ → A → ℕ) (xs : List A) → ((i : ℕ) (x : A) → f i x ≤ 1) → total f xs ≤ length xs
+  unfolding total
+  total-most f [] h = omega arith
+  total-most f (x ∷ xs) h =
+      let a : f 0 x ≤ 1 = h 0 x in
+      let b : total (λ (n : ℕ). f (suc n)) xs ≤ length xs = total-most (λ (n : ℕ). f (suc n)) xs (λ i y. h (suc i) y) in
+      omega arith

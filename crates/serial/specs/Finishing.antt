@@ -20,7 +20,8 @@ use Rattle.spec.specs.Maps.{MapState, outcomeOf, current, heldByOther, hiding, 
 use Rattle.spec.specs.Steps.{Worker, freeWorker, State, workerOf, validate, install, numbered, done, Event, isFree, isOpen, isLocked, isChecked, lockedByOther, changedSince, phantomIn, withWorker, withMap, withCounters, checkedAs, merged}
 use Rattle.spec.specs.Sequential.{Agrees}
 use Rattle.spec.specs.Claim.{Transaction, Reading, runningNow, passed, extended, withNumber, numberIn, oneMoreGiven, validated, installedNow}
-use Rattle.laws.specs.SlotLaws.{Good, content-member}
+use Rattle.laws.specs.SlotCounts.{Good}
+use Rattle.laws.specs.SlotLaws.{content-member}
 use Rattle.laws.specs.MapLaws.{idle-holder, idle-pending, Installable, writtenBy, install-good, install-says}
 use Rattle.laws.specs.RecordLaws.{both-left, both-right, sameRecord-true}
 use Rattle.laws.specs.LeafLaws.{GoodLeaves, live-version}

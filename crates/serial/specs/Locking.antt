@@ -76,7 +76,7 @@ current-by m m' r k e =
 
 -- the fine state with other slots
 fine-slots : (σ : State) (m' : MapState) → m' .records ≡ σ .map .records → m' .leaves ≡ σ .map .leaves
-    → Rattle.laws.specs.SlotLaws.Good (σ .settings .bytes) (m' .slots) → Fine σ → Fine (withMap σ m')
+    → Rattle.laws.specs.SlotCounts.Good (σ .settings .bytes) (m' .slots) → Fine σ → Fine (withMap σ m')
 unfolding withMap workerOf
 fine-slots σ m' r l s f =
     record {

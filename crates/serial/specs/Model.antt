@@ -21,7 +21,8 @@ use Rattle.spec.specs.Slots.{slotCount, contentOf}
 use Rattle.spec.specs.Maps.{MapState, current}
 use Rattle.spec.specs.Steps.{Worker, freeWorker, State, fresh, workerOf, Cause, firstCause, withWorker, withMap, withCounters, isFree, isOpen, isChecked, Event}
 use Rattle.spec.specs.Claim.{Transaction, Reading, runningNow, passed, extended, goesOn}
-use Rattle.laws.specs.SlotLaws.{Good, fresh-good}
+use Rattle.laws.specs.SlotCounts.{Good}
+use Rattle.laws.specs.SlotLaws.{fresh-good}
 use Rattle.laws.specs.LeafLaws.{GoodLeaves, fresh-leaves}
 use Rattle.laws.specs.LeafCuts.{GoodCut, standard-cut}
 use Rattle.serial.specs.Invariant.{Facts}

@@ -1,0 +1,15 @@
+-- `indexlet::entry_of` meets its contract by the table's rule. Assumes nothing.
+use borrow.Author.Needs.{needs}
+use Rattle.indexlet.specs.Table.{table, table-at}
+use Rattle.indexlet.proofs.entry_of.Statement.{statement}
+use Rattle.indexlet.proofs.entry_of.Tie as tie
+
+array-read-result : tie.Need-array-read-result
+array-read-result c = search needs
+
+returns : tie.Need-returns
+unfolding table
+returns c = table-at (c .args .b) (search needs)
+
+pub entry-of-spec : {M : Type 1} → statement M
+entry-of-spec = tie.close (tie.spec array-read-result returns)

@@ -1,0 +1,185 @@
+-- The loop of a search: what is left of the search is the whole search. And what its end says of the model's search.
+-- Assumes nothing.
+use Prim.Native.Nat.{ℕ, zero, suc, _+_, _-_, _%_, _<_, _≤_}
+use native.Mathlib.Numerals.{add-one}
+use native.Mathlib.Omega.{arith}
+use mathlib.Core.Path.{_≡_, refl, sym, ap, _∙_, subst}
+use mathlib.Core.Logic.{_⊎_, inl, inr, ⊎-elim}
+use mathlib.Core.Bool.{Bool, true, false}
+use mathlib.Core.List.{List}
+use mathlib.Core.Option.{Option, none, some}
+use lib.ListN.{length, getD}
+use Rattle.lists.specs.Tests.{pick, present, same, cases, same-true, same-false, same-yes, same-no}
+use Rattle.lists.specs.Rows.{Row, look}
+use Rattle.spec.specs.Slots.{slotCount, homeSlot, Content, isIdle, Slot, emptySlot, entries, slotAt, holds, Searched, searchAt, searchFrom, search}
+use Rattle.laws.specs.Probes.{gap}
+use Rattle.laws.specs.SlotCounts.{Good, Place, entryAt, holds-entry, holds-yes}
+use Rattle.laws.specs.Searches.{search-here, search-stops, search-on, search-place, search-finds}
+use Rattle.indexlet.specs.declared.Slot.{Slot as SlotWords}
+use Rattle.indexlet.specs.declared.Sought.{Sought}
+use Rattle.indexlet.specs.Words.{slotIn, rowAt, slotsOf}
+use Rattle.indexlet.specs.WordLaws.{slot-there, length-slots}
+use Rattle.indexlet.specs.Held.{soughtAt, soughtFrom, sought, Stands}
+
+-- ---- the loop
+
+-- the search has examined d slots from h
+pub record Seeking (ws : List ℕ) (k h d : ℕ) : Type 0 where
+  pub bound : d ≤ slotCount
+  pub rest : soughtFrom (slotsOf ws) k h (slotCount - d) d ≡ sought (slotsOf ws) k
+
+pub seek-start : (ws : List ℕ) (k h : ℕ) → h ≡ homeSlot 4 k → Seeking ws k h 0
+unfolding sought
+seek-start ws k h e =
+    record { bound = omega arith; rest = ap (λ (n : ℕ). soughtFrom (slotsOf ws) k n slotCount 0) e }
+
+sought-step : (ss : List Slot) (k h n d : ℕ)
+    → soughtFrom ss k h (suc n) d ≡ soughtAt k (slotAt ss (h + d)) ((h + d) % slotCount) d (soughtFrom ss k h n (suc d))
+unfolding soughtFrom
+sought-step ss k h n d = refl
+
+-- the slot that is examined
+pub examined-slot : (ws : List ℕ) (m : ℕ) (s : SlotWords) → s ≡ rowAt ws (m % slotCount) → slotIn s ≡ slotAt (slotsOf ws) m
+examined-slot ws m s e = ap slotIn e ∙ sym (slot-there ws m)
+
+overflow-slot : (s : SlotWords) → slotIn s .overflow ≡ s .overflow
+unfolding slotIn
+overflow-slot s = refl
+
+module _ (ws : List ℕ) (k h d : ℕ) (g : Seeking ws k h d) (b : d < slotCount) (s : SlotWords) (e : s ≡ rowAt ws ((h + d) % slotCount)) where
+  rest-step : soughtAt k (slotIn s) ((h + d) % slotCount) d (soughtFrom (slotsOf ws) k h (slotCount - (d + 1)) (suc d)) ≡ sought (slotsOf ws) k
+  rest-step =
+      ap (λ (x : Slot). soughtAt k x ((h + d) % slotCount) d (soughtFrom (slotsOf ws) k h (slotCount - (d + 1)) (suc d))) (examined-slot ws (h + d) s e)
+      ∙ sym (sought-step (slotsOf ws) k h (slotCount - (d + 1)) d)
+      ∙ ap (λ (n : ℕ). soughtFrom (slotsOf ws) k h n d) (let z : suc (slotCount - (d + 1)) ≡ slotCount - d = omega arith in z)
+      ∙ g .rest
+
+  -- it has the entry
+  pub seek-hit : holds k (slotIn s) ≡ true → _≡_ {A = Sought} (record { at = (h + d) % slotCount; examined = d + 1 }) (sought (slotsOf ws) k)
+  unfolding soughtAt
+  seek-hit t =
+      ap (λ (n : ℕ). record { at = (h + d) % slotCount; examined = n }) (add-one d)
+      ∙ sym (ap (λ (t : Bool). pick t (record { at = (h + d) % slotCount; examined = suc d })
+      (pick (same (slotIn s .overflow) 0) (record { at = slotCount; examined = suc d }) (soughtFrom (slotsOf ws) k h (slotCount - (d + 1)) (suc d)))) t)
+      ∙ rest-step
+
+  -- its count is 0
+  pub seek-stop : holds k (slotIn s) ≡ false → s .overflow ≡ 0 → _≡_ {A = Sought} (record { at = slotCount; examined = d + 1 }) (sought (slotsOf ws) k)
+  unfolding soughtAt
+  seek-stop t z =
+      ap (λ (n : ℕ). record { at = slotCount; examined = n }) (add-one d)
+      ∙ sym (ap (λ (t : Bool). pick t (record { at = (h + d) % slotCount; examined = suc d })
+      (pick (same (slotIn s .overflow) 0) (record { at = slotCount; examined = suc d }) (soughtFrom (slotsOf ws) k h (slotCount - (d + 1)) (suc d)))) t
+      ∙ ap (λ (t : Bool). pick t (record { at = slotCount; examined = suc d }) (soughtFrom (slotsOf ws) k h (slotCount - (d + 1)) (suc d)))
+      (same-yes {m = slotIn s .overflow} {n = 0} (overflow-slot s ∙ z)))
+      ∙ rest-step
+
+  -- the search goes on
+  pub seek-on : holds k (slotIn s) ≡ false → (s .overflow ≡ 0 → ⊥) → Seeking ws k h (d + 1)
+  unfolding soughtAt
+  seek-on t z =
+      record {
+        bound = let y : d < slotCount = b in omega arith;
+        rest =
+            ap (soughtFrom (slotsOf ws) k h (slotCount - (d + 1))) (add-one d)
+            ∙ sym (ap (λ (t : Bool). pick t (record { at = (h + d) % slotCount; examined = suc d })
+            (pick (same (slotIn s .overflow) 0) (record { at = slotCount; examined = suc d }) (soughtFrom (slotsOf ws) k h (slotCount - (d + 1)) (suc d)))) t
+            ∙ ap (λ (t : Bool). pick t (record { at = slotCount; examined = suc d }) (soughtFrom (slotsOf ws) k h (slotCount - (d + 1)) (suc d)))
+            (same-no {m = slotIn s .overflow} {n = 0} (λ q. z (sym (overflow-slot s) ∙ q))))
+            ∙ rest-step;
+      }
+
+-- all slots were examined
+pub seek-end : (ws : List ℕ) (k h d : ℕ) → Seeking ws k h d → slotCount ≤ d → _≡_ {A = Sought} (record { at = slotCount; examined = slotCount }) (sought (slotsOf ws) k)
+unfolding soughtFrom
+seek-end ws k h d g q =
+    let e : d ≡ slotCount = (let z : d ≤ slotCount = g .bound in omega arith) in
+    let n : slotCount - d ≡ 0 = omega arith in
+    sym (ap (λ (m : ℕ). soughtFrom (slotsOf ws) k h m d) n ∙ ap (λ (m : ℕ). record { at = slotCount; examined = m }) e) ∙ g .rest
+
+-- ---- where a search ends, and what the model's search finds
+
+-- r is where the search for k ends whose answer is q
+pub record Ends (ss : List Slot) (k : ℕ) (r : Sought) (q : Searched) : Type 0 where
+  pub examined : q .examined ≡ r .examined
+  pub hit : r .at < slotCount → (e : Row Content) × (entryAt ss (r .at) ≡ some e) × (e .key ≡ k) × (q .found ≡ some (e .item))
+  pub miss : slotCount ≤ r .at → q .found ≡ none
+
+ends-by : {ss : List Slot} {k : ℕ} {r r' : Sought} {q q' : Searched} → r ≡ r' → q ≡ q' → Ends ss k r' q' → Ends ss k r q
+ends-by {ss} {k} {r} {r'} {q} {q'} e f g = subst (λ (x : Sought). Ends ss k x q) (sym e) (subst (Ends ss k r') (sym f) g)
+
+sought-ends : (ss : List Slot) (k h n d : ℕ) → Ends ss k (soughtFrom ss k h n d) (searchFrom ss k h n d)
+unfolding soughtFrom searchFrom soughtAt slotAt
+sought-ends ss k h zero d = record { examined = refl; hit = λ q. absurd (omega arith); miss = λ q. refl }
+sought-ends ss k h (suc n) d = ⊎-elim here (λ t. ⊎-elim (stops t) (goes t (sought-ends ss k h n (suc d))) (cases (same (s .overflow) 0))) (cases (holds k s))
+  where
+    i : ℕ
+    i = (h + d) % slotCount
+
+    s : Slot
+    s = getD ss i emptySlot
+
+    here : holds k s ≡ true → Ends ss k (soughtFrom ss k h (suc n) d) (searchFrom ss k h (suc n) d)
+    here t =
+        let e = holds-entry k s t in
+        ends-by {r' = record { at = i; examined = suc d }} {q' = record { found = some (e .0 .item); examined = suc d }}
+        (rw t) (search-here k s d (searchFrom ss k h n (suc d)) (e .0) t (e .1))
+        (record { examined = refl; hit = λ q. (e .0, e .1, e .2, refl); miss = λ q. absurd (let z : i < slotCount = omega arith in omega arith) })
+
+    stops : holds k s ≡ false → same (s .overflow) 0 ≡ true → Ends ss k (soughtFrom ss k h (suc n) d) (searchFrom ss k h (suc n) d)
+    stops t z =
+        ends-by {r' = record { at = slotCount; examined = suc d }} {q' = record { found = none; examined = suc d }}
+        (rw (t, z)) (search-stops k s d (searchFrom ss k h n (suc d)) t (same-true (s .overflow) 0 z))
+        (record { examined = refl; hit = λ q. absurd (omega arith); miss = λ q. refl })
+
+    goes : holds k s ≡ false → Ends ss k (soughtFrom ss k h n (suc d)) (searchFrom ss k h n (suc d)) → same (s .overflow) 0 ≡ false
+        → Ends ss k (soughtFrom ss k h (suc n) d) (searchFrom ss k h (suc n) d)
+    goes t g z =
+        ends-by {r' = soughtFrom ss k h n (suc d)} {q' = searchFrom ss k h n (suc d)}
+        (rw (t, z)) (search-on k s d (searchFrom ss k h n (suc d)) t (same-false (s .overflow) 0 z)) g
+
+pub search-ends : (ss : List Slot) (k : ℕ) → Ends ss k (sought ss k) (search 4 ss k)
+unfolding sought search
+search-ends ss k = sought-ends ss k (homeSlot 4 k) slotCount 0
+
+-- the place of the entry, where the search ends at a slot
+pub sought-stands : {ss : List Slot} {k : ℕ} {r : Sought} → Good 4 ss → r ≡ sought ss k → r .at < slotCount → Stands ss k (r .examined - 1)
+sought-stands {ss} {k} {r} good e b =
+    record {
+      place = p;
+      far =
+          let x : r .examined ≡ suc (gap (homeSlot 4 k) (r .at)) = sym (ends .examined) ∙ ap (λ (q : Searched). q .examined) (search-place 4 ss k good p) in
+          omega arith;
+    }
+  where
+    ends : Ends ss k r (search 4 ss k)
+    ends = subst (λ (x : Sought). Ends ss k x (search 4 ss k)) (sym e) (search-ends ss k)
+
+    p : Place ss k
+    p =
+        let h = ends .hit b in
+        record { at = r .at; inside = let z : length ss ≡ slotCount = good .size in omega arith; content = h .0; here = h .1; own = h .2 }
+
+-- it has examined a slot at least
+pub sought-some : {ss : List Slot} (k : ℕ) {r : Sought} → Good 4 ss → r ≡ sought ss k → r .at < slotCount → 1 ≤ r .examined
+sought-some {ss} k {r} good e b =
+    let p : Place ss k = sought-stands good e b .place in
+    let ends : Ends ss k r (search 4 ss k) = subst (λ (x : Sought). Ends ss k x (search 4 ss k)) (sym e) (search-ends ss k) in
+    let x : r .examined ≡ suc (gap (homeSlot 4 k) (p .at)) = sym (ends .examined) ∙ ap (λ (q : Searched). q .examined) (search-place 4 ss k good p) in
+    omega arith
+
+pub sought-present : {ss : List Slot} (k : ℕ) {r : Sought} → Good 4 ss → r ≡ sought ss k → r .at < slotCount → present (look (entries ss) k) ≡ true
+sought-present {ss} k {r} good e b =
+    let ends : Ends ss k r (search 4 ss k) = subst (λ (x : Sought). Ends ss k x (search 4 ss k)) (sym e) (search-ends ss k) in
+    ap present (sym (search-finds good k) ∙ ends .hit b .3)
+
+pub sought-absent : {ss : List Slot} (k : ℕ) {r : Sought} → Good 4 ss → r ≡ sought ss k → slotCount ≤ r .at → look (entries ss) k ≡ none
+sought-absent {ss} k {r} good e b =
+    let ends : Ends ss k r (search 4 ss k) = subst (λ (x : Sought). Ends ss k x (search 4 ss k)) (sym e) (search-ends ss k) in
+    sym (search-finds good k) ∙ ends .miss b
+
+pub sought-holds : (ss : List Slot) (k : ℕ) {r : Sought} → r ≡ sought ss k → r .at < slotCount → holds k (getD ss (r .at) emptySlot) ≡ true
+sought-holds ss k {r} e b =
+    let ends : Ends ss k r (search 4 ss k) = subst (λ (x : Sought). Ends ss k x (search 4 ss k)) (sym e) (search-ends ss k) in
+    let h = ends .hit b in
+    holds-yes k (getD ss (r .at) emptySlot) (h .0) (h .1) (h .2)

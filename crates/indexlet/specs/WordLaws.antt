@@ -1,0 +1,194 @@
+-- The laws of words: what a store leaves in each row, and the view after it.
+-- Assumes nothing.
+use Prim.Native.Nat.{ℕ, zero, suc, _+_, _*_, _/_, _%_, _^_, _<_, _≤_}
+use native.Mathlib.Omega.{arith}
+use mathlib.Core.Path.{_≡_, refl, sym, ap, _∙_, subst}
+use mathlib.Core.Logic.{⊎-elim}
+use mathlib.Core.Bool.{Bool, true, false, not}
+use mathlib.Core.List.{List}
+use mathlib.Core.Option.{Option, none, some}
+use lib.Dec.{eqb}
+use lib.ListN.{length, getD, set, length-set}
+use lib.Seq.{getD-set-same, getD-set-other, ext-getD}
+use borrow.Author.Tests.{eq-eqb, ne-eqb}
+use Rattle.lists.specs.Tests.{pick, both, present, same, cases, same-true, same-false}
+use Rattle.lists.specs.Rows.{Row, row}
+use Rattle.lists.specs.Tabs.{tab, length-tab, getD-tab}
+use Rattle.spec.specs.Slots.{slotCount, Pending, Content, isIdle, Slot, emptySlot, slotAt, vacant, holds}
+use Rattle.laws.specs.SlotChanges.{kept}
+use Rattle.indexlet.specs.declared.Content.{Content as ContentWords}
+use Rattle.indexlet.specs.declared.Slot.{Slot as SlotWords}
+use Rattle.indexlet.specs.Words.{wordCount, pendingIn, holderIn, contentIn, slotIn, rowAt, store, slotsOf}
+
+-- ---- rows
+
+pub length-store : (ws : List ℕ) (i : ℕ) (s : SlotWords) → length (store ws i s) ≡ length ws
+unfolding store
+length-store ws i s = simp length-set
+
+-- a word of another row
+word-other : (ws : List ℕ) (i : ℕ) (s : SlotWords) (m : ℕ) → (m / 6 ≡ i → ⊥) → getD (store ws i s) m 0 ≡ getD ws m 0
+unfolding store
+word-other ws i s m n =
+    getD-set-other (set (set (set (set (set ws (i * 6) (s .key)) (i * 6 + 1) (s .content .kind)) (i * 6 + 2) (s .content .value)) (i * 6 + 3) (s .content .commit)) (i * 6 + 4) (s .content .lock)) (i * 6 + 5) m (s .overflow) 0 (λ e. n (omega arith))
+    ∙ getD-set-other (set (set (set (set ws (i * 6) (s .key)) (i * 6 + 1) (s .content .kind)) (i * 6 + 2) (s .content .value)) (i * 6 + 3) (s .content .commit)) (i * 6 + 4) m (s .content .lock) 0 (λ e. n (omega arith))
+    ∙ getD-set-other (set (set (set ws (i * 6) (s .key)) (i * 6 + 1) (s .content .kind)) (i * 6 + 2) (s .content .value)) (i * 6 + 3) m (s .content .commit) 0 (λ e. n (omega arith))
+    ∙ getD-set-other (set (set ws (i * 6) (s .key)) (i * 6 + 1) (s .content .kind)) (i * 6 + 2) m (s .content .value) 0 (λ e. n (omega arith))
+    ∙ getD-set-other (set ws (i * 6) (s .key)) (i * 6 + 1) m (s .content .kind) 0 (λ e. n (omega arith))
+    ∙ getD-set-other ws (i * 6) m (s .key) 0 (λ e. n (omega arith))
+
+word-key : (ws : List ℕ) (i : ℕ) (s : SlotWords) → length ws ≡ wordCount → i < slotCount → getD (store ws i s) (i * 6) 0 ≡ s .key
+unfolding store
+word-key ws i s l h =
+    getD-set-other (set (set (set (set (set ws (i * 6) (s .key)) (i * 6 + 1) (s .content .kind)) (i * 6 + 2) (s .content .value)) (i * 6 + 3) (s .content .commit)) (i * 6 + 4) (s .content .lock)) (i * 6 + 5) (i * 6) (s .overflow) 0 (λ e. omega arith)
+    ∙ getD-set-other (set (set (set (set ws (i * 6) (s .key)) (i * 6 + 1) (s .content .kind)) (i * 6 + 2) (s .content .value)) (i * 6 + 3) (s .content .commit)) (i * 6 + 4) (i * 6) (s .content .lock) 0 (λ e. omega arith)
+    ∙ getD-set-other (set (set (set ws (i * 6) (s .key)) (i * 6 + 1) (s .content .kind)) (i * 6 + 2) (s .content .value)) (i * 6 + 3) (i * 6) (s .content .commit) 0 (λ e. omega arith)
+    ∙ getD-set-other (set (set ws (i * 6) (s .key)) (i * 6 + 1) (s .content .kind)) (i * 6 + 2) (i * 6) (s .content .value) 0 (λ e. omega arith)
+    ∙ getD-set-other (set ws (i * 6) (s .key)) (i * 6 + 1) (i * 6) (s .content .kind) 0 (λ e. omega arith)
+    ∙ getD-set-same ws (i * 6) (s .key) 0 (omega arith)
+
+word-kind : (ws : List ℕ) (i : ℕ) (s : SlotWords) → length ws ≡ wordCount → i < slotCount → getD (store ws i s) (i * 6 + 1) 0 ≡ s .content .kind
+unfolding store
+word-kind ws i s l h =
+    getD-set-other (set (set (set (set (set ws (i * 6) (s .key)) (i * 6 + 1) (s .content .kind)) (i * 6 + 2) (s .content .value)) (i * 6 + 3) (s .content .commit)) (i * 6 + 4) (s .content .lock)) (i * 6 + 5) (i * 6 + 1) (s .overflow) 0 (λ e. omega arith)
+    ∙ getD-set-other (set (set (set (set ws (i * 6) (s .key)) (i * 6 + 1) (s .content .kind)) (i * 6 + 2) (s .content .value)) (i * 6 + 3) (s .content .commit)) (i * 6 + 4) (i * 6 + 1) (s .content .lock) 0 (λ e. omega arith)
+    ∙ getD-set-other (set (set (set ws (i * 6) (s .key)) (i * 6 + 1) (s .content .kind)) (i * 6 + 2) (s .content .value)) (i * 6 + 3) (i * 6 + 1) (s .content .commit) 0 (λ e. omega arith)
+    ∙ getD-set-other (set (set ws (i * 6) (s .key)) (i * 6 + 1) (s .content .kind)) (i * 6 + 2) (i * 6 + 1) (s .content .value) 0 (λ e. omega arith)
+    ∙ getD-set-same (set ws (i * 6) (s .key)) (i * 6 + 1) (s .content .kind) 0 (let z : length (set ws (i * 6) (s .key)) ≡ length ws = simp length-set in omega arith)
+
+word-value : (ws : List ℕ) (i : ℕ) (s : SlotWords) → length ws ≡ wordCount → i < slotCount → getD (store ws i s) (i * 6 + 2) 0 ≡ s .content .value
+unfolding store
+word-value ws i s l h =
+    getD-set-other (set (set (set (set (set ws (i * 6) (s .key)) (i * 6 + 1) (s .content .kind)) (i * 6 + 2) (s .content .value)) (i * 6 + 3) (s .content .commit)) (i * 6 + 4) (s .content .lock)) (i * 6 + 5) (i * 6 + 2) (s .overflow) 0 (λ e. omega arith)
+    ∙ getD-set-other (set (set (set (set ws (i * 6) (s .key)) (i * 6 + 1) (s .content .kind)) (i * 6 + 2) (s .content .value)) (i * 6 + 3) (s .content .commit)) (i * 6 + 4) (i * 6 + 2) (s .content .lock) 0 (λ e. omega arith)
+    ∙ getD-set-other (set (set (set ws (i * 6) (s .key)) (i * 6 + 1) (s .content .kind)) (i * 6 + 2) (s .content .value)) (i * 6 + 3) (i * 6 + 2) (s .content .commit) 0 (λ e. omega arith)
+    ∙ getD-set-same (set (set ws (i * 6) (s .key)) (i * 6 + 1) (s .content .kind)) (i * 6 + 2) (s .content .value) 0 (let z : length (set (set ws (i * 6) (s .key)) (i * 6 + 1) (s .content .kind)) ≡ length ws = simp length-set in omega arith)
+
+word-commit : (ws : List ℕ) (i : ℕ) (s : SlotWords) → length ws ≡ wordCount → i < slotCount → getD (store ws i s) (i * 6 + 3) 0 ≡ s .content .commit
+unfolding store
+word-commit ws i s l h =
+    getD-set-other (set (set (set (set (set ws (i * 6) (s .key)) (i * 6 + 1) (s .content .kind)) (i * 6 + 2) (s .content .value)) (i * 6 + 3) (s .content .commit)) (i * 6 + 4) (s .content .lock)) (i * 6 + 5) (i * 6 + 3) (s .overflow) 0 (λ e. omega arith)
+    ∙ getD-set-other (set (set (set (set ws (i * 6) (s .key)) (i * 6 + 1) (s .content .kind)) (i * 6 + 2) (s .content .value)) (i * 6 + 3) (s .content .commit)) (i * 6 + 4) (i * 6 + 3) (s .content .lock) 0 (λ e. omega arith)
+    ∙ getD-set-same (set (set (set ws (i * 6) (s .key)) (i * 6 + 1) (s .content .kind)) (i * 6 + 2) (s .content .value)) (i * 6 + 3) (s .content .commit) 0 (let z : length (set (set (set ws (i * 6) (s .key)) (i * 6 + 1) (s .content .kind)) (i * 6 + 2) (s .content .value)) ≡ length ws = simp length-set in omega arith)
+
+word-lock : (ws : List ℕ) (i : ℕ) (s : SlotWords) → length ws ≡ wordCount → i < slotCount → getD (store ws i s) (i * 6 + 4) 0 ≡ s .content .lock
+unfolding store
+word-lock ws i s l h =
+    getD-set-other (set (set (set (set (set ws (i * 6) (s .key)) (i * 6 + 1) (s .content .kind)) (i * 6 + 2) (s .content .value)) (i * 6 + 3) (s .content .commit)) (i * 6 + 4) (s .content .lock)) (i * 6 + 5) (i * 6 + 4) (s .overflow) 0 (λ e. omega arith)
+    ∙ getD-set-same (set (set (set (set ws (i * 6) (s .key)) (i * 6 + 1) (s .content .kind)) (i * 6 + 2) (s .content .value)) (i * 6 + 3) (s .content .commit)) (i * 6 + 4) (s .content .lock) 0 (let z : length (set (set (set (set ws (i * 6) (s .key)) (i * 6 + 1) (s .content .kind)) (i * 6 + 2) (s .content .value)) (i * 6 + 3) (s .content .commit)) ≡ length ws = simp length-set in omega arith)
+
+word-overflow : (ws : List ℕ) (i : ℕ) (s : SlotWords) → length ws ≡ wordCount → i < slotCount → getD (store ws i s) (i * 6 + 5) 0 ≡ s .overflow
+unfolding store
+word-overflow ws i s l h =
+    getD-set-same (set (set (set (set (set ws (i * 6) (s .key)) (i * 6 + 1) (s .content .kind)) (i * 6 + 2) (s .content .value)) (i * 6 + 3) (s .content .commit)) (i * 6 + 4) (s .content .lock)) (i * 6 + 5) (s .overflow) 0 (let z : length (set (set (set (set (set ws (i * 6) (s .key)) (i * 6 + 1) (s .content .kind)) (i * 6 + 2) (s .content .value)) (i * 6 + 3) (s .content .commit)) (i * 6 + 4) (s .content .lock)) ≡ length ws = simp length-set in omega arith)
+
+-- the row that was stored
+pub row-store-same : (ws : List ℕ) (i : ℕ) (s : SlotWords) → length ws ≡ wordCount → i < slotCount → rowAt (store ws i s) i ≡ s
+unfolding rowAt
+row-store-same ws i s l h =
+    λ j. record {
+      key = word-key ws i s l h j;
+      content =
+          record {
+            kind = word-kind ws i s l h j;
+            value = word-value ws i s l h j;
+            commit = word-commit ws i s l h j;
+            lock = word-lock ws i s l h j;
+          };
+      overflow = word-overflow ws i s l h j;
+    }
+
+-- and every other
+pub row-store-other : (ws : List ℕ) (i k : ℕ) (s : SlotWords) → (k ≡ i → ⊥) → rowAt (store ws i s) k ≡ rowAt ws k
+unfolding rowAt
+row-store-other ws i k s n =
+    λ j. record {
+      key = word-other ws i s (k * 6) (λ e. n (omega arith)) j;
+      content =
+          record {
+            kind = word-other ws i s (k * 6 + 1) (λ e. n (omega arith)) j;
+            value = word-other ws i s (k * 6 + 2) (λ e. n (omega arith)) j;
+            commit = word-other ws i s (k * 6 + 3) (λ e. n (omega arith)) j;
+            lock = word-other ws i s (k * 6 + 4) (λ e. n (omega arith)) j;
+          };
+      overflow = word-other ws i s (k * 6 + 5) (λ e. n (omega arith)) j;
+    }
+
+-- ---- the view
+
+pub length-slots : (ws : List ℕ) → length (slotsOf ws) ≡ slotCount
+unfolding slotsOf
+length-slots ws = length-tab (λ (i : ℕ). slotIn (rowAt ws i)) slotCount
+
+pub slots-at : (ws : List ℕ) (i : ℕ) → i < slotCount → getD (slotsOf ws) i emptySlot ≡ slotIn (rowAt ws i)
+unfolding slotsOf
+slots-at ws i h = getD-tab (λ (i : ℕ). slotIn (rowAt ws i)) slotCount i emptySlot h
+
+-- the slot after some slots from another
+pub slot-there : (ws : List ℕ) (i : ℕ) → slotAt (slotsOf ws) i ≡ slotIn (rowAt ws (i % slotCount))
+unfolding slotAt
+slot-there ws i = slots-at ws (i % slotCount) (omega arith)
+
+-- a store of a row changes one slot
+pub slots-store : (ws : List ℕ) (i : ℕ) (s : SlotWords) → length ws ≡ wordCount → i < slotCount
+    → slotsOf (store ws i s) ≡ set (slotsOf ws) i (slotIn s)
+slots-store ws i s l h =
+    ext-getD emptySlot (slotsOf (store ws i s)) (set (slotsOf ws) i (slotIn s))
+    (length-slots (store ws i s) ∙ sym (length-set (slotsOf ws) i (slotIn s) ∙ length-slots ws))
+    (λ j q. at j (let z : length (slotsOf (store ws i s)) ≡ slotCount = length-slots (store ws i s) in omega arith))
+  where
+    inside : i < length (slotsOf ws)
+    inside = let z : length (slotsOf ws) ≡ slotCount = length-slots ws in omega arith
+
+    at : (j : ℕ) → j < slotCount → getD (slotsOf (store ws i s)) j emptySlot ≡ getD (set (slotsOf ws) i (slotIn s)) j emptySlot
+    at j q =
+        slots-at (store ws i s) j q
+        ∙ ⊎-elim
+        (λ t. let e : j ≡ i = same-true j i t in
+        ap (λ (n : ℕ). slotIn (rowAt (store ws i s) n)) e
+        ∙ ap slotIn (row-store-same ws i s l h)
+        ∙ sym (ap (λ (n : ℕ). getD (set (slotsOf ws) i (slotIn s)) n emptySlot) e ∙ getD-set-same (slotsOf ws) i (slotIn s) emptySlot inside))
+        (λ t. ap slotIn (row-store-other ws i j s (same-false j i t)) ∙ sym (slots-at ws j q)
+        ∙ sym (getD-set-other (slotsOf ws) i j (slotIn s) emptySlot (same-false j i t)))
+        (cases (same j i))
+
+-- ---- tests of a row
+
+pub idle-waiting : (c : ContentWords) → (c .kind ≡ 0 → ⊥) → isIdle (contentIn c) ≡ false
+unfolding isIdle contentIn pendingIn
+idle-waiting c n = go (c .kind) n
+  where
+    go : (k : ℕ) → (k ≡ 0 → ⊥) → both (not (present (pendingIn k (c .value) (c .commit)))) (not (present (holderIn (c .lock)))) ≡ false
+    go zero n = absurd (n refl)
+    go (suc zero) n = refl
+    go (suc (suc k)) n = refl
+
+pub idle-lock : (c : ContentWords) → c .kind ≡ 0 → isIdle (contentIn c) ≡ eqb (c .lock) 0
+unfolding isIdle contentIn pendingIn holderIn
+idle-lock c e =
+    ap (λ (k : ℕ). both (not (present (pendingIn k (c .value) (c .commit)))) (not (present (holderIn (c .lock))))) e ∙ go (c .lock)
+  where
+    go : (l : ℕ) → not (present (holderIn l)) ≡ eqb l 0
+    go zero = refl
+    go (suc w) = sym (ne-eqb (suc w) 0 (λ e. omega arith))
+
+-- a row that says nothing has no entry
+pub vacant-idle : (s : SlotWords) → vacant (slotIn s) ≡ isIdle (contentIn (s .content))
+unfolding vacant slotIn
+vacant-idle s = go (isIdle (contentIn (s .content)))
+  where
+    go : (t : Bool) → not (present {A = Row Content} (pick t none (some (row (s .key) (contentIn (s .content)))))) ≡ t
+    go true = refl
+    go false = refl
+
+pub holds-idle : (a : ℕ) (s : SlotWords) → isIdle (contentIn (s .content)) ≡ true → holds a (slotIn s) ≡ false
+unfolding holds slotIn
+holds-idle a s t = rw t
+
+pub holds-busy : (a : ℕ) (s : SlotWords) → isIdle (contentIn (s .content)) ≡ false → holds a (slotIn s) ≡ eqb (s .key) a
+unfolding holds slotIn same
+holds-busy a s t = rw t
+
+pub idle-zero : isIdle (contentIn (record { kind = 0; value = 0; commit = 0; lock = 0 })) ≡ true
+unfolding isIdle contentIn pendingIn holderIn
+idle-zero = refl

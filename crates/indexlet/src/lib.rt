@@ -1,0 +1,550 @@
+// The indexlet: 256 slots in lent words. Each row of words is a slot: its key, what is said of the key, its overflow count.
+// The promises speak of the model's slots (`slotsOf`, which reads the words) and of what the model does to them.
+ghost use mathlib.Core.Path.{_≡_};
+ghost use mathlib.Core.Bool.{false};
+ghost use Prim.Native.Nat.{_<_};
+ghost use lib.ListN.{length};
+ghost use Rattle.spec.specs.Slots.{slotCount, tableEntry, homeSlot, isIdle, holds, entries};
+ghost use Rattle.spec.specs.Slots as model;
+ghost use Rattle.laws.specs.SlotLaws.{Room};
+ghost use Rattle.indexlet.specs.Words.{contentIn, slotIn, rowAt, store, slotsOf};
+ghost use Rattle.indexlet.specs.Held.{Held, Becomes, Fresh, Reads, Looks, Enters, Stands, sought};
+
+// An address: 4 bytes.
+pub type Address = u32;
+
+// What is said of a key: a pending write (kind 0: none, 1: a put, else a deletion), its value and commit number, and the
+// lock (0: free, else its holder and one more).
+pub struct Content {
+    pub kind: u64,
+    pub value: u64,
+    pub commit: u64,
+    pub lock: u64,
+}
+
+// A row of six words. It has an entry if it says anything.
+pub struct Slot {
+    pub key: u64,
+    pub content: Content,
+    pub overflow: u64,
+}
+
+// What a search finds: what is said of the address, and how many slots the search examined.
+pub struct Looked {
+    pub content: Content,
+    pub examined: usize,
+}
+
+// Where a search ends: at the slot with the entry, or at 256; and how many slots it examined.
+struct Sought {
+    at: usize,
+    examined: usize,
+}
+
+// Document 01's constant table: entry i is (167 * i + 13) % 256.
+const TABLE: [u8; 256] = [
+    13,
+    180,
+    91,
+    2,
+    169,
+    80,
+    247,
+    158,
+    69,
+    236,
+    147,
+    58,
+    225,
+    136,
+    47,
+    214,
+    125,
+    36,
+    203,
+    114,
+    25,
+    192,
+    103,
+    14,
+    181,
+    92,
+    3,
+    170,
+    81,
+    248,
+    159,
+    70,
+    237,
+    148,
+    59,
+    226,
+    137,
+    48,
+    215,
+    126,
+    37,
+    204,
+    115,
+    26,
+    193,
+    104,
+    15,
+    182,
+    93,
+    4,
+    171,
+    82,
+    249,
+    160,
+    71,
+    238,
+    149,
+    60,
+    227,
+    138,
+    49,
+    216,
+    127,
+    38,
+    205,
+    116,
+    27,
+    194,
+    105,
+    16,
+    183,
+    94,
+    5,
+    172,
+    83,
+    250,
+    161,
+    72,
+    239,
+    150,
+    61,
+    228,
+    139,
+    50,
+    217,
+    128,
+    39,
+    206,
+    117,
+    28,
+    195,
+    106,
+    17,
+    184,
+    95,
+    6,
+    173,
+    84,
+    251,
+    162,
+    73,
+    240,
+    151,
+    62,
+    229,
+    140,
+    51,
+    218,
+    129,
+    40,
+    207,
+    118,
+    29,
+    196,
+    107,
+    18,
+    185,
+    96,
+    7,
+    174,
+    85,
+    252,
+    163,
+    74,
+    241,
+    152,
+    63,
+    230,
+    141,
+    52,
+    219,
+    130,
+    41,
+    208,
+    119,
+    30,
+    197,
+    108,
+    19,
+    186,
+    97,
+    8,
+    175,
+    86,
+    253,
+    164,
+    75,
+    242,
+    153,
+    64,
+    231,
+    142,
+    53,
+    220,
+    131,
+    42,
+    209,
+    120,
+    31,
+    198,
+    109,
+    20,
+    187,
+    98,
+    9,
+    176,
+    87,
+    254,
+    165,
+    76,
+    243,
+    154,
+    65,
+    232,
+    143,
+    54,
+    221,
+    132,
+    43,
+    210,
+    121,
+    32,
+    199,
+    110,
+    21,
+    188,
+    99,
+    10,
+    177,
+    88,
+    255,
+    166,
+    77,
+    244,
+    155,
+    66,
+    233,
+    144,
+    55,
+    222,
+    133,
+    44,
+    211,
+    122,
+    33,
+    200,
+    111,
+    22,
+    189,
+    100,
+    11,
+    178,
+    89,
+    0,
+    167,
+    78,
+    245,
+    156,
+    67,
+    234,
+    145,
+    56,
+    223,
+    134,
+    45,
+    212,
+    123,
+    34,
+    201,
+    112,
+    23,
+    190,
+    101,
+    12,
+    179,
+    90,
+    1,
+    168,
+    79,
+    246,
+    157,
+    68,
+    235,
+    146,
+    57,
+    224,
+    135,
+    46,
+    213,
+    124,
+    35,
+    202,
+    113,
+    24,
+    191,
+    102,
+];
+
+// The entry of the constant table for a byte.
+pub fn entry_of(b: u8) -> u8
+    ensures { λ r. ⌜ r ≡ tableEntry b ⌝ }
+{
+    TABLE[b as usize]
+}
+
+// The home slot of an address: its bytes, highest first, through the table.
+pub fn home(a: Address) -> usize
+    ensures { λ r. ⌜ r ≡ homeSlot 4 a ⌝ }
+{
+    let t = TABLE;
+    let b3 = (a / 16777216) as u8;
+    let b2 = (a / 65536 % 256) as u8;
+    let b1 = (a / 256 % 256) as u8;
+    let b0 = (a % 256) as u8;
+    let h3 = t[b3 as usize];
+    let h2 = t[(b2 ^ h3) as usize];
+    let h1 = t[(b1 ^ h2) as usize];
+    t[(b0 ^ h1) as usize] as usize
+}
+
+// Neither waiting nor locked.
+pub fn idle(c: Content) -> bool
+    ensures { λ r. ⌜ r ≡ isIdle (contentIn c) ⌝ }
+{
+    if c.kind != 0 {
+        return false;
+    }
+    c.lock == 0
+}
+
+// The slot has the entry of the address.
+fn holds_key(s: Slot, a: Address) -> bool
+    ensures { λ r. ⌜ r ≡ holds a (slotIn s) ⌝ }
+{
+    let c = s.content;
+    if idle(c) {
+        return false;
+    }
+    s.key == a as u64
+}
+
+// The row of slot i. Only this function and the next touch words.
+fn get(t: &[u64; 1536], i: usize) -> Slot
+    requires { ⌜ i < slotCount ⌝ }
+    ensures { λ r. ⌜ r ≡ rowAt (now (t .entry)) i ⌝ }
+{
+    let b = i * 6;
+    let content = Content {
+        kind: t[b + 1],
+        value: t[b + 2],
+        commit: t[b + 3],
+        lock: t[b + 4],
+    };
+    Slot {
+        key: t[b],
+        content,
+        overflow: t[b + 5],
+    }
+}
+
+fn put(t: &mut [u64; 1536], i: usize, s: Slot)
+    requires { ⌜ i < slotCount ⌝ }
+    ensures { λ _. ⌜ now (t .exit) ≡ store (now (t .entry)) i s ⌝ }
+{
+    let b = i * 6;
+    let c = s.content;
+    t[b] = s.key;
+    t[b + 1] = c.kind;
+    t[b + 2] = c.value;
+    t[b + 3] = c.commit;
+    t[b + 4] = c.lock;
+    t[b + 5] = s.overflow;
+}
+
+// All slots are empty.
+pub fn fresh(t: &mut [u64; 1536])
+    ensures { λ _. ⌜ Fresh (now (t .exit)) ⌝ }
+{
+    let zeros = [0u64; 1536];
+    *t = zeros;
+}
+
+// The row of slot i, for a walk over the slots.
+pub fn slot_at(t: &[u64; 1536], i: usize) -> Slot
+    requires { ⌜ Held (now t) ⌝ }
+    requires { ⌜ i < slotCount ⌝ }
+    ensures { λ r. ⌜ Reads (now (t .entry)) i r ⌝ }
+{
+    get(t, i)
+}
+
+// The search rule of document 01: from the home slot on, up to the slot with the entry or a count of 0.
+fn seek(t: &[u64; 1536], a: Address) -> Sought
+    ensures { λ r. ⌜ r ≡ sought (slotsOf (now (t .entry))) a ⌝ }
+{
+    let h = home(a);
+    let mut d = 0;
+    while d < 256 {
+        let i = (h + d) % 256;
+        let s = get(t, i);
+        if holds_key(s, a) {
+            return Sought {
+                at: i,
+                examined: d + 1,
+            };
+        }
+        if s.overflow == 0 {
+            return Sought {
+                at: 256,
+                examined: d + 1,
+            };
+        }
+        d += 1;
+    }
+    Sought {
+        at: 256,
+        examined: 256,
+    }
+}
+
+// What is said of an address, and how many slots the search for it examined.
+pub fn look_up(t: &[u64; 1536], a: Address) -> Looked
+    requires { ⌜ Held (now t) ⌝ }
+    ensures { λ r. ⌜ Looks (now (t .entry)) a r ⌝ }
+{
+    let f = seek(t, a);
+    let at = f.at;
+    if at < 256 {
+        let s = get(t, at);
+        let content = s.content;
+        return Looked {
+            content,
+            examined: f.examined,
+        };
+    }
+    let content = Content {
+        kind: 0,
+        value: 0,
+        commit: 0,
+        lock: 0,
+    };
+    Looked {
+        content,
+        examined: f.examined,
+    }
+}
+
+// A new entry takes the first empty slot from home, and each slot passed adds one.
+fn take(t: &mut [u64; 1536], a: Address, c: Content)
+    requires { ⌜ Held (now t) ⌝ }
+    requires { ⌜ length (entries (slotsOf (now t))) < slotCount ⌝ }
+    requires { ⌜ isIdle (contentIn c) ≡ false ⌝ }
+    ensures { λ _. ⌜ Becomes (now (t .exit)) (model.take 4 (slotsOf (now (t .entry))) a (contentIn c)) ⌝ }
+{
+    let h = home(a);
+    let mut d = 0;
+    while d < 256 {
+        let i = (h + d) % 256;
+        let s = get(t, i);
+        let said = s.content;
+        if idle(said) {
+            let own = Slot {
+                key: a as u64,
+                content: c,
+                overflow: s.overflow,
+            };
+            put(t, i, own);
+            return;
+        }
+        let more = Slot {
+            key: s.key,
+            content: said,
+            overflow: s.overflow + 1,
+        };
+        put(t, i, more);
+        d += 1;
+    }
+}
+
+// The entry of an address that stands `passed` slots after home is taken out, and each slot passed subtracts one.
+fn release(t: &mut [u64; 1536], a: Address, passed: usize)
+    requires { ⌜ Held (now t) ⌝ }
+    requires { ⌜ Stands (slotsOf (now t)) a passed ⌝ }
+    ensures { λ _. ⌜ Becomes (now (t .exit)) (model.release 4 (slotsOf (now (t .entry))) a) ⌝ }
+{
+    let h = home(a);
+    let mut d = 0;
+    while d < passed {
+        let i = (h + d) % 256;
+        let s = get(t, i);
+        let said = s.content;
+        let less = Slot {
+            key: s.key,
+            content: said,
+            overflow: s.overflow - 1,
+        };
+        put(t, i, less);
+        d += 1;
+    }
+    let i = (h + passed) % 256;
+    let s = get(t, i);
+    let nothing = Content {
+        kind: 0,
+        value: 0,
+        commit: 0,
+        lock: 0,
+    };
+    let none = Slot {
+        key: s.key,
+        content: nothing,
+        overflow: s.overflow,
+    };
+    put(t, i, none);
+}
+
+// `c` is said of the address: its entry is written, taken or taken out. `n` is the number of entries; the new number is
+// returned.
+pub fn enter(t: &mut [u64; 1536], n: usize, a: Address, c: Content) -> usize
+    requires { ⌜ Held (now t) ⌝ }
+    requires { ⌜ n ≡ length (entries (slotsOf (now t))) ⌝ }
+    requires { ⌜ Room (slotsOf (now t)) a (contentIn c) ⌝ }
+    ensures { λ r. ⌜ Enters (now (t .entry)) a c (now (t .exit)) r ⌝ }
+{
+    let f = seek(t, a);
+    let at = f.at;
+    if idle(c) {
+        if at < 256 {
+            release(t, a, f.examined - 1);
+            return n - 1;
+        }
+        return n;
+    }
+    if at < 256 {
+        let s = get(t, at);
+        let own = Slot {
+            key: a as u64,
+            content: c,
+            overflow: s.overflow,
+        };
+        put(t, at, own);
+        return n;
+    }
+    take(t, a, c);
+    n + 1
+}

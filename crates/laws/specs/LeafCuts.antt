@@ -50,7 +50,7 @@ cuts-fit {s} c n =
 
 -- ---- how many
 
-runs-some : (limit run fuel n : ℕ) → 1 ≤ length (runs limit run fuel n)
+pub runs-some : (limit run fuel n : ℕ) → 1 ≤ length (runs limit run fuel n)
 unfolding runs
 runs-some limit run zero n = le-refl 1
 runs-some limit run (suc fuel) n = ⊎-elim (λ e. rw e (le-refl 1)) (λ e. rw e (omega arith)) (cases (less n limit))

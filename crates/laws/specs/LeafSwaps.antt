@@ -11,7 +11,7 @@ use mathlib.Core.List.{List, [], _∷_, _++_}
 use Rattle.lists.specs.Tests.{cases, clash}
 use Rattle.spec.specs.Leaves.{Leaf, leafFrom, leafOf, versionAt, live}
 use Rattle.laws.specs.LeafParts.{LowsFrom, Covers, Above, Reached, Apart, Side, below, inside, beyond, sideOf, lows-exchange, live-left, live-right, live-parts, not-live, apart-left, apart-right, apart-cross, apart-join, leaf-live, leaf-below, leaf-from, leaf-inside, leaf-beyond}
-use Rattle.laws.specs.LeafLaws.{GoodLeaves}
+use Rattle.laws.specs.LeafVersions.{GoodLeaves}
 
 -- `ms` is `ls` with `olds` replaced by `news`, of which each has one of the n versions after v
 pub record Swap (v n : ℕ) (ls ms : List Leaf) : Type 0 where

@@ -4,11 +4,16 @@ pub mod SlotChanges
 pub mod Searches
 pub mod SlotLaws
 pub mod LeafParts
-pub mod LeafLaws
 pub mod LeafCuts
+pub mod LeafVersions
 pub mod LeafSwaps
 pub mod SettleLaws
+pub mod LeafFills
+pub mod LeafLaws
+pub mod StandardCuts
 pub mod MapLaws
 pub mod MergeLaws
 pub mod ContentLaws
 pub mod RecordLaws
+pub mod MapBounds
+pub mod EnterCounts

@@ -15,7 +15,7 @@ use Rattle.spec.specs.Records.{Settings}
 use Rattle.spec.specs.Leaves.{Leaf, firstLeaf, leafFrom, leafOf, versionAt, live, cuts, starts, newLows, freshLeaves, Around, aroundFrom, around, widened, settled, settle, versionsTaken}
 use Rattle.laws.specs.LeafParts.{LowsFrom, Covers, Above, Apart, live-nil, live-head, live-later, live-cons, live-left, live-right, live-parts, not-live, apart-right, lows-right, lows-weaken}
 use Rattle.laws.specs.LeafCuts.{GoodCut, starts-none, cuts-fit, fresh-holds, taken-some, lows-taken, taken-none, fresh-versions, fresh-apart, fresh-rise}
-use Rattle.laws.specs.LeafLaws.{GoodLeaves, version-old}
+use Rattle.laws.specs.LeafVersions.{GoodLeaves, version-old}
 use Rattle.laws.specs.LeafSwaps.{Swap, Kept, gone-side, new-inside, swap-good, swap-renews, swap-keeps}
 
 -- Addresses by rising order, all in the leaf of a.

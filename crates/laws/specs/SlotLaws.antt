@@ -46,7 +46,7 @@ unfolding enter
 enter-absent bytes ss k c t q = rw (t, q)
 
 -- what `enter` does: it changes one entry, or has nothing to do
-pub Entering : (bytes : ℕ) (ss : List Slot) (k : ℕ) (c : Content) → Type 0
+unfoldable pub Entering : (bytes : ℕ) (ss : List Slot) (k : ℕ) (c : Content) → Type 0
 Entering bytes ss k c =
     Entered bytes ss k c (enter bytes ss k c) ⊎ ((enter bytes ss k c ≡ ss) × (count (keyed k) ss ≡ 0) × (isIdle c ≡ true))
 

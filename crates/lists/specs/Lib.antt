@@ -7,3 +7,7 @@ pub mod Options
 pub mod Ascending
 pub mod Members
 pub mod Tabs
+pub mod Memberships
+pub mod Halving
+pub mod Places
+pub mod Shifts

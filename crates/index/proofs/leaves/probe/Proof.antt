@@ -1,0 +1,42 @@
+use mathlib.Core.Path.{sym}
+use Prim.Native.Nat.{ℕ, _≤_}
+use lib.ListN.{length}
+use Rattle.index.specs.LeafPlaces.{leaf-step, leaf-stay, leaf-end}
+use borrow.Author.Needs.{needs}
+use Rattle.index.proofs.leaves.probe.Statement.{statement}
+use Rattle.index.proofs.leaves.probe.Tie as tie
+use Rattle.index.proofs.leaves.probe.Reads as reads
+use Rattle.index.proofs.leaves.probe.Lts as lts
+use Rattle.index.proofs.shifts.all.Reads as all-reads
+
+all-requires : tie.Need-all-requires
+all-requires c κs = search needs
+
+add-next : tie.Need-add-next
+add-next c = search needs
+
+mul-if2 : tie.Need-mul-if2
+mul-if2 c = search needs
+
+element-copy-out-if2 : tie.Need-element-copy-out-if2
+element-copy-out-if2 c = search needs
+
+returns : tie.Need-returns
+returns c = let s = c .before .before .before .before in
+    let f : s .args .m ≤ length (s .args .lows .now) = rw (c .before .before .before .all .ensures) (s .pre .0) in
+    leaf-step (s .args .lows .now) (s .args .m) (s .args .key) (s .args .base) (s .args .step) f (c .before .before .if1 .taken) (c .if2 .taken)
+
+returns-2 : tie.Need-returns-2
+returns-2 c = let s = c .before .before .before .before in
+    let f : s .args .m ≤ length (s .args .lows .now) = rw (c .before .before .before .all .ensures) (s .pre .0) in
+    leaf-stay (s .args .lows .now) (s .args .m) (s .args .key) (s .args .base) (s .args .step) f (c .before .before .if1 .taken) (c .if2 .left)
+
+returns-3 : tie.Need-returns-3
+returns-3 c = let s = c .before .before in
+    let f : s .args .m ≤ length (s .args .lows .now) = rw (c .before .all .ensures) (s .pre .0) in
+    leaf-end (s .args .lows .now) (s .args .m) (s .args .key) (s .args .base) (s .args .step) f (c .if1 .left)
+
+pub probe-spec : {M : Type 1} → statement M
+probe-spec =
+    tie.close
+    (tie.spec all-requires add-next mul-if2 element-copy-out-if2 returns returns-2 returns-3)

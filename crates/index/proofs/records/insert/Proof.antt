@@ -1,0 +1,36 @@
+use mathlib.Core.Path.{refl}
+use Rattle.index.specs.Views.{rowOf, rowsOf}
+use Rattle.index.specs.RecordLaws.{inserted}
+use borrow.Author.Needs.{needs}
+use Rattle.index.proofs.records.insert.Statement.{statement}
+use Rattle.index.proofs.records.insert.Tie as tie
+use Rattle.index.proofs.records.insert.Reads as reads
+use Rattle.index.proofs.records.insert.Lts as lts
+use Rattle.index.proofs.rows.raise.Reads as raise-reads
+use Rattle.index.proofs.rows.store.Reads as store-reads
+
+add-raise : tie.Need-add-raise
+add-raise c = search needs
+
+sub-raise : tie.Need-sub-raise
+sub-raise c = search needs
+
+raise-requires : tie.Need-raise-requires
+raise-requires c κs = search needs
+
+store-requires : tie.Need-store-requires
+store-requires c κs = search needs
+
+add-result : tie.Need-add-result
+add-result c = search needs
+
+returns : tie.Need-returns
+returns c = let s = c .before .before .before .before in (
+  refl,
+  inserted (s .args .rows .now) (c .store .last .0) (s .args .n) (rowOf (s .args .r)) (rowsOf (c .before .before .raise .last .0)) (s .args .p) (s .pre .0) (s .pre .1)
+      (c .before .before .raise .ensures) (c .store .ensures),
+)
+
+pub insert-spec : {M : Type 1} → statement M
+insert-spec =
+    tie.close (tie.spec add-raise sub-raise raise-requires store-requires add-result returns)

@@ -1,0 +1,71 @@
+use Rattle.index.specs.Views.{rowOf, recordFrom, Holds}
+use Rattle.index.specs.RecordLaws.{present-at, absent-at, absent-past, put-over, put-room, put-new}
+use borrow.Author.Needs.{needs}
+use Rattle.index.proofs.records.put.Statement.{statement}
+use Rattle.index.proofs.records.put.Tie as tie
+use Rattle.index.proofs.records.put.Reads as reads
+use Rattle.index.proofs.records.put.Lts as lts
+use Rattle.index.proofs.records.insert.Reads as insert-reads
+use Rattle.index.proofs.records.locate.Reads as locate-reads
+use Rattle.index.proofs.rows.get.Reads as get-reads
+use Rattle.index.proofs.rows.store.Reads as store-reads
+
+locate-requires : tie.Need-locate-requires
+locate-requires c κs = search needs
+
+insert-requires : tie.Need-insert-requires
+insert-requires c κs = let s = c .before .before .before .before in
+    let p = c .before .before .locate in (
+      p .ensures .within,
+      put-room (s .args .rows .now) (s .args .n) (s .args .a) (p .result) (s .pre .0) (p .ensures) (recordFrom (s .args .value) (s .args .commit))
+          (absent-past (s .args .rows .now) (s .args .n) (s .args .a) (p .result) (s .pre .0 .room) (p .ensures) (c .before .if1 .taken)) (s .pre .1),
+    )
+
+returns : tie.Need-returns
+returns c = let s = c .before .before .before .before .before in
+    let p = c .before .before .before .locate in
+    put-new (s .args .rows .now) (s .args .n) (s .args .a) (p .result) (s .pre .0) (p .ensures) (c .insert .last .0) (c .insert .result) (recordFrom (s .args .value) (s .args .commit))
+    (absent-past (s .args .rows .now) (s .args .n) (s .args .a) (p .result) (s .pre .0 .room) (p .ensures) (c .before .before .if1 .taken)) (s .pre .1) (c .insert .ensures)
+
+get-requires : tie.Need-get-requires
+get-requires c κs = search needs
+
+store-requires : tie.Need-store-requires
+store-requires c κs = search needs
+
+returns-2 : tie.Need-returns-2
+returns-2 c = let s = c .before .before .before .before .before .before .before .before .before in
+    let p = c .before .before .before .before .before .before .before .locate in
+    let g = c .before .before .before .before .get in
+    put-over (s .args .rows .now) (s .args .n) (s .args .a) (p .result) (s .pre .0) (p .ensures) (c .store .last .0) (recordFrom (s .args .value) (s .args .commit))
+    (present-at (s .args .rows .now) (s .args .n) (s .args .a) (p .result) (s .pre .0 .room) (p .ensures) (rowOf (g .result)) (c .before .before .before .before .before .before .if1 .left) (g .ensures) (c .before .before .if2 .taken))
+    (c .before .before .before .before .before .before .if1 .left) (c .store .ensures)
+
+insert-requires-2 : tie.Need-insert-requires-2
+insert-requires-2 c κs = let s = c .before .before .before .before .before .before .before .before in
+    let p = c .before .before .before .before .before .before .locate in
+    let g = c .before .before .before .get in (
+      p .ensures .within,
+      put-room (s .args .rows .now) (s .args .n) (s .args .a) (p .result) (s .pre .0) (p .ensures) (recordFrom (s .args .value) (s .args .commit))
+          (absent-at (s .args .rows .now) (s .args .n) (s .args .a) (p .result) (s .pre .0 .room) (p .ensures) (rowOf (g .result)) (c .before .before .before .before .before .if1 .left) (g .ensures) (c .before .if2 .left)) (s .pre .1),
+    )
+
+returns-3 : tie.Need-returns-3
+returns-3 c = let s = c .before .before .before .before .before .before .before .before .before in
+    let p = c .before .before .before .before .before .before .before .locate in
+    let g = c .before .before .before .before .get in
+    put-new (s .args .rows .now) (s .args .n) (s .args .a) (p .result) (s .pre .0) (p .ensures) (c .insert2 .last .0) (c .insert2 .result) (recordFrom (s .args .value) (s .args .commit))
+    (absent-at (s .args .rows .now) (s .args .n) (s .args .a) (p .result) (s .pre .0 .room) (p .ensures) (rowOf (g .result)) (c .before .before .before .before .before .before .if1 .left) (g .ensures) (c .before .before .if2 .left)) (s .pre .1) (c .insert2 .ensures)
+
+pub put-spec : {M : Type 1} → statement M
+put-spec =
+    tie.close
+    (tie.spec
+    locate-requires
+    insert-requires
+    returns
+    get-requires
+    store-requires
+    returns-2
+    insert-requires-2
+    returns-3)

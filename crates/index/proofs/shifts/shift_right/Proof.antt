@@ -1,0 +1,87 @@
+use borrow.Author.Needs.{needs}
+use Prim.Native.Nat.{_-_}
+use mathlib.Core.Path.{refl}
+use Rattle.lists.specs.Shifts.{Raising, raising-start, raising-on, raising-end}
+use Rattle.index.proofs.shifts.shift_right.Statement.{statement}
+use Rattle.index.proofs.shifts.shift_right.Tie as tie
+use Rattle.index.proofs.shifts.shift_right.Reads as reads
+use Rattle.index.proofs.shifts.shift_right.Lts as lts
+use Rattle.index.proofs.shifts.all.Reads as all-reads
+
+abbrev Inv-loop : tie.InvT-loop
+Inv-loop xs₀ from to n i₀ xs i = Raising xs₀ xs from to n i
+
+abbrev μ-loop : tie.MeasureT-loop
+μ-loop xs₀ from to n i₀ xs i = i
+
+-- src/shifts.rt:30:5
+all-requires : tie.Need-all-requires Inv-loop μ-loop
+all-requires c κs = search needs
+
+-- src/shifts.rt:32:5
+loop-holds : tie.Need-loop-holds Inv-loop μ-loop
+loop-holds c =
+    let s = c .before .before in
+    raising-start (s .args .xs .now) (s .args .from) (s .args .to) (s .args .n)
+
+-- src/shifts.rt:33:9
+sub-i : tie.Need-sub-i Inv-loop μ-loop
+sub-i c = search needs
+
+-- src/shifts.rt:34:20
+add-x : tie.Need-add-x Inv-loop μ-loop
+add-x c = search needs
+
+-- src/shifts.rt:34:17
+mul-x : tie.Need-mul-x Inv-loop μ-loop
+mul-x c = search needs
+
+-- src/shifts.rt:34:17
+element-copy-out-x : tie.Need-element-copy-out-x Inv-loop μ-loop
+element-copy-out-x c = search needs
+
+-- src/shifts.rt:35:12
+add-xs : tie.Need-add-xs Inv-loop μ-loop
+add-xs c = search needs
+
+-- src/shifts.rt:35:9
+mul-xs : tie.Need-mul-xs Inv-loop μ-loop
+mul-xs c = search needs
+
+-- src/shifts.rt:35:9
+element-write-xs : tie.Need-element-write-xs Inv-loop μ-loop
+element-write-xs c = search needs
+
+-- src/shifts.rt:32:5
+loop-less : tie.Need-loop-less Inv-loop μ-loop
+loop-less c = search needs
+
+-- src/shifts.rt:32:5
+loop-again : tie.Need-loop-again Inv-loop μ-loop
+loop-again c =
+    let l = c .before .before in
+    let s = l .before .before .before in
+    raising-on _ 0 (s .pre .0) (rw (l .before .all .ensures) (s .pre .1)) (c .before .loop-test .taken) (l .loop .inv) refl
+
+-- src/shifts.rt:25:1
+returns : tie.Need-returns Inv-loop μ-loop
+returns c = raising-end (c .before .loop .inv) (c .loop-test .left)
+
+pub shift-right-spec : {M : Type 1} → statement M
+shift-right-spec =
+    tie.close
+    (tie.spec
+    Inv-loop
+    μ-loop
+    all-requires
+    loop-holds
+    sub-i
+    add-x
+    mul-x
+    element-copy-out-x
+    add-xs
+    mul-xs
+    element-write-xs
+    loop-less
+    loop-again
+    returns)

@@ -1,0 +1,7 @@
+pub mod Views
+pub mod ViewLaws
+pub mod Searches
+pub mod RecordLaws
+pub mod LeafPlaces
+pub mod LeafViews
+pub mod Settles

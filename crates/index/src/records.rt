@@ -1,0 +1,127 @@
+// The records: look-up, put and drop by address.
+use crate::Address;
+use crate::rows;
+use crate::rows::RecordRow;
+ghost use mathlib.Core.Path.{_≡_};
+ghost use mathlib.Core.Option.{none, some};
+ghost use Prim.Native.Nat.{_+_, _<_, _≤_};
+ghost use mathlib.Core.List.{_∷_, _++_};
+ghost use lib.ListN.{length, getD, take, drop};
+ghost use Rattle.lists.specs.Rows.{look, assign};
+ghost use Rattle.index.specs.Views.{Held, Holds, recordsOf, recordFrom, rowOf, noRow, foundOf, AtPlace};
+ghost use Rattle.index.specs.Searches.{probed};
+
+// What a look-up finds.
+pub enum Found {
+    At { value: u64, commit: u64 },
+    Nothing,
+}
+
+// One step of the search: past `step` more records, if they are there and have smaller addresses.
+fn probe(rows: &[u64; 3072], n: usize, key: u64, base: usize, step: usize) -> usize
+    requires { ⌜ n ≤ 1024 ⌝ }
+    requires { ⌜ (0 < step) × (step ≤ 1024) × (base ≤ 1024) ⌝ }
+    ensures { λ r. ⌜ r ≡ probed (recordsOf (now (rows .entry)) n) key base step ⌝ }
+{
+    let end = base + step;
+    if end <= n {
+        let r = rows::get(rows, end - 1);
+        if r.address < key {
+            return end;
+        }
+    }
+    base
+}
+
+// How many records have a smaller address: the place of the address, or where it would go. The steps are the same
+// for every count, so that the loop runs without a branch that depends on it.
+pub fn locate(rows: &[u64; 3072], n: usize, a: Address) -> usize
+    requires { ⌜ Held (now rows) n ⌝ }
+    ensures { λ r. ⌜ AtPlace (now (rows .entry)) n a r ⌝ }
+{
+    let key = a as u64;
+    let mut base = 0;
+    let mut step = 1024;
+    while 0 < step {
+        base = probe(rows, n, key, base, step);
+        step = step / 2;
+    }
+    base
+}
+
+// The record at an address.
+pub fn find(rows: &[u64; 3072], n: usize, a: Address) -> Found
+    requires { ⌜ Held (now rows) n ⌝ }
+    ensures { λ r. ⌜ foundOf r ≡ look (recordsOf (now (rows .entry)) n) a ⌝ }
+{
+    let p = locate(rows, n, a);
+    if n <= p {
+        return Found::Nothing;
+    }
+    let r = rows::get(rows, p);
+    if r.address == a as u64 {
+        return Found::At {
+            value: r.value,
+            commit: r.commit,
+        };
+    }
+    Found::Nothing
+}
+
+// The record at place i, by rising address.
+pub fn record_at(rows: &[u64; 3072], n: usize, i: usize) -> RecordRow
+    requires { ⌜ (i < n) × (n ≤ 1024) ⌝ }
+    ensures { λ r. ⌜ rowOf r ≡ getD (recordsOf (now (rows .entry)) n) i noRow ⌝ }
+{
+    rows::get(rows, i)
+}
+
+// Puts a row in at place p, before the records that stand there and after it. Answers how many records there are now.
+fn insert(rows: &mut [u64; 3072], n: usize, p: usize, r: RecordRow) -> usize
+    requires { ⌜ (p ≤ n) × (n < 1024) ⌝ }
+    ensures { λ m. ⌜ (m ≡ n + 1) × (recordsOf (now (rows .exit)) (n + 1) ≡ take p (recordsOf (now (rows .entry)) n) ++ (rowOf r ∷ drop p (recordsOf (now (rows .entry)) n))) ⌝ }
+{
+    rows::raise(rows, p, p + 1, n - p);
+    rows::store(rows, p, r);
+    n + 1
+}
+
+// Puts a record at an address, in place of one that stands there. Answers how many records there are now.
+pub fn put(rows: &mut [u64; 3072], n: usize, a: Address, value: u64, commit: u64) -> usize
+    requires { ⌜ Held (now rows) n ⌝ }
+    requires { ⌜ length (assign a (some (recordFrom value commit)) (recordsOf (now rows) n)) ≤ 1024 ⌝ }
+    ensures { λ r. ⌜ Holds (now (rows .exit)) r (assign a (some (recordFrom value commit)) (recordsOf (now (rows .entry)) n)) ⌝ }
+{
+    let p = locate(rows, n, a);
+    let row = RecordRow {
+        address: a as u64,
+        value,
+        commit,
+    };
+    if n <= p {
+        return insert(rows, n, p, row);
+    }
+    let there = rows::get(rows, p);
+    if there.address == a as u64 {
+        rows::store(rows, p, row);
+        return n;
+    }
+    insert(rows, n, p, row)
+}
+
+// Drops the record at an address, if there is one. Answers how many records there are now.
+pub fn drop(rows: &mut [u64; 3072], n: usize, a: Address) -> usize
+    requires { ⌜ Held (now rows) n ⌝ }
+    ensures { λ r. ⌜ Holds (now (rows .exit)) r (assign a none (recordsOf (now (rows .entry)) n)) ⌝ }
+{
+    let p = locate(rows, n, a);
+    if n <= p {
+        return n;
+    }
+    let there = rows::get(rows, p);
+    if there.address == a as u64 {
+        rows::lower(rows, p + 1, p, n - p - 1);
+        return n - 1;
+    }
+    n
+}

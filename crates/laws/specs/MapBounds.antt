@@ -1,0 +1,305 @@
+-- The limits of a map, as one invariant: the slots are good, records rise, leaves are good and each but the first holds
+-- a record, and refusals 10 and 11 keep the waiting and locked addresses, and those with the index, within their limits.
+-- Lock (under the tests of those refusals), unlock, install and merge keep it. From it follow that the index has at most
+-- `mapLimit` records and that there is at most one leaf more: document 01's 1,025 leaves are proved, not refused.
+-- Assumes nothing.
+use Prim.Native.Nat.{ℕ, suc, _<_, _≤_, zero-le}
+use native.Mathlib.Nat.{le-trans, le-of-eq, lt-of-le-of-lt}
+use native.Mathlib.Omega.{arith}
+use mathlib.Core.Path.{_≡_, refl, sym, ap, _∙_, subst}
+use mathlib.Core.Logic.{⊎-elim}
+use mathlib.Core.Bool.{Bool, true, false, not}
+use mathlib.Core.List.{List, [], _∷_, _++_, List·Memᴰ}
+use mathlib.Core.Option.{Option, none, some}
+use lib.ListN.{length}
+use Rattle.lists.specs.Tests.{pick, both, maybe, present, same, cases, clash, same-false}
+use Rattle.lists.specs.Rows.{Row, look, keys, has, filter, distinct, Rising}
+use Rattle.lists.specs.RowLaws.{has-keys, length-keys, rising-nil, rising-different}
+use Rattle.lists.specs.Ascending.{mem-filter, mem-keys, keys-mem}
+use Rattle.lists.specs.Counting.{distinct-within, different-count, different-within}
+use Rattle.lists.specs.Memberships.{member-has, has-member, has-left, has-right, has-parts}
+use Rattle.spec.specs.Records.{Settings, standard, Record, Write}
+use Rattle.spec.specs.Leaves.{Leaf, versionAt, settle}
+use Rattle.spec.specs.Slots.{slotCount, Slot, Pending, Content, isIdle, entries, contentOf}
+use Rattle.spec.specs.Maps.{MapState, freshMap, waitingWith, addressesWith, each, withSlots, lockAll, unlockAll, installAll, mergesAt, merging, mergeEntry, recordsIn, settleMap, mergeAll, mergeAt}
+use Rattle.laws.specs.SlotCounts.{Good}
+use Rattle.laws.specs.SlotLaws.{fresh-good, present-content, keys-differ}
+use Rattle.laws.specs.LeafCuts.{GoodCut}
+use Rattle.laws.specs.LeafLaws.{GoodLeaves, fresh-leaves}
+use Rattle.laws.specs.SettleLaws.{records-in-leaf}
+use Rattle.laws.specs.LeafFills.{Filled, fresh-filled, settle-filled, leaf-count}
+use Rattle.laws.specs.MapLaws.{idle-holder, idle-pending, unlocked, writtenBy, LockRoom, Installable, lock-good, lock-says, unlock-good, unlock-says, install-good, install-says}
+use Rattle.laws.specs.MergeLaws.{Merges, merges, merging-leaf, merged-good, merged-rising, merged-holder, merged-leaves, merged-look, merged-pending}
+
+-- What holds of a map with the limits s, v the last version given.
+pub record Bounded (s : Settings) (v : ℕ) (m : MapState) : Type 0 where
+  pub slots : Good (s .bytes) (m .slots)
+  pub records : Rising (m .records)
+  pub leaves : GoodLeaves v (m .leaves)
+  -- every leaf but the first holds a record
+  pub filled : Filled (m .records) (m .leaves)
+  -- waiting and locked addresses
+  pub waiting : length (entries (m .slots)) ≤ s .waitingLimit
+  -- index, waiting and locked addresses
+  pub addresses : distinct (keys (m .records) ++ keys (entries (m .slots))) ≤ s .mapLimit
+
+-- ---- what follows
+
+pub record-count : {s : Settings} {v : ℕ} {m : MapState} → Bounded s v m → length (m .records) ≤ s .mapLimit
+record-count {s} {v} {m} b =
+    le-trans (le-of-eq (sym (length-keys (m .records))))
+    (le-trans
+    (different-within (keys (m .records)) (keys (m .records) ++ keys (entries (m .slots))) (rising-different (m .records) (b .records))
+    (λ k e. has-left k (keys (m .records)) (keys (entries (m .slots))) e))
+    (b .addresses))
+
+pub leaf-limit : {s : Settings} {v : ℕ} {m : MapState} → Bounded s v m → length (m .leaves) ≤ suc (s .mapLimit)
+leaf-limit {s} {v} {m} b =
+    let l : length (m .leaves) ≤ suc (length (m .records)) = leaf-count (b .leaves) (b .filled) in
+    let r : length (m .records) ≤ s .mapLimit = record-count b in
+    omega arith
+
+-- there are never more than 1,025 leaves
+pub standard-leaves : {v : ℕ} {m : MapState} → Bounded standard v m → length (m .leaves) ≤ 1025
+standard-leaves {v} {m} b = leaf-limit b
+
+-- ---- an empty map
+
+pub fresh-bounded : (s : Settings) → Bounded s 0 freshMap
+fresh-bounded s =
+    record {
+      slots = fresh-good (s .bytes);
+      records = rising-nil Record;
+      leaves = fresh-leaves;
+      filled = fresh-filled [];
+      waiting = unfold entries in zero-le;
+      addresses = unfold entries keys distinct in zero-le;
+    }
+
+-- ---- counts of entries
+
+-- an address is waiting or locked
+abbrev pub Busy : List Slot → ℕ → Type 0
+Busy ss k = isIdle (contentOf ss k) ≡ false
+
+pub entry-busy : {bytes : ℕ} {ss : List Slot} → Good bytes ss → (k : ℕ) → has k (keys (entries ss)) ≡ not (isIdle (contentOf ss k))
+entry-busy {bytes} {ss} g k = has-keys (entries ss) k ∙ present-content g k
+
+pub has-busy : {bytes : ℕ} {ss : List Slot} → Good bytes ss → (k : ℕ) → has k (keys (entries ss)) ≡ true → Busy ss k
+has-busy {bytes} {ss} g k e =
+    ⊎-elim (λ t. clash e (entry-busy g k ∙ ap not t)) (λ t. t) (cases (isIdle (contentOf ss k)))
+
+pub busy-has : {bytes : ℕ} {ss : List Slot} → Good bytes ss → (k : ℕ) → Busy ss k → has k (keys (entries ss)) ≡ true
+busy-has g k e = entry-busy g k ∙ ap not e
+
+-- addresses that all stand in a list are no more than it has different numbers
+entries-within : {bytes : ℕ} {ss : List Slot} → Good bytes ss → (ys : List ℕ) → ((k : ℕ) → Busy ss k → has k ys ≡ true)
+    → length (entries ss) ≤ distinct ys
+entries-within {bytes} {ss} g ys h =
+    le-trans (le-of-eq (sym (length-keys (entries ss))))
+    (different-within (keys (entries ss)) ys (keys-differ g) (λ k e. h k (has-busy g k e)))
+
+addresses-within : {bytes : ℕ} {ss : List Slot} → Good bytes ss → (rs : List (Row Record)) (zs : List ℕ)
+    → ((k : ℕ) → has k (keys rs) ≡ true → has k zs ≡ true) → ((k : ℕ) → Busy ss k → has k zs ≡ true)
+    → distinct (keys rs ++ keys (entries ss)) ≤ distinct zs
+addresses-within {bytes} {ss} g rs zs a b =
+    distinct-within (keys rs ++ keys (entries ss)) zs
+    (λ k e. ⊎-elim (a k) (λ t. b k (has-busy g k t)) (has-parts k (keys rs) (keys (entries ss)) e))
+
+-- the entries, counted as different addresses
+entry-number : {s : Settings} {v : ℕ} {m : MapState} → Bounded s v m → distinct (keys (entries (m .slots))) ≤ s .waitingLimit
+entry-number {s} {v} {m} b =
+    le-trans (le-of-eq (different-count (keys (entries (m .slots))) (keys-differ (b .slots)) ∙ length-keys (entries (m .slots)))) (b .waiting)
+
+-- other slots, whose addresses all stand in a list within the limits
+slots-bounded : {s : Settings} {v : ℕ} {m : MapState} → Bounded s v m → (ss : List Slot) (ys : List ℕ) → Good (s .bytes) ss
+    → ((k : ℕ) → Busy ss k → has k ys ≡ true) → distinct ys ≤ s .waitingLimit → distinct (keys (m .records) ++ ys) ≤ s .mapLimit
+    → Bounded s v (withSlots m ss)
+slots-bounded {s} {v} {m} b ss ys g h p q =
+    unfold withSlots in
+    record {
+      slots = g;
+      records = b .records;
+      leaves = b .leaves;
+      filled = b .filled;
+      waiting = le-trans (entries-within g ys h) p;
+      addresses =
+          le-trans
+          (addresses-within g (m .records) (keys (m .records) ++ ys) (λ k e. has-left k (keys (m .records)) ys e)
+          (λ k e. has-right k (keys (m .records)) ys (h k e)))
+          q;
+    }
+
+-- other slots that give no further address an entry
+fewer-bounded : {s : Settings} {v : ℕ} {m : MapState} → Bounded s v m → (ss : List Slot) → Good (s .bytes) ss
+    → ((k : ℕ) → Busy ss k → Busy (m .slots) k) → Bounded s v (withSlots m ss)
+fewer-bounded {s} {v} {m} b ss g h =
+    slots-bounded b ss (keys (entries (m .slots))) g (λ k e. busy-has (b .slots) k (h k e)) (entry-number b) (b .addresses)
+
+-- ---- lock, unlock, install
+
+pub lock-room : (s : Settings) (m : MapState) (ks : List ℕ) → s .waitingLimit < slotCount → waitingWith m ks ≤ s .waitingLimit → LockRoom (m .slots) ks
+unfolding waitingWith
+lock-room s m ks r p = lt-of-le-of-lt p r
+
+-- under the tests of refusals 10 and 11
+pub lock-bounded : {s : Settings} {v : ℕ} {m : MapState} → Bounded s v m → s .waitingLimit < slotCount → (w : ℕ) (ks : List ℕ)
+    → waitingWith m ks ≤ s .waitingLimit → addressesWith m ks ≤ s .mapLimit → Bounded s v (lockAll s w m ks)
+unfolding waitingWith addressesWith lockAll withSlots
+lock-bounded {s} {v} {m} b r w ks p q =
+    slots-bounded b _ (keys (entries (m .slots)) ++ ks) (lock-good s w m ks (b .slots) room) busy p q
+  where
+    room : LockRoom (m .slots) ks
+    room = lock-room s m ks r p
+
+    busy : (k : ℕ) → Busy (lockAll s w m ks .slots) k → has k (keys (entries (m .slots)) ++ ks) ≡ true
+    busy k e =
+        ⊎-elim
+        (λ t. has-right k (keys (entries (m .slots))) ks t)
+        (λ t. has-left k (keys (entries (m .slots))) ks (busy-has (b .slots) k (sym (ap isIdle (lock-says s w m ks (b .slots) room k ∙ (rw t))) ∙ e)))
+        (cases (has k ks))
+
+unlocked-idle : (w : ℕ) (c : Content) → isIdle c ≡ true → unlocked w c ≡ c
+unfolding unlocked
+unlocked-idle w c e =
+    ap (λ (o : Option ℕ). maybe o c (λ (h : ℕ). pick (same h w) (record { pending = c .pending; holder = none }) c)) (idle-holder c e)
+
+pub unlock-bounded : {s : Settings} {v : ℕ} {m : MapState} → Bounded s v m → (w : ℕ) (ks : List ℕ) → Bounded s v (unlockAll s w m ks)
+unfolding unlockAll withSlots
+unlock-bounded {s} {v} {m} b w ks = fewer-bounded b _ (unlock-good s w m ks (b .slots)) (λ k e. ⊎-elim (λ t. clash (idles k t) e) (λ t. t) (cases (isIdle (contentOf (m .slots) k))))
+  where
+    idles : (k : ℕ) → isIdle (contentOf (m .slots) k) ≡ true → isIdle (contentOf (unlockAll s w m ks .slots) k) ≡ true
+    idles k t =
+        ap isIdle
+        (unlock-says s w m ks (b .slots) k
+        ∙ ap (λ (c : Content). pick (has k ks) c (contentOf (m .slots) k)) (unlocked-idle w (contentOf (m .slots) k) t)
+        ∙ ⊎-elim (λ q. rw q) (λ q. rw q) (cases (has k ks)))
+        ∙ t
+
+pub install-bounded : {s : Settings} {v : ℕ} {m : MapState} → Bounded s v m → (n : ℕ) (ws : List (Row Write)) → Installable (m .slots) ws
+    → Bounded s v (installAll s n m ws)
+unfolding installAll withSlots
+install-bounded {s} {v} {m} b n ws i = fewer-bounded b _ (install-good s n m ws (b .slots) i) (λ k e. busy k e (look ws k) refl)
+  where
+    busy : (k : ℕ) → Busy (installAll s n m ws .slots) k → (o : Option Write) → look ws k ≡ o → Busy (m .slots) k
+    busy k e none q =
+        sym (ap isIdle (install-says s n m ws (b .slots) i k ∙ ap (λ (x : Option Write). writtenBy n x (contentOf (m .slots) k)) q)) ∙ e
+    busy k e (some x) q = i .held k (ap present q)
+
+-- ---- merge
+
+-- the entries that enter the index: all in the leaf of a
+pub record Mergeable (m : MapState) (a : ℕ) (es : List (Row Content)) : Type 0 where
+  pub inside : (k : ℕ) → has k (keys es) ≡ true → versionAt (m .leaves) k ≡ versionAt (m .leaves) a
+  pub entered : (k : ℕ) → has k (keys es) ≡ true → has k (keys (entries (m .slots))) ≡ true
+
+pub merging-enters : (m : MapState) (a : ℕ) → Mergeable m a (merging m a)
+merging-enters m a =
+    record {
+      inside = merging-leaf m a;
+      entered =
+          λ k e. unfold merging in
+          let r = mem-keys (filter (mergesAt (m .leaves) a) (entries (m .slots))) (has-member k _ (unfold merging in e)) in
+          let q = mem-filter (mergesAt (m .leaves) a) (entries (m .slots)) (r .1) in
+          subst (λ (x : ℕ). has x (keys (entries (m .slots))) ≡ true) (r .2) (member-has (keys-mem (r .0) (entries (m .slots)) (q .0)));
+    }
+
+module _ {s : Settings} {v : ℕ} {m : MapState} (a : ℕ) (c : GoodCut s) (b : Bounded s v m) where
+  module _ (es : List (Row Content)) (i : Mergeable m a es) where
+    after : MapState
+    after = each (mergeEntry (s .bytes)) m es
+
+    good-after : Good (s .bytes) (after .slots)
+    unfolding after
+    good-after = merged-good (s .bytes) m es (b .slots)
+
+    -- nothing new waits
+    busy-after : (k : ℕ) → Busy (after .slots) k → Busy (m .slots) k
+    unfolding after
+    busy-after k e = ⊎-elim (λ t. clash (idles t) e) (λ t. t) (cases (isIdle (contentOf (m .slots) k)))
+      where
+        content : Content
+        content = contentOf (m .slots) k
+
+        nothing : isIdle content ≡ true → contentOf (each (mergeEntry (s .bytes)) m es .slots) k .pending ≡ none
+        nothing t =
+            merged-pending (s .bytes) m es (b .slots) k
+            ∙ ap (pick (has k (keys es)) none) (idle-pending content t)
+            ∙ ⊎-elim (λ q. rw q) (λ q. rw q) (cases (has k (keys es)))
+
+        idles : isIdle content ≡ true → isIdle (contentOf (each (mergeEntry (s .bytes)) m es .slots) k) ≡ true
+        idles t =
+            unfold isIdle in
+            ap (λ (p : Option Pending). both (not (present p)) (not (present (contentOf (each (mergeEntry (s .bytes)) m es .slots) k .holder)))) (nothing t)
+            ∙ ap (λ (h : Option ℕ). not (present h)) (merged-holder (s .bytes) m es (b .slots) k ∙ idle-holder content t)
+
+    -- an address of the index was one before, or had an entry
+    index-after : (k : ℕ) → has k (keys (after .records)) ≡ true → has k (keys (m .records) ++ keys (entries (m .slots))) ≡ true
+    unfolding after
+    index-after k e =
+        ⊎-elim
+        (λ t. has-right k (keys (m .records)) (keys (entries (m .slots))) (i .entered k t))
+        (λ t. has-left k (keys (m .records)) (keys (entries (m .slots)))
+        (has-keys (m .records) k ∙ sym (ap present (merged-look (s .bytes) m es (b .slots) k t))
+        ∙ sym (has-keys (each (mergeEntry (s .bytes)) m es .records) k) ∙ e))
+        (cases (has k (keys es)))
+
+    -- a record outside of the leaf of a stays
+    stays : (k : ℕ) → List·Memᴰ k (keys (m .records)) → same (versionAt (m .leaves) k) (versionAt (m .leaves) a) ≡ false → List·Memᴰ k (keys (after .records))
+    unfolding after
+    stays k r e =
+        ⊎-elim
+        (λ t. absurd (same-false (versionAt (m .leaves) k) (versionAt (m .leaves) a) e (i .inside k t)))
+        (λ t. has-member k _
+        (has-keys (each (mergeEntry (s .bytes)) m es .records) k ∙ ap present (merged-look (s .bytes) m es (b .slots) k t)
+        ∙ sym (has-keys (m .records) k) ∙ member-has r))
+        (cases (has k (keys es)))
+
+    same-leaves : after .leaves ≡ m .leaves
+    unfolding after
+    same-leaves = merged-leaves (s .bytes) m es
+
+    filled-after : Filled (after .records) (settle s v (after .leaves) a (keys (recordsIn after a)))
+    unfolding recordsIn
+    filled-after =
+        settle-filled c (subst (GoodLeaves v) (sym same-leaves) (b .leaves)) (records-in-leaf (after .leaves) a (after .records) rising)
+        (subst (Filled (m .records)) (sym same-leaves) (b .filled))
+        (λ k r e. stays k r (subst (λ (ls : List Leaf). same (versionAt ls k) (versionAt ls a) ≡ false) same-leaves e))
+        (λ k r. let p = mem-keys (filter test (after .records)) r in
+        subst (λ (x : ℕ). List·Memᴰ x (keys (after .records))) (p .2) (keys-mem (p .0) (after .records) (mem-filter test (after .records) (p .1) .0)))
+      where
+        rising : Rising (after .records)
+        rising = unfold after in merged-rising (s .bytes) m es (b .slots) (b .records)
+
+        test : Row Record → Bool
+        test r = same (versionAt (after .leaves) (r .key)) (versionAt (after .leaves) a)
+
+    waiting-after : length (entries (after .slots)) ≤ s .waitingLimit
+    waiting-after =
+        le-trans (entries-within good-after (keys (entries (m .slots))) (λ k e. busy-has (b .slots) k (busy-after k e))) (entry-number b)
+
+    addresses-after : distinct (keys (after .records) ++ keys (entries (after .slots))) ≤ s .mapLimit
+    addresses-after =
+        le-trans
+        (addresses-within good-after (after .records) (keys (m .records) ++ keys (entries (m .slots))) index-after
+        (λ k e. has-right k (keys (m .records)) (keys (entries (m .slots))) (busy-has (b .slots) k (busy-after k e))))
+        (b .addresses)
+
+  -- the three fields that the laws of merges do not have
+  rest-bounded : (es : List (Row Content)) → Mergeable m a es → Merges s v m (mergeAll s v m a es)
+      → Bounded s (mergeAll s v m a es .version) (mergeAll s v m a es .map)
+  unfolding mergeAll settleMap after
+  rest-bounded [] i g = b
+  rest-bounded (e ∷ es) i g =
+      record {
+        slots = g .good;
+        records = g .rising;
+        leaves = g .leaves;
+        filled = filled-after (e ∷ es) i;
+        waiting = waiting-after (e ∷ es) i;
+        addresses = addresses-after (e ∷ es) i;
+      }
+
+  pub merge-bounded : Bounded s (mergeAt s v m a .version) (mergeAt s v m a .map)
+  unfolding mergeAt
+  merge-bounded = rest-bounded (merging m a) (merging-enters m a) (merges a c (b .slots) (b .records) (b .leaves))

@@ -1,0 +1,1 @@
+// The map: index and indexlet, in lent arrays.

@@ -41,10 +41,13 @@ entered-old {bytes} {ss} {ts} {k} {c} good r = go (r .old) refl
             (λ t. same-true (x .key) k t)
             (λ t. absurd (let z : keyed (x .key) (some x) ≡ 0 = sym (ap (keyed (x .key)) e) ∙ r .foreign (x .key) (same-false (x .key) k t) in let y : keyed (x .key) (some x) ≡ 1 = keyed-own x in let q : ⊥ = omega arith in q))
             (cases (same (x .key) k))
+
         here : entryAt ss (r .at) ≡ some x
         here = r .changed .before ∙ e
+
         said : contentOf ss k ≡ x .item
         said = ap (contentOf ss) (sym own) ∙ member-content good (slot-member ss (r .at) x here)
+
         lively : isIdle (x .item) ≡ false
         lively = good .lively (r .at) x here
 
@@ -58,6 +61,7 @@ count-change {bytes} {ss} {k} {c} good room g = ⊎-elim changed same-slots (ent
     changed r =
         ap (λ (o : Option (Row Content)). count g (enter bytes ss k c) + g o) (sym (entered-old good r))
         ∙ changed-tally (r .changed) (λ (i : ℕ). g)
+
     same-slots : (enter bytes ss k c ≡ ss) × (count (keyed k) ss ≡ 0) × (isIdle c ≡ true)
         → count g (enter bytes ss k c) + g (kept k (contentOf ss k)) ≡ count g ss + g (kept k c)
     same-slots q =

@@ -1,1 +1,3 @@
 pub mod Phantoms
+pub mod Views
+pub mod Held

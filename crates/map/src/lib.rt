@@ -1,1 +1,23 @@
-// The map: index and indexlet, in lent arrays.
+// The map: index, indexlet and phantomlet, in arrays that the caller lends. Document 01's lower crate.
+//
+// `say` changes what the indexlet says of one address, and keeps the phantomlet; `locks` locks, unlocks and installs a
+// write set; `merge` takes a leaf's pending writes into the index; `looks` reads: current records, hidden keys, what a
+// scan walks over, and the contents.
+
+// An address of the map.
+pub type Address = u32;
+
+// How much the arrays hold: records of the index, leaves, entries of the indexlet, and entries at addresses that the
+// index lacks.
+pub struct Sizes {
+    pub records: usize,
+    pub leaves: usize,
+    pub entries: usize,
+    pub outside: usize,
+}
+
+// The last commit number and the last leaf version given (document 01: serial number and mark); they travel together.
+pub struct Counters {
+    pub number: u64,
+    pub version: u64,
+}

@@ -17,3 +17,6 @@ pub mod ContentLaws
 pub mod RecordLaws
 pub mod MapBounds
 pub mod EnterCounts
+pub mod PendingCounts
+pub mod VersionBounds
+pub mod WorkerLaws

@@ -9,7 +9,7 @@ use mathlib.Core.List.{List, [], _∷_, _++_, List·Memᴰ, List·Memᴰ·head, 
 use mathlib.Core.Option.{some}
 use lib.ListN.{length}
 use Rattle.lists.specs.Tests.{pick, either, present, same, cases, clash, same-true, same-false, same-yes, same-no}
-use Rattle.lists.specs.Rows.{Row, look, insert, keys, has, distinct, Rising, Different}
+use Rattle.lists.specs.Rows.{Row, look, insert, keys, filter, has, distinct, Rising, Different}
 use Rattle.lists.specs.RowLaws.{look-insert, has-keys, length-keys, rising-assign, rising-different}
 use Rattle.lists.specs.Counting.{has-nil, has-cons, has-here, has-there, has-append, Within, different-within}
 
@@ -60,6 +60,12 @@ distinct-length (x ∷ xs) =
 -- a list without repeats whose numbers all stand in the other is no longer
 pub different-length : (xs ys : List ℕ) → Different xs → Within xs ys → length xs ≤ length ys
 different-length xs ys d h = le-trans (different-within xs ys d h) (distinct-length ys)
+
+pub filter-shorter : {A : Type 0} (p : A → Bool) (xs : List A) → length (filter p xs) ≤ length xs
+unfolding filter
+filter-shorter p [] = zero-le
+filter-shorter p (x ∷ xs) =
+    ⊎-elim (λ e. rw e (suc-le-suc (filter-shorter p xs))) (λ e. rw e (le-step (filter-shorter p xs))) (cases (p x))
 
 -- ---- insertions
 

@@ -1,0 +1,114 @@
+-- Every step keeps the invariant, and so it holds after every list of steps from a fresh map.
+-- Assumes nothing.
+use Prim.Native.Nat.{suc, _*_, _≤_}
+use mathlib.Core.Path.{_≡_, refl, sym, ap, _∙_, subst}
+use mathlib.Core.Logic.{⊎-elim}
+use mathlib.Core.List.{List, [], _∷_}
+use mathlib.Core.Option.{Option, none, some}
+use lib.ListN.{length}
+use Rattle.lists.specs.Tests.{cases}
+use Rattle.spec.specs.declared.Refusal.{Refusal}
+use Rattle.spec.specs.Refusals.{ends}
+use Rattle.spec.specs.Records.{Settings, standard, written, deleted}
+use Rattle.spec.specs.Slots.{entries}
+use Rattle.spec.specs.Steps.{State, fresh, Step, begin, read, scan, put, remove, lock, validate, install, abort, merge, scanReads, scanVersions, refusal, withWorker, withMap, withCounters, dropped, merged, effect, next, final}
+use Rattle.laws.specs.MapBounds.{record-count, leaf-limit}
+use Rattle.laws.specs.WorkerLaws.{standard-settings}
+use Rattle.limits.specs.Invariant.{Kept, fresh-kept, standard-version}
+use Rattle.limits.specs.Granting.{begin-passed, read-passed, scan-passed, put-passed, remove-passed, lock-passed, validate-passed, install-passed, abort-passed}
+use Rattle.limits.specs.Refusing.{ends-validation, next-granted, refused-same, refused-ends}
+use Rattle.limits.specs.Opening.{begin-kept, logs-kept, read-kept, write-kept}
+use Rattle.limits.specs.Locking.{lock-kept, dropped-kept}
+use Rattle.limits.specs.Finishing.{validate-kept, install-kept, merge-kept}
+
+module _ {σ : State} (h : Kept σ) where
+  granted-kept : (s : Step) → refusal σ s ≡ none → Kept (effect σ s)
+  unfolding effect
+  granted-kept (begin w) e = begin-kept h w (begin-passed σ w e)
+  granted-kept (read w k) e = let p = read-passed σ w k e in read-kept h w k (p .0) (p .1)
+  granted-kept (scan w lo hi m n) e =
+      let p = scan-passed σ w lo hi m n e in
+      logs-kept h w (p .0) (scanReads σ lo hi) (scanVersions σ lo hi) (p .1 .reads) (p .1 .versions)
+  granted-kept (put w k d) e = let p = put-passed σ w k d e in write-kept h w k (written d) (p .0) (p .1)
+  granted-kept (remove w k) e = let p = remove-passed σ w k e in write-kept h w k deleted (p .0) (p .1)
+  granted-kept (lock w) e = let p = lock-passed σ w e in lock-kept h w (p .0) (p .1)
+  granted-kept (validate w) e = let p = validate-passed σ w e in validate-kept h w (p .0) (p .1)
+  granted-kept (install w) e = install-kept h w (install-passed σ w e)
+  granted-kept (abort w) e = dropped-kept h w (abort-passed σ w e)
+  granted-kept (merge a) e = merge-kept h a
+
+  refused-kept : (s : Step) (r : Refusal) → refusal σ s ≡ some r → Kept (next σ s)
+  refused-kept s r e =
+      ⊎-elim
+      (λ t.
+      subst Kept (sym (refused-ends σ s r e t))
+      (dropped-kept h (ends-validation σ s r e t .worker) (ends-validation σ s r e t .locked .inside)))
+      (λ t. subst Kept (sym (refused-same σ s r e t)) h)
+      (cases (ends r))
+
+-- every step keeps the invariant
+pub next-kept : {σ : State} → Kept σ → (s : Step) → Kept (next σ s)
+next-kept {σ} h s = go (refusal σ s) refl
+  where
+    go : (o : Option Refusal) → refusal σ s ≡ o → Kept (next σ s)
+    go none e = subst Kept (sym (next-granted σ s e)) (granted-kept h s e)
+    go (some r) e = refused-kept h s r e
+
+pub final-kept : {σ : State} → Kept σ → (ss : List Step) → Kept (final σ ss)
+unfolding final
+final-kept h [] = h
+final-kept h (s ∷ ss) = final-kept (next-kept h s) ss
+
+-- ---- the limits stay what they are
+
+next-settings : (σ : State) (s : Step) → next σ s .settings ≡ σ .settings
+next-settings σ s = go (refusal σ s) refl
+  where
+    granted-settings : (x : Step) → effect σ x .settings ≡ σ .settings
+    granted-settings (begin w) = unfold effect withWorker in refl
+    granted-settings (read w k) = unfold effect withWorker in refl
+    granted-settings (scan w lo hi m n) = unfold effect withWorker in refl
+    granted-settings (put w k d) = unfold effect withWorker in refl
+    granted-settings (remove w k) = unfold effect withWorker in refl
+    granted-settings (lock w) = unfold effect withWorker withMap in refl
+    granted-settings (validate w) = unfold effect withWorker withCounters in refl
+    granted-settings (install w) = unfold effect withWorker withMap in refl
+    granted-settings (abort w) = unfold effect dropped withWorker withMap in refl
+    granted-settings (merge a) = unfold effect merged withCounters withMap in refl
+
+    go : (o : Option Refusal) → refusal σ s ≡ o → next σ s .settings ≡ σ .settings
+    go none e = ap (λ (τ : State). τ .settings) (next-granted σ s e) ∙ granted-settings s
+    go (some r) e =
+        ⊎-elim
+        (λ t. ap (λ (τ : State). τ .settings) (refused-ends σ s r e t) ∙ (unfold dropped withWorker withMap in refl))
+        (λ t. ap (λ (τ : State). τ .settings) (refused-same σ s r e t))
+        (cases (ends r))
+
+pub final-settings : (σ : State) (ss : List Step) → final σ ss .settings ≡ σ .settings
+unfolding final
+final-settings σ [] = refl
+final-settings σ (s ∷ ss) = final-settings (next σ s) ss ∙ next-settings σ s
+
+-- ---- document 01's limits
+
+-- What no list of steps passes.
+pub record WithinLimits (σ : State) : Type 0 where
+  pub records : length (σ .map .records) ≤ 1024
+  pub leaves : length (σ .map .leaves) ≤ 1025
+  pub waiting : length (entries (σ .map .slots)) ≤ 192
+  pub number : σ .counters .number ≤ 1000000
+  pub version : σ .counters .version ≤ 129 * 16 * 1000000
+
+pub standard-limits : {σ : State} → Kept σ → σ .settings ≡ standard → WithinLimits σ
+standard-limits {σ} h e =
+    record {
+      records = subst (λ (s : Settings). length (σ .map .records) ≤ s .mapLimit) e (record-count (h .map));
+      leaves = subst (λ (s : Settings). length (σ .map .leaves) ≤ suc (s .mapLimit)) e (leaf-limit (h .map));
+      waiting = subst (λ (s : Settings). length (entries (σ .map .slots)) ≤ s .waitingLimit) e (h .map .waiting);
+      number = subst (λ (s : Settings). σ .counters .number ≤ s .lastNumber) e (h .numbers);
+      version = standard-version h e;
+    }
+
+-- after every list of steps from a fresh map
+pub every-run : (ss : List Step) → WithinLimits (final (fresh standard) ss)
+every-run ss = standard-limits (final-kept (fresh-kept standard standard-settings) ss) (final-settings (fresh standard) ss)

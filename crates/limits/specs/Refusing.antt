@@ -1,0 +1,75 @@
+-- A refused step leaves the state as it is, unless the refusal is 12, 13 or 14; these happen at a validation only, of a
+-- locked worker, and end its transaction.
+-- Assumes nothing.
+use Prim.Native.Nat.{ℕ}
+use mathlib.Core.Path.{_≡_, refl, ap, _∙_}
+use mathlib.Core.Bool.{Bool, true, false}
+use mathlib.Core.Option.{Option, none, some}
+use Rattle.lists.specs.Tests.{pick, maybe, less, clash, less-true}
+use Rattle.lists.specs.Rows.{any}
+use Rattle.spec.specs.declared.Refusal.{Refusal}
+use Rattle.spec.specs.Refusals.{ends}
+use Rattle.spec.specs.Steps.{State, workerOf, Step, begin, read, scan, put, remove, lock, validate, install, abort, merge, workerIn, isLocked, Cause, noWorker, workerFree, wrongStage, causes, refusal, effect, afterRefusal, dropped, next}
+use Rattle.laws.specs.WorkerLaws.{not-false, ended-later, mild-cause}
+use Rattle.limits.specs.Granting.{AtStage}
+
+-- The step is a validation of worker w, which is locked.
+pub record Validation (σ : State) (s : Step) : Type 0 where
+  pub worker : ℕ
+  pub is : s ≡ validate worker
+  pub locked : AtStage isLocked σ worker
+
+ends-locked : (σ : State) (w : ℕ) (r : Refusal) → refusal σ (validate w) ≡ some r → ends r ≡ true → AtStage isLocked σ w
+unfolding refusal causes noWorker workerFree wrongStage
+ends-locked σ w r e t =
+    let a = ended-later _ _ r refl t e in
+    let b = ended-later _ _ r refl t (a .1) in
+    let c = ended-later _ _ r refl t (b .1) in
+    record {
+      inside = less-true w (σ .settings .workers) (not-false (less w (σ .settings .workers)) (a .0));
+      stage = not-false (isLocked (workerOf σ w .stage)) (c .0);
+    }
+
+-- a step none of whose causes ends the transaction
+never-ends : (σ : State) (s : Step) (r : Refusal) → any (λ (c : Cause). ends (c .refusal)) (causes σ s) ≡ false
+    → refusal σ s ≡ some r → ends r ≡ true → Validation σ s
+unfolding refusal
+never-ends σ s r m e t = clash t (mild-cause (causes σ s) r m e)
+
+-- 12, 13 and 14 happen at a validation of a locked worker only
+pub ends-validation : (σ : State) (s : Step) (r : Refusal) → refusal σ s ≡ some r → ends r ≡ true → Validation σ s
+unfolding causes noWorker workerFree wrongStage any
+ends-validation σ (begin w) r e t = never-ends σ (begin w) r refl e t
+ends-validation σ (read w k) r e t = never-ends σ (read w k) r refl e t
+ends-validation σ (scan w lo hi m n) r e t = never-ends σ (scan w lo hi m n) r refl e t
+ends-validation σ (put w k p) r e t = never-ends σ (put w k p) r refl e t
+ends-validation σ (remove w k) r e t = never-ends σ (remove w k) r refl e t
+ends-validation σ (lock w) r e t = never-ends σ (lock w) r refl e t
+ends-validation σ (validate w) r e t = record { worker = w; is = refl; locked = ends-locked σ w r e t }
+ends-validation σ (install w) r e t = never-ends σ (install w) r refl e t
+ends-validation σ (abort w) r e t = never-ends σ (abort w) r refl e t
+ends-validation σ (merge a) r e t = never-ends σ (merge a) r refl e t
+
+-- ---- the state after a step
+
+pub next-granted : (σ : State) (s : Step) → refusal σ s ≡ none → next σ s ≡ effect σ s
+unfolding next
+next-granted σ s e = ap (λ (o : Option Refusal). maybe o (effect σ s) (afterRefusal σ s)) e
+
+next-refused : (σ : State) (s : Step) (r : Refusal) → refusal σ s ≡ some r → next σ s ≡ afterRefusal σ s r
+unfolding next
+next-refused σ s r e = ap (λ (o : Option Refusal). maybe o (effect σ s) (afterRefusal σ s)) e
+
+-- all refusals but 12, 13 and 14 leave everything
+pub refused-same : (σ : State) (s : Step) (r : Refusal) → refusal σ s ≡ some r → ends r ≡ false → next σ s ≡ σ
+unfolding afterRefusal
+refused-same σ s r e t = next-refused σ s r e ∙ ap (λ (b : Bool). pick b (maybe (workerIn s) σ (dropped σ)) σ) t
+
+-- those end the transaction of the worker that is validated
+pub refused-ends : (σ : State) (s : Step) (r : Refusal) (e : refusal σ s ≡ some r) (t : ends r ≡ true)
+    → next σ s ≡ dropped σ (ends-validation σ s r e t .worker)
+unfolding afterRefusal workerIn
+refused-ends σ s r e t =
+    next-refused σ s r e
+    ∙ ap (λ (b : Bool). pick b (maybe (workerIn s) σ (dropped σ)) σ) t
+    ∙ ap (λ (x : Step). maybe (workerIn x) σ (dropped σ)) (ends-validation σ s r e t .is)

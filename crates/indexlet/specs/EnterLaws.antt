@@ -1,6 +1,6 @@
 -- What the public functions rest on: what a search found, what was entered, and slots that are all empty.
 -- Assumes nothing.
-use Prim.Native.Nat.{ℕ, suc, _+_, _*_, _-_, _^_, _<_, _≤_}
+use Prim.Native.Nat.{ℕ, _+_, _*_, _-_, _^_, _<_, _≤_}
 use native.Mathlib.Omega.{arith}
 use mathlib.Core.Path.{_≡_, refl, sym, ap, _∙_, subst}
 use mathlib.Core.Bool.{Bool, true, false}
@@ -10,14 +10,13 @@ use lib.ListN.{length, getD, set, replicate, length-replicate, getD-replicate}
 use lib.Seq.{ext-getD}
 use Rattle.lists.specs.Tests.{pick, present, clash}
 use Rattle.lists.specs.Rows.{Row, row, look}
-use Rattle.spec.specs.Slots.{slotCount, homeSlot, Content, idle, isIdle, Slot, emptySlot, emptySlots, entries, contentOf, holds, Searched, search, take, release, rewrite, enter}
+use Rattle.spec.specs.Slots.{slotCount, homeSlot, Content, isIdle, Slot, emptySlot, emptySlots, entries, search, take, release, enter}
 use Rattle.laws.specs.SlotCounts.{Good, absent-count, entries-most}
 use Rattle.laws.specs.SlotChanges.{kept, release-none, distance-absent, rewrite-at}
 use Rattle.laws.specs.SlotLaws.{Room, goes, stands, fits, enter-idle, enter-present, enter-absent, enter-good, count-enter, fresh-good, kept-entry, content-none, content-some}
 use Rattle.laws.specs.Searches.{search-finds}
 use Rattle.indexlet.specs.declared.Content.{Content as ContentWords}
 use Rattle.indexlet.specs.declared.Slot.{Slot as SlotWords}
-use Rattle.indexlet.specs.declared.Looked.{Looked}
 use Rattle.indexlet.specs.declared.Sought.{Sought}
 use Rattle.indexlet.specs.Words.{wordCount, pendingIn, holderIn, contentIn, slotIn, rowAt, store, slotsOf}
 use Rattle.indexlet.specs.WordLaws.{length-slots, slots-at, slots-store, idle-zero}
@@ -122,11 +121,13 @@ module _ (ws : List ℕ) (n a : ℕ) (c : ContentWords) (z : Held ws) (q : n ≡
     pub enter-out : isIdle (contentIn c) ≡ true → r .at < slotCount → (us : List ℕ) → Becomes us (release 4 (slotsOf ws) a) → Enters ws a c us (n - 1)
     enter-out t b us u =
         enters us (n - 1) (subst (Becomes us) (sym (enter-idle 4 (slotsOf ws) a (contentIn c) t)) u)
-        (let x : length (entries (enter 4 (slotsOf ws) a (contentIn c))) + 1 ≡ n + 0 = number true true (sought-present a (z .good) e b) t in omega arith)
+        (let x : length (entries (enter 4 (slotsOf ws) a (contentIn c))) + 1 ≡ n + 0 = number true true
+        (sought-present a (z .good) e b) t in omega arith)
 
     pub number-some : isIdle (contentIn c) ≡ true → r .at < slotCount → 1 ≤ n
     number-some t b =
-        let x : length (entries (enter 4 (slotsOf ws) a (contentIn c))) + 1 ≡ n + 0 = number true true (sought-present a (z .good) e b) t in omega arith
+        let x : length (entries (enter 4 (slotsOf ws) a (contentIn c))) + 1 ≡ n + 0 = number true true
+        (sought-present a (z .good) e b) t in omega arith
 
     -- nothing to do
     pub enter-nothing : isIdle (contentIn c) ≡ true → slotCount ≤ r .at → Enters ws a c ws n
@@ -138,7 +139,8 @@ module _ (ws : List ℕ) (n a : ℕ) (c : ContentWords) (z : Held ws) (q : n ≡
               ∙ release-none 4 (slotsOf ws) a (distance-absent (slotsOf ws) a (homeSlot 4 a) (length-slots ws)
               (absent-count 4 (slotsOf ws) a (z .good) (ap present (sought-absent a (z .good) e b)))));
         })
-        (let x : length (entries (enter 4 (slotsOf ws) a (contentIn c))) + 0 ≡ n + 0 = number false true (ap present (sought-absent a (z .good) e b)) t in omega arith)
+        (let x : length (entries (enter 4 (slotsOf ws) a (contentIn c))) + 0 ≡ n + 0 = number false true
+        (ap present (sought-absent a (z .good) e b)) t in omega arith)
 
     -- an entry that says something else
     pub enter-over : isIdle (contentIn c) ≡ false → r .at < slotCount → a < 2 ^ 32 → (s : SlotWords) → s ≡ rowAt ws (r .at) → (us : List ℕ)
@@ -151,12 +153,15 @@ module _ (ws : List ℕ) (n a : ℕ) (c : ContentWords) (z : Held ws) (q : n ≡
           view =
               ap slotsOf u
               ∙ slots-store ws (r .at) new (z .sized .size) b
-              ∙ ap (λ (o : Option (Row Content)). set (slotsOf ws) (r .at) (record { entry = o; overflow = s .overflow })) (ap (λ (t : Bool). pick t none (some (row a (contentIn c)))) t)
-              ∙ ap (λ (x : Slot). set (slotsOf ws) (r .at) (record { entry = some (row a (contentIn c)); overflow = x .overflow })) (ap slotIn g ∙ sym (slots-at ws (r .at) b))
+              ∙ ap (λ (o : Option (Row Content)). set (slotsOf ws) (r .at) (record { entry = o; overflow = s .overflow }))
+              (ap (λ (t : Bool). pick t none (some (row a (contentIn c)))) t)
+              ∙ ap (λ (x : Slot). set (slotsOf ws) (r .at) (record
+              { entry = some (row a (contentIn c)); overflow = x .overflow })) (ap slotIn g ∙ sym (slots-at ws (r .at) b))
               ∙ sym (rewrite-at (slotsOf ws) a (contentIn c) (r .at) (z .good .once a) inside (sought-holds (slotsOf ws) a e b))
               ∙ sym (enter-present 4 (slotsOf ws) a (contentIn c) t (sought-present a (z .good) e b));
         })
-        (let x : length (entries (enter 4 (slotsOf ws) a (contentIn c))) + 1 ≡ n + 1 = number true false (sought-present a (z .good) e b) t in omega arith)
+        (let x : length (entries (enter 4 (slotsOf ws) a (contentIn c))) + 1 ≡ n + 1 = number true false
+        (sought-present a (z .good) e b) t in omega arith)
       where
         new : SlotWords
         new = record { key = a; content = c; overflow = s .overflow }
@@ -173,11 +178,13 @@ module _ (ws : List ℕ) (n a : ℕ) (c : ContentWords) (z : Held ws) (q : n ≡
         go (stands x) = clash x (ap present (sought-absent a (z .good) e b))
         go (fits x) = x
 
-    pub enter-new : isIdle (contentIn c) ≡ false → slotCount ≤ r .at → (us : List ℕ) → Becomes us (take 4 (slotsOf ws) a (contentIn c)) → Enters ws a c us (n + 1)
+    pub enter-new : isIdle (contentIn c) ≡ false → slotCount ≤ r .at → (us : List ℕ) → Becomes us
+        (take 4 (slotsOf ws) a (contentIn c)) → Enters ws a c us (n + 1)
     enter-new t b us u =
         enters us (n + 1)
         (subst (Becomes us) (sym (enter-absent 4 (slotsOf ws) a (contentIn c) t (ap present (sought-absent a (z .good) e b)))) u)
-        (let x : length (entries (enter 4 (slotsOf ws) a (contentIn c))) + 0 ≡ n + 1 = number false false (ap present (sought-absent a (z .good) e b)) t in omega arith)
+        (let x : length (entries (enter 4 (slotsOf ws) a (contentIn c))) + 0 ≡ n + 1 = number false false
+        (ap present (sought-absent a (z .good) e b)) t in omega arith)
 
 -- ---- all slots empty
 

@@ -2,12 +2,11 @@
 -- Assumes nothing.
 use Prim.Native.Nat.{ℕ, zero, suc, _+_, _%_, _^_, _<_}
 use mathlib.Core.Path.{_≡_}
-use mathlib.Core.Bool.{Bool, true, false}
 use mathlib.Core.List.{List}
-use mathlib.Core.Option.{Option, none, some}
+use mathlib.Core.Option.{none, some}
 use lib.ListN.{length, getD}
 use Rattle.lists.specs.Tests.{pick, same}
-use Rattle.spec.specs.Slots.{slotCount, homeSlot, Content, isIdle, Slot, emptySlot, emptySlots, entries, contentOf, slotAt, holds, Searched, search, enter}
+use Rattle.spec.specs.Slots.{slotCount, homeSlot, isIdle, Slot, emptySlot, emptySlots, entries, contentOf, slotAt, holds, Searched, search, enter}
 use Rattle.laws.specs.Probes.{gap}
 use Rattle.laws.specs.SlotCounts.{Good, Place}
 use Rattle.indexlet.specs.declared.Content.{Content as ContentWords}

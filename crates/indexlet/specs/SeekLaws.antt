@@ -4,21 +4,21 @@ use Prim.Native.Nat.{ℕ, zero, suc, _+_, _-_, _%_, _<_, _≤_}
 use native.Mathlib.Numerals.{add-one}
 use native.Mathlib.Omega.{arith}
 use mathlib.Core.Path.{_≡_, refl, sym, ap, _∙_, subst}
-use mathlib.Core.Logic.{_⊎_, inl, inr, ⊎-elim}
+use mathlib.Core.Logic.{⊎-elim}
 use mathlib.Core.Bool.{Bool, true, false}
 use mathlib.Core.List.{List}
-use mathlib.Core.Option.{Option, none, some}
+use mathlib.Core.Option.{none, some}
 use lib.ListN.{length, getD}
 use Rattle.lists.specs.Tests.{pick, present, same, cases, same-true, same-false, same-yes, same-no}
 use Rattle.lists.specs.Rows.{Row, look}
-use Rattle.spec.specs.Slots.{slotCount, homeSlot, Content, isIdle, Slot, emptySlot, entries, slotAt, holds, Searched, searchAt, searchFrom, search}
+use Rattle.spec.specs.Slots.{slotCount, homeSlot, Content, Slot, emptySlot, entries, slotAt, holds, Searched, searchFrom, search}
 use Rattle.laws.specs.Probes.{gap}
 use Rattle.laws.specs.SlotCounts.{Good, Place, entryAt, holds-entry, holds-yes}
 use Rattle.laws.specs.Searches.{search-here, search-stops, search-on, search-place, search-finds}
 use Rattle.indexlet.specs.declared.Slot.{Slot as SlotWords}
 use Rattle.indexlet.specs.declared.Sought.{Sought}
 use Rattle.indexlet.specs.Words.{slotIn, rowAt, slotsOf}
-use Rattle.indexlet.specs.WordLaws.{slot-there, length-slots}
+use Rattle.indexlet.specs.WordLaws.{slot-there}
 use Rattle.indexlet.specs.Held.{soughtAt, soughtFrom, sought, Stands}
 
 -- ---- the loop
@@ -49,7 +49,8 @@ overflow-slot s = refl
 module _ (ws : List ℕ) (k h d : ℕ) (g : Seeking ws k h d) (b : d < slotCount) (s : SlotWords) (e : s ≡ rowAt ws ((h + d) % slotCount)) where
   rest-step : soughtAt k (slotIn s) ((h + d) % slotCount) d (soughtFrom (slotsOf ws) k h (slotCount - (d + 1)) (suc d)) ≡ sought (slotsOf ws) k
   rest-step =
-      ap (λ (x : Slot). soughtAt k x ((h + d) % slotCount) d (soughtFrom (slotsOf ws) k h (slotCount - (d + 1)) (suc d))) (examined-slot ws (h + d) s e)
+      ap (λ (x : Slot). soughtAt k x ((h + d) % slotCount) d (soughtFrom (slotsOf ws) k h (slotCount - (d + 1)) (suc d)))
+      (examined-slot ws (h + d) s e)
       ∙ sym (sought-step (slotsOf ws) k h (slotCount - (d + 1)) d)
       ∙ ap (λ (n : ℕ). soughtFrom (slotsOf ws) k h n d) (let z : suc (slotCount - (d + 1)) ≡ slotCount - d = omega arith in z)
       ∙ g .rest
@@ -60,16 +61,19 @@ module _ (ws : List ℕ) (k h d : ℕ) (g : Seeking ws k h d) (b : d < slotCount
   seek-hit t =
       ap (λ (n : ℕ). record { at = (h + d) % slotCount; examined = n }) (add-one d)
       ∙ sym (ap (λ (t : Bool). pick t (record { at = (h + d) % slotCount; examined = suc d })
-      (pick (same (slotIn s .overflow) 0) (record { at = slotCount; examined = suc d }) (soughtFrom (slotsOf ws) k h (slotCount - (d + 1)) (suc d)))) t)
+      (pick (same (slotIn s .overflow) 0) (record { at = slotCount; examined = suc d })
+      (soughtFrom (slotsOf ws) k h (slotCount - (d + 1)) (suc d)))) t)
       ∙ rest-step
 
   -- its count is 0
-  pub seek-stop : holds k (slotIn s) ≡ false → s .overflow ≡ 0 → _≡_ {A = Sought} (record { at = slotCount; examined = d + 1 }) (sought (slotsOf ws) k)
+  pub seek-stop : holds k (slotIn s) ≡ false → s .overflow ≡ 0 → _≡_ {A = Sought}
+      (record { at = slotCount; examined = d + 1 }) (sought (slotsOf ws) k)
   unfolding soughtAt
   seek-stop t z =
       ap (λ (n : ℕ). record { at = slotCount; examined = n }) (add-one d)
       ∙ sym (ap (λ (t : Bool). pick t (record { at = (h + d) % slotCount; examined = suc d })
-      (pick (same (slotIn s .overflow) 0) (record { at = slotCount; examined = suc d }) (soughtFrom (slotsOf ws) k h (slotCount - (d + 1)) (suc d)))) t
+      (pick (same (slotIn s .overflow) 0) (record { at = slotCount; examined = suc d })
+      (soughtFrom (slotsOf ws) k h (slotCount - (d + 1)) (suc d)))) t
       ∙ ap (λ (t : Bool). pick t (record { at = slotCount; examined = suc d }) (soughtFrom (slotsOf ws) k h (slotCount - (d + 1)) (suc d)))
       (same-yes {m = slotIn s .overflow} {n = 0} (overflow-slot s ∙ z)))
       ∙ rest-step
@@ -83,14 +87,16 @@ module _ (ws : List ℕ) (k h d : ℕ) (g : Seeking ws k h d) (b : d < slotCount
         rest =
             ap (soughtFrom (slotsOf ws) k h (slotCount - (d + 1))) (add-one d)
             ∙ sym (ap (λ (t : Bool). pick t (record { at = (h + d) % slotCount; examined = suc d })
-            (pick (same (slotIn s .overflow) 0) (record { at = slotCount; examined = suc d }) (soughtFrom (slotsOf ws) k h (slotCount - (d + 1)) (suc d)))) t
+            (pick (same (slotIn s .overflow) 0) (record { at = slotCount; examined = suc d })
+            (soughtFrom (slotsOf ws) k h (slotCount - (d + 1)) (suc d)))) t
             ∙ ap (λ (t : Bool). pick t (record { at = slotCount; examined = suc d }) (soughtFrom (slotsOf ws) k h (slotCount - (d + 1)) (suc d)))
             (same-no {m = slotIn s .overflow} {n = 0} (λ q. z (sym (overflow-slot s) ∙ q))))
             ∙ rest-step;
       }
 
 -- all slots were examined
-pub seek-end : (ws : List ℕ) (k h d : ℕ) → Seeking ws k h d → slotCount ≤ d → _≡_ {A = Sought} (record { at = slotCount; examined = slotCount }) (sought (slotsOf ws) k)
+pub seek-end : (ws : List ℕ) (k h d : ℕ) → Seeking ws k h d → slotCount ≤ d → _≡_ {A = Sought}
+    (record { at = slotCount; examined = slotCount }) (sought (slotsOf ws) k)
 unfolding soughtFrom
 seek-end ws k h d g q =
     let e : d ≡ slotCount = (let z : d ≤ slotCount = g .bound in omega arith) in
@@ -111,7 +117,8 @@ ends-by {ss} {k} {r} {r'} {q} {q'} e f g = subst (λ (x : Sought). Ends ss k x q
 sought-ends : (ss : List Slot) (k h n d : ℕ) → Ends ss k (soughtFrom ss k h n d) (searchFrom ss k h n d)
 unfolding soughtFrom searchFrom soughtAt slotAt
 sought-ends ss k h zero d = record { examined = refl; hit = λ q. absurd (omega arith); miss = λ q. refl }
-sought-ends ss k h (suc n) d = ⊎-elim here (λ t. ⊎-elim (stops t) (goes t (sought-ends ss k h n (suc d))) (cases (same (s .overflow) 0))) (cases (holds k s))
+sought-ends ss k h (suc n) d = ⊎-elim here (λ t. ⊎-elim (stops t) (goes t (sought-ends ss k h n (suc d)))
+    (cases (same (s .overflow) 0))) (cases (holds k s))
   where
     i : ℕ
     i = (h + d) % slotCount
@@ -148,7 +155,8 @@ sought-stands {ss} {k} {r} good e b =
     record {
       place = p;
       far =
-          let x : r .examined ≡ suc (gap (homeSlot 4 k) (r .at)) = sym (ends .examined) ∙ ap (λ (q : Searched). q .examined) (search-place 4 ss k good p) in
+          let x : r .examined ≡ suc (gap (homeSlot 4 k) (r .at)) = sym (ends .examined) ∙ ap (λ (q : Searched). q .examined)
+          (search-place 4 ss k good p) in
           omega arith;
     }
   where

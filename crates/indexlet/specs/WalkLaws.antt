@@ -1,20 +1,20 @@
 -- The loops that change counts on the way from a home slot: a new entry adds one to each slot passed, an entry that goes
 -- subtracts one.
 -- Assumes nothing.
-use Prim.Native.Nat.{ℕ, zero, suc, pred, _+_, _-_, _%_, _^_, _<_, _≤_, zero-le}
+use Prim.Native.Nat.{ℕ, suc, pred, _+_, _-_, _%_, _^_, _<_, _≤_, zero-le}
 use native.Mathlib.Numerals.{add-one}
 use native.Mathlib.Omega.{arith}
 use mathlib.Core.Path.{_≡_, refl, sym, ap, _∙_, subst}
-use mathlib.Core.Logic.{_⊎_, inl, inr, ⊎-elim}
+use mathlib.Core.Logic.{⊎-elim}
 use mathlib.Core.Bool.{Bool, true, false}
 use mathlib.Core.List.{List}
 use mathlib.Core.Option.{Option, none, some}
-use lib.ListN.{length, getD, set}
-use Rattle.lists.specs.Tests.{pick, same, less, cases, clash, same-true, same-false}
+use lib.ListN.{length, set}
+use Rattle.lists.specs.Tests.{pick, same, cases, clash, same-true, same-false}
 use Rattle.lists.specs.Rows.{Row, row}
-use Rattle.spec.specs.Slots.{slotCount, homeSlot, Content, isIdle, Slot, emptySlot, entries, slotAt, vacant, holds, distance, setSlot, countPassed, withEntry, take, release}
-use Rattle.laws.specs.Probes.{gap, gap-less, home-less, counted, First, distance-some, distance-first, countPassed-next, countPassed-ahead}
-use Rattle.laws.specs.SlotCounts.{Good, Place, overflow-most}
+use Rattle.spec.specs.Slots.{slotCount, homeSlot, Content, isIdle, Slot, entries, slotAt, vacant, holds, distance, setSlot, countPassed, withEntry, take, release}
+use Rattle.laws.specs.Probes.{gap-less, home-less, counted, First, distance-some, distance-first, countPassed-next, countPassed-ahead}
+use Rattle.laws.specs.SlotCounts.{overflow-most}
 use Rattle.laws.specs.SlotChanges.{kept, vacancy, take-at, release-at, distance-place}
 use Rattle.laws.specs.Searches.{passed-counts}
 use Rattle.indexlet.specs.declared.Content.{Content as ContentWords}
@@ -139,7 +139,8 @@ module _ (old : List ℕ) (a h : ℕ) (ws : List ℕ) (d : ℕ) (g : Taking old 
       → Becomes us (take 4 (slotsOf old) a (contentIn c))
   take-ends c t busy ab us u =
       subst (Becomes us)
-      (ap (λ (o : Option (Row Content)). withEntry (countPassed suc (slotsOf old) h d) (h + d) o) (ap (λ (t : Bool). pick t none (some (row a (contentIn c)))) busy)
+      (ap (λ (o : Option (Row Content)). withEntry (countPassed suc (slotsOf old) h d) (h + d) o)
+      (ap (λ (t : Bool). pick t none (some (row a (contentIn c)))) busy)
       ∙ ap (λ (n : ℕ). withEntry (countPassed suc (slotsOf old) n d) (n + d) (some (row a (contentIn c)))) (g .home)
       ∙ sym (take-at 4 (slotsOf old) a (contentIn c) d
       (ap (λ (n : ℕ). distance vacant (slotsOf old) n slotCount 0) (sym (g .home))
@@ -226,7 +227,8 @@ module _ (old : List ℕ) (a m h : ℕ) (ws : List ℕ) (d : ℕ) (z : Held old)
       → Becomes us (release 4 (slotsOf old) a)
   release-ends q c t us u =
       subst (Becomes us)
-      (ap (λ (o : Option (Row Content)). withEntry (countPassed pred (slotsOf old) h d) (h + d) o) (ap (λ (t : Bool). pick t none (some (row (s .key) (contentIn c)))) t)
+      (ap (λ (o : Option (Row Content)). withEntry (countPassed pred (slotsOf old) h d) (h + d) o)
+      (ap (λ (t : Bool). pick t none (some (row (s .key) (contentIn c)))) t)
       ∙ ap (λ (n : ℕ). withEntry (countPassed pred (slotsOf old) n d) (n + d) none) (g .home)
       ∙ sym (release-at 4 (slotsOf old) a d
       (distance-first (holds a) (slotsOf old) (homeSlot 4 a) slotCount 0 d

@@ -1,101 +1,59 @@
 -- The laws of words: what a store leaves in each row, and the view after it.
 -- Assumes nothing.
-use Prim.Native.Nat.{ℕ, zero, suc, _+_, _*_, _/_, _%_, _^_, _<_, _≤_}
+use Prim.Native.Nat.{ℕ, zero, suc, _+_, _*_, _/_, _%_, _<_}
+use native.Mathlib.Nat.{add-zero}
+use native.Mathlib.Numerals.{add-one}
 use native.Mathlib.Omega.{arith}
-use mathlib.Core.Path.{_≡_, refl, sym, ap, _∙_, subst}
+use mathlib.Core.Path.{_≡_, refl, sym, ap, _∙_}
 use mathlib.Core.Logic.{⊎-elim}
 use mathlib.Core.Bool.{Bool, true, false, not}
 use mathlib.Core.List.{List}
-use mathlib.Core.Option.{Option, none, some}
+use mathlib.Core.Option.{none, some}
 use lib.Dec.{eqb}
 use lib.ListN.{length, getD, set, length-set}
-use lib.Seq.{getD-set-same, getD-set-other, ext-getD}
-use borrow.Author.Tests.{eq-eqb, ne-eqb}
+use lib.Seq.{getD-set-same, getD-set-other, ext-getD, length-sets}
+use borrow.Author.Tests.{ne-eqb}
 use Rattle.lists.specs.Tests.{pick, both, present, same, cases, same-true, same-false}
 use Rattle.lists.specs.Rows.{Row, row}
-use Rattle.lists.specs.Tabs.{tab, length-tab, getD-tab}
-use Rattle.spec.specs.Slots.{slotCount, Pending, Content, isIdle, Slot, emptySlot, slotAt, vacant, holds}
-use Rattle.laws.specs.SlotChanges.{kept}
+use Rattle.lists.specs.Stores.{sets-away, sets-at}
+use Rattle.lists.specs.Tabs.{length-tab, getD-tab}
+use Rattle.spec.specs.Records.{written, deleted}
+use Rattle.spec.specs.Slots.{slotCount, Content, isIdle, emptySlot, slotAt, vacant, holds}
 use Rattle.indexlet.specs.declared.Content.{Content as ContentWords}
 use Rattle.indexlet.specs.declared.Slot.{Slot as SlotWords}
-use Rattle.indexlet.specs.Words.{wordCount, pendingIn, holderIn, contentIn, slotIn, rowAt, store, slotsOf}
+use Rattle.indexlet.specs.Words.{wordCount, pendingIn, holderIn, contentIn, slotIn, rowAt, wordsOf, store, slotsOf}
 
 -- ---- rows
 
 pub length-store : (ws : List ℕ) (i : ℕ) (s : SlotWords) → length (store ws i s) ≡ length ws
 unfolding store
-length-store ws i s = simp length-set
+length-store ws i s = length-sets ws (i * 6) (wordsOf s)
 
 -- a word of another row
 word-other : (ws : List ℕ) (i : ℕ) (s : SlotWords) (m : ℕ) → (m / 6 ≡ i → ⊥) → getD (store ws i s) m 0 ≡ getD ws m 0
 unfolding store
-word-other ws i s m n =
-    getD-set-other (set (set (set (set (set ws (i * 6) (s .key)) (i * 6 + 1) (s .content .kind)) (i * 6 + 2) (s .content .value)) (i * 6 + 3) (s .content .commit)) (i * 6 + 4) (s .content .lock)) (i * 6 + 5) m (s .overflow) 0 (λ e. n (omega arith))
-    ∙ getD-set-other (set (set (set (set ws (i * 6) (s .key)) (i * 6 + 1) (s .content .kind)) (i * 6 + 2) (s .content .value)) (i * 6 + 3) (s .content .commit)) (i * 6 + 4) m (s .content .lock) 0 (λ e. n (omega arith))
-    ∙ getD-set-other (set (set (set ws (i * 6) (s .key)) (i * 6 + 1) (s .content .kind)) (i * 6 + 2) (s .content .value)) (i * 6 + 3) m (s .content .commit) 0 (λ e. n (omega arith))
-    ∙ getD-set-other (set (set ws (i * 6) (s .key)) (i * 6 + 1) (s .content .kind)) (i * 6 + 2) m (s .content .value) 0 (λ e. n (omega arith))
-    ∙ getD-set-other (set ws (i * 6) (s .key)) (i * 6 + 1) m (s .content .kind) 0 (λ e. n (omega arith))
-    ∙ getD-set-other ws (i * 6) m (s .key) 0 (λ e. n (omega arith))
+word-other ws i s m n = sets-away (wordsOf s) ws (i * 6) m 0 (λ x q e. n (omega arith))
 
-word-key : (ws : List ℕ) (i : ℕ) (s : SlotWords) → length ws ≡ wordCount → i < slotCount → getD (store ws i s) (i * 6) 0 ≡ s .key
+-- a word of the row
+word-own : (ws : List ℕ) (i : ℕ) (s : SlotWords) → length ws ≡ wordCount → i < slotCount → (x : ℕ) → x < 6
+    → getD (store ws i s) (i * 6 + x) 0 ≡ getD (wordsOf s) x 0
 unfolding store
-word-key ws i s l h =
-    getD-set-other (set (set (set (set (set ws (i * 6) (s .key)) (i * 6 + 1) (s .content .kind)) (i * 6 + 2) (s .content .value)) (i * 6 + 3) (s .content .commit)) (i * 6 + 4) (s .content .lock)) (i * 6 + 5) (i * 6) (s .overflow) 0 (λ e. omega arith)
-    ∙ getD-set-other (set (set (set (set ws (i * 6) (s .key)) (i * 6 + 1) (s .content .kind)) (i * 6 + 2) (s .content .value)) (i * 6 + 3) (s .content .commit)) (i * 6 + 4) (i * 6) (s .content .lock) 0 (λ e. omega arith)
-    ∙ getD-set-other (set (set (set ws (i * 6) (s .key)) (i * 6 + 1) (s .content .kind)) (i * 6 + 2) (s .content .value)) (i * 6 + 3) (i * 6) (s .content .commit) 0 (λ e. omega arith)
-    ∙ getD-set-other (set (set ws (i * 6) (s .key)) (i * 6 + 1) (s .content .kind)) (i * 6 + 2) (i * 6) (s .content .value) 0 (λ e. omega arith)
-    ∙ getD-set-other (set ws (i * 6) (s .key)) (i * 6 + 1) (i * 6) (s .content .kind) 0 (λ e. omega arith)
-    ∙ getD-set-same ws (i * 6) (s .key) 0 (omega arith)
-
-word-kind : (ws : List ℕ) (i : ℕ) (s : SlotWords) → length ws ≡ wordCount → i < slotCount → getD (store ws i s) (i * 6 + 1) 0 ≡ s .content .kind
-unfolding store
-word-kind ws i s l h =
-    getD-set-other (set (set (set (set (set ws (i * 6) (s .key)) (i * 6 + 1) (s .content .kind)) (i * 6 + 2) (s .content .value)) (i * 6 + 3) (s .content .commit)) (i * 6 + 4) (s .content .lock)) (i * 6 + 5) (i * 6 + 1) (s .overflow) 0 (λ e. omega arith)
-    ∙ getD-set-other (set (set (set (set ws (i * 6) (s .key)) (i * 6 + 1) (s .content .kind)) (i * 6 + 2) (s .content .value)) (i * 6 + 3) (s .content .commit)) (i * 6 + 4) (i * 6 + 1) (s .content .lock) 0 (λ e. omega arith)
-    ∙ getD-set-other (set (set (set ws (i * 6) (s .key)) (i * 6 + 1) (s .content .kind)) (i * 6 + 2) (s .content .value)) (i * 6 + 3) (i * 6 + 1) (s .content .commit) 0 (λ e. omega arith)
-    ∙ getD-set-other (set (set ws (i * 6) (s .key)) (i * 6 + 1) (s .content .kind)) (i * 6 + 2) (i * 6 + 1) (s .content .value) 0 (λ e. omega arith)
-    ∙ getD-set-same (set ws (i * 6) (s .key)) (i * 6 + 1) (s .content .kind) 0 (let z : length (set ws (i * 6) (s .key)) ≡ length ws = simp length-set in omega arith)
-
-word-value : (ws : List ℕ) (i : ℕ) (s : SlotWords) → length ws ≡ wordCount → i < slotCount → getD (store ws i s) (i * 6 + 2) 0 ≡ s .content .value
-unfolding store
-word-value ws i s l h =
-    getD-set-other (set (set (set (set (set ws (i * 6) (s .key)) (i * 6 + 1) (s .content .kind)) (i * 6 + 2) (s .content .value)) (i * 6 + 3) (s .content .commit)) (i * 6 + 4) (s .content .lock)) (i * 6 + 5) (i * 6 + 2) (s .overflow) 0 (λ e. omega arith)
-    ∙ getD-set-other (set (set (set (set ws (i * 6) (s .key)) (i * 6 + 1) (s .content .kind)) (i * 6 + 2) (s .content .value)) (i * 6 + 3) (s .content .commit)) (i * 6 + 4) (i * 6 + 2) (s .content .lock) 0 (λ e. omega arith)
-    ∙ getD-set-other (set (set (set ws (i * 6) (s .key)) (i * 6 + 1) (s .content .kind)) (i * 6 + 2) (s .content .value)) (i * 6 + 3) (i * 6 + 2) (s .content .commit) 0 (λ e. omega arith)
-    ∙ getD-set-same (set (set ws (i * 6) (s .key)) (i * 6 + 1) (s .content .kind)) (i * 6 + 2) (s .content .value) 0 (let z : length (set (set ws (i * 6) (s .key)) (i * 6 + 1) (s .content .kind)) ≡ length ws = simp length-set in omega arith)
-
-word-commit : (ws : List ℕ) (i : ℕ) (s : SlotWords) → length ws ≡ wordCount → i < slotCount → getD (store ws i s) (i * 6 + 3) 0 ≡ s .content .commit
-unfolding store
-word-commit ws i s l h =
-    getD-set-other (set (set (set (set (set ws (i * 6) (s .key)) (i * 6 + 1) (s .content .kind)) (i * 6 + 2) (s .content .value)) (i * 6 + 3) (s .content .commit)) (i * 6 + 4) (s .content .lock)) (i * 6 + 5) (i * 6 + 3) (s .overflow) 0 (λ e. omega arith)
-    ∙ getD-set-other (set (set (set (set ws (i * 6) (s .key)) (i * 6 + 1) (s .content .kind)) (i * 6 + 2) (s .content .value)) (i * 6 + 3) (s .content .commit)) (i * 6 + 4) (i * 6 + 3) (s .content .lock) 0 (λ e. omega arith)
-    ∙ getD-set-same (set (set (set ws (i * 6) (s .key)) (i * 6 + 1) (s .content .kind)) (i * 6 + 2) (s .content .value)) (i * 6 + 3) (s .content .commit) 0 (let z : length (set (set (set ws (i * 6) (s .key)) (i * 6 + 1) (s .content .kind)) (i * 6 + 2) (s .content .value)) ≡ length ws = simp length-set in omega arith)
-
-word-lock : (ws : List ℕ) (i : ℕ) (s : SlotWords) → length ws ≡ wordCount → i < slotCount → getD (store ws i s) (i * 6 + 4) 0 ≡ s .content .lock
-unfolding store
-word-lock ws i s l h =
-    getD-set-other (set (set (set (set (set ws (i * 6) (s .key)) (i * 6 + 1) (s .content .kind)) (i * 6 + 2) (s .content .value)) (i * 6 + 3) (s .content .commit)) (i * 6 + 4) (s .content .lock)) (i * 6 + 5) (i * 6 + 4) (s .overflow) 0 (λ e. omega arith)
-    ∙ getD-set-same (set (set (set (set ws (i * 6) (s .key)) (i * 6 + 1) (s .content .kind)) (i * 6 + 2) (s .content .value)) (i * 6 + 3) (s .content .commit)) (i * 6 + 4) (s .content .lock) 0 (let z : length (set (set (set (set ws (i * 6) (s .key)) (i * 6 + 1) (s .content .kind)) (i * 6 + 2) (s .content .value)) (i * 6 + 3) (s .content .commit)) ≡ length ws = simp length-set in omega arith)
-
-word-overflow : (ws : List ℕ) (i : ℕ) (s : SlotWords) → length ws ≡ wordCount → i < slotCount → getD (store ws i s) (i * 6 + 5) 0 ≡ s .overflow
-unfolding store
-word-overflow ws i s l h =
-    getD-set-same (set (set (set (set (set ws (i * 6) (s .key)) (i * 6 + 1) (s .content .kind)) (i * 6 + 2) (s .content .value)) (i * 6 + 3) (s .content .commit)) (i * 6 + 4) (s .content .lock)) (i * 6 + 5) (s .overflow) 0 (let z : length (set (set (set (set (set ws (i * 6) (s .key)) (i * 6 + 1) (s .content .kind)) (i * 6 + 2) (s .content .value)) (i * 6 + 3) (s .content .commit)) (i * 6 + 4) (s .content .lock)) ≡ length ws = simp length-set in omega arith)
+word-own ws i s l h x q = sets-at (wordsOf s) ws (i * 6) x 0 q (omega arith)
 
 -- the row that was stored
 pub row-store-same : (ws : List ℕ) (i : ℕ) (s : SlotWords) → length ws ≡ wordCount → i < slotCount → rowAt (store ws i s) i ≡ s
 unfolding rowAt
 row-store-same ws i s l h =
     λ j. record {
-      key = word-key ws i s l h j;
+      key = (ap (λ (n : ℕ). getD (store ws i s) n 0) (sym (add-zero (i * 6))) ∙ word-own ws i s l h 0 (omega arith)) j;
       content =
           record {
-            kind = word-kind ws i s l h j;
-            value = word-value ws i s l h j;
-            commit = word-commit ws i s l h j;
-            lock = word-lock ws i s l h j;
+            kind = word-own ws i s l h 1 (omega arith) j;
+            value = word-own ws i s l h 2 (omega arith) j;
+            commit = word-own ws i s l h 3 (omega arith) j;
+            lock = word-own ws i s l h 4 (omega arith) j;
           };
-      overflow = word-overflow ws i s l h j;
+      overflow = word-own ws i s l h 5 (omega arith) j;
     }
 
 -- and every other
@@ -192,3 +150,32 @@ holds-busy a s t = rw t
 pub idle-zero : isIdle (contentIn (record { kind = 0; value = 0; commit = 0; lock = 0 })) ≡ true
 unfolding isIdle contentIn pendingIn holderIn
 idle-zero = refl
+
+-- ---- what a row says, for callers that go by its kind and its lock
+
+pub pending-none : (c : ContentWords) → c .kind ≡ 0 → contentIn c .pending ≡ none
+unfolding contentIn pendingIn
+pending-none c e = ap (λ (k : ℕ). pendingIn k (c .value) (c .commit)) e
+
+pub pending-put : (c : ContentWords) → c .kind ≡ 1
+    → contentIn c .pending ≡ some (record { write = written (record { value = c .value }); commit = c .commit })
+unfolding contentIn pendingIn
+pending-put c e = ap (λ (k : ℕ). pendingIn k (c .value) (c .commit)) e
+
+pub pending-deleted : (c : ContentWords) → (c .kind ≡ 0 → ⊥) → (c .kind ≡ 1 → ⊥)
+    → contentIn c .pending ≡ some (record { write = deleted; commit = c .commit })
+unfolding contentIn pendingIn
+pending-deleted c n m = go (c .kind) n m
+  where
+    go : (k : ℕ) → (k ≡ 0 → ⊥) → (k ≡ 1 → ⊥) → pendingIn k (c .value) (c .commit) ≡ some (record { write = deleted; commit = c .commit })
+    go zero n m = absurd (n refl)
+    go (suc zero) n m = absurd (m refl)
+    go (suc (suc k)) n m = refl
+
+pub holder-none : (c : ContentWords) → c .lock ≡ 0 → contentIn c .holder ≡ none
+unfolding contentIn holderIn
+holder-none c e = ap holderIn e
+
+pub holder-some : (c : ContentWords) (w : ℕ) → c .lock ≡ w + 1 → contentIn c .holder ≡ some w
+unfolding contentIn holderIn
+holder-some c w e = ap holderIn (e ∙ add-one w)

@@ -2,15 +2,13 @@
 -- number, the lock, the overflow count.
 -- Assumes nothing.
 use Prim.Native.Nat.{ℕ, zero, suc, _+_, _*_}
-use mathlib.Core.Bool.{Bool, true, false}
-use mathlib.Core.List.{List}
+use mathlib.Core.List.{List, [], _∷_}
 use mathlib.Core.Option.{Option, none, some}
-use lib.ListN.{getD, set}
-use Rattle.lists.specs.Tests.{pick}
-use Rattle.lists.specs.Rows.{row}
+use lib.ListN.{getD}
+use lib.Seq.{sets}
 use Rattle.lists.specs.Tabs.{tab}
 use Rattle.spec.specs.Records.{written, deleted}
-use Rattle.spec.specs.Slots.{slotCount, Pending, Content, Slot, isIdle}
+use Rattle.spec.specs.Slots.{slotCount, Pending, Content, Slot}
 use Rattle.laws.specs.SlotChanges.{kept}
 use Rattle.indexlet.specs.declared.Content.{Content as ContentWords}
 use Rattle.indexlet.specs.declared.Slot.{Slot as SlotWords}
@@ -53,19 +51,13 @@ rowAt ws i =
       overflow = getD ws (i * 6 + 5) 0;
     }
 
+-- the words of a row
+abbrev pub wordsOf : SlotWords → List ℕ
+wordsOf s = s .key ∷ s .content .kind ∷ s .content .value ∷ s .content .commit ∷ s .content .lock ∷ s .overflow ∷ []
+
 -- the words with another row at slot i
 unfoldable pub store : List ℕ → ℕ → SlotWords → List ℕ
-store ws i s =
-    set
-    (set
-    (set
-    (set (set (set ws (i * 6) (s .key)) (i * 6 + 1) (s .content .kind)) (i * 6 + 2) (s .content .value))
-    (i * 6 + 3)
-    (s .content .commit))
-    (i * 6 + 4)
-    (s .content .lock))
-    (i * 6 + 5)
-    (s .overflow)
+store ws i s = sets ws (i * 6) (wordsOf s)
 
 -- The model's slots in the words: the view.
 unfoldable pub slotsOf : List ℕ → List Slot

@@ -363,6 +363,7 @@ fn get(t: &[u64; 1536], i: usize) -> Slot
     }
 }
 
+// Another row at slot i.
 fn put(t: &mut [u64; 1536], i: usize, s: Slot)
     requires { ⌜ i < slotCount ⌝ }
     ensures { λ _. ⌜ now (t .exit) ≡ store (now (t .entry)) i s ⌝ }
@@ -394,11 +395,11 @@ pub fn slot_at(t: &[u64; 1536], i: usize) -> Slot
     get(t, i)
 }
 
-// The search rule of document 01: from the home slot on, up to the slot with the entry or a count of 0.
-fn seek(t: &[u64; 1536], a: Address) -> Sought
+// The search rule of document 01: from the home slot h on, up to the slot with the entry or a count of 0.
+fn seek(t: &[u64; 1536], a: Address, h: usize) -> Sought
+    requires { ⌜ h ≡ homeSlot 4 a ⌝ }
     ensures { λ r. ⌜ r ≡ sought (slotsOf (now (t .entry))) a ⌝ }
 {
-    let h = home(a);
     let mut d = 0;
     while d < 256 {
         let i = (h + d) % 256;
@@ -428,7 +429,8 @@ pub fn look_up(t: &[u64; 1536], a: Address) -> Looked
     requires { ⌜ Held (now t) ⌝ }
     ensures { λ r. ⌜ Looks (now (t .entry)) a r ⌝ }
 {
-    let f = seek(t, a);
+    let h = home(a);
+    let f = seek(t, a, h);
     let at = f.at;
     if at < 256 {
         let s = get(t, at);
@@ -450,14 +452,14 @@ pub fn look_up(t: &[u64; 1536], a: Address) -> Looked
     }
 }
 
-// A new entry takes the first empty slot from home, and each slot passed adds one.
-fn take(t: &mut [u64; 1536], a: Address, c: Content)
+// A new entry takes the first empty slot from the home slot h, and each slot passed adds one.
+fn take(t: &mut [u64; 1536], a: Address, h: usize, c: Content)
     requires { ⌜ Held (now t) ⌝ }
+    requires { ⌜ h ≡ homeSlot 4 a ⌝ }
     requires { ⌜ length (entries (slotsOf (now t))) < slotCount ⌝ }
     requires { ⌜ isIdle (contentIn c) ≡ false ⌝ }
     ensures { λ _. ⌜ Becomes (now (t .exit)) (model.take 4 (slotsOf (now (t .entry))) a (contentIn c)) ⌝ }
 {
-    let h = home(a);
     let mut d = 0;
     while d < 256 {
         let i = (h + d) % 256;
@@ -482,13 +484,14 @@ fn take(t: &mut [u64; 1536], a: Address, c: Content)
     }
 }
 
-// The entry of an address that stands `passed` slots after home is taken out, and each slot passed subtracts one.
-fn release(t: &mut [u64; 1536], a: Address, passed: usize)
+// The entry of an address, which stands `passed` slots after the home slot h, is taken out, and each slot passed subtracts
+// one.
+fn release(t: &mut [u64; 1536], a: Address, h: usize, passed: usize)
     requires { ⌜ Held (now t) ⌝ }
+    requires { ⌜ h ≡ homeSlot 4 a ⌝ }
     requires { ⌜ Stands (slotsOf (now t)) a passed ⌝ }
     ensures { λ _. ⌜ Becomes (now (t .exit)) (model.release 4 (slotsOf (now (t .entry))) a) ⌝ }
 {
-    let h = home(a);
     let mut d = 0;
     while d < passed {
         let i = (h + d) % 256;
@@ -526,11 +529,12 @@ pub fn enter(t: &mut [u64; 1536], n: usize, a: Address, c: Content) -> usize
     requires { ⌜ Room (slotsOf (now t)) a (contentIn c) ⌝ }
     ensures { λ r. ⌜ Enters (now (t .entry)) a c (now (t .exit)) r ⌝ }
 {
-    let f = seek(t, a);
+    let h = home(a);
+    let f = seek(t, a, h);
     let at = f.at;
     if idle(c) {
         if at < 256 {
-            release(t, a, f.examined - 1);
+            release(t, a, h, f.examined - 1);
             return n - 1;
         }
         return n;
@@ -545,6 +549,6 @@ pub fn enter(t: &mut [u64; 1536], n: usize, a: Address, c: Content) -> usize
         put(t, at, own);
         return n;
     }
-    take(t, a, c);
+    take(t, a, h, c);
     n + 1
 }

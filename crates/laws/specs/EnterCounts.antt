@@ -13,7 +13,8 @@ use Rattle.lists.specs.Rows.{Row, row, look}
 use Rattle.spec.specs.Slots.{Content, idle, isIdle, Slot, entries, contentOf, enter}
 use Rattle.laws.specs.SlotCounts.{Good, entryAt, tally, count, keyed, look-absent, slot-member}
 use Rattle.laws.specs.SlotChanges.{Changed, changed-tally, kept, Entered}
-use Rattle.laws.specs.SlotLaws.{Room, Entering, entering, member-content}
+use Rattle.laws.specs.Entering.{Room, Entering, entering}
+use Rattle.laws.specs.SlotLaws.{member-content}
 
 content-absent : (ss : List Slot) (k : ℕ) → look (entries ss) k ≡ none → contentOf ss k ≡ idle
 unfolding contentOf

@@ -2,6 +2,7 @@ pub mod Probes
 pub mod SlotCounts
 pub mod SlotChanges
 pub mod Searches
+pub mod Entering
 pub mod SlotLaws
 pub mod LeafParts
 pub mod LeafCuts
@@ -20,3 +21,4 @@ pub mod EnterCounts
 pub mod PendingCounts
 pub mod VersionBounds
 pub mod WorkerLaws
+pub mod CurrentLaws

@@ -22,8 +22,7 @@ use Rattle.spec.specs.Records.{Settings, standard, Record, Write}
 use Rattle.spec.specs.Leaves.{Leaf, versionAt, settle}
 use Rattle.spec.specs.Slots.{slotCount, Slot, Pending, Content, isIdle, entries, contentOf}
 use Rattle.spec.specs.Maps.{MapState, freshMap, waitingWith, addressesWith, each, withSlots, lockAll, unlockAll, installAll, mergesAt, merging, mergeEntry, recordsIn, settleMap, mergeAll, mergeAt}
-use Rattle.laws.specs.SlotCounts.{Good}
-use Rattle.laws.specs.SlotLaws.{fresh-good, present-content, keys-differ}
+use Rattle.laws.specs.SlotLaws.{Good, fresh-good, present-content, keys-differ}
 use Rattle.laws.specs.LeafCuts.{GoodCut}
 use Rattle.laws.specs.LeafLaws.{GoodLeaves, fresh-leaves}
 use Rattle.laws.specs.SettleLaws.{records-in-leaf}
@@ -45,13 +44,13 @@ pub record Bounded (s : Settings) (v : ℕ) (m : MapState) : Type 0 where
 
 -- ---- what follows
 
+rising-within : (rs : List (Row Record)) (ks : List ℕ) → Rising rs → length rs ≤ distinct (keys rs ++ ks)
+rising-within rs ks f =
+    le-trans (le-of-eq (sym (length-keys rs)))
+    (different-within (keys rs) (keys rs ++ ks) (rising-different rs f) (λ k e. has-left k (keys rs) ks e))
+
 pub record-count : {s : Settings} {v : ℕ} {m : MapState} → Bounded s v m → length (m .records) ≤ s .mapLimit
-record-count {s} {v} {m} b =
-    le-trans (le-of-eq (sym (length-keys (m .records))))
-    (le-trans
-    (different-within (keys (m .records)) (keys (m .records) ++ keys (entries (m .slots))) (rising-different (m .records) (b .records))
-    (λ k e. has-left k (keys (m .records)) (keys (entries (m .slots))) e))
-    (b .addresses))
+record-count {s} {v} {m} b = le-trans (rising-within (m .records) (keys (entries (m .slots))) (b .records)) (b .addresses)
 
 pub leaf-limit : {s : Settings} {v : ℕ} {m : MapState} → Bounded s v m → length (m .leaves) ≤ suc (s .mapLimit)
 leaf-limit {s} {v} {m} b =
@@ -188,118 +187,121 @@ install-bounded {s} {v} {m} b n ws i = fewer-bounded b _ (install-good s n m ws 
 
 -- ---- merge
 
--- the entries that enter the index: all in the leaf of a
-pub record Mergeable (m : MapState) (a : ℕ) (es : List (Row Content)) : Type 0 where
-  pub inside : (k : ℕ) → has k (keys es) ≡ true → versionAt (m .leaves) k ≡ versionAt (m .leaves) a
-  pub entered : (k : ℕ) → has k (keys es) ≡ true → has k (keys (entries (m .slots))) ≡ true
+-- the map once the entries have entered the index, before the leaves settle
+abbrev pub mergedWith : Settings → MapState → List (Row Content) → MapState
+mergedWith s m es = each (mergeEntry (s .bytes)) m es
 
-pub merging-enters : (m : MapState) (a : ℕ) → Mergeable m a (merging m a)
-merging-enters m a =
-    record {
-      inside = merging-leaf m a;
-      entered =
-          λ k e. unfold merging in
-          let r = mem-keys (filter (mergesAt (m .leaves) a) (entries (m .slots))) (has-member k _ (unfold merging in e)) in
-          let q = mem-filter (mergesAt (m .leaves) a) (entries (m .slots)) (r .1) in
-          subst (λ (x : ℕ). has x (keys (entries (m .slots))) ≡ true) (r .2) (member-has (keys-mem (r .0) (entries (m .slots)) (q .0)));
-    }
+module _ {s : Settings} {v : ℕ} {m : MapState} (b : Bounded s v m) (es : List (Row Content)) where
+  -- nothing new waits
+  busy-after : (k : ℕ) → Busy (mergedWith s m es .slots) k → Busy (m .slots) k
+  busy-after k e = ⊎-elim (λ t. clash (idles t) e) (λ t. t) (cases (isIdle content))
+    where
+      content : Content
+      content = contentOf (m .slots) k
+
+      nothing : isIdle content ≡ true → contentOf (mergedWith s m es .slots) k .pending ≡ none
+      nothing t =
+          merged-pending (s .bytes) m es (b .slots) k
+          ∙ ap (pick (has k (keys es)) none) (idle-pending content t)
+          ∙ ⊎-elim (λ q. rw q) (λ q. rw q) (cases (has k (keys es)))
+
+      idles : isIdle content ≡ true → isIdle (contentOf (mergedWith s m es .slots) k) ≡ true
+      idles t =
+          unfold isIdle in
+          ap (λ (p : Option Pending). both (not (present p)) (not (present (contentOf (mergedWith s m es .slots) k .holder)))) (nothing t)
+          ∙ ap (λ (h : Option ℕ). not (present h)) (merged-holder (s .bytes) m es (b .slots) k ∙ idle-holder content t)
+
+  waiting-after : length (entries (mergedWith s m es .slots)) ≤ s .waitingLimit
+  waiting-after =
+      le-trans
+      (entries-within (merged-good (s .bytes) m es (b .slots)) (keys (entries (m .slots))) (λ k e. busy-has (b .slots) k (busy-after k e)))
+      (entry-number b)
+
+  -- an address of the index was one before, or had an entry
+  index-after : ((k : ℕ) → has k (keys es) ≡ true → has k (keys (entries (m .slots))) ≡ true)
+      → (k : ℕ) → has k (keys (mergedWith s m es .records)) ≡ true → has k (keys (m .records) ++ keys (entries (m .slots))) ≡ true
+  index-after i k e =
+      ⊎-elim
+      (λ t. has-right k (keys (m .records)) (keys (entries (m .slots))) (i k t))
+      (λ t. has-left k (keys (m .records)) (keys (entries (m .slots)))
+      (has-keys (m .records) k ∙ sym (ap present (merged-look (s .bytes) m es (b .slots) k t)) ∙ sym (has-keys (mergedWith s m es .records) k) ∙ e))
+      (cases (has k (keys es)))
+
+  addresses-after : ((k : ℕ) → has k (keys es) ≡ true → has k (keys (entries (m .slots))) ≡ true)
+      → distinct (keys (mergedWith s m es .records) ++ keys (entries (mergedWith s m es .slots))) ≤ s .mapLimit
+  addresses-after i =
+      le-trans
+      (addresses-within (merged-good (s .bytes) m es (b .slots)) (mergedWith s m es .records) (keys (m .records) ++ keys (entries (m .slots))) (index-after i)
+      (λ k e. has-right k (keys (m .records)) (keys (entries (m .slots))) (busy-has (b .slots) k (busy-after k e))))
+      (b .addresses)
+
+  -- the index has room for each entry on the way, not only for all of them at the end
+  pub merging-count : ((k : ℕ) → has k (keys es) ≡ true → has k (keys (entries (m .slots))) ≡ true)
+      → length (mergedWith s m es .records) ≤ s .mapLimit
+  merging-count i =
+      le-trans
+      (rising-within (mergedWith s m es .records) (keys (entries (mergedWith s m es .slots))) (merged-rising (s .bytes) m es (b .slots) (b .records)))
+      (addresses-after i)
+
+-- the entries that merge have entries, each
+pub merging-entered : (m : MapState) (a k : ℕ) → has k (keys (merging m a)) ≡ true → has k (keys (entries (m .slots))) ≡ true
+unfolding merging
+merging-entered m a k e =
+    let r = mem-keys (filter (mergesAt (m .leaves) a) (entries (m .slots))) (has-member k (keys (filter (mergesAt (m .leaves) a) (entries (m .slots)))) e) in
+    let q = mem-filter (mergesAt (m .leaves) a) (entries (m .slots)) (r .1) in
+    subst (λ (x : ℕ). has x (keys (entries (m .slots))) ≡ true) (r .2) (member-has (keys-mem (r .0) (entries (m .slots)) (q .0)))
 
 module _ {s : Settings} {v : ℕ} {m : MapState} (a : ℕ) (c : GoodCut s) (b : Bounded s v m) where
-  module _ (es : List (Row Content)) (i : Mergeable m a es) where
-    after : MapState
-    after = each (mergeEntry (s .bytes)) m es
-
-    good-after : Good (s .bytes) (after .slots)
-    unfolding after
-    good-after = merged-good (s .bytes) m es (b .slots)
-
-    -- nothing new waits
-    busy-after : (k : ℕ) → Busy (after .slots) k → Busy (m .slots) k
-    unfolding after
-    busy-after k e = ⊎-elim (λ t. clash (idles t) e) (λ t. t) (cases (isIdle (contentOf (m .slots) k)))
-      where
-        content : Content
-        content = contentOf (m .slots) k
-
-        nothing : isIdle content ≡ true → contentOf (each (mergeEntry (s .bytes)) m es .slots) k .pending ≡ none
-        nothing t =
-            merged-pending (s .bytes) m es (b .slots) k
-            ∙ ap (pick (has k (keys es)) none) (idle-pending content t)
-            ∙ ⊎-elim (λ q. rw q) (λ q. rw q) (cases (has k (keys es)))
-
-        idles : isIdle content ≡ true → isIdle (contentOf (each (mergeEntry (s .bytes)) m es .slots) k) ≡ true
-        idles t =
-            unfold isIdle in
-            ap (λ (p : Option Pending). both (not (present p)) (not (present (contentOf (each (mergeEntry (s .bytes)) m es .slots) k .holder)))) (nothing t)
-            ∙ ap (λ (h : Option ℕ). not (present h)) (merged-holder (s .bytes) m es (b .slots) k ∙ idle-holder content t)
-
-    -- an address of the index was one before, or had an entry
-    index-after : (k : ℕ) → has k (keys (after .records)) ≡ true → has k (keys (m .records) ++ keys (entries (m .slots))) ≡ true
-    unfolding after
-    index-after k e =
-        ⊎-elim
-        (λ t. has-right k (keys (m .records)) (keys (entries (m .slots))) (i .entered k t))
-        (λ t. has-left k (keys (m .records)) (keys (entries (m .slots)))
-        (has-keys (m .records) k ∙ sym (ap present (merged-look (s .bytes) m es (b .slots) k t))
-        ∙ sym (has-keys (each (mergeEntry (s .bytes)) m es .records) k) ∙ e))
-        (cases (has k (keys es)))
-
+  module _ (es : List (Row Content)) (i : (k : ℕ) → has k (keys es) ≡ true → versionAt (m .leaves) k ≡ versionAt (m .leaves) a) where
     -- a record outside of the leaf of a stays
-    stays : (k : ℕ) → List·Memᴰ k (keys (m .records)) → same (versionAt (m .leaves) k) (versionAt (m .leaves) a) ≡ false → List·Memᴰ k (keys (after .records))
-    unfolding after
+    stays : (k : ℕ) → List·Memᴰ k (keys (m .records)) → same (versionAt (m .leaves) k) (versionAt (m .leaves) a) ≡ false
+        → List·Memᴰ k (keys (mergedWith s m es .records))
     stays k r e =
         ⊎-elim
-        (λ t. absurd (same-false (versionAt (m .leaves) k) (versionAt (m .leaves) a) e (i .inside k t)))
-        (λ t. has-member k _
-        (has-keys (each (mergeEntry (s .bytes)) m es .records) k ∙ ap present (merged-look (s .bytes) m es (b .slots) k t)
+        (λ t. absurd (same-false (versionAt (m .leaves) k) (versionAt (m .leaves) a) e (i k t)))
+        (λ t. has-member k (keys (mergedWith s m es .records))
+        (has-keys (mergedWith s m es .records) k ∙ ap present (merged-look (s .bytes) m es (b .slots) k t)
         ∙ sym (has-keys (m .records) k) ∙ member-has r))
         (cases (has k (keys es)))
 
-    same-leaves : after .leaves ≡ m .leaves
-    unfolding after
-    same-leaves = merged-leaves (s .bytes) m es
-
-    filled-after : Filled (after .records) (settle s v (after .leaves) a (keys (recordsIn after a)))
+    filled-after :
+        Filled (mergedWith s m es .records) (settle s v (mergedWith s m es .leaves) a (keys (recordsIn (mergedWith s m es) a)))
     unfolding recordsIn
     filled-after =
-        settle-filled c (subst (GoodLeaves v) (sym same-leaves) (b .leaves)) (records-in-leaf (after .leaves) a (after .records) rising)
+        settle-filled c (subst (GoodLeaves v) (sym same-leaves) (b .leaves))
+        (records-in-leaf (after .leaves) a (after .records) (merged-rising (s .bytes) m es (b .slots) (b .records)))
         (subst (Filled (m .records)) (sym same-leaves) (b .filled))
         (λ k r e. stays k r (subst (λ (ls : List Leaf). same (versionAt ls k) (versionAt ls a) ≡ false) same-leaves e))
         (λ k r. let p = mem-keys (filter test (after .records)) r in
         subst (λ (x : ℕ). List·Memᴰ x (keys (after .records))) (p .2) (keys-mem (p .0) (after .records) (mem-filter test (after .records) (p .1) .0)))
       where
-        rising : Rising (after .records)
-        rising = unfold after in merged-rising (s .bytes) m es (b .slots) (b .records)
+        after : MapState
+        after = mergedWith s m es
+
+        same-leaves : after .leaves ≡ m .leaves
+        same-leaves = merged-leaves (s .bytes) m es
 
         test : Row Record → Bool
         test r = same (versionAt (after .leaves) (r .key)) (versionAt (after .leaves) a)
 
-    waiting-after : length (entries (after .slots)) ≤ s .waitingLimit
-    waiting-after =
-        le-trans (entries-within good-after (keys (entries (m .slots))) (λ k e. busy-has (b .slots) k (busy-after k e))) (entry-number b)
-
-    addresses-after : distinct (keys (after .records) ++ keys (entries (after .slots))) ≤ s .mapLimit
-    addresses-after =
-        le-trans
-        (addresses-within good-after (after .records) (keys (m .records) ++ keys (entries (m .slots))) index-after
-        (λ k e. has-right k (keys (m .records)) (keys (entries (m .slots))) (busy-has (b .slots) k (busy-after k e))))
-        (b .addresses)
-
   -- the three fields that the laws of merges do not have
-  rest-bounded : (es : List (Row Content)) → Mergeable m a es → Merges s v m (mergeAll s v m a es)
+  rest-bounded : (es : List (Row Content))
+      → ((k : ℕ) → has k (keys es) ≡ true → versionAt (m .leaves) k ≡ versionAt (m .leaves) a)
+      → ((k : ℕ) → has k (keys es) ≡ true → has k (keys (entries (m .slots))) ≡ true)
+      → Merges s v m (mergeAll s v m a es)
       → Bounded s (mergeAll s v m a es .version) (mergeAll s v m a es .map)
-  unfolding mergeAll settleMap after
-  rest-bounded [] i g = b
-  rest-bounded (e ∷ es) i g =
+  unfolding mergeAll settleMap
+  rest-bounded [] i j g = b
+  rest-bounded (e ∷ es) i j g =
       record {
         slots = g .good;
         records = g .rising;
         leaves = g .leaves;
         filled = filled-after (e ∷ es) i;
-        waiting = waiting-after (e ∷ es) i;
-        addresses = addresses-after (e ∷ es) i;
+        waiting = waiting-after b (e ∷ es);
+        addresses = addresses-after b (e ∷ es) j;
       }
 
   pub merge-bounded : Bounded s (mergeAt s v m a .version) (mergeAt s v m a .map)
   unfolding mergeAt
-  merge-bounded = rest-bounded (merging m a) (merging-enters m a) (merges a c (b .slots) (b .records) (b .leaves))
+  merge-bounded = rest-bounded (merging m a) (merging-leaf m a) (merging-entered m a) (merges a c (b .slots) (b .records) (b .leaves))

@@ -9,7 +9,7 @@ use mathlib.Core.Bool.{Bool, true, false}
 use mathlib.Core.List.{List, [], _∷_, _++_}
 use mathlib.Core.Option.{Option, none, some, Option·getD}
 use lib.ListN.{length, length-append}
-use Rattle.lists.specs.Tests.{pick, maybe, present, cases, clash}
+use Rattle.lists.specs.Tests.{pick, maybe, present, same, cases, clash, same-true}
 use Rattle.lists.specs.Rows.{Row, row, look, keys, has, Different}
 use Rattle.lists.specs.RowLaws.{has-keys, length-keys}
 use Rattle.lists.specs.Counting.{Within, has-here, has-cons}
@@ -17,8 +17,7 @@ use Rattle.lists.specs.Memberships.{has-left, has-right, different-length}
 use Rattle.spec.specs.Records.{Settings, Record, Write}
 use Rattle.spec.specs.Slots.{Slot, Pending, Content, idle, emptySlots, entries, contentOf}
 use Rattle.spec.specs.Maps.{MapState, outcomeOf, pendingRows, each, lockAll, unlockAll, installAll, mergeEntry}
-use Rattle.laws.specs.SlotCounts.{Good}
-use Rattle.laws.specs.SlotLaws.{keys-differ}
+use Rattle.laws.specs.SlotLaws.{Good, keys-differ}
 use Rattle.laws.specs.MapLaws.{unlocked-pending, writtenBy, LockRoom, Installable, GoodMap, lock-good, lock-says, unlock-good, unlock-says, install-good, install-says}
 use Rattle.laws.specs.MergeLaws.{merged-good, merged-pending}
 use Rattle.laws.specs.ContentLaws.{leaving, look-pendingRows}
@@ -168,6 +167,6 @@ merged-fewer bytes m e es g p =
     inside k t =
         pending-has g k
         ∙ ⊎-elim
-        (λ q. ap (pendingAt (m .slots)) (Rattle.lists.specs.Tests.same-true k (e .key) q) ∙ p)
+        (λ q. ap (pendingAt (m .slots)) (same-true k (e .key) q) ∙ p)
         (λ q. kept k (sym (pending-has good k) ∙ sym (has-cons k (e .key) (pendingKeys (entries after)) ∙ (rw q)) ∙ t))
-        (cases (Rattle.lists.specs.Tests.same k (e .key)))
+        (cases (same k (e .key)))

@@ -5,9 +5,9 @@ use Prim.Native.Nat.{ℕ, zero, suc, _+_, _-_, _%_, _<_, _≤_}
 use native.Mathlib.Omega.{arith}
 use mathlib.Core.Path.{_≡_, refl, sym, ap, _∙_, subst}
 use mathlib.Core.Logic.{_⊎_, inl, inr, ⊎-elim}
-use mathlib.Core.Bool.{Bool, true, false, not}
-use mathlib.Core.List.{List, [], _∷_}
-use mathlib.Core.Option.{Option, none, some}
+use mathlib.Core.Bool.{Bool, true, false}
+use mathlib.Core.List.{List}
+use mathlib.Core.Option.{none, some}
 use lib.ListN.{length, getD, set, length-set}
 use lib.Seq.{getD-set-same, getD-set-other, ext-getD}
 use Rattle.lists.specs.Tests.{pick, same, less, cases, same-true, same-false, less-yes, less-no, less-true, less-false}
@@ -70,7 +70,8 @@ less-next a d n =
 pub at-countPassed : (f : ℕ → ℕ) (ss : List Slot) (h d j : ℕ) → length ss ≡ slotCount → h < slotCount → d ≤ slotCount → j < slotCount
     → getD (countPassed f ss h d) j emptySlot ≡ pick (less (gap h j) d) (counted f (getD ss j emptySlot)) (getD ss j emptySlot)
 unfolding countPassed setSlot slotAt
-at-countPassed f ss h zero j l a b q = sym (ap (λ (t : Bool). pick t (counted f (getD ss j emptySlot)) (getD ss j emptySlot)) (less-no {m = gap h j} {n = 0} (omega arith)))
+at-countPassed f ss h zero j l a b q = sym (ap (λ (t : Bool). pick t (counted f (getD ss j emptySlot)) (getD ss j emptySlot))
+    (less-no {m = gap h j} {n = 0} (omega arith)))
 at-countPassed f ss h (suc d) j l a b q =
     at-countPassed f next h d j (length-set ss i (counted f (getD ss i emptySlot)) ∙ l) a (omega arith) q
     ∙ ⊎-elim here there (cases (same j i))
@@ -183,12 +184,18 @@ module _ (p : Slot → Bool) (ss : List Slot) (h : ℕ) where
         omega arith,
       ))
       (λ t. let r : First p ss h (suc d) e × (e < suc d + n) = distance-some n (suc d) e (sym (distance-there n d t) ∙ q) in (
-        record { from = let z : suc d ≤ e = r .0 .from in omega arith; passes = r .0 .passes; before = λ i a b. earlier t (r .0) i a b (cases (same i d)) },
+        record {
+          from = let z : suc d ≤ e = r .0 .from in omega arith;
+          passes = r .0 .passes;
+          before = λ i a b. earlier t
+              (r .0) i a b (cases (same i d));
+        },
         let z : e < suc d + n = r .1 in omega arith,
       ))
       (cases (p (slotAt ss (h + d))))
     where
-      earlier : p (slotAt ss (h + d)) ≡ false → First p ss h (suc d) e → (i : ℕ) → d ≤ i → i < e → (same i d ≡ true) ⊎ (same i d ≡ false) → p (slotAt ss (h + i)) ≡ false
+      earlier : p (slotAt ss (h + d)) ≡ false → First p ss h (suc d) e → (i : ℕ) → d ≤ i → i < e → (same i d ≡ true) ⊎
+          (same i d ≡ false) → p (slotAt ss (h + i)) ≡ false
       earlier t r i a b (inl g) = subst (λ (x : ℕ). p (slotAt ss (h + x)) ≡ false) (sym (same-true i d g)) t
       earlier t r i a b (inr g) = r .before i (let z : i ≡ d → ⊥ = same-false i d g in omega arith) b
 

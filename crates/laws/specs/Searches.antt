@@ -59,13 +59,16 @@ unfolding searchFrom
 search-misses ss k h f zero d = refl
 search-misses ss k h f (suc n) d =
     ⊎-elim
-    (λ t. ap (λ (r : Searched). r .found) (search-stops k (slotAt ss (h + d)) d (searchFrom ss k h n (suc d)) (f (h + d)) (same-true (slotAt ss (h + d) .overflow) 0 t)))
-    (λ t. ap (λ (r : Searched). r .found) (search-on k (slotAt ss (h + d)) d (searchFrom ss k h n (suc d)) (f (h + d)) (same-false (slotAt ss (h + d) .overflow) 0 t))
+    (λ t. ap (λ (r : Searched). r .found) (search-stops k (slotAt ss (h + d)) d (searchFrom ss k h n (suc d)) (f (h + d))
+    (same-true (slotAt ss (h + d) .overflow) 0 t)))
+    (λ t. ap (λ (r : Searched). r .found) (search-on k (slotAt ss (h + d)) d (searchFrom ss k h n (suc d)) (f (h + d))
+    (same-false (slotAt ss (h + d) .overflow) 0 t))
     ∙ search-misses ss k h f n (suc d))
     (cases (same (slotAt ss (h + d) .overflow) 0))
 
 -- one that stands at g from h, behind slots whose counts are not 0, is found
-search-reaches : (ss : List Slot) (k h g : ℕ) (e : Row Content) → slotAt ss (h + g) .entry ≡ some e → ((i : ℕ) → i < g → slotAt ss (h + i) .overflow ≡ 0 → ⊥)
+search-reaches : (ss : List Slot) (k h g : ℕ) (e : Row Content) → slotAt ss (h + g) .entry ≡ some e →
+    ((i : ℕ) → i < g → slotAt ss (h + i) .overflow ≡ 0 → ⊥)
     → (n d : ℕ) → First (holds k) ss h d g → g < d + n → searchFrom ss k h n d ≡ record { found = some (e .item); examined = suc g }
 search-reaches ss k h g e q o zero d f b = absurd (let z : d ≤ g = f .from in omega arith)
 search-reaches ss k h g e q o (suc n) d f b =
@@ -79,7 +82,12 @@ search-reaches ss k h g e q o (suc n) d f b =
     (λ t. let ne : d ≡ g → ⊥ = same-false d g t in
     let z : d ≤ g = f .from in
     search-on k (slotAt ss (h + d)) d (searchFrom ss k h n (suc d)) (f .before d (omega arith) (omega arith)) (o d (omega arith))
-    ∙ search-reaches ss k h g e q o n (suc d) (record { from = omega arith; passes = f .passes; before = λ i x y. f .before i (omega arith) y }) (omega arith))
+    ∙ search-reaches ss k h g e q o n (suc d) (record {
+      from = omega arith;
+      passes = f .passes;
+      before = λ i x y. f .before i
+          (omega arith) y;
+    }) (omega arith))
     (cases (same d g))
 
 -- every slot on the way to an entry has a count
@@ -106,7 +114,8 @@ search-place bytes ss k good r =
     let h : ℕ = homeSlot bytes k in
     let g : ℕ = gap h (r .at) in
     search-reaches ss k h g (r .content)
-    (ap (entryAt ss) (gap-back h (r .at) (home-less bytes k) (let z : r .at < length ss = r .inside in let y : length ss ≡ slotCount = good .size in omega arith)) ∙ r .here)
+    (ap (entryAt ss) (gap-back h (r .at) (home-less bytes k)
+    (let z : r .at < length ss = r .inside in let y : length ss ≡ slotCount = good .size in omega arith)) ∙ r .here)
     (passed-counts bytes ss k good r) slotCount 0
     (distance-place ss k h (good .size) (home-less bytes k) (good .once k) r)
     (let z : gap h (r .at) < slotCount = gap-less h (r .at) in omega arith)

@@ -47,8 +47,10 @@ module _ (f : ℕ → ℕ) (ss : List Slot) (h d : ℕ) (full : length ss ≡ sl
         size = length-set (countPassed f ss h d) p s ∙ length-countPassed f ss h d;
         inside = inside;
         before = refl;
-        after = ap (λ (s : Slot). s .entry) (getD-set-same (countPassed f ss h d) p s emptySlot (let z : length (countPassed f ss h d) ≡ length ss = length-countPassed f ss h d in omega arith));
-        others = λ i q n. ap (λ (s : Slot). s .entry) (getD-set-other (countPassed f ss h d) p i s emptySlot n) ∙ same-entry i (let z : length ss ≡ slotCount = full in omega arith);
+        after = ap (λ (s : Slot). s .entry) (getD-set-same (countPassed f ss h d) p s emptySlot
+            (let z : length (countPassed f ss h d) ≡ length ss = length-countPassed f ss h d in omega arith));
+        others = λ i q n. ap (λ (s : Slot). s .entry) (getD-set-other (countPassed f ss h d) p i s emptySlot n)
+            ∙ same-entry i (let z : length ss ≡ slotCount = full in omega arith);
       }
     where
       p : ℕ
@@ -194,8 +196,10 @@ distance-place ss k h l hb c r =
     record {
       from = zero-le;
       passes = subst (λ (n : ℕ). holds k (getD ss n emptySlot) ≡ true) (sym back) here;
-      before = λ i a b. only-here ss k (r .at) ((h + i) % slotCount) c (r .inside) (let z : (h + i) % slotCount < slotCount = omega arith in omega arith) here
-          (λ q. let g : gap h (r .at) ≡ i = ap (gap h) q ∙ gap-at h i hb (let z : gap h (r .at) < slotCount = gap-less h (r .at) in omega arith) in omega arith);
+      before = λ i a b. only-here ss k (r .at) ((h + i) % slotCount) c (r .inside)
+          (let z : (h + i) % slotCount < slotCount = omega arith in omega arith) here
+          (λ q. let g : gap h (r .at) ≡ i = ap (gap h) q ∙ gap-at h i hb
+          (let z : gap h (r .at) < slotCount = gap-less h (r .at) in omega arith) in omega arith);
     }
   where
     back : (h + gap h (r .at)) % slotCount ≡ r .at
@@ -265,7 +269,8 @@ pub release-entered : (bytes : ℕ) (ss : List Slot) (k : ℕ) (c : Content) →
     → Entered bytes ss k c (release bytes ss k)
 unfolding slotAt tally
 release-entered bytes ss k c good gone r =
-    subst (Entered bytes ss k c) (sym (release-at bytes ss k d (distance-first (holds k) ss h slotCount 0 d first (let z : d < slotCount = db in omega arith))))
+    subst (Entered bytes ss k c) (sym (release-at bytes ss k d
+    (distance-first (holds k) ss h slotCount 0 d first (let z : d < slotCount = db in omega arith))))
     (record {
       at = p;
       old = some e;
@@ -301,7 +306,8 @@ release-entered bytes ss k c good gone r =
 
     here : entryAt ss p ≡ some e
     here =
-        ap (entryAt ss) (gap-back h (r .at) (home-less bytes k) (let z : r .at < length ss = r .inside in let y : length ss ≡ slotCount = good .size in omega arith))
+        ap (entryAt ss) (gap-back h (r .at) (home-less bytes k)
+        (let z : r .at < length ss = r .inside in let y : length ss ≡ slotCount = good .size in omega arith))
         ∙ r .here
 
     new : none ≡ kept k c

@@ -1,172 +1,27 @@
--- Laws of the indexlet: its invariant holds of empty slots and after each change, and what it says of each address.
+-- Laws of the indexlet: what it says of each address after a change, that its entries are those of which it says something,
+-- and how a sum over the entries changes.
 -- Assumes nothing.
-use Prim.Native.Nat.{ℕ, _+_, _<_, _≤_, zero-le}
+use Prim.Native.Nat.{ℕ, _+_, _<_, _≤_}
 use native.Mathlib.Omega.{arith}
 use mathlib.Core.Path.{_≡_, refl, sym, ap, _∙_, subst}
-use mathlib.Core.Logic.{_⊎_, inl, inr, ⊎-elim}
+use mathlib.Core.Logic.{⊎-elim}
 use mathlib.Core.Bool.{Bool, true, false, not}
 use mathlib.Core.List.{List, [], _∷_, List·Memᴰ}
 use mathlib.Core.Option.{Option, none, some, Option·getD}
-use lib.ListN.{length, getD, replicate, length-replicate, getD-replicate, List·getD-eq-default}
-use Rattle.lists.specs.Tests.{pick, both, present, same, less, cases, clash, same-true, same-false, same-yes, same-no, less-true, less-false}
+use lib.ListN.{length}
+use Rattle.lists.specs.Tests.{pick, both, maybe, present, same, cases, clash, same-true, same-false, same-no}
 use Rattle.lists.specs.Rows.{Row, row, look, keys, any, has}
 use Rattle.lists.specs.Members.{look-member}
-use Rattle.lists.specs.Sums.{total-at, total-none}
-use Rattle.lists.specs.Options.{options, both-options, some-same}
-use Rattle.spec.specs.Slots.{slotCount, homeSlot, Pending, Content, idle, isIdle, Slot, emptySlot, emptySlots, entries, contentOf, take, release, rewrite, enter}
+use Rattle.lists.specs.Sums.{total}
+use Rattle.lists.specs.Options.{options}
+use Rattle.spec.specs.Slots.{Pending, Content, idle, isIdle, Slot, entries, contentOf, enter}
 use Rattle.lists.specs.Rows.{Different}
-use Rattle.laws.specs.SlotChanges.{changed-tally, kept, Entered, release-none, distance-absent, take-entered, release-entered, rewrite-entered}
-use Rattle.laws.specs.SlotCounts.{entryAt, tally, count, filled, keyed, passing, entries-some, entries-none, count-cons, keyed-here, length-entries, look-absent, look-held, Place, member-slot, lookup, absent-count, present-place}
+use Rattle.laws.specs.SlotChanges.{changed-tally, kept, Entered}
+use Rattle.laws.specs.SlotCounts.{entryAt, tally, count, keyed, entries-some, entries-none, count-cons, keyed-here, look-absent, look-held, Place, member-slot, lookup}
 pub use Rattle.laws.specs.SlotCounts.{Good}
 pub use Rattle.laws.specs.Searches.{search-finds, search-bound}
-
--- ---- entering
-
--- there is room to say c of k
-pub data Room (ss : List Slot) (k : ℕ) (c : Content) : Type 0 where
-  -- nothing is to be said
-  goes : isIdle c ≡ true → Room ss k c
-  -- it has an entry
-  stands : present (look (entries ss) k) ≡ true → Room ss k c
-  -- a slot is empty
-  fits : length (entries ss) < slotCount → Room ss k c
-
-pub enter-idle : (bytes : ℕ) (ss : List Slot) (k : ℕ) (c : Content) → isIdle c ≡ true → enter bytes ss k c ≡ release bytes ss k
-unfolding enter
-enter-idle bytes ss k c t = rw t
-
-pub enter-present : (bytes : ℕ) (ss : List Slot) (k : ℕ) (c : Content) → isIdle c ≡ false → present (look (entries ss) k) ≡ true
-    → enter bytes ss k c ≡ rewrite ss k c
-unfolding enter
-enter-present bytes ss k c t q = rw (t, q)
-
-pub enter-absent : (bytes : ℕ) (ss : List Slot) (k : ℕ) (c : Content) → isIdle c ≡ false → present (look (entries ss) k) ≡ false
-    → enter bytes ss k c ≡ take bytes ss k c
-unfolding enter
-enter-absent bytes ss k c t q = rw (t, q)
-
--- what `enter` does: it changes one entry, or has nothing to do
-unfoldable pub Entering : (bytes : ℕ) (ss : List Slot) (k : ℕ) (c : Content) → Type 0
-Entering bytes ss k c =
-    Entered bytes ss k c (enter bytes ss k c) ⊎ ((enter bytes ss k c ≡ ss) × (count (keyed k) ss ≡ 0) × (isIdle c ≡ true))
-
-pub entering : {bytes : ℕ} {ss : List Slot} {k : ℕ} {c : Content} → Good bytes ss → Room ss k c → Entering bytes ss k c
-unfolding Entering
-entering {bytes} {ss} {k} {c} good room = ⊎-elim idling busy (cases (isIdle c))
-  where
-    idling : isIdle c ≡ true → Entered bytes ss k c (enter bytes ss k c) ⊎ ((enter bytes ss k c ≡ ss) × (count (keyed k) ss ≡ 0) × (isIdle c ≡ true))
-    idling t =
-        ⊎-elim
-        (λ q. inr (enter-idle bytes ss k c t ∙ release-none bytes ss k (distance-absent ss k (homeSlot bytes k) (good .size) (q .0)), q .0, t))
-        (λ q. inl (subst (Entered bytes ss k c) (sym (enter-idle bytes ss k c t)) (release-entered bytes ss k c good t (q .0))))
-        (lookup bytes ss k good)
-
-    free : (r : Room ss k c) → isIdle c ≡ false → present (look (entries ss) k) ≡ false → length (entries ss) < slotCount
-    free (goes q) t a = clash q t
-    free (stands q) t a = clash q a
-    free (fits q) t a = q
-
-    busy : isIdle c ≡ false → Entered bytes ss k c (enter bytes ss k c) ⊎ ((enter bytes ss k c ≡ ss) × (count (keyed k) ss ≡ 0) × (isIdle c ≡ true))
-    busy t =
-        inl
-        (⊎-elim
-        (λ q. subst (Entered bytes ss k c) (sym (enter-present bytes ss k c t q)) (rewrite-entered bytes ss k c good t (present-place bytes ss k good q)))
-        (λ q. subst (Entered bytes ss k c) (sym (enter-absent bytes ss k c t q))
-        (take-entered bytes ss k c (good .size) t (absent-count bytes ss k good q) (free room t q)))
-        (cases (present (look (entries ss) k))))
-
-keyed-kept : (k : ℕ) (c : Content) → keyed k (kept k c) ≤ 1
-keyed-kept k c = ⊎-elim (λ t. rw t (zero-le)) (λ t. rw t (rw (same-yes {m = k} {n = k} refl) (omega arith))) (cases (isIdle c))
-
-keyed-other : (j k : ℕ) (c : Content) → (j ≡ k → ⊥) → keyed j (kept k c) ≡ 0
-keyed-other j k c n =
-    ⊎-elim (λ t. rw t) (λ t. rw t (ap (λ (t : Bool). pick t 1 0) (same-no {m = k} {n = j} (λ q. n (sym q))))) (cases (isIdle c))
-
-pub kept-entry : (k : ℕ) (c : Content) (e : Row Content) → kept k c ≡ some e → (isIdle c ≡ false) × (row k c ≡ e)
-kept-entry k c e q =
-    ⊎-elim
-    (λ t. both-options q (ap (λ (t : Bool). pick t none (some (row k c))) t))
-    (λ t. (t, some-same (sym (ap (λ (t : Bool). pick t none (some (row k c))) t) ∙ q)))
-    (cases (isIdle c))
-
-entered-good : {bytes : ℕ} {ss : List Slot} {k : ℕ} {c : Content} {ts : List Slot} → Good bytes ss → Entered bytes ss k c ts → Good bytes ts
-entered-good {bytes} {ss} {k} {c} {ts} good r =
-    record {
-      size = r .changed .size ∙ good .size;
-      once = λ j. ⊎-elim (λ t. own j (same-true j k t)) (λ t. other j (same-false j k t)) (cases (same j k));
-      lively = λ i e q. ⊎-elim (λ t. new i e q (same-true i (r .at) t)) (λ t. rest i e q (same-false i (r .at) t)) (cases (same i (r .at)));
-      passed = passed;
-    }
-  where
-    own : (j : ℕ) → j ≡ k → count (keyed j) ts ≤ 1
-    own j q =
-        subst (λ (n : ℕ). count (keyed n) ts ≤ 1) (sym q)
-        (let s : count (keyed k) ts + keyed k (r .old) ≡ count (keyed k) ss + keyed k (kept k c) = changed-tally (r .changed) (λ (i : ℕ). keyed k) in
-        let a : count (keyed k) ss ≡ keyed k (r .old) = r .own in
-        let b : keyed k (kept k c) ≤ 1 = keyed-kept k c in
-        omega arith)
-
-    other : (j : ℕ) → (j ≡ k → ⊥) → count (keyed j) ts ≤ 1
-    other j n =
-        let s : count (keyed j) ts + keyed j (r .old) ≡ count (keyed j) ss + keyed j (kept k c) = changed-tally (r .changed) (λ (i : ℕ). keyed j) in
-        let a : keyed j (r .old) ≡ 0 = r .foreign j n in
-        let b : keyed j (kept k c) ≡ 0 = keyed-other j k c n in
-        let d : count (keyed j) ss ≤ 1 = good .once j in
-        omega arith
-
-    new : (i : ℕ) (e : Row Content) → entryAt ts i ≡ some e → i ≡ r .at → isIdle (e .item) ≡ false
-    new i e q p =
-        let z = kept-entry k c e (sym (r .changed .after) ∙ ap (entryAt ts) (sym p) ∙ q) in
-        ap (λ (e : Row Content). isIdle (e .item)) (sym (z .1)) ∙ z .0
-
-    rest : (i : ℕ) (e : Row Content) → entryAt ts i ≡ some e → (i ≡ r .at → ⊥) → isIdle (e .item) ≡ false
-    rest i e q n =
-        ⊎-elim
-        (λ t. good .lively i e (sym (r .changed .others i (less-true i (length ss) t) n) ∙ q))
-        (λ t. both-options q (ap (λ (s : Slot). s .entry) (List·getD-eq-default ts emptySlot {n = i}
-        (let z : length ss ≤ i = less-false i (length ss) t in let y : length ts ≡ length ss = r .changed .size in omega arith))))
-        (cases (less i (length ss)))
-
-    passed : (i : ℕ) → i < slotCount → getD ts i emptySlot .overflow ≡ tally (passing bytes i) ts
-    passed i q =
-        let s : tally (passing bytes i) ts + passing bytes i (r .at) (r .old) ≡ tally (passing bytes i) ss + passing bytes i (r .at) (kept k c)
-        = changed-tally (r .changed) (passing bytes i) in
-        let a : getD ts i emptySlot .overflow + passing bytes i (r .at) (r .old) ≡ getD ss i emptySlot .overflow + passing bytes i (r .at) (kept k c)
-        = r .counts i q in
-        let b : getD ss i emptySlot .overflow ≡ tally (passing bytes i) ss = good .passed i q in
-        omega arith
-
-pub enter-good : {bytes : ℕ} {ss : List Slot} {k : ℕ} {c : Content} → Good bytes ss → Room ss k c → Good bytes (enter bytes ss k c)
-unfolding Entering
-enter-good {bytes} {ss} {k} {c} good room =
-    ⊎-elim (λ r. entered-good good r) (λ r. subst (Good bytes) (sym (r .0)) good) (entering good room)
-
--- slots that are all empty
-module _ (bytes n : ℕ) where
-  blank : (i : ℕ) → getD (replicate n emptySlot) i emptySlot ≡ emptySlot
-  blank i =
-      ⊎-elim
-      (λ t. getD-replicate n i emptySlot emptySlot (less-true i n t))
-      (λ t. List·getD-eq-default (replicate n emptySlot) emptySlot {n = i} (rw (length-replicate n emptySlot) (less-false i n t)))
-      (cases (less i n))
-
-  blank-tally : (g : ℕ → Option (Row Content) → ℕ) → ((i : ℕ) → g i none ≡ 0) → tally g (replicate n emptySlot) ≡ 0
-  unfolding tally
-  blank-tally g z =
-      total-none (λ (i : ℕ) (s : Slot). g i (s .entry)) (replicate n emptySlot) emptySlot
-      (λ i q. ap (λ (s : Slot). g i (s .entry)) (blank i) ∙ z i)
-
-  blank-good : n ≡ slotCount → Good bytes (replicate n emptySlot)
-  blank-good e =
-      record {
-        size = length-replicate n emptySlot ∙ e;
-        once = λ k. (let z : count (keyed k) (replicate n emptySlot) ≡ 0 = blank-tally (λ (i : ℕ). keyed k) (λ i. refl) in omega arith);
-        lively = λ i r q. both-options q (ap (λ (s : Slot). s .entry) (blank i));
-        passed = λ i q. ap (λ (s : Slot). s .overflow) (blank i) ∙ sym (blank-tally (passing bytes i) (λ j. refl));
-      }
-
-pub fresh-good : (bytes : ℕ) → Good bytes emptySlots
-fresh-good bytes = blank-good bytes slotCount refl
+use Rattle.laws.specs.Entering.{Entering, entering, keyed-other, entered-good}
+pub use Rattle.laws.specs.Entering.{Room, goes, stands, fits, enter-idle, enter-present, enter-absent, kept-entry, enter-good, fresh-good}
 
 -- ---- what the indexlet says of an address
 
@@ -174,7 +29,8 @@ pub idle-content : (c : Content) → isIdle c ≡ true → c ≡ idle
 unfolding isIdle
 idle-content c t = go (c .pending) (c .holder) t
   where
-    go : (p : Option Pending) (h : Option ℕ) → both (not (present p)) (not (present h)) ≡ true → _≡_ {A = Content} (record { pending = p; holder = h }) idle
+    go : (p : Option Pending) (h : Option ℕ) → both (not (present p)) (not (present h)) ≡ true → _≡_ {A = Content}
+        (record { pending = p; holder = h }) idle
     go none none t = refl
     go none (some w) t = clash {b = false} t refl
     go (some x) h t = clash {b = false} t refl
@@ -259,64 +115,6 @@ content-enter {bytes} {ss} {k} {c} good room j =
         (λ t. ap (λ (t : Bool). pick t c (contentOf ss j)) (sym t))
         (cases (same k j))
 
-present-count : (bytes : ℕ) (ss : List Slot) (k : ℕ) → Good bytes ss → _≡_ {A = ℕ} (pick (present (look (entries ss) k)) 1 0) (count (keyed k) ss)
-unfolding tally
-present-count bytes ss k good =
-    ⊎-elim
-    (λ r. ap (λ (o : Option Content). pick (present o) 1 0) (r .1) ∙ sym (r .0))
-    (λ r. ap (λ (o : Option Content). pick (present o) 1 0) (r .1) ∙ one (r .0))
-    (lookup bytes ss k good)
-  where
-    one : (r : Place ss k) → 1 ≡ count (keyed k) ss
-    one r =
-        let at : keyed k (entryAt ss (r .at)) ≤ count (keyed k) ss
-        = total-at (λ (i : ℕ) (s : Slot). keyed k (s .entry)) ss (r .at) emptySlot (r .inside) in
-        let here : keyed k (entryAt ss (r .at)) ≡ 1 = keyed-here k (entryAt ss (r .at)) (r .content) (r .here) (r .own) in
-        let most : count (keyed k) ss ≤ 1 = good .once k in
-        omega arith
-
--- how the number of entries changes: one more if k gets its entry, one less if it loses it
-pub count-enter : {bytes : ℕ} {ss : List Slot} {k : ℕ} {c : Content} → Good bytes ss → Room ss k c
-    → length (entries (enter bytes ss k c)) + pick (present (look (entries ss) k)) 1 0 ≡ length (entries ss) + pick (isIdle c) 0 1
-unfolding Entering
-count-enter {bytes} {ss} {k} {c} good room =
-    ⊎-elim changed unchanged (entering good room)
-  where
-    ts : List Slot
-    ts = enter bytes ss k c
-
-    new : (t : Bool) → _≡_ {A = ℕ} (filled (pick t none (some (row k c)))) (pick t 0 1)
-    new true = refl
-    new false = refl
-
-    own-entry : (o : Option (Row Content)) → ((j : ℕ) → (j ≡ k → ⊥) → keyed j o ≡ 0) → keyed k o ≡ filled o
-    own-entry none f = refl
-    own-entry (some e) f =
-        ⊎-elim
-        (λ t. ap (λ (t : Bool). pick t 1 0) t)
-        (λ t. absurd (let a : keyed (e .key) (some e) ≡ 0 = f (e .key) (same-false (e .key) k t) in
-        let b : keyed (e .key) (some e) ≡ 1 = keyed-here (e .key) (some e) e refl refl in omega arith))
-        (cases (same (e .key) k))
-
-    changed : Entered bytes ss k c ts → length (entries ts) + pick (present (look (entries ss) k)) 1 0 ≡ length (entries ss) + pick (isIdle c) 0 1
-    changed r =
-        let s : count filled ts + filled (r .old) ≡ count filled ss + filled (kept k c) = changed-tally (r .changed) (λ (i : ℕ). filled) in
-        let a : length (entries ts) ≡ count filled ts = length-entries ts in
-        let b : length (entries ss) ≡ count filled ss = length-entries ss in
-        let d : keyed k (r .old) ≡ filled (r .old) = own-entry (r .old) (r .foreign) in
-        let e : count (keyed k) ss ≡ keyed k (r .old) = r .own in
-        let f : pick (present (look (entries ss) k)) 1 0 ≡ count (keyed k) ss = present-count bytes ss k good in
-        let g : filled (kept k c) ≡ pick (isIdle c) 0 1 = new (isIdle c) in
-        omega arith
-
-    unchanged : (ts ≡ ss) × (count (keyed k) ss ≡ 0) × (isIdle c ≡ true) → length (entries ts) + pick (present (look (entries ss) k)) 1 0 ≡ length (entries ss) + pick (isIdle c) 0 1
-    unchanged r =
-        let a : length (entries ts) ≡ length (entries ss) = ap (λ (l : List Slot). length (entries l)) (r .0) in
-        let b : pick (present (look (entries ss) k)) 1 0 ≡ count (keyed k) ss = present-count bytes ss k good in
-        let e : count (keyed k) ss ≡ 0 = r .1 in
-        let d : _≡_ {A = ℕ} (pick (isIdle c) 0 1) 0 = ap (λ (t : Bool). pick t 0 1) (r .2) in
-        omega arith
-
 pub not-idle : {bytes : ℕ} {ss : List Slot} → Good bytes ss → (e : Row Content) → List·Memᴰ e (entries ss) → isIdle (e .item) ≡ false
 not-idle {bytes} {ss} good e m = let r = member-slot ss e m in good .lively (r .0) e (r .2)
 
@@ -363,7 +161,8 @@ once-differ (s ∷ ss) h =
     let rest : Different (keys (entries ss)) = once-differ ss (λ k. (let z : keyed k (s .entry) + count (keyed k) ss ≤ 1 = sum k in omega arith)) in
     ⊎-elim
     (λ q. subst (λ (es : List (Row Content)). Different (keys es)) (sym (entries-none s ss q)) rest)
-    (λ q. subst (λ (es : List (Row Content)). Different (keys es)) (sym (entries-some s ss (q .0) (q .1))) (has-absent ss (q .0 .key) (new (q .0) (q .1)), rest))
+    (λ q. subst (λ (es : List (Row Content)). Different (keys es)) (sym (entries-some s ss (q .0) (q .1)))
+    (has-absent ss (q .0 .key) (new (q .0) (q .1)), rest))
     (options (s .entry))
   where
     sum : (k : ℕ) → keyed k (s .entry) + count (keyed k) ss ≤ 1
@@ -377,3 +176,116 @@ once-differ (s ∷ ss) h =
 
 pub keys-differ : {bytes : ℕ} {ss : List Slot} → Good bytes ss → Different (keys (entries ss))
 keys-differ {bytes} {ss} good = once-differ ss (good .once)
+
+-- ---- sums over the entries
+
+-- the entry that changes is the one that k had
+entry-was : {bytes : ℕ} {ss : List Slot} {k : ℕ} {c : Content} {ts : List Slot} → Good bytes ss → (r : Entered bytes ss k c ts)
+    → r .old ≡ kept k (contentOf ss k)
+entry-was {bytes} {ss} {k} {c} {ts} good r = ⊎-elim without having (options (r .old))
+  where
+    without : r .old ≡ none → r .old ≡ kept k (contentOf ss k)
+    without q =
+        let said : contentOf ss k ≡ idle = content-none ss k (look-absent ss k (r .own ∙ ap (keyed k) q)) in
+        q ∙ sym (ap (λ (t : Bool). pick t none (some (row k (contentOf ss k)))) (ap isIdle said ∙ idle-idle))
+
+    own-key : (e : Row Content) → r .old ≡ some e → e .key ≡ k
+    own-key e q =
+        ⊎-elim
+        (λ t. same-true (e .key) k t)
+        (λ t. absurd
+        (let a : keyed (e .key) (r .old) ≡ 0 = r .foreign (e .key) (same-false (e .key) k t) in
+        let b : keyed (e .key) (r .old) ≡ 1 = keyed-here (e .key) (r .old) e q refl in
+        omega arith))
+        (cases (same (e .key) k))
+
+    having : (q : (e : Row Content) × (r .old ≡ some e)) → r .old ≡ kept k (contentOf ss k)
+    having q =
+        let e : Row Content = q .0 in
+        let key : e .key ≡ k = own-key e (q .1) in
+        let at : entryAt ss (r .at) ≡ some e = r .changed .before ∙ q .1 in
+        let said : contentOf ss k ≡ e .item = content-some ss k (e .item) (look-held ss (r .at) k e (good .once k) (r .changed .inside) at key) in
+        q .1
+        ∙ sym
+        (ap (λ (t : Bool). pick t none (some (row k (contentOf ss k)))) (ap isIdle said ∙ good .lively (r .at) e at)
+        ∙ (λ i. some (record { key = sym key i; item = said i })))
+
+-- what the entry of k counts for, where there is one if something is said
+abbrev pub weigh : (Row Content → ℕ) → ℕ → Content → ℕ
+weigh f k c = pick (isIdle c) 0 (f (row k c))
+
+weigh-kept : (f : Row Content → ℕ) (k : ℕ) (c : Content) → maybe (kept k c) 0 f ≡ weigh f k c
+weigh-kept f k c = go (isIdle c)
+  where
+    go : (t : Bool) → maybe (pick t none (some (row k c))) 0 f ≡ pick t 0 (f (row k c))
+    go true = refl
+    go false = refl
+
+sum-entries : (f : Row Content → ℕ) (ss : List Slot) → total (λ (i : ℕ). f) (entries ss) ≡ count (λ (o : Option (Row Content)). maybe o 0 f) ss
+unfolding total tally entries
+sum-entries f [] = refl
+sum-entries f (s ∷ ss) =
+    ⊎-elim
+    (λ q. ap (λ (es : List (Row Content)). total (λ (i : ℕ). f) es) (entries-none s ss q)
+    ∙ sum-entries f ss
+    ∙ (let z : maybe (s .entry) 0 f ≡ 0 = ap (λ (o : Option (Row Content)). maybe o 0 f) q in omega arith))
+    (λ q. ap (λ (es : List (Row Content)). total (λ (i : ℕ). f) es) (entries-some s ss (q .0) (q .1))
+    ∙ ap (λ (n : ℕ). f (q .0) + n) (sum-entries f ss)
+    ∙ (let z : maybe (s .entry) 0 f ≡ f (q .0) = ap (λ (o : Option (Row Content)). maybe o 0 f) (q .1) in omega arith))
+    (options (s .entry))
+
+-- a sum over the entries changes by what the entry of k counted for and counts for now
+pub sum-enter : {bytes : ℕ} {ss : List Slot} {k : ℕ} {c : Content} → Good bytes ss → Room ss k c → (f : Row Content → ℕ)
+    → total (λ (i : ℕ). f) (entries (enter bytes ss k c)) + weigh f k (contentOf ss k) ≡ total (λ (i : ℕ). f) (entries ss) + weigh f k c
+unfolding Entering
+sum-enter {bytes} {ss} {k} {c} good room f = ⊎-elim changed unchanged (entering good room)
+  where
+    ts : List Slot
+    ts = enter bytes ss k c
+
+    g : Option (Row Content) → ℕ
+    g o = maybe o 0 f
+
+    changed : Entered bytes ss k c ts
+        → total (λ (i : ℕ). f) (entries ts) + weigh f k (contentOf ss k) ≡ total (λ (i : ℕ). f) (entries ss) + weigh f k c
+    changed r =
+        let sums : count g ts + g (r .old) ≡ count g ss + g (kept k c) = changed-tally (r .changed) (λ (i : ℕ). g) in
+        let before : g (r .old) ≡ weigh f k (contentOf ss k) = ap g (entry-was good r) ∙ weigh-kept f k (contentOf ss k) in
+        let after : g (kept k c) ≡ weigh f k c = weigh-kept f k c in
+        let a : total (λ (i : ℕ). f) (entries ts) ≡ count g ts = sum-entries f ts in
+        let b : total (λ (i : ℕ). f) (entries ss) ≡ count g ss = sum-entries f ss in
+        omega arith
+
+    unchanged : (ts ≡ ss) × (count (keyed k) ss ≡ 0) × (isIdle c ≡ true)
+        → total (λ (i : ℕ). f) (entries ts) + weigh f k (contentOf ss k) ≡ total (λ (i : ℕ). f) (entries ss) + weigh f k c
+    unchanged r =
+        let same-sum : total (λ (i : ℕ). f) (entries ts) ≡ total (λ (i : ℕ). f) (entries ss) = ap
+        (λ (l : List Slot). total (λ (i : ℕ). f) (entries l)) (r .0) in
+        let said : contentOf ss k ≡ idle = content-none ss k (look-absent ss k (r .1)) in
+        let before : weigh f k (contentOf ss k) ≡ 0
+        = ap (λ (t : Bool). pick t 0 (f (row k (contentOf ss k)))) (ap isIdle said ∙ idle-idle) in
+        let after : weigh f k c ≡ 0 = ap (λ (t : Bool). pick t 0 (f (row k c))) (r .2) in
+        omega arith
+
+length-sum : {A : Type 0} (xs : List A) → total (λ (i : ℕ) (x : A). 1) xs ≡ length xs
+unfolding total
+length-sum [] = refl
+length-sum (x ∷ xs) = let e : total (λ (i : ℕ) (x : _). 1) xs ≡ length xs = length-sum xs in omega arith
+
+-- how the number of entries changes: one more if k gets its entry, one less if it loses it
+pub count-enter : {bytes : ℕ} {ss : List Slot} {k : ℕ} {c : Content} → Good bytes ss → Room ss k c
+    → length (entries (enter bytes ss k c)) + pick (present (look (entries ss) k)) 1 0 ≡ length (entries ss) + pick (isIdle c) 0 1
+count-enter {bytes} {ss} {k} {c} good room =
+    let sums : total (λ (i : ℕ) (e : Row Content). 1) (entries (enter bytes ss k c)) + pick (isIdle (contentOf ss k)) 0 1
+    ≡ total (λ (i : ℕ) (e : Row Content). 1) (entries ss) + pick (isIdle c) 0 1
+    = sum-enter good room (λ (e : Row Content). 1) in
+    let a : total (λ (i : ℕ) (e : Row Content). 1) (entries (enter bytes ss k c)) ≡ length
+    (entries (enter bytes ss k c)) = length-sum (entries (enter bytes ss k c)) in
+    let b : total (λ (i : ℕ) (e : Row Content). 1) (entries ss) ≡ length (entries ss) = length-sum (entries ss) in
+    let found : _≡_ {A = ℕ} (pick (present (look (entries ss) k)) 1 0) (pick (isIdle (contentOf ss k)) 0 1)
+    = ap (λ (t : Bool). pick t 1 0) (present-content good k) ∙ swap (isIdle (contentOf ss k)) in
+    omega arith
+  where
+    swap : (t : Bool) → _≡_ {A = ℕ} (pick (not t) 1 0) (pick t 0 1)
+    swap true = refl
+    swap false = refl

@@ -10,7 +10,7 @@ use mathlib.Core.List.{List, [], _∷_}
 use mathlib.Core.Option.{Option, none, some}
 use lib.ListN.{length, getD, set, replicate, List·getD-eq-default}
 use lib.Seq.{getD-set-same, getD-set-other}
-use Rattle.lists.specs.Tests.{pick, either, less, cases, clash, less-true}
+use Rattle.lists.specs.Tests.{pick, either, less, cases, clash, less-true, less-yes}
 use Rattle.lists.specs.Rows.{any}
 use Rattle.lists.specs.RowLaws.{some-not-none}
 use Rattle.lists.specs.Options.{some-same}
@@ -137,6 +137,10 @@ cause-first c cs o e =
 pub cause-passed : (c : Cause) (cs : List Cause) → firstCause (c ∷ cs) ≡ none → (c .holds ≡ false) × (firstCause cs ≡ none)
 cause-passed c cs e = ⊎-elim (λ t. absurd (some-not-none (t .1))) (λ t. t) (cause-first c cs none e)
 
+pub no-causes : firstCause [] ≡ none
+unfolding firstCause
+no-causes = refl
+
 pub cause-passes : (c : Cause) (cs : List Cause) → c .holds ≡ false → firstCause cs ≡ none → firstCause (c ∷ cs) ≡ none
 unfolding firstCause
 cause-passes c cs t e = rw t e
@@ -154,6 +158,12 @@ stage-passed σ right w cs e =
       not-false (right (workerOf σ w .stage)) (c .0),
       c .1,
     )
+
+pub stage-passes : (σ : State) (right : Stage → Bool) (w : ℕ) (cs : List Cause)
+    → w < σ .settings .workers → isFree (workerOf σ w .stage) ≡ false → right (workerOf σ w .stage) ≡ true → firstCause cs ≡ none
+    → firstCause (noWorker σ w ∷ workerFree σ w ∷ wrongStage right σ w ∷ cs) ≡ none
+unfolding noWorker workerFree wrongStage
+stage-passes σ right w cs i f r e = cause-passes _ _ (ap not (less-yes i)) (cause-passes _ _ f (cause-passes _ _ (ap not r) e))
 
 -- a cause that ends no transaction is not the one that did
 pub ended-later : (c : Cause) (cs : List Cause) (r : Refusal) → ends (c .refusal) ≡ false → ends r ≡ true → firstCause (c ∷ cs) ≡ some r

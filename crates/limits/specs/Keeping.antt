@@ -1,17 +1,20 @@
--- Every step keeps the invariant, and so it holds after every list of steps from a fresh map.
+-- Every step keeps the invariant (`next-kept`), and so it holds after every list of steps from a fresh map. Under
+-- document 01's limits no list of steps passes any of them (`every-run`): 1,024 records, 1,025 leaves, 192 waiting and
+-- locked addresses, a worker's 64, 32 and 16, 1,000,000 commit numbers, and the versions that these allow.
 -- Assumes nothing.
-use Prim.Native.Nat.{suc, _*_, _≤_}
+use Prim.Native.Nat.{ℕ, suc, _*_, _≤_}
 use mathlib.Core.Path.{_≡_, refl, sym, ap, _∙_, subst}
 use mathlib.Core.Logic.{⊎-elim}
-use mathlib.Core.List.{List, [], _∷_}
+use mathlib.Core.List.{List, [], _∷_, _++_}
 use mathlib.Core.Option.{Option, none, some}
 use lib.ListN.{length}
 use Rattle.lists.specs.Tests.{cases}
+use Rattle.lists.specs.Rows.{keys, distinct}
 use Rattle.spec.specs.declared.Refusal.{Refusal}
 use Rattle.spec.specs.Refusals.{ends}
 use Rattle.spec.specs.Records.{Settings, standard, written, deleted}
 use Rattle.spec.specs.Slots.{entries}
-use Rattle.spec.specs.Steps.{State, fresh, Step, begin, read, scan, put, remove, lock, validate, install, abort, merge, scanReads, scanVersions, refusal, withWorker, withMap, withCounters, dropped, merged, effect, next, final}
+use Rattle.spec.specs.Steps.{State, fresh, workerOf, Step, begin, read, scan, put, remove, lock, validate, install, abort, merge, scanReads, scanVersions, refusal, withWorker, withMap, withCounters, dropped, merged, effect, next, final}
 use Rattle.laws.specs.MapBounds.{record-count, leaf-limit}
 use Rattle.laws.specs.WorkerLaws.{standard-settings}
 use Rattle.limits.specs.Invariant.{Kept, fresh-kept, standard-version}
@@ -96,6 +99,10 @@ pub record WithinLimits (σ : State) : Type 0 where
   pub records : length (σ .map .records) ≤ 1024
   pub leaves : length (σ .map .leaves) ≤ 1025
   pub waiting : length (entries (σ .map .slots)) ≤ 192
+  pub addresses : distinct (keys (σ .map .records) ++ keys (entries (σ .map .slots))) ≤ 1024
+  pub reads : (w : ℕ) → length (workerOf σ w .reads) ≤ 64
+  pub versions : (w : ℕ) → length (workerOf σ w .versions) ≤ 32
+  pub writes : (w : ℕ) → length (workerOf σ w .writes) ≤ 16
   pub number : σ .counters .number ≤ 1000000
   pub version : σ .counters .version ≤ 129 * 16 * 1000000
 
@@ -105,6 +112,11 @@ standard-limits {σ} h e =
       records = subst (λ (s : Settings). length (σ .map .records) ≤ s .mapLimit) e (record-count (h .map));
       leaves = subst (λ (s : Settings). length (σ .map .leaves) ≤ suc (s .mapLimit)) e (leaf-limit (h .map));
       waiting = subst (λ (s : Settings). length (entries (σ .map .slots)) ≤ s .waitingLimit) e (h .map .waiting);
+      addresses =
+          subst (λ (s : Settings). distinct (keys (σ .map .records) ++ keys (entries (σ .map .slots))) ≤ s .mapLimit) e (h .map .addresses);
+      reads = λ w. subst (λ (s : Settings). length (workerOf σ w .reads) ≤ s .readLimit) e (h .worker w .reads);
+      versions = λ w. subst (λ (s : Settings). length (workerOf σ w .versions) ≤ s .leafSetLimit) e (h .worker w .versions);
+      writes = λ w. subst (λ (s : Settings). length (workerOf σ w .writes) ≤ s .writeLimit) e (h .worker w .writes);
       number = subst (λ (s : Settings). σ .counters .number ≤ s .lastNumber) e (h .numbers);
       version = standard-version h e;
     }

@@ -6,3 +6,5 @@ pub mod Opening
 pub mod Locking
 pub mod Finishing
 pub mod Keeping
+pub mod Currents
+pub mod Validating

@@ -17,7 +17,7 @@ use Rattle.laws.specs.MapLaws.{unlocked, LockRoom, lock-says, unlock-says, with
 use Rattle.laws.specs.MapBounds.{lock-room, lock-bounded, unlock-bounded}
 use Rattle.laws.specs.PendingCounts.{lock-pending, unlock-pending}
 use Rattle.laws.specs.VersionBounds.{versionsPerMerge}
-use Rattle.laws.specs.WorkerLaws.{hasLocks, open-no-locks, no-locks-unchecked}
+use Rattle.laws.specs.WorkerLaws.{not-false, hasLocks, open-no-locks, no-locks-unchecked}
 use Rattle.limits.specs.Invariant.{Kept, free-good}
 use Rattle.limits.specs.Moving.{holderOf, moved-kept, count-fewer, owed-less}
 use Rattle.limits.specs.Granting.{AtStage, LockFits}
@@ -84,7 +84,7 @@ module _ {σ : State} (h : Kept σ) where
         others-keep = λ v k d e.
             holder k
             ∙ ⊎-elim
-            (λ t. absurd (d (same-true v w (open-same v w (sym (held-other w v (contentOf (σ .map .slots) k) e) ∙ f .unheld k t)))))
+            (λ t. absurd (d (same-true v w (not-false (same v w) (sym (held-other w v (contentOf (σ .map .slots) k) e) ∙ f .unheld k t)))))
             (λ t. (rw t) ∙ e)
             (cases (has k (writeKeys σ w)));
         others-get = λ v k d e.
@@ -124,9 +124,6 @@ module _ {σ : State} (h : Kept σ) where
       left : (k : ℕ) → has k (writeKeys σ w) ≡ false
           → pick (has k (writeKeys σ w)) (withHolder w (contentOf (σ .map .slots) k)) (contentOf (σ .map .slots) k) .holder ≡ holderOf (σ .map) k
       left k t = rw t
-
-      open-same : (v u : ℕ) → not (same v u) ≡ false → same v u ≡ true
-      open-same v u e = Rattle.laws.specs.WorkerLaws.not-false (same v u) e
 
   -- ---- the end of a transaction
 

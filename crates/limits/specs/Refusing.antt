@@ -5,13 +5,33 @@ use Prim.Native.Nat.{ℕ}
 use mathlib.Core.Path.{_≡_, refl, ap, _∙_}
 use mathlib.Core.Bool.{Bool, true, false}
 use mathlib.Core.Option.{Option, none, some}
-use Rattle.lists.specs.Tests.{pick, maybe, less, clash, less-true}
+use Rattle.lists.specs.Tests.{pick, maybe, less, atMost, within, clash, less-true}
 use Rattle.lists.specs.Rows.{any}
 use Rattle.spec.specs.declared.Refusal.{Refusal}
-use Rattle.spec.specs.Refusals.{ends}
+use Rattle.spec.specs.declared.Refusal.the-variants.{NoWorker, WorkerFree, WorkerTaken, WrongStage, Backward, LogFull, WritesFull, ShortBuffer, Held, IndexletFull, MapFull, Changed, UnderLock, Phantom, Spent}
+use Rattle.spec.specs.Refusals.{numberOf, ends}
 use Rattle.spec.specs.Steps.{State, workerOf, Step, begin, read, scan, put, remove, lock, validate, install, abort, merge, workerIn, isLocked, Cause, noWorker, workerFree, wrongStage, causes, refusal, effect, afterRefusal, dropped, next}
 use Rattle.laws.specs.WorkerLaws.{not-false, ended-later, mild-cause}
 use Rattle.limits.specs.Granting.{AtStage}
+
+-- the refusals that end the transaction are 12, 13 and 14
+pub ends-numbers : (r : Refusal) → ends r ≡ within 12 14 (numberOf r)
+unfolding within atMost
+ends-numbers NoWorker = refl
+ends-numbers WorkerFree = refl
+ends-numbers WorkerTaken = refl
+ends-numbers WrongStage = refl
+ends-numbers Backward = refl
+ends-numbers LogFull = refl
+ends-numbers WritesFull = refl
+ends-numbers ShortBuffer = refl
+ends-numbers Held = refl
+ends-numbers IndexletFull = refl
+ends-numbers MapFull = refl
+ends-numbers Changed = refl
+ends-numbers UnderLock = refl
+ends-numbers Phantom = refl
+ends-numbers Spent = refl
 
 -- The step is a validation of worker w, which is locked.
 pub record Validation (σ : State) (s : Step) : Type 0 where

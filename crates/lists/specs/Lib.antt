@@ -11,3 +11,4 @@ pub mod Memberships
 pub mod Halving
 pub mod Places
 pub mod Shifts
+pub mod Stores

@@ -9,7 +9,7 @@ use mathlib.Core.List.{List, [], _∷_, _++_, List·Memᴰ, List·Memᴰ·head, 
 use mathlib.Core.Option.{some}
 use lib.ListN.{length}
 use Rattle.lists.specs.Tests.{pick, either, present, same, cases, clash, same-true, same-false, same-yes, same-no}
-use Rattle.lists.specs.Rows.{Row, look, insert, keys, filter, has, distinct, Rising, Different}
+use Rattle.lists.specs.Rows.{Row, look, insert, assign, keys, filter, has, distinct, Rising, Different}
 use Rattle.lists.specs.RowLaws.{look-insert, has-keys, length-keys, rising-assign, rising-different}
 use Rattle.lists.specs.Counting.{has-nil, has-cons, has-here, has-there, has-append, Within, different-within}
 
@@ -74,7 +74,7 @@ has-insert : {A : Type 0} (k : ℕ) (a : A) (rs : List (Row A)) (j : ℕ)
 has-insert k a rs j = has-keys (insert k a rs) j ∙ ap present (look-insert k a rs j)
 
 pub rising-insert : {A : Type 0} (k : ℕ) (a : A) (rs : List (Row A)) → Rising rs → Rising (insert k a rs)
-rising-insert k a rs f = unfold Rattle.lists.specs.Rows.assign in rising-assign k (some a) rs f
+rising-insert k a rs f = unfold assign in rising-assign k (some a) rs f
 
 module _ {A : Type 0} (k : ℕ) (a : A) (rs : List (Row A)) (f : Rising rs) where
   insert-within : (ks : List ℕ) → has k ks ≡ true → Within (keys rs) ks → length (insert k a rs) ≤ length ks

@@ -1,6 +1,8 @@
 -- `indexlet::entry_of` meets its contract by the table's rule. Assumes nothing.
 use borrow.Author.Needs.{needs}
-use Rattle.indexlet.specs.Table.{table, table-at}
+use Rattle.lists.specs.Tabs.{tab}
+use Rattle.spec.specs.Slots.{tableEntry}
+use Rattle.indexlet.specs.Table.{table-at}
 use Rattle.indexlet.proofs.entry_of.Statement.{statement}
 use Rattle.indexlet.proofs.entry_of.Tie as tie
 
@@ -8,7 +10,7 @@ array-read-result : tie.Need-array-read-result
 array-read-result c = search needs
 
 returns : tie.Need-returns
-unfolding table
+unfolding tab tableEntry
 returns c = table-at (c .args .b) (search needs)
 
 pub entry-of-spec : {M : Type 1} → statement M

@@ -9,10 +9,12 @@ idle-requires : tie.Need-idle-requires
 idle-requires c κs = search needs
 
 returns : tie.Need-returns
-returns c = sym (holds-idle (c .before .before .before .args .a) (c .before .before .before .args .s) (sym (c .before .idle .ensures) ∙ c .if1 .taken))
+returns c = sym (holds-idle (c .before .before .before .args .a) (c .before .before .before .args .s)
+    (sym (c .before .idle .ensures) ∙ c .if1 .taken))
 
 returns-2 : tie.Need-returns-2
-returns-2 c = sym (holds-busy (c .before .before .before .before .args .a) (c .before .before .before .before .args .s) (sym (c .before .before .idle .ensures) ∙ c .before .if1 .left))
+returns-2 c = sym (holds-busy (c .before .before .before .before .args .a) (c .before .before .before .before .args .s)
+    (sym (c .before .before .idle .ensures) ∙ c .before .if1 .left))
 
 pub holds-key-spec : {M : Type 1} → statement M
 holds-key-spec = tie.close (tie.spec idle-requires returns returns-2)

@@ -1,8 +1,10 @@
 -- `indexlet::home` meets its contract: each byte goes through the table by the table's rule. Assumes nothing.
-use Prim.Native.Nat.{ℕ, _<_, _^_}
+use Prim.Native.Nat.{_<_, _^_}
 use native.Mathlib.Omega.{arith}
 use borrow.Author.Needs.{needs}
-use Rattle.indexlet.specs.Table.{table, step0, step0-less, mix0-less, mix1-less, mix2-less, home-steps}
+use Rattle.lists.specs.Tabs.{tab}
+use Rattle.spec.specs.Slots.{tableEntry}
+use Rattle.indexlet.specs.Table.{step0-less, mix0-less, mix1-less, mix2-less, home-steps}
 use Rattle.indexlet.proofs.home.Statement.{statement}
 use Rattle.indexlet.proofs.home.Tie as tie
 
@@ -28,35 +30,35 @@ narrow : (c : tie.Start) → c .args .a < 2 ^ 32
 narrow c = c .fits .a .fits
 
 cast-h2 : tie.Need-cast-h2
-unfolding table
+unfolding tab tableEntry
 cast-h2 c = omega (arith, mix2-less (c .args .a) (narrow c))
 
 array-read-h2 : tie.Need-array-read-h2
-unfolding table
+unfolding tab tableEntry
 array-read-h2 c = mix2-less (c .args .a) (narrow c)
 
 cast-h1 : tie.Need-cast-h1
-unfolding table
+unfolding tab tableEntry
 cast-h1 c = omega (arith, mix1-less (c .args .a) (narrow c))
 
 array-read-h1 : tie.Need-array-read-h1
-unfolding table
+unfolding tab tableEntry
 array-read-h1 c = mix1-less (c .args .a) (narrow c)
 
 cast-result : tie.Need-cast-result
-unfolding table
+unfolding tab tableEntry
 cast-result c = omega (arith, mix0-less (c .args .a) (narrow c))
 
 array-read-result : tie.Need-array-read-result
-unfolding table
+unfolding tab tableEntry
 array-read-result c = mix0-less (c .args .a) (narrow c)
 
 cast-result-2 : tie.Need-cast-result-2
-unfolding table
+unfolding tab tableEntry
 cast-result-2 c = omega (arith, step0-less (c .args .a) (narrow c))
 
 returns : tie.Need-returns
-unfolding table
+unfolding tab tableEntry
 returns c = home-steps (c .args .a) (narrow c)
 
 pub home-spec : {M : Type 1} → statement M

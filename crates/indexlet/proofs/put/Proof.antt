@@ -1,5 +1,5 @@
 -- `indexlet::put` meets its contract: each word is in the array, and the row is what the definition says. Assumes nothing.
-use mathlib.Core.Path.{refl}
+use native.Mathlib.Numerals.{towards-suc}
 use borrow.Author.Needs.{needs}
 use Rattle.indexlet.specs.Words.{store}
 use Rattle.indexlet.proofs.put.Statement.{statement}
@@ -61,7 +61,7 @@ element-write-t-6 c = search needs
 
 returns : tie.Need-returns
 unfolding store
-returns c = refl
+returns c = simp towards-suc
 
 pub put-spec : {M : Type 1} → statement M
 put-spec =

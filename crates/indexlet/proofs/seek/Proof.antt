@@ -1,5 +1,5 @@
 -- `indexlet::seek` meets its contract. The invariant: what is left of the search is the whole search. Assumes nothing.
-use Prim.Native.Nat.{_≤_, _-_}
+use Prim.Native.Nat.{_-_}
 use native.Mathlib.Omega.{arith}
 use mathlib.Core.Path.{sym, _∙_}
 use borrow.Author.Needs.{needs}
@@ -14,14 +14,11 @@ Inv-loop t a h d₀ d = Seeking t a h d
 abbrev μ-loop : tie.MeasureT-loop
 μ-loop t a h d₀ d = 256 - d
 
-home-requires : tie.Need-home-requires Inv-loop μ-loop
-home-requires c κs = search needs
-
 loop-holds : tie.Need-loop-holds Inv-loop μ-loop
-loop-holds c = seek-start _ _ _ (c .home .ensures)
+loop-holds c = seek-start _ _ _ (c .pre)
 
 add-i : tie.Need-add-i Inv-loop μ-loop
-add-i c = omega (arith, c .before .before .home .ensures, home-less 4 (c .before .before .before .args .a))
+add-i c = omega (arith, c .before .before .pre, home-less 4 (c .before .before .args .a))
 
 get-requires : tie.Need-get-requires Inv-loop μ-loop
 get-requires c κs = omega arith
@@ -33,15 +30,20 @@ add-t10 : tie.Need-add-t10 Inv-loop μ-loop
 add-t10 c = omega arith
 
 returns : tie.Need-returns Inv-loop μ-loop
-returns c = seek-hit _ _ _ _ (c .before .before .before .before .loop .inv) (c .before .before .before .loop-test .taken) _ (c .before .before .get .ensures)
+returns c =
+    let got = c .before .before in
+    seek-hit _ _ _ _ (got .before .before .loop .inv) (got .before .loop-test .taken) _ (got .get .ensures)
     (sym (c .before .holds-key .ensures) ∙ c .if1 .taken)
 
 add-t11 : tie.Need-add-t11 Inv-loop μ-loop
 add-t11 c = omega arith
 
 returns-2 : tie.Need-returns-2 Inv-loop μ-loop
-returns-2 c = seek-stop _ _ _ _ (c .before .before .before .before .before .before .loop .inv) (c .before .before .before .before .before .loop-test .taken) _
-    (c .before .before .before .before .get .ensures) (sym (c .before .before .before .holds-key .ensures) ∙ c .before .before .if1 .left) (c .if2 .taken)
+returns-2 c =
+    let held = c .before .before .before in
+    let got = held .before in
+    seek-stop _ _ _ _ (got .before .before .loop .inv) (got .before .loop-test .taken) _ (got .get .ensures)
+    (sym (held .holds-key .ensures) ∙ c .before .before .if1 .left) (c .if2 .taken)
 
 add-d : tie.Need-add-d Inv-loop μ-loop
 add-d c = omega arith
@@ -50,8 +52,11 @@ loop-less : tie.Need-loop-less Inv-loop μ-loop
 loop-less c = omega arith
 
 loop-again : tie.Need-loop-again Inv-loop μ-loop
-loop-again c = seek-on _ _ _ _ (c .before .before .before .before .before .before .loop .inv) (c .before .before .before .before .before .loop-test .taken) _
-    (c .before .before .before .before .get .ensures) (sym (c .before .before .before .holds-key .ensures) ∙ c .before .before .if1 .left) (c .if2 .left)
+loop-again c =
+    let held = c .before .before .before in
+    let got = held .before in
+    seek-on _ _ _ _ (got .before .before .loop .inv) (got .before .loop-test .taken) _ (got .get .ensures)
+    (sym (held .holds-key .ensures) ∙ c .before .before .if1 .left) (c .if2 .left)
 
 returns-3 : tie.Need-returns-3 Inv-loop μ-loop
 returns-3 c = seek-end _ _ _ _ (c .before .loop .inv) (c .loop-test .left)
@@ -62,7 +67,6 @@ seek-spec =
     (tie.spec
     Inv-loop
     μ-loop
-    home-requires
     loop-holds
     add-i
     get-requires

@@ -12,3 +12,4 @@ pub mod Halving
 pub mod Places
 pub mod Shifts
 pub mod Stores
+pub mod Ranges

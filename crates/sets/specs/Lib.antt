@@ -1,0 +1,10 @@
+pub mod Blocks
+pub mod Reads
+pub mod Leaves
+pub mod Writes
+pub mod Workers
+pub mod ReadLaws
+pub mod LeafLaws
+pub mod WriteRows
+pub mod WriteLaws
+pub mod WorkerLaws

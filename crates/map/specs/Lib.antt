@@ -1,3 +1,10 @@
 pub mod Phantoms
 pub mod Views
 pub mod Held
+pub mod Says
+pub mod SayLaws
+pub mod FreshLaws
+pub mod LookViews
+pub mod CurrentLaws
+pub mod RangeLaws
+pub mod ScanLaws

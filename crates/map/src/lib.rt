@@ -4,6 +4,9 @@
 // write set; `merge` takes a leaf's pending writes into the index; `looks` reads: current records, hidden keys, what a
 // scan walks over, and the contents.
 
+pub mod looks;
+pub mod say;
+
 // An address of the map.
 pub type Address = u32;
 

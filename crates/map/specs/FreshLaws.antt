@@ -1,0 +1,99 @@
+-- An empty map in the lent arrays: one leaf with version 0, no record, no entry.
+-- Assumes nothing.
+use Prim.Native.Nat.{ℕ, zero, suc, _+_, _^_, _<_, _≤_, zero-le}
+use native.Mathlib.Nat.{not-suc-le-zero}
+use native.Mathlib.Omega.{arith}
+use mathlib.Core.Path.{_≡_, refl, sym, ap, _∙_, subst}
+use mathlib.Core.Bool.{Bool}
+use mathlib.Core.List.{List, [], _∷_}
+use mathlib.Core.Option.{none}
+use lib.ListN.{length, take, getD, replicate}
+use Rattle.lists.specs.Rows.{Row, Rising}
+use Rattle.lists.specs.RowLaws.{rising-nil}
+use Rattle.lists.specs.Ascending.{Ascends}
+use Rattle.lists.specs.Sums.{total}
+use Rattle.spec.specs.Records.{Record, standard}
+use Rattle.spec.specs.Leaves.{Leaf, firstLeaf}
+use Rattle.spec.specs.Slots.{Content, Slot, emptySlot, emptySlots, entries}
+use Rattle.spec.specs.Maps.{MapState, freshMap}
+use Rattle.laws.specs.SlotCounts.{tally}
+use Rattle.laws.specs.LeafVersions.{GoodLeaves, fresh-leaves}
+use Rattle.laws.specs.MapBounds.{Bounded, fresh-bounded}
+use Rattle.indexlet.specs.Words.{slotsOf}
+use Rattle.indexlet.specs.Held as indexlet
+use Rattle.index.specs.Views.{paired, recordsOf, leavesOf}
+use Rattle.index.specs.LeafPlaces.{Listed}
+use Rattle.map.specs.declared.Sizes.{Sizes}
+use Rattle.map.specs.Views.{Lent, lent, mapOf}
+use Rattle.map.specs.Phantoms.{weigh, howMany, outsideAny, outsideIn, pendingIn, versionOf, Phantomlet}
+use Rattle.map.specs.Held.{Tables, Held}
+use Rattle.map.specs.Says.{Becomes, Emptied}
+
+abbrev pub freshSizes : Sizes
+freshSizes = record { records = 0; leaves = 1; entries = 0; outside = 0 }
+
+leaf-path : {x y u w : ℕ} → x ≡ y → u ≡ w → _≡_ {A = List Leaf} (record { low = x; version = u } ∷ []) (record { low = y; version = w } ∷ [])
+leaf-path p q = λ i. record { low = p i; version = q i } ∷ []
+
+first-leaf : (xs us : List ℕ) → Emptied xs → Emptied us → leavesOf xs us 1 ≡ firstLeaf ∷ []
+unfolding leavesOf paired
+first-leaf [] us p q = absurd (let e : 0 ≡ 1025 = p .size in omega arith)
+first-leaf (x ∷ xs) [] p q = absurd (let e : 0 ≡ 1025 = q .size in omega arith)
+first-leaf (x ∷ xs) (u ∷ us) p q = leaf-path (p .first) (q .first)
+
+first-low : (xs : List ℕ) → Emptied xs → Ascends 0 (take 1 xs)
+unfolding Ascends
+first-low [] p = tt
+first-low (x ∷ xs) p = (zero-le, tt)
+
+no-records : (ws : List ℕ) → recordsOf ws 0 ≡ []
+unfolding recordsOf
+no-records ws = refl
+
+none-many : (p : Row Content → Bool) (n : ℕ) → howMany p (replicate n emptySlot) ≡ 0
+unfolding howMany weigh tally total
+none-many p zero = refl
+none-many p (suc n) = let e : howMany p (replicate n emptySlot) ≡ 0 = none-many p n in omega arith
+
+at-first : (xs : List ℕ) (i : ℕ) → Emptied xs → i < 1 → getD xs i 0 ≡ 0
+at-first xs zero p h = p .first
+at-first xs (suc i) p h = absurd (omega arith)
+
+module _ (rows lows versions outside pending slots : List ℕ) (lows-empty : Emptied lows) (versions-empty : Emptied versions) (outside-empty : Emptied outside) (pending-empty : Emptied pending) (words : indexlet.Fresh slots) where
+  fresh-view : mapOf (lent rows lows versions outside pending slots) freshSizes ≡ freshMap
+  fresh-view = λ i. record { records = no-records rows i; leaves = first-leaf lows versions lows-empty versions-empty i; slots = words .view i }
+
+  one-leaf : length (leavesOf lows versions 1) ≡ 1
+  one-leaf = ap length (first-leaf lows versions lows-empty versions-empty)
+
+  nothing : (p : Row Content → Bool) → howMany p (slotsOf slots) ≡ 0
+  nothing p = ap (howMany p) (words .view) ∙ none-many p 256
+
+  fresh-tables : Tables (lent rows lows versions outside pending slots) freshSizes 0
+  fresh-tables =
+      record {
+        rows = record { room = zero-le; rising = subst Rising (sym (no-records rows)) (rising-nil Record) };
+        rows-narrow = λ i h. absurd (not-suc-le-zero h);
+        lows = record { some = omega arith; room = omega arith; rising = first-low lows lows-empty };
+        lows-narrow = λ i h. let e : getD lows i 0 ≡ 0 = at-first lows i lows-empty h in omega arith;
+        lows-size = lows-empty .size;
+        versions-size = versions-empty .size;
+        leaves = subst (GoodLeaves 0) (sym (first-leaf lows versions lows-empty versions-empty)) fresh-leaves;
+        words = words .held;
+        entries-are = sym (ap (λ (ss : List Slot). length (entries ss)) (words .view) ∙ (unfold entries in refl));
+        outside-size = outside-empty .size;
+        pending-size = pending-empty .size;
+        outside-are = sym (nothing (outsideAny (mapOf (lent rows lows versions outside pending slots) freshSizes)));
+        phantoms =
+            record {
+              outside-is = λ i h. at-first outside i outside-empty (let e = one-leaf in omega arith) ∙ sym (nothing _);
+              pending-is = λ i h. at-first pending i pending-empty (let e = one-leaf in omega arith) ∙ sym (nothing _);
+            };
+      }
+
+  pub fresh-becomes : Becomes (lent rows lows versions outside pending slots) freshSizes 0 freshMap
+  fresh-becomes =
+      record {
+        map = fresh-view;
+        held = record { tables = fresh-tables; bounded = subst (Bounded standard 0) (sym fresh-view) (fresh-bounded standard) };
+      }

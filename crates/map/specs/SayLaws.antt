@@ -1,0 +1,365 @@
+-- The laws behind `say`: a count over the entries changes by the address's own terms, at the leaf of the address and
+-- nowhere else.
+-- Assumes nothing.
+use Prim.Native.Nat.{ℕ, zero, suc, _+_, _-_, _^_, _<_, _≤_, zero-le, suc-le-suc}
+use native.Mathlib.Nat.{le-refl, le-trans, not-suc-le-zero, le-of-suc-le-suc}
+use native.Mathlib.Omega.{arith}
+use mathlib.Core.Path.{_≡_, refl, sym, ap, _∙_, subst}
+use mathlib.Core.Logic.{_⊎_, inl, inr, ⊎-elim}
+use mathlib.Core.Bool.{Bool, true, false, not}
+use mathlib.Core.List.{List, [], _∷_, map}
+use mathlib.Core.Option.{Option, none, some}
+use lib.ListN.{length, take, getD, set, length-set}
+use lib.Seq.{length-take-le, getD-set-same, getD-set-other}
+use Rattle.lists.specs.Tests.{pick, both, present, same, cases, clash, same-true, same-false, same-yes, same-no}
+use Rattle.lists.specs.Rows.{Row, row, look}
+use Rattle.lists.specs.Sums.{total, total-most}
+use Rattle.spec.specs.Leaves.{Leaf, firstLeaf, leafOf, versionAt, live}
+use Rattle.spec.specs.Slots.{slotCount, Pending, Content, isIdle, Slot, entries, contentOf, enter}
+use Rattle.spec.specs.Maps.{MapState, withSlots}
+use Rattle.laws.specs.SlotCounts.{Good, tally, count}
+use Rattle.laws.specs.SlotChanges.{kept}
+use Rattle.laws.specs.SlotLaws.{Room}
+use Rattle.laws.specs.LeafParts.{Apart, live-head, live-later}
+use Rattle.laws.specs.LeafVersions.{GoodLeaves}
+use Rattle.laws.specs.MapLaws.{idle-pending}
+use Rattle.indexlet.specs.declared.Content.{Content as ContentWords}
+use Rattle.indexlet.specs.Words.{contentIn, slotsOf}
+use Rattle.indexlet.specs.Words as words
+use Rattle.indexlet.specs.Held as indexlet
+use Rattle.index.specs.Views.{recordsOf, leavesOf}
+use Rattle.index.specs.LeafPlaces.{Listed, AtLeaf, lowPlace}
+use Rattle.index.specs.LeafViews.{paired-length, paired-lows, parted, parted-leaf}
+use Rattle.map.specs.declared.Sizes.{Sizes}
+use Rattle.map.specs.declared.say.Change.{Change}
+use Rattle.map.specs.Views.{Lent, lent, mapOf}
+use Rattle.map.specs.Phantoms.{weigh, howMany, outsideAny, outsideIn, pendingIn, versionOf, Phantomlet, many-change, weigh-kept}
+use Rattle.map.specs.Held.{perLeaf, Tables}
+use Rattle.map.specs.Says.{Said, Adjustable, adjusted, pendingTerm, outsideTerm, Terms}
+
+-- ---- counts
+
+weigh-most : (p : Row Content → Bool) (o : Option (Row Content)) → weigh p o ≤ 1
+unfolding weigh
+weigh-most p none = zero-le
+weigh-most p (some e) = ⊎-elim (λ q. rw q (le-refl 1)) (λ q. rw q zero-le) (cases (p e))
+
+-- a count is at most the number of slots
+pub many-most : {bytes : ℕ} {ss : List Slot} → Good bytes ss → (p : Row Content → Bool) → howMany p ss ≤ slotCount
+unfolding howMany tally
+many-most {ss = ss} good p =
+    le-trans (total-most (λ (i : ℕ) (s : Slot). weigh p (s .entry)) ss (λ i s. weigh-most p (s .entry))) (let e : length ss ≡ slotCount = good .size in omega arith)
+
+-- content that fails the test adds nothing
+weigh-none : (p : Row Content → Bool) (a : ℕ) (x : Content) → p (row a x) ≡ false → weigh p (kept a x) ≡ 0
+weigh-none p a x e =
+    weigh-kept p a x ∙ ap (λ (b : Bool). pick (isIdle x) 0 (pick b 1 0)) e ∙ ⊎-elim (λ t. rw t) (λ t. rw t) (cases (isIdle x))
+
+-- ---- places of leaves
+
+live-at : (ls : List Leaf) (j : ℕ) → j < length ls → live ls (getD ls j firstLeaf .version) ≡ true
+live-at [] j h = absurd (not-suc-le-zero h)
+live-at (l ∷ ls) zero h = live-head l ls (l .version) refl
+live-at (l ∷ ls) (suc j) h = live-later l ls (getD ls j firstLeaf .version) (live-at ls j (le-of-suc-le-suc h))
+
+-- two places have two versions
+pub places-apart : (ls : List Leaf) (i j : ℕ) → Apart ls → i < length ls → j < length ls
+    → getD ls i firstLeaf .version ≡ getD ls j firstLeaf .version → i ≡ j
+unfolding Apart
+places-apart [] i j f h g e = absurd (not-suc-le-zero h)
+places-apart (l ∷ ls) zero zero f h g e = refl
+places-apart (l ∷ ls) zero (suc j) f h g e = clash (ap (live ls) e ∙ live-at ls j (le-of-suc-le-suc g)) (f .0)
+places-apart (l ∷ ls) (suc i) zero f h g e = clash (ap (live ls) (sym e) ∙ live-at ls i (le-of-suc-le-suc h)) (f .0)
+places-apart (l ∷ ls) (suc i) (suc j) f h g e = ap suc (places-apart ls i j (f .1) (le-of-suc-le-suc h) (le-of-suc-le-suc g) e)
+
+module _ (l : Lent) (z : Sizes) (v : ℕ) (t : Tables l z v) where
+  lows-few : length (take (z .leaves) (l .lows)) ≡ z .leaves
+  lows-few = length-take-le (z .leaves) (l .lows) (let e = t .lows-size in let r = t .lows .room in omega arith)
+
+  versions-few : length (take (z .leaves) (l .versions)) ≡ z .leaves
+  versions-few = length-take-le (z .leaves) (l .versions) (let e = t .versions-size in let r = t .lows .room in omega arith)
+
+  -- there are as many leaves as the sizes say
+  pub leaf-number : length (mapOf l z .leaves) ≡ z .leaves
+  unfolding leavesOf
+  leaf-number = paired-length (take (z .leaves) (l .lows)) (take (z .leaves) (l .versions)) (lows-few ∙ sym versions-few) ∙ lows-few
+
+  leaf-lows : map (λ (x : Leaf). x .low) (mapOf l z .leaves) ≡ take (z .leaves) (l .lows)
+  unfolding leavesOf
+  leaf-lows = paired-lows (take (z .leaves) (l .lows)) (take (z .leaves) (l .versions)) (lows-few ∙ sym versions-few)
+
+  -- the leaf at the place that a search finds has the version of the address
+  pub place-version : (a i : ℕ) → AtLeaf (l .lows) (z .leaves) a i → versionOf (mapOf l z) i ≡ versionAt (mapOf l z .leaves) a
+  unfolding versionAt
+  place-version a i at =
+      ap (λ (x : Leaf). x .version)
+      (parted-leaf a (mapOf l z .leaves) i
+      (parted a (mapOf l z .leaves) i (let e = leaf-number in let s = t .lows .some in omega arith) (at .is ∙ ap (lowPlace a) (sym leaf-lows))))
+
+  -- and no other leaf has it
+  pub other-version : (a i j : ℕ) → AtLeaf (l .lows) (z .leaves) a i → j < length (mapOf l z .leaves) → (j ≡ i → ⊥)
+      → same (versionAt (mapOf l z .leaves) a) (versionOf (mapOf l z) j) ≡ false
+  other-version a i j at h n =
+      same-no {m = versionAt (mapOf l z .leaves) a} {n = versionOf (mapOf l z) j}
+      (λ e. n (sym (places-apart (mapOf l z .leaves) i j (t .leaves .apart) (let q = leaf-number in let s = at .inside in omega arith) h (place-version a i at ∙ e))))
+
+-- ---- the terms of an address
+
+pending-idle : (x : Content) → pick (isIdle x) 0 (pick (present (x .pending)) 1 0) ≡ pendingTerm x
+unfolding pendingTerm
+pending-idle x =
+    ⊎-elim
+    (λ e. ap (λ (b : Bool). pick b 0 (pick (present (x .pending)) 1 0)) e ∙ sym (ap (λ (o : Option Pending). pick (present o) 1 0) (idle-pending x e)))
+    (λ e. ap (λ (b : Bool). pick b 0 (pick (present (x .pending)) 1 0)) e)
+    (cases (isIdle x))
+
+module _ (m : MapState) (a u : ℕ) (x : Content) where
+  pending-own : same (versionAt (m .leaves) a) u ≡ true → weigh (pendingIn m u) (kept a x) ≡ pendingTerm x
+  unfolding pendingIn
+  pending-own e =
+      weigh-kept (pendingIn m u) a x
+      ∙ ap (λ (b : Bool). pick (isIdle x) 0 (pick (both b (present (x .pending))) 1 0)) e
+      ∙ pending-idle x
+
+  pending-other : same (versionAt (m .leaves) a) u ≡ false → weigh (pendingIn m u) (kept a x) ≡ 0
+  unfolding pendingIn
+  pending-other e = weigh-none (pendingIn m u) a x (ap (λ (b : Bool). both b (present (x .pending))) e)
+
+  outside-own : same (versionAt (m .leaves) a) u ≡ true → weigh (outsideIn m u) (kept a x) ≡ outsideTerm (not (present (look (m .records) a))) x
+  unfolding outsideIn outsideAny outsideTerm
+  outside-own e =
+      weigh-kept (outsideIn m u) a x
+      ∙ ap (λ (b : Bool). pick (isIdle x) 0 (pick (both b (not (present (look (m .records) a)))) 1 0)) e
+
+  outside-other : same (versionAt (m .leaves) a) u ≡ false → weigh (outsideIn m u) (kept a x) ≡ 0
+  unfolding outsideIn outsideAny
+  outside-other e = weigh-none (outsideIn m u) a x (ap (λ (b : Bool). both b (not (present (look (m .records) a)))) e)
+
+outside-any : (m : MapState) (a : ℕ) (x : Content) → weigh (outsideAny m) (kept a x) ≡ outsideTerm (not (present (look (m .records) a))) x
+unfolding outsideAny outsideTerm
+outside-any m a x = weigh-kept (outsideAny m) a x
+
+-- ---- an array of counts
+
+module _ (xs : List ℕ) (i up down : ℕ) where
+  pub adjusted-size : length (adjusted xs i up down) ≡ length xs
+  unfolding adjusted
+  adjusted-size = length-set xs i (getD xs i 0 + up - down)
+
+  adjusted-own : i < length xs → getD (adjusted xs i up down) i 0 ≡ getD xs i 0 + up - down
+  unfolding adjusted
+  adjusted-own h = getD-set-same xs i (getD xs i 0 + up - down) 0 h
+
+  adjusted-other : (j : ℕ) → (j ≡ i → ⊥) → getD (adjusted xs i up down) j 0 ≡ getD xs j 0
+  unfolding adjusted
+  adjusted-other j n = getD-set-other xs i j (getD xs i 0 + up - down) 0 n
+
+  -- counts that stay but for that at place i
+  adjusted-counts : (n : ℕ) (f g : ℕ → ℕ) → i < length xs → i < n → ((j : ℕ) → j < n → getD xs j 0 ≡ f j)
+      → g i + down ≡ f i + up → ((j : ℕ) → j < n → (j ≡ i → ⊥) → g j ≡ f j)
+      → (j : ℕ) → j < n → getD (adjusted xs i up down) j 0 ≡ g j
+  adjusted-counts n f g h b were own others j q =
+      ⊎-elim
+      (λ e. let s : j ≡ i = same-true j i e in
+      subst (λ (p : ℕ). getD (adjusted xs i up down) p 0 ≡ g p) (sym s)
+      (let a : getD (adjusted xs i up down) i 0 ≡ getD xs i 0 + up - down = adjusted-own h in
+      let w : getD xs i 0 ≡ f i = were i b in
+      omega arith))
+      (λ e. adjusted-other j (same-false j i e) ∙ were j q ∙ sym (others j q (same-false j i e)))
+      (cases (same j i))
+
+-- ---- one address
+
+-- the sizes after a change: the index stays
+abbrev pub sizesWith : Sizes → ℕ → ℕ → Sizes
+sizesWith z entries outside = record { records = z .records; leaves = z .leaves; entries = entries; outside = outside }
+
+module _ (l : Lent) (z : Sizes) (v : ℕ) (t : Tables l z v) (a : ℕ) (c : Content) (room : Room (slotsOf (l .slots)) a c) (r : Change) (q : Terms (l .slots) (l .rows) (l .lows) z a c r) where
+  own : same (versionAt (mapOf l z .leaves) a) (versionOf (mapOf l z) (r .at)) ≡ true
+  own = same-yes {m = versionAt (mapOf l z .leaves) a} {n = versionOf (mapOf l z) (r .at)} (sym (place-version l z v t a (r .at) (q .place)))
+
+  inside : r .at < length (mapOf l z .leaves)
+  inside = let e = leaf-number l z v t in let h = q .place .inside in omega arith
+
+  inside-words : r .at < perLeaf
+  inside-words = let h = q .place .inside in let e = t .lows .room in omega arith
+
+  after : List Slot
+  after = enter 4 (slotsOf (l .slots)) a c
+
+  -- a count changes by what the address adds to it and took
+  moves : (p : Row Content → Bool) (up down : ℕ) → weigh p (kept a c) ≡ up → weigh p (kept a (contentOf (slotsOf (l .slots)) a)) ≡ down
+      → howMany p after + down ≡ howMany p (slotsOf (l .slots)) + up
+  unfolding after
+  moves p up down e d =
+      let m : howMany p (enter 4 (slotsOf (l .slots)) a c) + weigh p (kept a (contentOf (slotsOf (l .slots)) a)) ≡ howMany p (slotsOf (l .slots)) + weigh p (kept a c)
+      = many-change (t .words .good) room p in
+      omega arith
+
+  -- what it adds is at most one, and the count, with it, is no less than what it took
+  movable : (p : Row Content → Bool) (x up down : ℕ) → x ≡ howMany p (slotsOf (l .slots)) → weigh p (kept a c) ≡ up
+      → weigh p (kept a (contentOf (slotsOf (l .slots)) a)) ≡ down → (x + up < 2 ^ 64) × (down ≤ x + up)
+  movable p x up down s e d =
+      let m : howMany p after + down ≡ howMany p (slotsOf (l .slots)) + up = moves p up down e d in
+      let b : howMany p (slotsOf (l .slots)) ≤ slotCount = many-most (t .words .good) p in
+      let w : weigh p (kept a c) ≤ 1 = weigh-most p (kept a c) in
+      omega arith
+
+  pendingHere : Row Content → Bool
+  pendingHere = pendingIn (mapOf l z) (versionOf (mapOf l z) (r .at))
+
+  outsideHere : Row Content → Bool
+  outsideHere = outsideIn (mapOf l z) (versionOf (mapOf l z) (r .at))
+
+  pend-is : weigh pendingHere (kept a c) ≡ r .pend
+  unfolding pendingHere
+  pend-is = pending-own (mapOf l z) a (versionOf (mapOf l z) (r .at)) c own ∙ sym (q .pend)
+
+  unpend-is : weigh pendingHere (kept a (contentOf (slotsOf (l .slots)) a)) ≡ r .unpend
+  unfolding pendingHere
+  unpend-is = pending-own (mapOf l z) a (versionOf (mapOf l z) (r .at)) (contentOf (slotsOf (l .slots)) a) own ∙ sym (q .unpend)
+
+  join-is : weigh outsideHere (kept a c) ≡ r .join
+  unfolding outsideHere
+  join-is = outside-own (mapOf l z) a (versionOf (mapOf l z) (r .at)) c own ∙ sym (q .join)
+
+  leave-is : weigh outsideHere (kept a (contentOf (slotsOf (l .slots)) a)) ≡ r .leave
+  unfolding outsideHere
+  leave-is = outside-own (mapOf l z) a (versionOf (mapOf l z) (r .at)) (contentOf (slotsOf (l .slots)) a) own ∙ sym (q .leave)
+
+  pub pending-adjusts : Adjustable (l .pending) (r .at) (r .pend) (r .unpend)
+  unfolding pendingHere
+  pending-adjusts =
+      let m = movable pendingHere (getD (l .pending) (r .at) 0) (r .pend) (r .unpend) (t .phantoms .pending-is (r .at) inside) pend-is unpend-is in
+      record { inside = inside-words; size = t .pending-size; fits = m .0; enough = m .1 }
+
+  pub outside-adjusts : Adjustable (l .outside) (r .at) (r .join) (r .leave)
+  unfolding outsideHere
+  outside-adjusts =
+      let m = movable outsideHere (getD (l .outside) (r .at) 0) (r .join) (r .leave) (t .phantoms .outside-is (r .at) inside) join-is leave-is in
+      record { inside = inside-words; size = t .outside-size; fits = m .0; enough = m .1 }
+
+  any-up : weigh (outsideAny (mapOf l z)) (kept a c) ≡ r .join
+  any-up = outside-any (mapOf l z) a c ∙ sym (q .join)
+
+  any-down : weigh (outsideAny (mapOf l z)) (kept a (contentOf (slotsOf (l .slots)) a)) ≡ r .leave
+  any-down = outside-any (mapOf l z) a (contentOf (slotsOf (l .slots)) a) ∙ sym (q .leave)
+
+  pub outside-moves : (z .outside + r .join < 2 ^ 64) × (r .leave ≤ z .outside + r .join)
+  outside-moves = movable (outsideAny (mapOf l z)) (z .outside) (r .join) (r .leave) (t .outside-are) any-up any-down
+
+  outside-now : z .outside + r .join - r .leave ≡ howMany (outsideAny (mapOf l z)) after
+  outside-now =
+      let m : howMany (outsideAny (mapOf l z)) after + r .leave ≡ howMany (outsideAny (mapOf l z)) (slotsOf (l .slots)) + r .join
+      = moves (outsideAny (mapOf l z)) (r .join) (r .leave) any-up any-down in
+      let e = t .outside-are in
+      omega arith
+
+  pending-now : (j : ℕ) → j < length (mapOf l z .leaves)
+      → getD (adjusted (l .pending) (r .at) (r .pend) (r .unpend)) j 0 ≡ howMany (pendingIn (mapOf l z) (versionOf (mapOf l z) j)) after
+  unfolding pendingHere
+  pending-now =
+      adjusted-counts (l .pending) (r .at) (r .pend) (r .unpend) (length (mapOf l z .leaves))
+      (λ (j : ℕ). howMany (pendingIn (mapOf l z) (versionOf (mapOf l z) j)) (slotsOf (l .slots)))
+      (λ (j : ℕ). howMany (pendingIn (mapOf l z) (versionOf (mapOf l z) j)) after)
+      (let e = t .pending-size in let h = inside-words in omega arith) inside (t .phantoms .pending-is)
+      (moves pendingHere (r .pend) (r .unpend) pend-is unpend-is)
+      (λ j h n.
+      let o : same (versionAt (mapOf l z .leaves) a) (versionOf (mapOf l z) j) ≡ false = other-version l z v t a (r .at) j (q .place) h n in
+      let e : howMany (pendingIn (mapOf l z) (versionOf (mapOf l z) j)) after + 0 ≡ howMany (pendingIn (mapOf l z) (versionOf (mapOf l z) j)) (slotsOf (l .slots)) + 0
+      = moves (pendingIn (mapOf l z) (versionOf (mapOf l z) j)) 0 0 (pending-other (mapOf l z) a (versionOf (mapOf l z) j) c o) (pending-other (mapOf l z) a (versionOf (mapOf l z) j) (contentOf (slotsOf (l .slots)) a) o) in
+      omega arith)
+
+  outside-in-now : (j : ℕ) → j < length (mapOf l z .leaves)
+      → getD (adjusted (l .outside) (r .at) (r .join) (r .leave)) j 0 ≡ howMany (outsideIn (mapOf l z) (versionOf (mapOf l z) j)) after
+  unfolding outsideHere
+  outside-in-now =
+      adjusted-counts (l .outside) (r .at) (r .join) (r .leave) (length (mapOf l z .leaves))
+      (λ (j : ℕ). howMany (outsideIn (mapOf l z) (versionOf (mapOf l z) j)) (slotsOf (l .slots)))
+      (λ (j : ℕ). howMany (outsideIn (mapOf l z) (versionOf (mapOf l z) j)) after)
+      (let e = t .outside-size in let h = inside-words in omega arith) inside (t .phantoms .outside-is)
+      (moves outsideHere (r .join) (r .leave) join-is leave-is)
+      (λ j h n.
+      let o : same (versionAt (mapOf l z .leaves) a) (versionOf (mapOf l z) j) ≡ false = other-version l z v t a (r .at) j (q .place) h n in
+      let e : howMany (outsideIn (mapOf l z) (versionOf (mapOf l z) j)) after + 0 ≡ howMany (outsideIn (mapOf l z) (versionOf (mapOf l z) j)) (slotsOf (l .slots)) + 0
+      = moves (outsideIn (mapOf l z) (versionOf (mapOf l z) j)) 0 0 (outside-other (mapOf l z) a (versionOf (mapOf l z) j) c o) (outside-other (mapOf l z) a (versionOf (mapOf l z) j) (contentOf (slotsOf (l .slots)) a) o) in
+      omega arith)
+
+  -- the map with these slots
+  among : List Slot → MapState
+  among ss = record { records = mapOf l z .records; leaves = mapOf l z .leaves; slots = ss }
+
+  phantoms-now : Phantomlet (among after) (adjusted (l .outside) (r .at) (r .join) (r .leave)) (adjusted (l .pending) (r .at) (r .pend) (r .unpend))
+  unfolding among outsideIn outsideAny pendingIn
+  phantoms-now = record { outside-is = outside-in-now; pending-is = pending-now }
+
+  any-among : (ss ts : List Slot) → howMany (outsideAny (among ss)) ts ≡ howMany (outsideAny (mapOf l z)) ts
+  unfolding among outsideAny
+  any-among ss ts = refl
+
+  module _ (os ps us : List ℕ) (n : ℕ) (ox : os ≡ adjusted (l .outside) (r .at) (r .join) (r .leave)) (px : ps ≡ adjusted (l .pending) (r .at) (r .pend) (r .unpend)) (held : indexlet.Held us) (view : slotsOf us ≡ enter 4 (slotsOf (l .slots)) a c) (number : n ≡ length (entries (slotsOf us))) where
+    tables-now : Tables (lent (l .rows) (l .lows) (l .versions) os ps us) (sizesWith z n (z .outside + r .join - r .leave)) v
+    unfolding among
+    tables-now =
+        record {
+          rows = t .rows;
+          rows-narrow = t .rows-narrow;
+          lows = t .lows;
+          lows-narrow = t .lows-narrow;
+          lows-size = t .lows-size;
+          versions-size = t .versions-size;
+          leaves = t .leaves;
+          words = held;
+          entries-are = number;
+          outside-size = ap length ox ∙ adjusted-size (l .outside) (r .at) (r .join) (r .leave) ∙ t .outside-size;
+          pending-size = ap length px ∙ adjusted-size (l .pending) (r .at) (r .pend) (r .unpend) ∙ t .pending-size;
+          outside-are =
+              outside-now
+              ∙ sym (any-among (slotsOf us) (slotsOf us) ∙ ap (howMany (outsideAny (mapOf l z))) seen);
+          phantoms =
+              subst (λ (ss : List Slot). Phantomlet (among ss) os ps) (sym seen)
+              (subst (λ (xs : List ℕ). Phantomlet (among after) xs ps) (sym ox)
+              (subst (λ (xs : List ℕ). Phantomlet (among after) (adjusted (l .outside) (r .at) (r .join) (r .leave)) xs) (sym px) phantoms-now));
+        }
+      where
+        seen : slotsOf us ≡ after
+        seen = unfold after in view
+
+    pub say-said : Said l (lent (l .rows) (l .lows) (l .versions) os ps us) z (sizesWith z n (z .outside + r .join - r .leave)) v (enter 4 (slotsOf (l .slots)) a c)
+    unfolding withSlots
+    say-said =
+        record {
+          tables = tables-now;
+          map = λ i. record { records = mapOf l z .records; leaves = mapOf l z .leaves; slots = view i };
+          view = view;
+          records = refl;
+          leaves = refl;
+        }
+
+-- ---- the code's tests
+
+pub term-none : (c : ContentWords) → c .kind ≡ 0 → 0 ≡ pendingTerm (contentIn c)
+unfolding pendingTerm contentIn words.pendingIn
+term-none c e = sym (ap (λ (k : ℕ). pick (present (words.pendingIn k (c .value) (c .commit))) 1 0) e)
+
+pub term-some : (c : ContentWords) → (c .kind ≡ 0 → ⊥) → 1 ≡ pendingTerm (contentIn c)
+unfolding pendingTerm contentIn words.pendingIn
+term-some c n = go (c .kind) n
+  where
+    go : (k : ℕ) → (k ≡ 0 → ⊥) → _≡_ {A = ℕ} 1 (pick (present (words.pendingIn k (c .value) (c .commit))) 1 0)
+    go zero n = absurd (n refl)
+    go (suc zero) n = refl
+    go (suc (suc k)) n = refl
+
+module _ (b lacks : Bool) (c : ContentWords) (e : b ≡ isIdle (contentIn c)) where
+  pub term-idle : b ≡ true → 0 ≡ outsideTerm lacks (contentIn c)
+  unfolding outsideTerm
+  term-idle t = sym (ap (λ (x : Bool). pick x 0 (pick lacks 1 0)) (sym e ∙ t))
+
+  pub term-outside : b ≡ false → lacks ≡ true → 1 ≡ outsideTerm lacks (contentIn c)
+  unfolding outsideTerm
+  term-outside t f = sym (ap (λ (x : Bool). pick x 0 (pick lacks 1 0)) (sym e ∙ t) ∙ ap (λ (x : Bool). pick x 1 0) f)
+
+  pub term-inside : b ≡ false → lacks ≡ false → 0 ≡ outsideTerm lacks (contentIn c)
+  unfolding outsideTerm
+  term-inside t f = sym (ap (λ (x : Bool). pick x 0 (pick lacks 1 0)) (sym e ∙ t) ∙ ap (λ (x : Bool). pick x 1 0) f)

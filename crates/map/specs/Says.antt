@@ -1,0 +1,64 @@
+-- What a change of one address promises, and the numbers that it moves.
+-- Assumes nothing.
+use Prim.Native.Nat.{ℕ, zero, suc, _+_, _-_, _^_, _<_, _≤_}
+use mathlib.Core.Path.{_≡_}
+use mathlib.Core.Bool.{Bool, true, false, not}
+use mathlib.Core.List.{List}
+use lib.ListN.{length, getD, set}
+use Rattle.lists.specs.Tests.{pick, present}
+use Rattle.lists.specs.Rows.{look}
+use Rattle.spec.specs.Slots.{Content, isIdle, Slot, contentOf}
+use Rattle.spec.specs.Maps.{MapState, withSlots}
+use Rattle.indexlet.specs.Words.{slotsOf}
+use Rattle.index.specs.Views.{recordsOf}
+use Rattle.index.specs.LeafPlaces.{AtLeaf}
+use Rattle.map.specs.declared.Sizes.{Sizes}
+use Rattle.map.specs.declared.say.Change.{Change}
+use Rattle.map.specs.Views.{Lent, mapOf}
+use Rattle.map.specs.Held.{perLeaf, Tables, Held}
+
+-- The arrays hold the map m, v the last version given.
+pub record Becomes (l : Lent) (z : Sizes) (v : ℕ) (m : MapState) : Type 0 where
+  pub map : mapOf l z ≡ m
+  pub held : Held l z v
+
+-- The arrays hold the same map but for the slots, which are now `ss`.
+pub record Said (before after : Lent) (z r : Sizes) (v : ℕ) (ss : List Slot) : Type 0 where
+  pub tables : Tables after r v
+  pub map : mapOf after r ≡ withSlots (mapOf before z) ss
+  pub view : slotsOf (after .slots) ≡ ss
+  pub records : r .records ≡ z .records
+  pub leaves : r .leaves ≡ z .leaves
+
+-- one word for each leaf, and that of the first leaf is 0
+pub record Emptied (xs : List ℕ) : Type 0 where
+  pub size : length xs ≡ perLeaf
+  pub first : getD xs 0 0 ≡ 0
+
+-- ---- the phantomlet's numbers
+
+-- word i with `up` added and `down` taken away
+unfoldable pub adjusted : List ℕ → ℕ → ℕ → ℕ → List ℕ
+adjusted xs i up down = set xs i (getD xs i 0 + up - down)
+
+pub record Adjustable (xs : List ℕ) (i up down : ℕ) : Type 0 where
+  pub inside : i < perLeaf
+  pub size : length xs ≡ perLeaf
+  pub fits : getD xs i 0 + up < 2 ^ 64
+  pub enough : down ≤ getD xs i 0 + up
+
+-- what content adds to the number of pending writes
+unfoldable pub pendingTerm : Content → ℕ
+pendingTerm c = pick (present (c .pending)) 1 0
+
+-- what it adds to the number of entries outside of the index, where the index lacks its address or not
+unfoldable pub outsideTerm : Bool → Content → ℕ
+outsideTerm lacks c = pick (isIdle c) 0 (pick lacks 1 0)
+
+-- The place of the address's leaf; what the address adds to the two numbers there by c, and what it took till now.
+pub record Terms (slots rows lows : List ℕ) (z : Sizes) (a : ℕ) (c : Content) (r : Change) : Type 0 where
+  pub place : AtLeaf lows (z .leaves) a (r .at)
+  pub pend : r .pend ≡ pendingTerm c
+  pub unpend : r .unpend ≡ pendingTerm (contentOf (slotsOf slots) a)
+  pub join : r .join ≡ outsideTerm (not (present (look (recordsOf rows (z .records)) a))) c
+  pub leave : r .leave ≡ outsideTerm (not (present (look (recordsOf rows (z .records)) a))) (contentOf (slotsOf slots) a)

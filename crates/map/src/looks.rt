@@ -1,0 +1,141 @@
+// Looking: current records, what a scan walks over, hidden keys, and the contents. Nothing here changes an array.
+use crate::Address;
+use index::leaves;
+use index::records;
+use index::records::Found;
+use index::rows;
+use index::shifts;
+ghost use mathlib.Core.Path.{_≡_};
+ghost use Prim.Native.Nat.{_^_, _<_, _≤_};
+ghost use lib.ListN.{getD};
+ghost use Rattle.indexlet.specs.Held as indexlet;
+ghost use Rattle.index.specs.Views as index;
+ghost use Rattle.index.specs.LeafPlaces.{Listed};
+ghost use Rattle.map.specs.LookViews.{Sees, Narrow, Spans, SeenAt, Meets, LeafAt, Marks};
+
+// A current record, or none there.
+pub struct Current {
+    pub there: bool,
+    pub value: u64,
+    pub commit: u64,
+}
+
+// Places from one up to, not including, another.
+pub struct Range {
+    pub from: usize,
+    pub to: usize,
+}
+
+// An address of the index, with its current record.
+pub struct Seen {
+    pub address: Address,
+    pub current: Current,
+}
+
+// A leaf, as a log keeps it.
+pub struct Mark {
+    pub version: u64,
+    pub low: Address,
+}
+
+// The current record of an address: what a pending write leaves there, else what the index has.
+pub fn current_record(rows: &[u64; 3072], slots: &[u64; 1536], n: usize, a: Address) -> Current
+    requires { ⌜ index.Held (now rows) n ⌝ }
+    requires { ⌜ indexlet.Held (now slots) ⌝ }
+    ensures { λ r. ⌜ Sees (now (rows .entry)) n (now (slots .entry)) a r ⌝ }
+{
+    let looked = indexlet::look_up(slots, a);
+    let c = looked.content;
+    if c.kind == 0 {
+        let found = records::find(rows, n, a);
+        match found {
+            Found::At { value, commit } => {
+                return Current {
+                    there: true,
+                    value,
+                    commit,
+                };
+            }
+            Found::Nothing => {
+                return Current {
+                    there: false,
+                    value: 0,
+                    commit: 0,
+                };
+            }
+        }
+    }
+    Current {
+        there: c.kind == 1,
+        value: c.value,
+        commit: c.commit,
+    }
+}
+
+// The places of the records from lo to hi.
+pub fn records_between(rows: &[u64; 3072], n: usize, lo: Address, hi: Address) -> Range
+    requires { ⌜ index.Held (now rows) n ⌝ }
+    requires { ⌜ lo ≤ hi ⌝ }
+    ensures { λ r. ⌜ Spans (now (rows .entry)) n lo hi r ⌝ }
+{
+    let from = records::locate(rows, n, lo);
+    let to = records::locate(rows, n, hi);
+    if n <= to {
+        return Range { from, to };
+    }
+    let last = rows::get(rows, to);
+    if last.address == hi as u64 {
+        return Range { from, to: to + 1 };
+    }
+    Range { from, to }
+}
+
+// The record at place i of the index: its address, and its current record.
+pub fn seen_at(rows: &[u64; 3072], slots: &[u64; 1536], n: usize, i: usize) -> Seen
+    requires { ⌜ index.Held (now rows) n ⌝ }
+    requires { ⌜ Narrow (now rows) n ⌝ }
+    requires { ⌜ indexlet.Held (now slots) ⌝ }
+    requires { ⌜ i < n ⌝ }
+    ensures { λ r. ⌜ SeenAt (now (rows .entry)) n (now (slots .entry)) i r ⌝ }
+{
+    let there = rows::get(rows, i);
+    let address = there.address as Address;
+    let current = current_record(rows, slots, n, address);
+    Seen { address, current }
+}
+
+// The places of the leaves that meet lo to hi.
+pub fn leaves_meeting(lows: &[u64; 1025], m: usize, lo: Address, hi: Address) -> Range
+    requires { ⌜ Listed (now lows) m ⌝ }
+    requires { ⌜ lo ≤ hi ⌝ }
+    ensures { λ r. ⌜ Meets (now (lows .entry)) m lo hi r ⌝ }
+{
+    shifts::all(lows);
+    let from = leaves::leaf_at(lows, m, lo);
+    let last = leaves::leaf_at(lows, m, hi);
+    Range { from, to: last + 1 }
+}
+
+// The place of the leaf that holds an address.
+pub fn place_of(lows: &[u64; 1025], m: usize, a: Address) -> usize
+    requires { ⌜ Listed (now lows) m ⌝ }
+    ensures { λ r. ⌜ LeafAt (now (lows .entry)) m a r ⌝ }
+{
+    shifts::all(lows);
+    leaves::leaf_at(lows, m, a)
+}
+
+// The leaf at place i.
+pub fn leaf(lows: &[u64; 1025], versions: &[u64; 1025], i: usize) -> Mark
+    requires { ⌜ i < 1025 ⌝ }
+    requires { ⌜ getD (now lows) i 0 < 2 ^ 32 ⌝ }
+    ensures { λ r. ⌜ Marks (now (lows .entry)) (now (versions .entry)) i r ⌝ }
+{
+    shifts::all(lows);
+    shifts::all(versions);
+    let low = lows[i];
+    Mark {
+        version: versions[i],
+        low: low as Address,
+    }
+}

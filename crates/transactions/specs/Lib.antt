@@ -1,0 +1,5 @@
+pub mod StageTests
+pub mod Answering
+pub mod Views
+pub mod Ready
+pub mod Admits

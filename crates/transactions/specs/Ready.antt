@@ -1,0 +1,74 @@
+-- The invariant of the engine: every public entry asks it, `fresh` establishes it and every entry keeps it. And what a
+-- step promises: its answer and the state after it are the model's.
+-- Assumes nothing.
+use Prim.Native.Nat.{ℕ, zero, suc, _<_, _≤_}
+use mathlib.Core.Path.{_≡_, refl, sym, ap, _∙_, subst}
+use mathlib.Core.Bool.{Bool, true, false}
+use mathlib.Core.List.{List}
+use mathlib.Core.Option.{Option, none, some}
+use lib.ListN.{length, getD}
+use Rattle.spec.specs.declared.Refusal.{Refusal}
+use Rattle.spec.specs.Refusals.{ends}
+use Rattle.spec.specs.Leaves.{versionAt, live}
+use Rattle.spec.specs.Steps.{State, Step, Answer, refused, refusal, granted, effect, answer, next}
+use Rattle.limits.specs.Invariant.{Kept}
+use Rattle.limits.specs.Keeping.{next-kept}
+use Rattle.sets.specs.declared.workers.Worker.{Worker}
+use Rattle.sets.specs.Workers.{freed}
+use Rattle.sets.specs.Reads.{ReadsHeld}
+use Rattle.sets.specs.Leaves.{LeavesHeld, versionsIn, lowsIn}
+use Rattle.sets.specs.Writes.{WritesHeld}
+use Rattle.map.specs.Views.{Lent, mapOf}
+use Rattle.map.specs.Held as map
+use Rattle.transactions.specs.declared.Core.{Core}
+use Rattle.transactions.specs.Views.{Logs, stateOf}
+use Rattle.transactions.specs.Answering.{Comes, comes-granted, comes-refused}
+
+abbrev pub seat : Core → ℕ → Worker
+seat c w = getD (c .seats) w freed
+
+-- A worker's counts stay within its rows.
+pub record Within (x : Worker) : Type 0 where
+  pub reads : x .reads ≤ 64
+  pub leaves : x .leaves ≤ 32
+  pub writes : x .writes ≤ 16
+
+-- What the arrays and the core hold beside the model's own invariant: what the promises of the layers below ask.
+pub record Stored (l : Lent) (g : Logs) (c : Core) : Type 0 where
+  pub map : map.Held l (c .sizes) (c .counters .version)
+  pub reads : ReadsHeld (g .reads)
+  pub leaves : LeavesHeld (g .leaves)
+  pub writes : WritesHeld (g .writes)
+  pub seats : length (c .seats) ≡ 8
+  pub counts : (w : ℕ) → w < 8 → Within (seat c w)
+  -- a logged low address lies in the leaf with the version logged beside it, as long as there is one
+  pub lows :
+      (w : ℕ) → w < 8 → (i : ℕ) → i < seat c w .leaves
+      → live (mapOf l (c .sizes) .leaves) (getD (versionsIn (g .leaves) w (seat c w .leaves)) i 0) ≡ true
+      → versionAt (mapOf l (c .sizes) .leaves) (getD (lowsIn (g .leaves) w (seat c w .leaves)) i 0)
+      ≡ getD (versionsIn (g .leaves) w (seat c w .leaves)) i 0
+
+pub record Ready (l : Lent) (g : Logs) (c : Core) : Type 0 where
+  pub stored : Stored l g c
+  pub kept : Kept (stateOf l g c)
+
+-- A step taken: the arrays and the core before it, the step, those after it, and its answer.
+pub record Goes (l : Lent) (g : Logs) (c : Core) (s : Step) (l' : Lent) (g' : Logs) (c' : Core) (a : Answer) : Type 0 where
+  pub ready : Ready l' g' c'
+  pub state : stateOf l' g' c' ≡ next (stateOf l g c) s
+  pub says : a ≡ answer (stateOf l g c) s
+
+pub goes : {l l' : Lent} {g g' : Logs} {c c' : Core} {s : Step} {a : Answer} {σ' : State}
+    → Ready l g c → Comes (stateOf l g c) s a σ' → stateOf l' g' c' ≡ σ' → Stored l' g' c' → Goes l g c s l' g' c' a
+goes {l} {l'} {g} {g'} {c} {c'} {s} h k e t =
+    let q : stateOf l' g' c' ≡ next (stateOf l g c) s = e ∙ sym (k .leaves) in
+    record {
+      ready = record { stored = t; kept = subst Kept (sym q) (next-kept (h .kept) s) };
+      state = q;
+      says = sym (k .answers);
+    }
+
+-- a refusal leaves everything
+pub goes-refused : {l : Lent} {g : Logs} {c : Core} {s : Step} {r : Refusal}
+    → Ready l g c → refusal (stateOf l g c) s ≡ some r → ends r ≡ false → Goes l g c s l g c (refused r)
+goes-refused {l} {g} {c} {s} {r} h e t = goes h (comes-refused (stateOf l g c) s r e t) refl (h .stored)

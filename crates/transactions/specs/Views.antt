@@ -1,0 +1,125 @@
+-- How the lent arrays and the core are read: they are the model's state.
+-- Assumes nothing.
+use Prim.Native.Nat.{ℕ, zero, suc, _+_, _<_, _≤_, zero-le, suc-le-suc}
+use native.Mathlib.Nat.{not-suc-le-zero, le-of-suc-le-suc, add-zero, add-suc, suc-add}
+use native.Mathlib.Omega.{arith}
+use mathlib.Core.Path.{_≡_, refl, sym, ap, _∙_, subst}
+use mathlib.Core.List.{List, [], _∷_}
+use lib.ListN.{length, getD, set}
+use Rattle.spec.specs.Records.{standard}
+use Rattle.spec.specs.Steps as model
+use Rattle.spec.specs.Steps.{State, workerOf, freeWorker, withWorker}
+use Rattle.sets.specs.declared.workers.Worker.{Worker}
+use Rattle.sets.specs.Workers.{workerIn, freed}
+use Rattle.sets.specs.Reads.{readsIn}
+use Rattle.sets.specs.Leaves.{versionsIn, lowsIn}
+use Rattle.sets.specs.Writes.{writesIn}
+use Rattle.map.specs.Views.{Lent, mapOf}
+use Rattle.transactions.specs.declared.Core.{Core}
+
+-- The words of all workers' read sets, leaf sets and write sets.
+pub record Logs : Type 0 where
+  pub reads : List ℕ
+  pub leaves : List ℕ
+  pub writes : List ℕ
+
+abbrev pub logs : List ℕ → List ℕ → List ℕ → Logs
+logs reads leaves writes = record { reads = reads; leaves = leaves; writes = writes }
+
+-- worker w, with its rows of the three arrays
+abbrev pub seatIn : Logs → Worker → ℕ → model.Worker
+seatIn g x w = workerIn x (g .reads) (g .leaves) (g .writes) w
+
+-- the workers from worker w on
+unfoldable pub workersFrom : Logs → List Worker → ℕ → List model.Worker
+workersFrom g [] w = []
+workersFrom g (x ∷ xs) w = seatIn g x w ∷ workersFrom g xs (suc w)
+
+-- the model's state
+unfoldable pub stateOf : Lent → Logs → Core → State
+stateOf l g c =
+    record {
+      settings = standard;
+      counters = record { number = c .counters .number; version = c .counters .version };
+      map = mapOf l (c .sizes);
+      workers = workersFrom g (c .seats) 0;
+    }
+
+-- the core with another worker
+abbrev pub withSeat : Core → ℕ → Worker → Core
+withSeat c w x = record { seats = set (c .seats) w x; sizes = c .sizes; counters = c .counters }
+
+-- ---- workers
+
+from-length : (g : Logs) (xs : List Worker) (w : ℕ) → length (workersFrom g xs w) ≡ length xs
+unfolding workersFrom
+from-length g [] w = refl
+from-length g (x ∷ xs) w = ap suc (from-length g xs (suc w))
+
+pub crew : (l : Lent) (g : Logs) (c : Core) → length (stateOf l g c .workers) ≡ length (c .seats)
+unfolding stateOf
+crew l g c = from-length g (c .seats) 0
+
+from-at : (g : Logs) (xs : List Worker) (w i : ℕ) → i < length xs → getD (workersFrom g xs w) i freeWorker ≡ seatIn g (getD xs i freed) (w + i)
+unfolding workersFrom
+from-at g [] w i h = absurd (not-suc-le-zero h)
+from-at g (x ∷ xs) w zero h = ap (seatIn g x) (sym (add-zero w))
+from-at g (x ∷ xs) w (suc i) h = from-at g xs (suc w) i (le-of-suc-le-suc h) ∙ ap (seatIn g (getD xs i freed)) (suc-add w i ∙ sym (add-suc w i))
+
+-- worker w of the state
+pub worker-at : (l : Lent) (g : Logs) (c : Core) (w : ℕ) → w < length (c .seats) → workerOf (stateOf l g c) w ≡ seatIn g (getD (c .seats) w freed) w
+unfolding stateOf workerOf
+worker-at l g c w h = from-at g (c .seats) 0 w h ∙ ap (seatIn g (getD (c .seats) w freed)) (let e : 0 + w ≡ w = omega arith in e)
+
+-- the rows of every worker but w are the same
+pub record OthersSame (g g' : Logs) (w : ℕ) : Type 0 where
+  pub reads : (v n : ℕ) → (v ≡ w → ⊥) → readsIn (g' .reads) v n ≡ readsIn (g .reads) v n
+  pub leaves : (v n : ℕ) → (v ≡ w → ⊥) → versionsIn (g' .leaves) v n ≡ versionsIn (g .leaves) v n
+  pub writes : (v n : ℕ) → (v ≡ w → ⊥) → writesIn (g' .writes) v n ≡ writesIn (g .writes) v n
+
+other-seat : (g g' : Logs) (w : ℕ) → OthersSame g g' w → (x : Worker) (v : ℕ) → (v ≡ w → ⊥) → seatIn g' x v ≡ seatIn g x v
+unfolding workerIn
+other-seat g g' w o x v d =
+    λ i. record {
+      stage = x .stage;
+      reads = o .reads v (x .reads) d i;
+      versions = o .leaves v (x .leaves) d i;
+      writes = o .writes v (x .writes) d i;
+      number = x .number;
+    }
+
+from-above : (g g' : Logs) (w : ℕ) → OthersSame g g' w → (xs : List Worker) (v : ℕ) → w < v → workersFrom g' xs v ≡ workersFrom g xs v
+unfolding workersFrom
+from-above g g' w o [] v h = refl
+from-above g g' w o (x ∷ xs) v h =
+    λ i. other-seat g g' w o x v (λ e. let z : ⊥ = omega arith in z) i ∷ from-above g g' w o xs (suc v) (let k : w < suc v = omega arith in k) i
+
+from-set : (g g' : Logs) (xs : List Worker) (v i : ℕ) (x : Worker) → OthersSame g g' (v + i)
+    → workersFrom g' (set xs i x) v ≡ set (workersFrom g xs v) i (seatIn g' x (v + i))
+unfolding workersFrom
+from-set g g' [] v i x o = refl
+from-set g g' (y ∷ ys) v zero x o =
+    let e : v + 0 ≡ v = omega arith in
+    λ j. seatIn g' x (sym e j) ∷ from-above g g' (v + 0) o ys (suc v) (let k : v + 0 < suc v = omega arith in k) j
+from-set g g' (y ∷ ys) v (suc i) x o =
+    let e : suc v + i ≡ v + suc i = omega arith in
+    let first : seatIn g' y v ≡ seatIn g y v = other-seat g g' (v + suc i) o y v (λ q. let z : ⊥ = omega arith in z) in
+    let rest : workersFrom g' (set ys i x) (suc v) ≡ set (workersFrom g ys (suc v)) i (seatIn g' x (v + suc i)) =
+    from-set g g' ys (suc v) i x (subst (OthersSame g g') (sym e) o) ∙ ap (λ (n : ℕ). set (workersFrom g ys (suc v)) i (seatIn g' x n)) e in
+    λ j. first j ∷ rest j
+
+-- a step of worker w that rewrites its seat and its rows
+pub state-with : (l : Lent) (g g' : Logs) (c : Core) (w : ℕ) (x : Worker) → OthersSame g g' w
+    → stateOf l g' (withSeat c w x) ≡ withWorker (stateOf l g c) w (seatIn g' x w)
+unfolding stateOf withWorker
+state-with l g g' c w x o =
+    ap
+    (λ (ws : List model.Worker).
+    record {
+      settings = standard;
+      counters = record { number = c .counters .number; version = c .counters .version };
+      map = mapOf l (c .sizes);
+      workers = ws;
+    })
+    (from-set g g' (c .seats) 0 w x (subst (OthersSame g g') (let e : w ≡ 0 + w = omega arith in e) o)
+    ∙ ap (λ (n : ℕ). set (workersFrom g (c .seats) 0) w (seatIn g' x n)) (let e : 0 + w ≡ w = omega arith in e))

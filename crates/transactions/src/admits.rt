@@ -1,0 +1,29 @@
+// The causes that most steps share, tested first: no worker, a free worker, a wrong stage.
+use sets::workers::Worker;
+use spec::Refusal;
+use spec::Stage;
+ghost use Rattle.spec.specs.Steps.{isOpen};
+ghost use Rattle.transactions.specs.Admits.{Admitted};
+
+// A worker whose stage is right, or the refusal.
+pub enum Admit {
+    Refused(Refusal),
+    Seat(Worker),
+}
+
+// A worker in the open stage.
+pub fn open(seats: [Worker; 8], w: u32) -> Admit
+    ensures { λ r. ⌜ Admitted isOpen seats w r ⌝ }
+{
+    if 8 <= w {
+        return Admit::Refused(Refusal::NoWorker);
+    }
+    let x = seats[w as usize];
+    let s = x.stage;
+    match s {
+        Stage::Free => Admit::Refused(Refusal::WorkerFree),
+        Stage::Open => Admit::Seat(x),
+        Stage::Locked => Admit::Refused(Refusal::WrongStage),
+        Stage::Checked => Admit::Refused(Refusal::WrongStage),
+    }
+}

@@ -4,7 +4,12 @@ pub mod Held
 pub mod Says
 pub mod SayLaws
 pub mod FreshLaws
+pub mod Blocks
+pub mod LockLaws
 pub mod LookViews
 pub mod CurrentLaws
 pub mod RangeLaws
 pub mod ScanLaws
+pub mod HidingLaws
+pub mod PhantomViews
+pub mod PhantomLaws

@@ -4,6 +4,7 @@
 // write set; `merge` takes a leaf's pending writes into the index; `looks` reads: current records, hidden keys, what a
 // scan walks over, and the contents.
 
+pub mod locks;
 pub mod looks;
 pub mod say;
 

@@ -1,5 +1,6 @@
 // Looking: current records, what a scan walks over, hidden keys, and the contents. Nothing here changes an array.
 use crate::Address;
+use crate::Sizes;
 use index::leaves;
 use index::records;
 use index::records::Found;
@@ -8,10 +9,13 @@ use index::shifts;
 ghost use mathlib.Core.Path.{_≡_};
 ghost use Prim.Native.Nat.{_^_, _<_, _≤_};
 ghost use lib.ListN.{getD};
+ghost use Rattle.lists.specs.Tests.{pick};
+ghost use Rattle.index.specs.Views.{leavesOf};
 ghost use Rattle.indexlet.specs.Held as indexlet;
 ghost use Rattle.index.specs.Views as index;
 ghost use Rattle.index.specs.LeafPlaces.{Listed};
 ghost use Rattle.map.specs.LookViews.{Sees, Narrow, Spans, SeenAt, Meets, LeafAt, Marks};
+ghost use Rattle.map.specs.PhantomViews.{mapIn, HeldBut, phantomAt, Fitting, Owns, Logged, silentIn, silentOf};
 
 // A current record, or none there.
 pub struct Current {
@@ -138,4 +142,99 @@ pub fn leaf(lows: &[u64; 1025], versions: &[u64; 1025], i: usize) -> Mark
         version: versions[i],
         low: low as Address,
     }
+}
+
+// 1 if the address lies in the leaf at place i, the index lacks it, and no write is pending there; else 0.
+fn silent_at(
+    rows: &[u64; 3072],
+    lows: &[u64; 1025],
+    slots: &[u64; 1536],
+    n: usize,
+    m: usize,
+    i: usize,
+    a: Address,
+) -> usize
+    requires { ⌜ index.Held (now rows) n ⌝ }
+    requires { ⌜ Listed (now lows) m ⌝ }
+    requires { ⌜ indexlet.Held (now slots) ⌝ }
+    ensures { λ r. ⌜ r ≡ pick (silentIn (now (rows .entry)) (now (lows .entry)) (now (slots .entry)) n m i a) 1 0 ⌝ }
+{
+    let p = leaves::leaf_at(lows, m, a);
+    if p != i {
+        return 0;
+    }
+    let looked = indexlet::look_up(slots, a);
+    let c = looked.content;
+    if c.kind != 0 {
+        return 0;
+    }
+    let found = records::find(rows, n, a);
+    match found {
+        Found::At {
+            value: _,
+            commit: _,
+        } => 0,
+        Found::Nothing => 1,
+    }
+}
+
+// How many of a write set's addresses are so.
+fn silent_of(
+    rows: &[u64; 3072],
+    lows: &[u64; 1025],
+    slots: &[u64; 1536],
+    ws: &[u64; 48],
+    n: usize,
+    m: usize,
+    i: usize,
+    count: usize,
+) -> usize
+    requires { ⌜ index.Held (now rows) n ⌝ }
+    requires { ⌜ Listed (now lows) m ⌝ }
+    requires { ⌜ indexlet.Held (now slots) ⌝ }
+    requires { ⌜ Fitting (now ws) count ⌝ }
+    ensures { λ r. ⌜ r ≡ silentOf (now (rows .entry)) (now (lows .entry)) (now (slots .entry)) n m i (now (ws .entry)) count ⌝ }
+{
+    let mut x = 0;
+    let mut own = 0;
+    while x < count {
+        let key = ws[x * 3];
+        let one = silent_at(rows, lows, slots, n, m, i, key as Address);
+        own = own + one;
+        x += 1;
+    }
+    own
+}
+
+// A logged leaf is gone, or hides a key from worker w, whose locks are the addresses of the write set. The leaf is the
+// one of the low that was logged with it, or it is gone. Entries outside the index hide nothing if they are the
+// worker's own locks.
+pub fn phantom(
+    rows: &[u64; 3072],
+    lows: &[u64; 1025],
+    versions: &[u64; 1025],
+    outside: &[u64; 1025],
+    slots: &[u64; 1536],
+    ws: &[u64; 48],
+    z: Sizes,
+    n: usize,
+    w: u64,
+    version: u64,
+    low: Address,
+) -> bool
+    requires { ⌜ HeldBut (now rows) (now lows) (now versions) (now outside) (now slots) z ⌝ }
+    requires { ⌜ Owns (now slots) (now ws) n w ⌝ }
+    requires { ⌜ Logged (leavesOf (now lows) (now versions) (z .leaves)) version low ⌝ }
+    ensures { λ r. ⌜ r ≡ phantomAt (mapIn (now (rows .entry)) (now (lows .entry)) (now (versions .entry)) (now (slots .entry)) z) w version ⌝ }
+{
+    let i = place_of(lows, z.leaves, low);
+    if versions[i] != version {
+        return true;
+    }
+    let out = outside[i];
+    if out == 0 {
+        return false;
+    }
+    let own = silent_of(rows, lows, slots, ws, z.records, z.leaves, i, n);
+    (own as u64) < out
 }

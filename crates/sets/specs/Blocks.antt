@@ -1,16 +1,18 @@
 -- Words in rows, and rows in blocks of one size: what a row that is written leaves in its own block and in the others.
 -- Assumes nothing.
-use Prim.Native.Nat.{ℕ, zero, suc, _+_, _*_, _/_, _<_, _≤_}
-use native.Mathlib.Nat.{add-zero}
+use Prim.Native.Nat.{ℕ, suc, _+_, _/_, _^_, _<_, _≤_}
 use native.Mathlib.Omega.{arith}
 use mathlib.Core.Path.{_≡_, refl, sym, ap, _∙_}
 use mathlib.Core.Logic.{_⊎_, ⊎-elim}
-use mathlib.Core.Bool.{Bool, true, false}
 use mathlib.Core.List.{List, [], _∷_, _++_}
 use lib.ListN.{length, take, drop, getD, set, length-set, List·getD-append}
 use lib.Seq.{getD-append-add, length-take-le, getD-set-same, getD-set-other, take-suc-set, ext-getD}
 use Rattle.lists.specs.Tests.{same, less, cases, same-true, same-false, less-true, less-false}
 use Rattle.lists.specs.Shifts.{over, over-nil, over-snoc, getD-over-left, getD-over-right, tab, length-tab, getD-tab}
+
+-- how many addresses there are: a stored address is below
+abbrev pub addresses : ℕ
+addresses = 2 ^ 32
 
 -- Words that differ only within one block: number w, of blocks of `size` words.
 pub record Beside (size w : ℕ) (ws us : List ℕ) : Type 0 where

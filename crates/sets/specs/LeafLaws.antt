@@ -1,17 +1,16 @@
 -- The laws of the leaf sets: what an appended row leaves, what a row says, and how views of other workers stay.
 -- Assumes nothing.
-use Prim.Native.Nat.{ℕ, zero, suc, _+_, _*_, _/_, _^_, _<_, _≤_}
+use Prim.Native.Nat.{ℕ, _+_, _*_, _<_, _≤_}
 use native.Mathlib.Omega.{arith}
 use mathlib.Core.Path.{_≡_, refl, sym, ap, _∙_, subst}
 use mathlib.Core.Logic.{_⊎_, ⊎-elim}
-use mathlib.Core.Bool.{Bool, true, false}
 use mathlib.Core.List.{List, [], _∷_, _++_}
 use lib.ListN.{length, take, getD, set, replicate, length-replicate, getD-replicate}
 use lib.Seq.{length-take-le, getD-take}
 use Rattle.lists.specs.Tests.{same, cases, same-true, same-false}
-use Rattle.lists.specs.Shifts.{over, length-over, tab, length-tab, getD-tab, tab-same}
+use Rattle.lists.specs.Shifts.{over, length-over, length-tab, getD-tab, tab-same}
 use Rattle.sets.specs.declared.leaves.Mark.{Mark}
-use Rattle.sets.specs.Blocks.{Beside, word-in, word-out, two, tab-set, append-row}
+use Rattle.sets.specs.Blocks.{addresses, Beside, word-in, word-out, two, tab-set, append-row}
 use Rattle.sets.specs.Leaves.{versionAt, lowAt, versionsOf, lowsOf, versionsIn, lowsIn, LeavesHeld, LogsLeaf, GivesLeaf}
 
 -- ---- the views
@@ -99,7 +98,7 @@ module _ (ws : List ℕ) (w n x y : ℕ) (held : LeavesHeld ws) (worker : w < 8)
   beside : Beside 64 w ws us
   beside = record { same = λ m d. out m (λ p q. d (omega arith)) }
 
-  kept : y < 2 ^ 32 → LeavesHeld us
+  kept : y < addresses → LeavesHeld us
   unfolding us
   kept h =
       record {
@@ -112,7 +111,7 @@ module _ (ws : List ℕ) (w n x y : ℕ) (held : LeavesHeld ws) (worker : w < 8)
             (cases (same k (w * 32 + n)));
       }
 
-  pub leaf-appended : y < 2 ^ 32 → LogsLeaf ws w n x y (set (set ws ((w * 32 + n) * 2) x) ((w * 32 + n) * 2 + 1) y) (n + 1)
+  pub leaf-appended : y < addresses → LogsLeaf ws w n x y (set (set ws ((w * 32 + n) * 2) x) ((w * 32 + n) * 2 + 1) y) (n + 1)
   unfolding us
   leaf-appended h =
       subst (λ (l : List ℕ). LogsLeaf ws w n x y l (n + 1)) (sym (two ws ((w * 32 + n) * 2) x y fits))

@@ -1,12 +1,12 @@
 -- The leaf sets in words, 32 rows of two words for each worker, and what the functions over them promise.
 -- Assumes nothing.
-use Prim.Native.Nat.{ℕ, _+_, _*_, _^_, _<_}
+use Prim.Native.Nat.{ℕ, _+_, _*_, _<_}
 use mathlib.Core.Path.{_≡_}
 use mathlib.Core.List.{List, [], _∷_, _++_}
 use lib.ListN.{length, take, getD}
 use Rattle.lists.specs.Shifts.{tab}
 use Rattle.sets.specs.declared.leaves.Mark.{Mark}
-use Rattle.sets.specs.Blocks.{Beside}
+use Rattle.sets.specs.Blocks.{addresses, Beside}
 
 -- ---- views
 
@@ -37,7 +37,7 @@ lowsIn ws w n = take n (lowsOf ws w)
 -- The words of all workers' leaf sets: stored lows are addresses.
 pub record LeavesHeld (ws : List ℕ) : Type 0 where
   pub size : length ws ≡ 512
-  pub narrow : (k : ℕ) → k < 256 → getD ws (k * 2 + 1) 0 < 2 ^ 32
+  pub narrow : (k : ℕ) → k < 256 → getD ws (k * 2 + 1) 0 < addresses
 
 -- ---- promises
 

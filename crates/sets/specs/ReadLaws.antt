@@ -1,23 +1,23 @@
 -- The laws of the read sets: what an appended row leaves, what a row says, and how views of other workers stay.
 -- Assumes nothing.
-use Prim.Native.Nat.{ℕ, zero, suc, _+_, _*_, _/_, _^_, _<_, _≤_}
+use Prim.Native.Nat.{ℕ, _+_, _*_, _<_, _≤_}
 use native.Mathlib.Omega.{arith}
 use mathlib.Core.Path.{_≡_, refl, sym, ap, _∙_, subst}
 use mathlib.Core.Logic.{_⊎_, ⊎-elim}
 use mathlib.Core.Bool.{Bool, true, false}
 use mathlib.Core.List.{List, [], _∷_, _++_}
-use mathlib.Core.Option.{Option, none, some}
+use mathlib.Core.Option.{Option}
 use lib.Dec.{eqb}
 use lib.ListN.{length, take, getD, set, replicate, length-replicate, getD-replicate}
 use lib.Seq.{length-take-le, getD-take}
 use mir.Val.{boolByte}
 use Rattle.lists.specs.Tests.{same, cases, same-true, same-false}
-use Rattle.lists.specs.Rows.{Row, row}
-use Rattle.lists.specs.Shifts.{over, length-over, tab, length-tab, getD-tab, tab-same}
+use Rattle.lists.specs.Rows.{row}
+use Rattle.lists.specs.Shifts.{over, length-over, length-tab, getD-tab, tab-same}
 use Rattle.spec.specs.Records.{Record}
 use Rattle.sets.specs.declared.reads.Seen.{Seen}
 use Rattle.sets.specs.declared.reads.Logged.{Logged}
-use Rattle.sets.specs.Blocks.{Beside, word-in, word-out, four, tab-set, append-row}
+use Rattle.sets.specs.Blocks.{addresses, Beside, word-in, word-out, four, tab-set, append-row}
 use Rattle.sets.specs.Reads.{recordOf, recordIn, loggedIn, noRead, readAt, readsOf, readsIn, ReadsHeld, LogsRead, GivesRead}
 
 -- ---- the views
@@ -98,7 +98,7 @@ module _ (ws : List ℕ) (w n a t v c : ℕ) (held : ReadsHeld ws) (worker : w <
   beside : Beside 256 w ws us
   beside = record { same = λ m d. out m (λ p q. d (omega arith)) }
 
-  kept : a < 2 ^ 32 → ReadsHeld us
+  kept : a < addresses → ReadsHeld us
   unfolding us
   kept h =
       record {
@@ -111,7 +111,7 @@ module _ (ws : List ℕ) (w n a t v c : ℕ) (held : ReadsHeld ws) (worker : w <
             (cases (same k (w * 64 + n)));
       }
 
-  appended : a < 2 ^ 32 → (s : Seen) → recordOf (eqb t 1) v c ≡ recordIn s
+  appended : a < addresses → (s : Seen) → recordOf (eqb t 1) v c ≡ recordIn s
       → LogsRead ws w n a s (set (set (set (set ws ((w * 64 + n) * 4) a) ((w * 64 + n) * 4 + 1) t) ((w * 64 + n) * 4 + 2) v) ((w * 64 + n) * 4 + 3) c) (n + 1)
   unfolding us
   appended h s e =
@@ -128,7 +128,7 @@ flag-back : (b : Bool) → eqb (boolByte b) 1 ≡ b
 flag-back true = refl
 flag-back false = refl
 
-pub read-appended : (ws : List ℕ) (w n a : ℕ) (s : Seen) → ReadsHeld ws → w < 8 → n < 64 → a < 2 ^ 32
+pub read-appended : (ws : List ℕ) (w n a : ℕ) (s : Seen) → ReadsHeld ws → w < 8 → n < 64 → a < addresses
     → LogsRead ws w n a s
     (set (set (set (set ws ((w * 64 + n) * 4) a) ((w * 64 + n) * 4 + 1) (boolByte (s .there))) ((w * 64 + n) * 4 + 2) (s .value)) ((w * 64 + n) * 4 + 3) (s .commit))
     (n + 1)

@@ -1,8 +1,8 @@
 -- The read sets in words, 64 rows of four words for each worker, and what the functions over them promise.
 -- Assumes nothing.
-use Prim.Native.Nat.{ℕ, _+_, _*_, _^_, _<_}
+use Prim.Native.Nat.{ℕ, _+_, _*_, _<_}
 use mathlib.Core.Path.{_≡_}
-use mathlib.Core.Bool.{Bool, true, false}
+use mathlib.Core.Bool.{Bool}
 use mathlib.Core.List.{List, [], _∷_, _++_}
 use mathlib.Core.Option.{Option, none, some}
 use lib.Dec.{eqb}
@@ -13,7 +13,7 @@ use Rattle.lists.specs.Shifts.{tab}
 use Rattle.spec.specs.Records.{Record}
 use Rattle.sets.specs.declared.reads.Seen.{Seen}
 use Rattle.sets.specs.declared.reads.Logged.{Logged}
-use Rattle.sets.specs.Blocks.{Beside}
+use Rattle.sets.specs.Blocks.{addresses, Beside}
 
 -- ---- views
 
@@ -50,7 +50,7 @@ readsIn ws w n = take n (readsOf ws w)
 -- The words of all workers' read sets: stored addresses are addresses.
 pub record ReadsHeld (ws : List ℕ) : Type 0 where
   pub size : length ws ≡ 2048
-  pub narrow : (k : ℕ) → k < 512 → getD ws (k * 4) 0 < 2 ^ 32
+  pub narrow : (k : ℕ) → k < 512 → getD ws (k * 4) 0 < addresses
 
 -- ---- promises
 

@@ -1,8 +1,8 @@
 -- The laws of workers: what each method and each change of a set is to the model's worker, and that it leaves the others.
 -- Assumes nothing.
 use Prim.Native.Nat.{ℕ}
-use mathlib.Core.Path.{_≡_, refl, sym, ap, _∙_}
-use mathlib.Core.List.{List, [], _∷_, _++_, append-nil}
+use mathlib.Core.Path.{_≡_, refl, sym, ap}
+use mathlib.Core.List.{List, [], _∷_, append-nil}
 use mathlib.Core.Option.{Option}
 use Rattle.lists.specs.Rows.{Row, row}
 use Rattle.spec.specs.declared.Stage.the-variants.{Open, Locked}

@@ -1,17 +1,17 @@
 -- The laws of the write sets: the place of an address, whether a write stands there, and what a put leaves.
 -- Assumes nothing.
-use Prim.Native.Nat.{ℕ, zero, suc, _+_, _*_, _-_, _^_, _<_, _≤_, zero-le}
+use Prim.Native.Nat.{ℕ, _+_, _-_, _<_, _≤_, zero-le}
 use native.Mathlib.Omega.{arith}
 use mathlib.Core.Path.{_≡_, refl, sym, ap, _∙_, subst}
 use mathlib.Core.Logic.{_⊎_, inl, inr, ⊎-elim}
-use mathlib.Core.Bool.{Bool, true, false, not}
-use mathlib.Core.List.{List, [], _∷_, _++_}
-use mathlib.Core.Option.{Option, none, some}
+use mathlib.Core.Bool.{true, false, not}
+use mathlib.Core.List.{List, _∷_, _++_}
+use mathlib.Core.Option.{none, some}
 use lib.Dec.{eqb}
-use lib.ListN.{length, take, drop, getD, set, length-set, length-append, length-take, length-drop}
+use lib.ListN.{length, take, drop, getD, set}
 use lib.Seq.{take-set-lt}
 use borrow.Author.Tests.{eqb-true, eqb-false}
-use Rattle.lists.specs.Tests.{both, present, same, less, cases, clash, same-yes, same-no, less-true, less-false}
+use Rattle.lists.specs.Tests.{both, present, less, cases, clash, same-yes, same-no, less-true}
 use Rattle.lists.specs.Rows.{Row, row, look, insert, assign, between, From, Rising}
 use Rattle.lists.specs.RowLaws.{rising-assign}
 use Rattle.lists.specs.Shifts.{moved, put-in}

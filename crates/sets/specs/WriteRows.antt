@@ -1,20 +1,19 @@
 -- The write sets as rows: what a row that is stored leaves, what a row says, how rows are moved up, and how views of
 -- other workers stay.
 -- Assumes nothing.
-use Prim.Native.Nat.{ℕ, zero, suc, _+_, _*_, _-_, _/_, _^_, _<_, _≤_}
+use Prim.Native.Nat.{ℕ, _+_, _*_, _-_, _<_, _≤_}
 use native.Mathlib.Omega.{arith}
 use mathlib.Core.Path.{_≡_, refl, sym, ap, _∙_, subst}
 use mathlib.Core.Logic.{_⊎_, ⊎-elim}
-use mathlib.Core.Bool.{Bool, true, false}
 use mathlib.Core.List.{List, [], _∷_}
 use lib.ListN.{length, take, getD, set, replicate, length-replicate, getD-replicate}
 use lib.Seq.{length-take-le, getD-take}
 use Rattle.lists.specs.Tests.{same, cases, same-true, same-false}
 use Rattle.lists.specs.Rows.{Row, row}
-use Rattle.lists.specs.Shifts.{over, length-over, moved, tab, length-tab, getD-tab, tab-same, Raising, raising-start, raising-on, raising-end}
+use Rattle.lists.specs.Shifts.{over, length-over, moved, length-tab, getD-tab, tab-same, Raising, raising-start, raising-on, raising-end}
 use Rattle.spec.specs.Records.{Write}
 use Rattle.sets.specs.declared.writes.Line.{Line}
-use Rattle.sets.specs.Blocks.{Beside, beside-refl, beside-on, word-in, word-out, three, tab-set}
+use Rattle.sets.specs.Blocks.{addresses, Beside, beside-refl, beside-on, word-in, word-out, three, tab-set}
 use Rattle.sets.specs.Writes.{writeOf, lineIn, noWrite, writeAt, writesOf, writesIn, WritesHeld, GivesLine, Becomes}
 
 -- ---- the views
@@ -92,7 +91,7 @@ module _ (ws : List ℕ) (w n a k v : ℕ) (held : WritesHeld ws) (worker : w < 
       (out ((w * 16 + j) * 3 + 1) (λ p q. d (omega arith)))
       (out ((w * 16 + j) * 3 + 2) (λ p q. d (omega arith))))
 
-  kept : a < 2 ^ 32 → WritesHeld us
+  kept : a < addresses → WritesHeld us
   unfolding us
   kept h =
       record {
@@ -105,16 +104,12 @@ module _ (ws : List ℕ) (w n a k v : ℕ) (held : WritesHeld ws) (worker : w < 
             (cases (same j (w * 16 + n)));
       }
 
-  pub line-stored : a < 2 ^ 32
+  pub line-stored : a < addresses
       → Becomes ws w (set (writesOf ws w) n (row a (writeOf k v))) (set (set (set ws ((w * 16 + n) * 3) a) ((w * 16 + n) * 3 + 1) k) ((w * 16 + n) * 3 + 2) v)
   unfolding us
   line-stored h =
       subst (λ (l : List ℕ). Becomes ws w (set (writesOf ws w) n (row a (writeOf k v))) l) (sym (three ws ((w * 16 + n) * 3) a k v fits))
       (record { held = kept h; here = rows; elsewhere = record { same = λ m d. out m (λ p q. d (omega arith)) } })
-
--- one change after another
-pub becomes-on : {w : ℕ} {ws us vs : List ℕ} {xs ys : List (Row Write)} (zs : List (Row Write)) → Becomes ws w xs us → Becomes us w ys vs → ys ≡ zs → Becomes ws w zs vs
-becomes-on zs b c e = record { held = c .held; here = c .here ∙ e; elsewhere = beside-on (b .elsewhere) (c .elsewhere) }
 
 -- ---- the loop that moves the rows from place p on up by one
 
@@ -141,6 +136,16 @@ lifting-on {ws} {us} {w} {n} {p} {i} r vs h l z f g b =
 
 pub lifting-end : {ws us : List ℕ} {w n p i : ℕ} → Lifting ws us w n p i → i ≤ 0 → Becomes ws w (moved (writesOf ws w) p (p + 1) (n - p)) us
 lifting-end f h = record { held = f .held; here = raising-end (f .rows) h; elsewhere = f .elsewhere }
+
+-- a row stored at place p, after those from there on went up
+pub row-inserted : {w : ℕ} {ws us vs : List ℕ} (n p : ℕ) (r : Row Write) → Becomes ws w (moved (writesOf ws w) p (p + 1) (n - p)) us
+    → Becomes us w (set (writesOf us w) p r) vs → Becomes ws w (set (moved (writesOf ws w) p (p + 1) (n - p)) p r) vs
+row-inserted n p r b c =
+    record {
+      held = c .held;
+      here = c .here ∙ ap (λ (l : List (Row Write)). set l p r) (b .here);
+      elsewhere = beside-on (b .elsewhere) (c .elsewhere);
+    }
 
 -- ---- the start
 

@@ -1,10 +1,10 @@
 -- The write sets in words, 16 rows of three words for each worker, and what the functions over them promise.
 -- Assumes nothing.
-use Prim.Native.Nat.{ℕ, _+_, _*_, _^_, _<_, _≤_}
+use Prim.Native.Nat.{ℕ, _+_, _*_, _<_, _≤_}
 use mathlib.Core.Path.{_≡_}
 use mathlib.Core.Logic.{_⊎_}
 use mathlib.Core.Bool.{Bool, true, false}
-use mathlib.Core.List.{List, [], _∷_}
+use mathlib.Core.List.{List}
 use mathlib.Core.Option.{Option, none, some}
 use lib.ListN.{length, take, getD}
 use Rattle.lists.specs.Tests.{pick, same}
@@ -16,7 +16,7 @@ use Rattle.sets.specs.declared.writes.Entry.{Entry}
 use Rattle.sets.specs.declared.writes.Line.{Line}
 use Rattle.sets.specs.declared.writes.Found.{Found}
 use Rattle.sets.specs.declared.writes.Found.the-variants.{Put, Deletion, Nothing}
-use Rattle.sets.specs.Blocks.{Beside}
+use Rattle.sets.specs.Blocks.{addresses, Beside}
 
 -- ---- views
 
@@ -57,7 +57,7 @@ writesIn ws w n = take n (writesOf ws w)
 -- The words of all workers' write sets: stored addresses are addresses.
 pub record WritesHeld (ws : List ℕ) : Type 0 where
   pub size : length ws ≡ 384
-  pub narrow : (k : ℕ) → k < 128 → getD ws (k * 3) 0 < 2 ^ 32
+  pub narrow : (k : ℕ) → k < 128 → getD ws (k * 3) 0 < addresses
 
 -- The first n rows of worker w are a write set: addresses rise.
 pub record WriteSet (ws : List ℕ) (w n : ℕ) : Type 0 where
@@ -71,7 +71,7 @@ pub record WriteSet (ws : List ℕ) (w n : ℕ) : Type 0 where
 -- row i of worker w as it stands in words
 pub record GivesLine (ws : List ℕ) (w i : ℕ) (r : Line) : Type 0 where
   pub row : lineIn r ≡ getD (writesOf ws w) i noWrite
-  pub narrow : r .address < 2 ^ 32
+  pub narrow : r .address < addresses
 
 -- the words after worker w's rows became these
 pub record Becomes (ws : List ℕ) (w : ℕ) (rs : List (Row Write)) (us : List ℕ) : Type 0 where

@@ -4,11 +4,12 @@ use crate::Address;
 ghost use mathlib.Core.Path.{_≡_};
 ghost use mathlib.Core.Logic.{_⊎_};
 ghost use mathlib.Core.Bool.{true};
-ghost use Prim.Native.Nat.{_+_, _-_, _<_, _≤_, _^_};
+ghost use Prim.Native.Nat.{_+_, _-_, _<_, _≤_};
 ghost use lib.ListN.{set};
 ghost use Rattle.lists.specs.Tests.{present};
 ghost use Rattle.lists.specs.Rows.{look};
 ghost use Rattle.lists.specs.Shifts.{moved};
+ghost use Rattle.sets.specs.Blocks.{addresses};
 ghost use Rattle.sets.specs.Writes.{WritesHeld, WriteSet, lineIn, writesOf, writesIn, foundIn, GivesLine, Becomes, PlaceOf, Stands, PutsWrite, GivesWrite};
 
 // A row of a write set: the kind is 1 (a put) or 2 (a deletion).
@@ -48,7 +49,7 @@ fn get(writes: &[u64; 384], w: usize, i: usize) -> Line
 
 fn store(writes: &mut [u64; 384], w: usize, i: usize, r: Line)
     requires { ⌜ WritesHeld (now writes) ⌝ }
-    requires { ⌜ (w < 8) × (i < 16) × (r .address < 2 ^ 32) ⌝ }
+    requires { ⌜ (w < 8) × (i < 16) × (r .address < addresses) ⌝ }
     ensures { λ _. ⌜ Becomes (now (writes .entry)) w (set (writesOf (now (writes .entry)) w) i (lineIn r)) (now (writes .exit)) ⌝ }
 {
     let b = (w * 16 + i) * 3;
@@ -74,7 +75,7 @@ fn raise(writes: &mut [u64; 384], w: usize, n: usize, p: usize)
 // Puts a row in at place p, before the rows that stand there and after it.
 fn insert(writes: &mut [u64; 384], w: usize, n: usize, p: usize, r: Line)
     requires { ⌜ WritesHeld (now writes) ⌝ }
-    requires { ⌜ (w < 8) × (p ≤ n) × (n < 16) × (r .address < 2 ^ 32) ⌝ }
+    requires { ⌜ (w < 8) × (p ≤ n) × (n < 16) × (r .address < addresses) ⌝ }
     ensures { λ _. ⌜ Becomes (now (writes .entry)) w (set (moved (writesOf (now (writes .entry)) w) p (p + 1) (n - p)) p (lineIn r)) (now (writes .exit)) ⌝ }
 {
     raise(writes, w, n, p);

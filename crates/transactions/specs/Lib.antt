@@ -3,3 +3,4 @@ pub mod Answering
 pub mod Views
 pub mod Ready
 pub mod Admits
+pub mod Begins

@@ -1,6 +1,7 @@
 // The transactions: eight workers over one map, the ten steps of document 01 and their refusals. Its upper crate: it
 // knows the map only by its promises.
 pub mod admits;
+pub mod begins;
 
 use map::Counters;
 use map::Sizes;

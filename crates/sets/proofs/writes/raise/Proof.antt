@@ -1,7 +1,7 @@
 -- `writes::raise` meets its contract. The invariant: the rows after the first i are up by one. Assumes nothing.
 use native.Mathlib.Omega.{arith}
 use borrow.Author.Needs.{needs}
-use Prim.Native.Nat.{_+_, _-_, _<_, _≤_}
+use Prim.Native.Nat.{_-_}
 use Rattle.sets.specs.WriteRows.{Lifting, lifting-start, lifting-on, lifting-end}
 use Rattle.sets.proofs.writes.raise.Statement.{statement}
 use Rattle.sets.proofs.writes.raise.Tie as tie

@@ -1,0 +1,25 @@
+-- `map::locks::lock_one` meets its contract: what is said is the content with the lock. Assumes nothing.
+use Rattle.laws.specs.SlotLaws.{fits}
+use borrow.Author.Needs.{needs}
+use Rattle.map.specs.LockLaws.{said-as, lock-said}
+use Rattle.map.proofs.locks.lock_one.Statement.{statement}
+use Rattle.map.proofs.locks.lock_one.Tie as tie
+
+key-at-requires : tie.Need-key-at-requires
+key-at-requires c κs = search needs
+
+look-up-requires : tie.Need-look-up-requires
+look-up-requires c κs = search needs
+
+locked-requires : tie.Need-locked-requires
+locked-requires c κs = search needs
+
+say-requires : tie.Need-say-requires
+say-requires c κs = let s = c .before .before .before .before .before .before .before .before in (s .pre .0, fits (s .pre .1 .1 .2))
+
+returns : tie.Need-returns
+returns c = let s = c .before .before .before .before .before .before .before .before .before in said-as (c .say .ensures) (lock-said _ _ _ _ _ (c .before .before .before .before .before .before .before .before .key-at .ensures) (c .before .before .before .before .before .before .look-up .ensures .content) (s .args .w) (c .before .before .before .before .locked .ensures))
+
+pub lock-one-spec : {M : Type 1} → statement M
+lock-one-spec =
+    tie.close (tie.spec key-at-requires look-up-requires locked-requires say-requires returns)

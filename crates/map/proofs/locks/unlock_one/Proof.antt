@@ -1,0 +1,40 @@
+-- `map::locks::unlock_one` meets its contract: what is said is the content without the lock, where w has it. Assumes nothing.
+use mathlib.Core.Path.{sym, _∙_}
+use Rattle.spec.specs.Slots.{idle}
+use borrow.Author.Needs.{needs}
+use Rattle.map.specs.LockLaws.{said-as, said-nothing, unlock-said, unlock-other, unlock-room}
+use Rattle.map.proofs.locks.unlock_one.Statement.{statement}
+use Rattle.map.proofs.locks.unlock_one.Tie as tie
+
+key-at-requires : tie.Need-key-at-requires
+key-at-requires c κs = search needs
+
+look-up-requires : tie.Need-look-up-requires
+look-up-requires c κs = search needs
+
+by-own-requires : tie.Need-by-own-requires
+by-own-requires c κs = search needs
+
+unlocked-requires : tie.Need-unlocked-requires
+unlocked-requires c κs = search needs
+
+say-requires : tie.Need-say-requires
+say-requires c κs = let s = c .before .before .before .before .before .before .before .before .before .before in (s .pre .0, unlock-room _ _ _ _ _ (c .before .before .before .before .before .before .before .before .before .key-at .ensures) (c .before .before .before .before .before .before .before .look-up .ensures .content) (s .pre .0 .words .good) (c .before .before .before .unlocked .ensures))
+
+returns : tie.Need-returns
+returns c = let s = c .before .before .before .before .before .before .before .before .before .before .before in said-as (c .say .ensures) (unlock-said _ _ _ _ _ (c .before .before .before .before .before .before .before .before .before .before .key-at .ensures) (c .before .before .before .before .before .before .before .before .look-up .ensures .content) (s .args .w) (sym (c .before .before .before .before .before .if1 .taken) ∙ c .before .before .before .before .before .before .by-own .ensures) (c .before .before .before .before .unlocked .ensures))
+
+returns-2 : tie.Need-returns-2
+returns-2 c = let s = c .before .before .before .before .before .before in said-nothing (s .pre .0) _ (unlock-other _ _ _ _ idle (c .before .before .before .before .before .key-at .ensures) (c .before .before .before .look-up .ensures .content) (s .args .w) (sym (c .if1 .left) ∙ c .before .by-own .ensures))
+
+pub unlock-one-spec : {M : Type 1} → statement M
+unlock-one-spec =
+    tie.close
+    (tie.spec
+    key-at-requires
+    look-up-requires
+    by-own-requires
+    unlocked-requires
+    say-requires
+    returns
+    returns-2)

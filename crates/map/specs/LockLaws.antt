@@ -1,0 +1,274 @@
+-- The laws behind lock, unlock and install: one address after the other, and the limits in the end.
+-- Assumes nothing.
+use Prim.Native.Nat.{ℕ, zero, suc, _+_, _-_, _^_, _<_, _≤_}
+use native.Mathlib.Nat.{lt-of-le-of-lt}
+use native.Mathlib.Numerals.{add-one}
+use native.Mathlib.Omega.{arith}
+use mathlib.Core.Path.{_≡_, refl, sym, ap, _∙_, subst}
+use mathlib.Core.Logic.{_⊎_, inl, inr, ⊎-elim}
+use mathlib.Core.Bool.{Bool, true, false, not}
+use mathlib.Core.List.{List, [], _∷_}
+use mathlib.Core.Option.{Option, none, some}
+use lib.ListN.{length}
+use lib.Dec.{eqb}
+use Rattle.lists.specs.Tests.{pick, maybe, present, same, cases, clash, same-yes, same-no}
+use Rattle.lists.specs.Rows.{Row, row, look, keys, any}
+use Rattle.lists.specs.RowLaws.{look-here}
+use Rattle.spec.specs.Records.{standard, Write, deleted}
+use Rattle.spec.specs.Slots.{slotCount, Pending, Content, isIdle, Slot, entries, contentOf, enter}
+use Rattle.spec.specs.Maps.{MapState, heldByOther, waitingWith, addressesWith, lockKey, unlockKey, installRow, each, withSlots, lockAll, unlockAll, installAll}
+use Rattle.laws.specs.SlotCounts.{Good}
+use Rattle.laws.specs.SlotLaws.{Room, goes, stands, fits}
+use Rattle.laws.specs.MapLaws.{Changes, LockRoom, Installable, Always, withHolder, withoutHolder, unlocked, rowKey, ident, installedAs, idle-pending, has-entry, room-old, entry-count, locking, unlocking, installing}
+use Rattle.laws.specs.MapBounds.{Bounded, lock-room, lock-bounded, unlock-bounded, install-bounded}
+use Rattle.indexlet.specs.declared.Content.{Content as ContentWords}
+use Rattle.indexlet.specs.Words.{contentIn, holderIn, slotsOf}
+use Rattle.indexlet.specs.Words as words
+use Rattle.map.specs.declared.Sizes.{Sizes}
+use Rattle.map.specs.declared.locks.WriteRow.{WriteRow}
+use Rattle.map.specs.Views.{Lent, mapOf, writeIn, block}
+use Rattle.map.specs.Held.{Tables, Held}
+use Rattle.map.specs.Says.{Becomes, Said}
+use Rattle.map.specs.Blocks.{Narrow, blockAt, writeOf, rest, rest-all, rest-none, rest-cons, restKeys, keys-all, keys-none, keys-cons}
+
+-- ---- one address after the other
+
+-- The map in the arrays, changed by f at each of xs, is `goal`; `Inv` holds of the slots and of what is left to do.
+pub record Going {A : Type 0} (f : List Slot → A → List Slot) (Inv : List Slot → List A → Type 0) (l : Lent) (z : Sizes) (v : ℕ) (xs : List A) (goal : MapState) : Type 0 where
+  pub tables : Tables l z v
+  pub run : withSlots (mapOf l z) (each f (slotsOf (l .slots)) xs) ≡ goal
+  pub inv : Inv (slotsOf (l .slots)) xs
+
+module _ {A : Type 0} {f : List Slot → A → List Slot} {key : A → ℕ} {g : A → Content → Content} {Inv : List Slot → List A → Type 0} (h : Changes 4 A f key g Inv) where
+  pub going-on : {l l' : Lent} {z r : Sizes} {v : ℕ} {goal : MapState} (x : A) (xs ys : List A) → xs ≡ x ∷ ys → Going f Inv l z v xs goal
+      → Said l l' z r v (f (slotsOf (l .slots)) x) → Going f Inv l' r v ys goal
+  unfolding withSlots each
+  going-on {l} {l'} {z} {r} {v} {goal} x xs ys e q s =
+      record {
+        tables = s .tables;
+        run = (λ i. withSlots (s .map i) (each f (s .view i) ys)) ∙ ap (λ (zs : List A). withSlots (mapOf l z) (each f (slotsOf (l .slots)) zs)) (sym e) ∙ q .run;
+        inv = subst (λ (ss : List Slot). Inv ss ys) (sym (s .view)) (h .rest (slotsOf (l .slots)) x ys (q .tables .words .good) (subst (Inv (slotsOf (l .slots))) e (q .inv)));
+      }
+
+pub going-end : {A : Type 0} {f : List Slot → A → List Slot} {Inv : List Slot → List A → Type 0} {l : Lent} {z : Sizes} {v : ℕ} {goal : MapState} {xs : List A}
+    → xs ≡ [] → Going f Inv l z v xs goal → mapOf l z ≡ goal
+unfolding withSlots each
+going-end {A} {f} {Inv} {l} {z} {v} {goal} {xs} e q =
+    sym (ap (λ (zs : List A). withSlots (mapOf l z) (each f (slotsOf (l .slots)) zs)) e) ∙ q .run
+
+-- the arrays hold a map that is within the limits
+pub becomes : {l : Lent} {z : Sizes} {v : ℕ} {m : MapState} → Tables l z v → mapOf l z ≡ m → Bounded standard v m → Becomes l z v m
+becomes {l} {z} {v} {m} t e b = record { map = e; held = record { tables = t; bounded = subst (Bounded standard v) (sym e) b } }
+
+-- nothing is said
+pub said-nothing : {l : Lent} {z : Sizes} {v : ℕ} → Tables l z v → (ss : List Slot) → ss ≡ slotsOf (l .slots) → Said l l z z v ss
+unfolding withSlots
+said-nothing {l} {z} {v} t ss e =
+    record { tables = t; map = ap (withSlots (mapOf l z)) (sym e); view = sym e; records = refl; leaves = refl }
+
+-- ---- lock
+
+pub locks : (c : ContentWords) (w : ℕ) → contentIn (record { kind = c .kind; value = c .value; commit = c .commit; lock = w + 1 }) ≡ withHolder w (contentIn c)
+unfolding contentIn holderIn
+locks c w = ap (λ (o : Option ℕ). record { pending = words.pendingIn (c .kind) (c .value) (c .commit); holder = o }) (ap holderIn (add-one w))
+
+pub unlocks : (c : ContentWords) → contentIn (record { kind = c .kind; value = c .value; commit = c .commit; lock = 0 }) ≡ withoutHolder (contentIn c)
+unfolding contentIn holderIn
+unlocks c = refl
+
+-- the worker that holds the lock is w
+unfoldable pub heldBy : ℕ → Content → Bool
+heldBy w c = maybe (c .holder) false (λ (h : ℕ). same h w)
+
+module _ (c : ContentWords) (w : ℕ) where
+  pub free-own : c .lock ≡ 0 → false ≡ heldBy w (contentIn c)
+  unfolding heldBy contentIn holderIn
+  free-own e = sym (ap (λ (x : ℕ). maybe (holderIn x) false (λ (h : ℕ). same h w)) e)
+
+  pub free-other : c .lock ≡ 0 → false ≡ heldByOther w (contentIn c)
+  unfolding heldByOther contentIn holderIn
+  free-other e = sym (ap (λ (x : ℕ). maybe (holderIn x) false (λ (h : ℕ). not (same h w))) e)
+
+  pub taken-holder : (c .lock ≡ 0 → ⊥) → contentIn c .holder ≡ some (c .lock - 1)
+  unfolding contentIn holderIn
+  taken-holder n = let e : c .lock ≡ suc (c .lock - 1) = omega arith in ap holderIn e
+
+  pub taken-own : (c .lock ≡ 0 → ⊥) → eqb (c .lock - 1) w ≡ heldBy w (contentIn c)
+  unfolding heldBy same
+  taken-own n = sym (ap (λ (o : Option ℕ). maybe o false (λ (h : ℕ). same h w)) (taken-holder n))
+
+  pub taken-other : (c .lock ≡ 0 → ⊥) → not (eqb (c .lock - 1) w) ≡ heldByOther w (contentIn c)
+  unfolding heldByOther same
+  taken-other n = sym (ap (λ (o : Option ℕ). maybe o false (λ (h : ℕ). not (same h w))) (taken-holder n))
+
+-- ---- what is said of one address
+
+-- the same promise, of slots that are the same
+pub said-as : {l l' : Lent} {z r : Sizes} {v : ℕ} {ss ts : List Slot} → Said l l' z r v ss → ss ≡ ts → Said l l' z r v ts
+said-as {l} {l'} {z} {r} {v} s e = subst (Said l l' z r v) e s
+
+entered-as : (ss : List Slot) {a b : ℕ} {c d : Content} → a ≡ b → c ≡ d → enter 4 ss a c ≡ enter 4 ss b d
+entered-as ss p q = λ i. enter 4 ss (p i) (q i)
+
+module _ (ss : List Slot) (a b : ℕ) (old c : Content) (e : a ≡ b) (o : contentOf ss a ≡ old) where
+  there : contentOf ss b ≡ old
+  there = ap (contentOf ss) (sym e) ∙ o
+
+  pub lock-said : (w : ℕ) → c ≡ withHolder w old → enter 4 ss a c ≡ lockKey 4 w ss b
+  unfolding lockKey
+  lock-said w q = entered-as ss e (q ∙ ap (withHolder w) (sym there))
+
+  unlock-picks : (w : ℕ) → unlockKey 4 w ss b ≡ pick (heldBy w old) (enter 4 ss b (withoutHolder old)) ss
+  unfolding unlockKey heldBy
+  unlock-picks w =
+      ap (λ (x : Content). maybe (x .holder) ss (λ (h : ℕ). pick (same h w) (enter 4 ss b (withoutHolder x)) ss)) there ∙ go (old .holder)
+    where
+      go : (h : Option ℕ)
+          → maybe h ss (λ (x : ℕ). pick (same x w) (enter 4 ss b (withoutHolder old)) ss)
+          ≡ pick (maybe h false (λ (x : ℕ). same x w)) (enter 4 ss b (withoutHolder old)) ss
+      go none = refl
+      go (some x) = refl
+
+  pub unlock-said : (w : ℕ) → true ≡ heldBy w old → c ≡ withoutHolder old → enter 4 ss a c ≡ unlockKey 4 w ss b
+  unlock-said w t q =
+      entered-as ss e q ∙ sym (unlock-picks w ∙ ap (λ (x : Bool). pick x (enter 4 ss b (withoutHolder old)) ss) (sym t))
+
+  pub unlock-other : (w : ℕ) → false ≡ heldBy w old → unlockKey 4 w ss b ≡ ss
+  unlock-other w t = unlock-picks w ∙ ap (λ (x : Bool). pick x (enter 4 ss b (withoutHolder old)) ss) (sym t)
+
+  -- an entry that loses its lock has room
+  pub unlock-room : Good 4 ss → c ≡ withoutHolder old → Room ss a c
+  unlock-room g q =
+      room-old g a c
+      (λ t. ap isIdle (q ∙ ap withoutHolder (sym o)) ∙ (unfold isIdle in rw (idle-pending (contentOf ss a) t)))
+
+pub install-said : (ss : List Slot) (n : ℕ) (x : Row Write) (r : WriteRow) (c : Content) → writeOf r ≡ x → c ≡ installedAs n (writeOf r) c → enter 4 ss (r .address) c ≡ installRow 4 n ss x
+unfolding installRow writeOf
+install-said ss n x r c e q =
+    entered-as ss (ap (λ (y : Row Write). y .key) e) (q ∙ ap (λ (y : Row Write). installedAs n y c) e)
+
+pub install-room : (ss : List Slot) (x : Row Write) (r : WriteRow) (c : Content) → Good 4 ss → writeOf r ≡ x → isIdle (contentOf ss (x .key)) ≡ false → Room ss (r .address) c
+unfolding writeOf
+install-room ss x r c g e b = stands (has-entry g (r .address) (ap (λ (y : Row Write). isIdle (contentOf ss (y .key))) e ∙ b))
+
+write-gone : (k v : ℕ) → (k ≡ 1 → ⊥) → writeIn k v ≡ deleted
+unfolding writeIn
+write-gone zero v e = refl
+write-gone (suc zero) v e = absurd (e refl)
+write-gone (suc (suc k)) v e = refl
+
+module _ (r : WriteRow) (n : ℕ) where
+  pub installs-put : r .kind ≡ 1 → contentIn (record { kind = 1; value = r .value; commit = n; lock = 0 }) ≡ record { pending = some (record { write = writeOf r .item; commit = n }); holder = none }
+  unfolding contentIn words.pendingIn holderIn writeOf writeIn
+  installs-put e = ap (λ (w : Write). record { pending = some (record { write = w; commit = n }); holder = none }) (sym (ap (λ (k : ℕ). writeIn k (r .value)) e))
+
+  pub installs-delete : (r .kind ≡ 1 → ⊥) → contentIn (record { kind = 2; value = r .value; commit = n; lock = 0 }) ≡ record { pending = some (record { write = writeOf r .item; commit = n }); holder = none }
+  unfolding contentIn words.pendingIn holderIn writeOf
+  installs-delete e = ap (λ (w : Write). record { pending = some (record { write = w; commit = n }); holder = none }) (sym (write-gone (r .kind) (r .value) e))
+
+-- ---- the whole write set
+
+-- another worker than w has the lock of k
+abbrev pub foreign : List ℕ → ℕ → ℕ → Bool
+foreign slots w k = heldByOther w (contentOf (slotsOf slots) k)
+
+module _ (p : ℕ → Bool) (ws : List ℕ) (i n : ℕ) where
+  -- b is the test of row i
+  pub any-here : {b : Bool} → i < n → b ≡ p (blockAt ws i .key) → b ≡ true → any p (restKeys ws i n) ≡ true
+  unfolding any
+  any-here h e t = ap (any p) (keys-cons ws i n h) ∙ (rw (sym e ∙ t))
+
+  pub any-later : {b : Bool} → i < n → b ≡ p (blockAt ws i .key) → b ≡ false → any p (restKeys ws (i + 1) n) ≡ any p (restKeys ws i n)
+  unfolding any
+  any-later h e t = sym (ap (any p) (keys-cons ws i n h) ∙ (rw (sym e ∙ t)))
+
+  pub any-end : n ≤ i → any p (restKeys ws i n) ≡ false
+  unfolding any
+  any-end h = ap (any p) (keys-none ws i n h)
+
+-- the tests of refusals 10 and 11 are passed
+pub record Lockable (m : MapState) (ks : List ℕ) : Type 0 where
+  pub waiting : waitingWith m ks ≤ standard .waitingLimit
+  pub addresses : addressesWith m ks ≤ standard .mapLimit
+
+-- what is left to lock, to unlock and to install
+abbrev pub Locking : ℕ → Lent → Sizes → ℕ → List ℕ → ℕ → ℕ → MapState → Type 0
+Locking w l z v ws i n goal = Going (lockKey 4 w) LockRoom l z v (restKeys ws i n) goal
+
+abbrev pub Unlocking : ℕ → Lent → Sizes → ℕ → List ℕ → ℕ → ℕ → MapState → Type 0
+Unlocking w l z v ws i n goal = Going (unlockKey 4 w) (Always {X = ℕ}) l z v (restKeys ws i n) goal
+
+abbrev pub Installing : ℕ → Lent → Sizes → ℕ → List ℕ → ℕ → ℕ → MapState → Type 0
+Installing c l z v ws i n goal = Going (installRow 4 c) Installable l z v (rest ws i n) goal
+
+few-slots : standard .waitingLimit < slotCount
+few-slots = omega arith
+
+module _ (w : ℕ) (ws : List ℕ) (n v : ℕ) where
+  pub lock-start : (l : Lent) (z : Sizes) → Held l z v → Lockable (mapOf l z) (keys (block ws n))
+      → Locking w l z v ws 0 n (lockAll standard w (mapOf l z) (keys (block ws n)))
+  unfolding lockAll
+  lock-start l z h t =
+      record {
+        tables = h .tables;
+        run = ap (λ (ks : List ℕ). withSlots (mapOf l z) (each (lockKey 4 w) (slotsOf (l .slots)) ks)) (keys-all ws n);
+        inv = subst (LockRoom (slotsOf (l .slots))) (sym (keys-all ws n)) (lock-room standard (mapOf l z) (keys (block ws n)) few-slots (t .waiting));
+      }
+
+  pub lock-fits : {l : Lent} {z : Sizes} {goal : MapState} (i : ℕ) → Locking w l z v ws i n goal → length (entries (slotsOf (l .slots))) < slotCount
+  lock-fits i q = lt-of-le-of-lt (entry-count (q .tables .words .good) (restKeys ws i n)) (q .inv)
+
+  pub lock-on : {l l' : Lent} {z r : Sizes} {goal : MapState} (i : ℕ) → i < n → Locking w l z v ws i n goal
+      → Said l l' z r v (lockKey 4 w (slotsOf (l .slots)) (blockAt ws i .key)) → Locking w l' r v ws (i + 1) n goal
+  lock-on i h q s = going-on (locking 4 w) (blockAt ws i .key) (restKeys ws i n) (restKeys ws (i + 1) n) (keys-cons ws i n h) q s
+
+  pub lock-end : {l l' : Lent} {z r : Sizes} (i : ℕ) → n ≤ i → Held l z v → Lockable (mapOf l z) (keys (block ws n))
+      → Locking w l' r v ws i n (lockAll standard w (mapOf l z) (keys (block ws n)))
+      → Becomes l' r v (lockAll standard w (mapOf l z) (keys (block ws n)))
+  lock-end i e h t q =
+      becomes (q .tables) (going-end (keys-none ws i n e) q)
+      (lock-bounded (h .bounded) few-slots w (keys (block ws n)) (t .waiting) (t .addresses))
+
+  pub unlock-start : (l : Lent) (z : Sizes) → Held l z v → Unlocking w l z v ws 0 n (unlockAll standard w (mapOf l z) (keys (block ws n)))
+  unfolding unlockAll
+  unlock-start l z h =
+      record {
+        tables = h .tables;
+        run = ap (λ (ks : List ℕ). withSlots (mapOf l z) (each (unlockKey 4 w) (slotsOf (l .slots)) ks)) (keys-all ws n);
+        inv = tt;
+      }
+
+  pub unlock-on : {l l' : Lent} {z r : Sizes} {goal : MapState} (i : ℕ) → i < n → Unlocking w l z v ws i n goal
+      → Said l l' z r v (unlockKey 4 w (slotsOf (l .slots)) (blockAt ws i .key)) → Unlocking w l' r v ws (i + 1) n goal
+  unlock-on i h q s = going-on (unlocking 4 w) (blockAt ws i .key) (restKeys ws i n) (restKeys ws (i + 1) n) (keys-cons ws i n h) q s
+
+  pub unlock-end : {l l' : Lent} {z r : Sizes} (i : ℕ) → n ≤ i → Held l z v → Unlocking w l' r v ws i n (unlockAll standard w (mapOf l z) (keys (block ws n)))
+      → Becomes l' r v (unlockAll standard w (mapOf l z) (keys (block ws n)))
+  unlock-end i e h q = becomes (q .tables) (going-end (keys-none ws i n e) q) (unlock-bounded (h .bounded) w (keys (block ws n)))
+
+  -- w is the commit number
+  pub install-start : (l : Lent) (z : Sizes) → Held l z v → Installable (slotsOf (l .slots)) (block ws n)
+      → Installing w l z v ws 0 n (installAll standard w (mapOf l z) (block ws n))
+  unfolding installAll
+  install-start l z h t =
+      record {
+        tables = h .tables;
+        run = ap (λ (rs : List (Row Write)). withSlots (mapOf l z) (each (installRow 4 w) (slotsOf (l .slots)) rs)) (rest-all ws n);
+        inv = subst (Installable (slotsOf (l .slots))) (sym (rest-all ws n)) t;
+      }
+
+  pub install-busy : {l : Lent} {z : Sizes} {goal : MapState} (i : ℕ) → i < n → Installing w l z v ws i n goal
+      → isIdle (contentOf (slotsOf (l .slots)) (blockAt ws i .key)) ≡ false
+  install-busy i h q =
+      q .inv .held (blockAt ws i .key)
+      (ap (λ (rs : List (Row Write)). present (look rs (blockAt ws i .key))) (rest-cons ws i n h)
+      ∙ ap present (look-here (blockAt ws i) (rest ws (i + 1) n) (blockAt ws i .key) refl))
+
+  pub install-on : {l l' : Lent} {z r : Sizes} {goal : MapState} (i : ℕ) → i < n → Installing w l z v ws i n goal
+      → Said l l' z r v (installRow 4 w (slotsOf (l .slots)) (blockAt ws i)) → Installing w l' r v ws (i + 1) n goal
+  install-on i h q s = going-on (installing 4 w) (blockAt ws i) (rest ws i n) (rest ws (i + 1) n) (rest-cons ws i n h) q s
+
+  pub install-end : {l l' : Lent} {z r : Sizes} (i : ℕ) → n ≤ i → Held l z v → Installable (slotsOf (l .slots)) (block ws n)
+      → Installing w l' r v ws i n (installAll standard w (mapOf l z) (block ws n))
+      → Becomes l' r v (installAll standard w (mapOf l z) (block ws n))
+  install-end i e h t q = becomes (q .tables) (going-end (rest-none ws i n e) q) (install-bounded (h .bounded) w (block ws n) t)

@@ -1,0 +1,363 @@
+// A write set's locks: tests, lock, unlock and install, one address after the other.
+use crate::Address;
+use crate::Counters;
+use crate::Sizes;
+use crate::say;
+ghost use mathlib.Core.Path.{_≡_};
+ghost use mathlib.Core.Bool.{false};
+ghost use Prim.Native.Nat.{ℕ, _+_, _^_, _<_, _≤_};
+ghost use lib.ListN.{length};
+ghost use Rattle.lists.specs.Rows.{any, keys};
+ghost use Rattle.spec.specs.Records.{standard};
+ghost use Rattle.spec.specs.Slots.{slotCount, idle, isIdle, entries, contentOf};
+ghost use Rattle.spec.specs.Maps.{heldByOther, waitingWith, addressesWith, lockKey, unlockKey, installRow, lockAll, unlockAll, installAll};
+ghost use Rattle.laws.specs.MapLaws.{Installable, withHolder, withoutHolder, installedAs};
+ghost use Rattle.indexlet.specs.Words.{contentIn, slotsOf};
+ghost use Rattle.indexlet.specs.Held as indexlet;
+ghost use Rattle.map.specs.Views.{lent, mapOf, block};
+ghost use Rattle.map.specs.Held.{Tables, Held};
+ghost use Rattle.map.specs.Says.{Becomes, Said};
+ghost use Rattle.map.specs.Blocks.{Narrow, blockAt, writeOf};
+ghost use Rattle.map.specs.LockLaws.{heldBy, Lockable};
+
+// A write of a write set, in words: kind 1 is a put of the value, any other a deletion.
+struct WriteRow {
+    address: Address,
+    kind: u64,
+    value: u64,
+}
+
+// Row i of a write set.
+fn row_at(ws: &[u64; 48], n: usize, i: usize) -> WriteRow
+    requires { ⌜ Narrow (now ws) n ⌝ }
+    requires { ⌜ i < n ⌝ }
+    ensures { λ r. ⌜ writeOf r ≡ blockAt (now (ws .entry)) i ⌝ }
+{
+    WriteRow {
+        address: ws[i * 3] as Address,
+        kind: ws[i * 3 + 1],
+        value: ws[i * 3 + 2],
+    }
+}
+
+// The address of row i.
+fn key_at(ws: &[u64; 48], n: usize, i: usize) -> Address
+    requires { ⌜ Narrow (now ws) n ⌝ }
+    requires { ⌜ i < n ⌝ }
+    ensures { λ r. ⌜ r ≡ blockAt (now (ws .entry)) i .key ⌝ }
+{
+    let r = row_at(ws, n, i);
+    r.address
+}
+
+// Another worker than w has the lock.
+fn by_other(c: indexlet::Content, w: u64) -> bool
+    ensures { λ r. ⌜ r ≡ heldByOther w (contentIn c) ⌝ }
+{
+    let lock = c.lock;
+    if lock == 0 {
+        return false;
+    }
+    lock - 1 != w
+}
+
+// Worker w has the lock.
+fn by_own(c: indexlet::Content, w: u64) -> bool
+    ensures { λ r. ⌜ r ≡ heldBy w (contentIn c) ⌝ }
+{
+    let lock = c.lock;
+    if lock == 0 {
+        return false;
+    }
+    lock - 1 == w
+}
+
+// Another worker has the lock of the address in row i.
+fn held_at(slots: &[u64; 1536], ws: &[u64; 48], n: usize, i: usize, w: u64) -> bool
+    requires { ⌜ indexlet.Held (now slots) ⌝ }
+    requires { ⌜ Narrow (now ws) n ⌝ }
+    requires { ⌜ i < n ⌝ }
+    ensures { λ r. ⌜ r ≡ heldByOther w (contentOf (slotsOf (now (slots .entry))) (blockAt (now (ws .entry)) i .key)) ⌝ }
+{
+    let a = key_at(ws, n, i);
+    let found = indexlet::look_up(slots, a);
+    let c = found.content;
+    by_other(c, w)
+}
+
+// Another worker has the lock of an address of the write set (refusal 9).
+pub fn held(slots: &[u64; 1536], ws: &[u64; 48], n: usize, w: u64) -> bool
+    requires { ⌜ indexlet.Held (now slots) ⌝ }
+    requires { ⌜ Narrow (now ws) n ⌝ }
+    ensures { λ r. ⌜ r ≡ any (λ (k : ℕ). heldByOther w (contentOf (slotsOf (now (slots .entry))) k)) (keys (block (now (ws .entry)) n)) ⌝ }
+{
+    let mut i = 0;
+    while i < n {
+        if held_at(slots, ws, n, i, w) {
+            return true;
+        }
+        i += 1;
+    }
+    false
+}
+
+// The content with a lock of worker w.
+fn locked(c: indexlet::Content, w: u64) -> indexlet::Content
+    requires { ⌜ w + 1 < 2 ^ 64 ⌝ }
+    ensures { λ r. ⌜ contentIn r ≡ withHolder w (contentIn c) ⌝ }
+{
+    indexlet::Content {
+        kind: c.kind,
+        value: c.value,
+        commit: c.commit,
+        lock: w + 1,
+    }
+}
+
+// The content without a lock.
+fn unlocked(c: indexlet::Content) -> indexlet::Content
+    ensures { λ r. ⌜ contentIn r ≡ withoutHolder (contentIn c) ⌝ }
+{
+    indexlet::Content {
+        kind: c.kind,
+        value: c.value,
+        commit: c.commit,
+        lock: 0,
+    }
+}
+
+// Worker w locks the address in row i.
+fn lock_one(
+    outside: &mut [u64; 1025],
+    pending: &mut [u64; 1025],
+    slots: &mut [u64; 1536],
+    rows: &[u64; 3072],
+    lows: &[u64; 1025],
+    versions: &[u64; 1025],
+    ws: &[u64; 48],
+    z: Sizes,
+    k: Counters,
+    n: usize,
+    i: usize,
+    w: u64,
+) -> Sizes
+    requires { ⌜ Tables (lent (now rows) (now lows) (now versions) (now outside) (now pending) (now slots)) z (k .version) ⌝ }
+    requires { ⌜ Narrow (now ws) n ⌝ }
+    requires { ⌜ (i < n) × (w + 1 < 2 ^ 64) × (length (entries (slotsOf (now slots))) < slotCount) ⌝ }
+    ensures { λ r. ⌜ Said (lent (now (rows .entry)) (now (lows .entry)) (now (versions .entry)) (now (outside .entry)) (now (pending .entry)) (now (slots .entry))) (lent (now (rows .entry)) (now (lows .entry)) (now (versions .entry)) (now (outside .exit)) (now (pending .exit)) (now (slots .exit))) z r (k .version) (lockKey 4 w (slotsOf (now (slots .entry))) (blockAt (now (ws .entry)) i .key)) ⌝ }
+{
+    let a = key_at(ws, n, i);
+    let found = indexlet::look_up(slots, a);
+    let old = found.content;
+    let c = locked(old, w);
+    say::say(outside, pending, slots, rows, lows, versions, z, k, a, c)
+}
+
+// Worker w's lock on the address in row i goes, if w has it.
+fn unlock_one(
+    outside: &mut [u64; 1025],
+    pending: &mut [u64; 1025],
+    slots: &mut [u64; 1536],
+    rows: &[u64; 3072],
+    lows: &[u64; 1025],
+    versions: &[u64; 1025],
+    ws: &[u64; 48],
+    z: Sizes,
+    k: Counters,
+    n: usize,
+    i: usize,
+    w: u64,
+) -> Sizes
+    requires { ⌜ Tables (lent (now rows) (now lows) (now versions) (now outside) (now pending) (now slots)) z (k .version) ⌝ }
+    requires { ⌜ Narrow (now ws) n ⌝ }
+    requires { ⌜ i < n ⌝ }
+    ensures { λ r. ⌜ Said (lent (now (rows .entry)) (now (lows .entry)) (now (versions .entry)) (now (outside .entry)) (now (pending .entry)) (now (slots .entry))) (lent (now (rows .entry)) (now (lows .entry)) (now (versions .entry)) (now (outside .exit)) (now (pending .exit)) (now (slots .exit))) z r (k .version) (unlockKey 4 w (slotsOf (now (slots .entry))) (blockAt (now (ws .entry)) i .key)) ⌝ }
+{
+    let a = key_at(ws, n, i);
+    let found = indexlet::look_up(slots, a);
+    let old = found.content;
+    if by_own(old, w) {
+        let c = unlocked(old);
+        return say::say(outside, pending, slots, rows, lows, versions, z, k, a, c);
+    }
+    z
+}
+
+// What an installed write says of its address: it is pending under the commit number, and no lock is left.
+fn installed(r: WriteRow, number: u64) -> indexlet::Content
+    ensures { λ c. ⌜ contentIn c ≡ installedAs number (writeOf r) idle ⌝ }
+{
+    if r.kind == 1 {
+        return indexlet::Content {
+            kind: 1,
+            value: r.value,
+            commit: number,
+            lock: 0,
+        };
+    }
+    indexlet::Content {
+        kind: 2,
+        value: r.value,
+        commit: number,
+        lock: 0,
+    }
+}
+
+// The write of row i is installed under the commit number.
+fn install_one(
+    outside: &mut [u64; 1025],
+    pending: &mut [u64; 1025],
+    slots: &mut [u64; 1536],
+    rows: &[u64; 3072],
+    lows: &[u64; 1025],
+    versions: &[u64; 1025],
+    ws: &[u64; 48],
+    z: Sizes,
+    k: Counters,
+    n: usize,
+    i: usize,
+    number: u64,
+) -> Sizes
+    requires { ⌜ Tables (lent (now rows) (now lows) (now versions) (now outside) (now pending) (now slots)) z (k .version) ⌝ }
+    requires { ⌜ Narrow (now ws) n ⌝ }
+    requires { ⌜ (i < n) × (isIdle (contentOf (slotsOf (now slots)) (blockAt (now ws) i .key)) ≡ false) ⌝ }
+    ensures { λ r. ⌜ Said (lent (now (rows .entry)) (now (lows .entry)) (now (versions .entry)) (now (outside .entry)) (now (pending .entry)) (now (slots .entry))) (lent (now (rows .entry)) (now (lows .entry)) (now (versions .entry)) (now (outside .exit)) (now (pending .exit)) (now (slots .exit))) z r (k .version) (installRow 4 number (slotsOf (now (slots .entry))) (blockAt (now (ws .entry)) i)) ⌝ }
+{
+    let row = row_at(ws, n, i);
+    let c = installed(row, number);
+    say::say(
+        outside,
+        pending,
+        slots,
+        rows,
+        lows,
+        versions,
+        z,
+        k,
+        row.address,
+        c,
+    )
+}
+
+// Worker w locks the addresses of the write set, by rising address. The tests of refusals 9 to 11 come before.
+pub fn lock_all(
+    outside: &mut [u64; 1025],
+    pending: &mut [u64; 1025],
+    slots: &mut [u64; 1536],
+    rows: &[u64; 3072],
+    lows: &[u64; 1025],
+    versions: &[u64; 1025],
+    ws: &[u64; 48],
+    z: Sizes,
+    k: Counters,
+    n: usize,
+    w: u64,
+) -> Sizes
+    requires { ⌜ Held (lent (now rows) (now lows) (now versions) (now outside) (now pending) (now slots)) z (k .version) ⌝ }
+    requires { ⌜ Narrow (now ws) n ⌝ }
+    requires { ⌜ w + 1 < 2 ^ 64 ⌝ }
+    requires { ⌜ Lockable (mapOf (lent (now rows) (now lows) (now versions) (now outside) (now pending) (now slots)) z) (keys (block (now ws) n)) ⌝ }
+    ensures { λ r. ⌜ Becomes (lent (now (rows .entry)) (now (lows .entry)) (now (versions .entry)) (now (outside .exit)) (now (pending .exit)) (now (slots .exit))) r (k .version) (lockAll standard w (mapOf (lent (now (rows .entry)) (now (lows .entry)) (now (versions .entry)) (now (outside .entry)) (now (pending .entry)) (now (slots .entry))) z) (keys (block (now (ws .entry)) n))) ⌝ }
+{
+    let mut sizes = z;
+    let mut i = 0;
+    while i < n {
+        sizes = lock_one(
+            outside,
+            pending,
+            slots,
+            rows,
+            lows,
+            versions,
+            ws,
+            sizes,
+            k,
+            n,
+            i,
+            w,
+        );
+        i += 1;
+    }
+    sizes
+}
+
+// The locks that worker w has on the addresses of the write set go.
+pub fn unlock_all(
+    outside: &mut [u64; 1025],
+    pending: &mut [u64; 1025],
+    slots: &mut [u64; 1536],
+    rows: &[u64; 3072],
+    lows: &[u64; 1025],
+    versions: &[u64; 1025],
+    ws: &[u64; 48],
+    z: Sizes,
+    k: Counters,
+    n: usize,
+    w: u64,
+) -> Sizes
+    requires { ⌜ Held (lent (now rows) (now lows) (now versions) (now outside) (now pending) (now slots)) z (k .version) ⌝ }
+    requires { ⌜ Narrow (now ws) n ⌝ }
+    ensures { λ r. ⌜ Becomes (lent (now (rows .entry)) (now (lows .entry)) (now (versions .entry)) (now (outside .exit)) (now (pending .exit)) (now (slots .exit))) r (k .version) (unlockAll standard w (mapOf (lent (now (rows .entry)) (now (lows .entry)) (now (versions .entry)) (now (outside .entry)) (now (pending .entry)) (now (slots .entry))) z) (keys (block (now (ws .entry)) n))) ⌝ }
+{
+    let mut sizes = z;
+    let mut i = 0;
+    while i < n {
+        sizes = unlock_one(
+            outside,
+            pending,
+            slots,
+            rows,
+            lows,
+            versions,
+            ws,
+            sizes,
+            k,
+            n,
+            i,
+            w,
+        );
+        i += 1;
+    }
+    sizes
+}
+
+// The writes of the write set are pending from now on, under the commit number, and its locks go.
+pub fn install_all(
+    outside: &mut [u64; 1025],
+    pending: &mut [u64; 1025],
+    slots: &mut [u64; 1536],
+    rows: &[u64; 3072],
+    lows: &[u64; 1025],
+    versions: &[u64; 1025],
+    ws: &[u64; 48],
+    z: Sizes,
+    k: Counters,
+    n: usize,
+    number: u64,
+) -> Sizes
+    requires { ⌜ Held (lent (now rows) (now lows) (now versions) (now outside) (now pending) (now slots)) z (k .version) ⌝ }
+    requires { ⌜ Narrow (now ws) n ⌝ }
+    requires { ⌜ Installable (slotsOf (now slots)) (block (now ws) n) ⌝ }
+    ensures { λ r. ⌜ Becomes (lent (now (rows .entry)) (now (lows .entry)) (now (versions .entry)) (now (outside .exit)) (now (pending .exit)) (now (slots .exit))) r (k .version) (installAll standard number (mapOf (lent (now (rows .entry)) (now (lows .entry)) (now (versions .entry)) (now (outside .entry)) (now (pending .entry)) (now (slots .entry))) z) (block (now (ws .entry)) n)) ⌝ }
+{
+    let mut sizes = z;
+    let mut i = 0;
+    while i < n {
+        sizes = install_one(
+            outside,
+            pending,
+            slots,
+            rows,
+            lows,
+            versions,
+            ws,
+            sizes,
+            k,
+            n,
+            i,
+            number,
+        );
+        i += 1;
+    }
+    sizes
+}

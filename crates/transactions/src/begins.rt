@@ -1,0 +1,46 @@
+// Begin: a free worker opens a transaction.
+use crate::Core;
+use crate::admits;
+use crate::admits::Admit;
+use spec::Refusal;
+ghost use Rattle.transactions.specs.Begins.{Begins};
+
+// The answer of a step that tells nothing more.
+pub enum Plain {
+    Granted,
+    Refused(Refusal),
+}
+
+// The core after such a step, and its answer.
+pub struct Done {
+    pub core: Core,
+    pub answer: Plain,
+}
+
+// Worker w opens a transaction. No array is touched.
+pub fn begin(c: Core, w: u32) -> Done
+    ensures { λ r. ⌜ Begins c w r ⌝ }
+{
+    let mut seats = c.seats;
+    let sizes = c.sizes;
+    let counters = c.counters;
+    match admits::vacant(seats, w) {
+        Admit::Refused(r) => Done {
+            core: c,
+            answer: Plain::Refused(r),
+        },
+        Admit::Seat(x) => {
+            let open = x.begin();
+            seats[w as usize] = open;
+            let core = Core {
+                seats,
+                sizes,
+                counters,
+            };
+            Done {
+                core,
+                answer: Plain::Granted,
+            }
+        }
+    }
+}

@@ -1,0 +1,29 @@
+-- `script::at_line_start` meets its contract: a parser that has read bytes is not at the start, and no other one is. Assumes nothing.
+use mathlib.Core.Path.{ap}
+use borrow.Author.Needs.{needs}
+use Rattle.script.specs.Parsing.{started}
+use Rattle.script.specs.ParsingLaws.{at-start, past-start}
+use Rattle.script.proofs.at_line_start.Statement.{statement}
+use Rattle.script.proofs.at_line_start.Tie as tie
+
+enum-told : tie.Need-enum-told
+enum-told c = search needs
+
+enum-told-2 : tie.Need-enum-told-2
+enum-told-2 c = search needs
+
+enum-told-3 : tie.Need-enum-told-3
+enum-told-3 c = search needs
+
+returns : tie.Need-returns
+returns c seen a = at-start _ seen (c .enum-told .given .1) a
+
+returns-2 : tie.Need-returns-2
+returns-2 c seen a = past-start _ seen (ap started (c .enum-told2 .given .1)) a
+
+returns-3 : tie.Need-returns-3
+returns-3 c seen a = past-start _ seen (ap started (c .enum-told3 .given .1)) a
+
+pub at-line-start-spec : {M : Type 1} → statement M
+at-line-start-spec =
+    tie.close (tie.spec enum-told enum-told-2 enum-told-3 returns returns-2 returns-3)

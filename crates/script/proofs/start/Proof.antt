@@ -1,0 +1,32 @@
+-- `script::start` meets its contract: the first byte is the letter, or the line is malformed. Assumes nothing.
+use native.Mathlib.Omega.{arith}
+use mathlib.Core.Logic.{inl, inr}
+use borrow.Author.Needs.{needs}
+use Rattle.script.specs.ParsingLaws.{turn-byte, start-bad, start-good}
+use Rattle.script.proofs.start.Statement.{statement}
+use Rattle.script.proofs.start.Tie as tie
+
+shared-slice-read-b : tie.Need-shared-slice-read-b
+shared-slice-read-b c = search needs
+
+add-t8 : tie.Need-add-t8
+add-t8 c = search needs
+
+returns : tie.Need-returns
+returns c = (turn-byte _ _ _ (c .before .before .pre) (start-bad _ (inl (c .if1 .taken))), omega arith)
+
+add-t11 : tie.Need-add-t11
+add-t11 c = search needs
+
+returns-2 : tie.Need-returns-2
+returns-2 c = (turn-byte _ _ _ (c .before .before .before .pre) (start-bad _ (inr (c .if2 .taken))), omega arith)
+
+add-t14 : tie.Need-add-t14
+add-t14 c = search needs
+
+returns-3 : tie.Need-returns-3
+returns-3 c = (turn-byte _ _ _ (c .before .before .before .pre) (start-good _ (c .before .if1 .left) (c .if2 .left)), omega arith)
+
+pub start-spec : {M : Type 1} → statement M
+start-spec =
+    tie.close (tie.spec shared-slice-read-b add-t8 returns add-t11 returns-2 add-t14 returns-3)

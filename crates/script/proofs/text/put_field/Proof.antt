@@ -1,0 +1,22 @@
+-- `script::text::put_field` meets its contract: a byte and a number. Assumes nothing.
+use borrow.Author.Needs.{needs}
+use Rattle.script.specs.Output.{field}
+use Rattle.script.specs.OutputLaws.{wrote-join}
+use Rattle.script.proofs.text.put_field.Statement.{statement}
+use Rattle.script.proofs.text.put_field.Tie as tie
+
+put-byte-requires : tie.Need-put-byte-requires
+put-byte-requires c κs = search needs
+
+put-number-requires : tie.Need-put-number-requires
+put-number-requires c κs = search needs
+
+same-length : tie.Need-same-length
+same-length c = search needs
+
+returns : tie.Need-returns
+unfolding field
+returns c = wrote-join (c .before .before .before .before .before .before .put-byte .ensures) (c .before .before .put-number .ensures)
+
+pub put-field-spec : {M : Type 1} → statement M
+put-field-spec = tie.close (tie.spec put-byte-requires put-number-requires same-length returns)

@@ -1,0 +1,20 @@
+-- `script::text::put_malformed` meets its contract: two bytes. Assumes nothing.
+use borrow.Author.Needs.{needs}
+use Rattle.script.specs.OutputLaws.{wrote-join}
+use Rattle.script.proofs.text.put_malformed.Statement.{statement}
+use Rattle.script.proofs.text.put_malformed.Tie as tie
+
+put-byte-requires : tie.Need-put-byte-requires
+put-byte-requires c κs = search needs
+
+put-byte-requires-2 : tie.Need-put-byte-requires-2
+put-byte-requires-2 c κs = search needs
+
+same-length : tie.Need-same-length
+same-length c = search needs
+
+returns : tie.Need-returns
+returns c = wrote-join (c .before .before .before .before .before .before .put-byte .ensures) (c .before .before .put-byte2 .ensures)
+
+pub put-malformed-spec : {M : Type 1} → statement M
+put-malformed-spec = tie.close (tie.spec put-byte-requires put-byte-requires-2 same-length returns)

@@ -1,0 +1,46 @@
+-- `script::turn` meets its contract: each state has its own function. Assumes nothing.
+use borrow.Author.Needs.{needs}
+use Rattle.script.specs.ParsingLaws.{turns-as}
+use Rattle.script.proofs.turn.Statement.{statement}
+use Rattle.script.proofs.turn.Tie as tie
+
+enum-told : tie.Need-enum-told
+enum-told c = search needs
+
+start-requires : tie.Need-start-requires
+start-requires c κs = search needs
+
+enum-known-p : tie.Need-enum-known-p
+enum-known-p c = search needs
+
+after-letter-requires : tie.Need-after-letter-requires
+after-letter-requires c κs = search needs
+
+enum-known-p-2 : tie.Need-enum-known-p-2
+enum-known-p-2 c = search needs
+
+field-requires : tie.Need-field-requires
+field-requires c κs = search needs
+
+returns : tie.Need-returns
+returns c = (turns-as (c .before .enum-told .given .1) (c .start .ensures .0), c .start .ensures .1)
+
+returns-2 : tie.Need-returns-2
+returns-2 c = (turns-as (c .before .before .p .given .1) (c .after-letter .ensures .0), c .after-letter .ensures .1)
+
+returns-3 : tie.Need-returns-3
+returns-3 c = (turns-as (c .before .before .p2 .given .1) (c .field .ensures .0), c .field .ensures .1)
+
+pub turn-spec : {M : Type 1} → statement M
+turn-spec =
+    tie.close
+    (tie.spec
+    enum-told
+    start-requires
+    enum-known-p
+    after-letter-requires
+    enum-known-p-2
+    field-requires
+    returns
+    returns-2
+    returns-3)

@@ -1,0 +1,83 @@
+-- Document 01, "The script program": what a line of a script says. A line is its bytes, without the line feed.
+-- It is a letter and decimal numbers, with single spaces between; what is anything else is malformed (none).
+-- Assumes nothing.
+use Prim.Native.Nat.{ℕ, _+_, _-_, _*_, _^_}
+use mathlib.Core.Bool.{Bool, true, false}
+use mathlib.Core.List.{List, [], _∷_}
+use mathlib.Core.Option.{Option, none, some}
+use Rattle.lists.specs.Tests.{pick, both, maybe, same, less, within}
+use Rattle.script.specs.declared.Line.{Line}
+use Rattle.script.specs.declared.Line.the-variants.{Begin, Read, Scan, Put, Remove, Lock, Validate, Install, Abort, Merge}
+
+-- ---- a line's words, which single spaces part
+
+-- the bytes before the first space
+unfoldable pub firstWord : List ℕ → List ℕ
+firstWord [] = []
+firstWord (b ∷ bs) = pick (same b 32) [] (b ∷ firstWord bs)
+
+-- the words after the first space
+unfoldable pub moreWords : List ℕ → List (List ℕ)
+moreWords [] = []
+moreWords (b ∷ bs) = pick (same b 32) (firstWord bs ∷ moreWords bs) (moreWords bs)
+
+-- ---- numbers
+
+-- `0` to `9`
+unfoldable pub isDigit : ℕ → Bool
+isDigit b = within 48 57 b
+
+-- the number made of n's digits and those of the word; none if a byte is no digit
+unfoldable pub extend : ℕ → List ℕ → Option ℕ
+extend n [] = some n
+extend n (b ∷ w) = pick (isDigit b) (extend (n * 10 + (b - 48)) w) none
+
+-- one or more digits, leading zeros allowed
+unfoldable pub number : List ℕ → Option ℕ
+number [] = none
+number (b ∷ w) = extend 0 (b ∷ w)
+
+-- every word is a number
+unfoldable pub numbers : List (List ℕ) → Option (List ℕ)
+numbers [] = some []
+numbers (w ∷ ws) = maybe (number w) none (λ (n : ℕ). maybe (numbers ws) none (λ (ns : List ℕ). some (n ∷ ns)))
+
+-- ---- letters and their numbers
+
+-- B, L, V, I, A seat; M address
+unfoldable pub oneNumber : ℕ → ℕ → Option Line
+oneNumber c a =
+    pick (same c 66) (some (Begin a))
+    (pick (same c 76) (some (Lock a))
+    (pick (same c 86) (some (Validate a))
+    (pick (same c 73) (some (Install a))
+    (pick (same c 65) (some (Abort a))
+    (pick (same c 77) (some (Merge a)) none)))))
+
+-- R, D seat address
+unfoldable pub twoNumbers : ℕ → ℕ → ℕ → Option Line
+twoNumbers c a b = pick (same c 82) (some (Read a b)) (pick (same c 68) (some (Remove a b)) none)
+
+-- S seat lo hi; P seat address value, whose value has 64 bits
+unfoldable pub threeNumbers : ℕ → ℕ → ℕ → ℕ → Option Line
+threeNumbers c a b d =
+    pick (same c 83) (pick (less d (2 ^ 32)) (some (Scan a b d)) none)
+    (pick (same c 80) (pick (less d (2 ^ 64)) (some (Put a b d)) none) none)
+
+-- a letter with its numbers; seat and address have 32 bits
+unfoldable pub lineOf : ℕ → List ℕ → Option Line
+lineOf c [] = none
+lineOf c (a ∷ []) = pick (less a (2 ^ 32)) (oneNumber c a) none
+lineOf c (a ∷ b ∷ []) = pick (both (less a (2 ^ 32)) (less b (2 ^ 32))) (twoNumbers c a b) none
+lineOf c (a ∷ b ∷ d ∷ []) = pick (both (less a (2 ^ 32)) (less b (2 ^ 32))) (threeNumbers c a b d) none
+lineOf c (a ∷ b ∷ d ∷ e ∷ ns) = none
+
+-- the first word is a letter
+unfoldable pub lettered : List ℕ → List ℕ → Option Line
+lettered [] ns = none
+lettered (c ∷ []) ns = lineOf c ns
+lettered (c ∷ d ∷ w) ns = none
+
+-- what a line says; none if it is malformed
+unfoldable pub meaning : List ℕ → Option Line
+meaning l = maybe (numbers (moreWords l)) none (λ (ns : List ℕ). lettered (firstWord l) ns)

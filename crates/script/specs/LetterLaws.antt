@@ -1,0 +1,88 @@
+-- A letter and its numbers, by the tests that the code makes: a number too wide, a letter known, a letter not known.
+-- Assumes nothing.
+use Prim.Native.Nat.{ℕ, _^_, _<_, _≤_}
+use mathlib.Core.Path.{_≡_, refl, sym, ap, _∙_}
+use mathlib.Core.Logic.{⊎-elim}
+use mathlib.Core.Bool.{Bool, true, false}
+use mathlib.Core.List.{List, [], _∷_, _++_}
+use mathlib.Core.Option.{Option, none, some}
+use Rattle.lists.specs.Tests.{pick, both, same, less, cases, same-no, less-yes, less-no}
+use Rattle.script.specs.declared.Line.{Line}
+use Rattle.script.specs.declared.Fields.{Fields}
+use Rattle.script.specs.declared.Event.{Event}
+use Rattle.script.specs.declared.Event.the-variants as event
+use Rattle.script.specs.Grammar.{oneNumber, twoNumbers, threeNumbers, lineOf}
+use Rattle.script.specs.Parsing.{values}
+use Rattle.script.specs.ParsingLaws.{told}
+
+-- ---- one number
+
+pub one-wide : (c a : ℕ) → 2 ^ 32 ≤ a → event.Malformed ≡ told (lineOf c (a ∷ []))
+unfolding lineOf
+one-wide c a h = rw (less-no h)
+
+pub one-letter : (c k a : ℕ) → c ≡ k → a < 2 ^ 32 → told (oneNumber k a) ≡ told (lineOf c (a ∷ []))
+unfolding lineOf
+one-letter c k a e h = rw (less-yes h) (ap (λ (x : ℕ). told (oneNumber x a)) (sym e))
+
+pub one-other : (c a : ℕ) → (c ≡ 66 → ⊥) → (c ≡ 76 → ⊥) → (c ≡ 86 → ⊥) → (c ≡ 73 → ⊥) → (c ≡ 65 → ⊥) → (c ≡ 77 → ⊥) → a < 2 ^ 32
+    → event.Malformed ≡ told (lineOf c (a ∷ []))
+unfolding lineOf oneNumber
+one-other c a b l v i x m h = rw (less-yes h, same-no b, same-no l, same-no v, same-no i, same-no x, same-no m)
+
+-- ---- two numbers
+
+both-wide : (x y : Bool) (o : Option Line) → y ≡ false → pick (both x y) o none ≡ none
+both-wide true y o e = rw e
+both-wide false y o e = refl
+
+pub two-wide : (c a b : ℕ) → 2 ^ 32 ≤ a → event.Malformed ≡ told (lineOf c (a ∷ b ∷ []))
+unfolding lineOf
+two-wide c a b h = rw (less-no h)
+
+pub two-wide' : (c a b : ℕ) → 2 ^ 32 ≤ b → event.Malformed ≡ told (lineOf c (a ∷ b ∷ []))
+unfolding lineOf
+two-wide' c a b h = sym (ap told (both-wide (less a (2 ^ 32)) (less b (2 ^ 32)) (twoNumbers c a b) (less-no h)))
+
+pub two-letter : (c k a b : ℕ) → c ≡ k → a < 2 ^ 32 → b < 2 ^ 32 → told (twoNumbers k a b) ≡ told (lineOf c (a ∷ b ∷ []))
+unfolding lineOf
+two-letter c k a b e h g = rw (less-yes h, less-yes g) (ap (λ (x : ℕ). told (twoNumbers x a b)) (sym e))
+
+pub two-other : (c a b : ℕ) → (c ≡ 82 → ⊥) → (c ≡ 68 → ⊥) → a < 2 ^ 32 → b < 2 ^ 32 → event.Malformed ≡ told (lineOf c (a ∷ b ∷ []))
+unfolding lineOf twoNumbers
+two-other c a b r d h g = rw (less-yes h, less-yes g, same-no r, same-no d)
+
+-- ---- three numbers
+
+pub three-wide : (c a b d : ℕ) → 2 ^ 32 ≤ a → event.Malformed ≡ told (lineOf c (a ∷ b ∷ d ∷ []))
+unfolding lineOf
+three-wide c a b d h = rw (less-no h)
+
+pub three-wide' : (c a b d : ℕ) → 2 ^ 32 ≤ b → event.Malformed ≡ told (lineOf c (a ∷ b ∷ d ∷ []))
+unfolding lineOf
+three-wide' c a b d h = sym (ap told (both-wide (less a (2 ^ 32)) (less b (2 ^ 32)) (threeNumbers c a b d) (less-no h)))
+
+three-letter : (c k a b d : ℕ) → c ≡ k → a < 2 ^ 32 → b < 2 ^ 32 → told (threeNumbers k a b d) ≡ told (lineOf c (a ∷ b ∷ d ∷ []))
+unfolding lineOf
+three-letter c k a b d e h g = rw (less-yes h, less-yes g) (ap (λ (x : ℕ). told (threeNumbers x a b d)) (sym e))
+
+pub three-put : (c a b d : ℕ) → c ≡ 80 → a < 2 ^ 32 → b < 2 ^ 32 → d < 2 ^ 64 → event.Line (Line.Put a b d) ≡ told (lineOf c (a ∷ b ∷ d ∷ []))
+unfolding threeNumbers same
+three-put c a b d e h g w = ap (λ (x : Bool). told (pick x (some (Line.Put a b d)) none)) (sym (less-yes w)) ∙ three-letter c 80 a b d e h g
+
+pub three-scan : (c a b d : ℕ) → c ≡ 83 → a < 2 ^ 32 → b < 2 ^ 32 → d < 2 ^ 32 → event.Line (Line.Scan a b d) ≡ told (lineOf c (a ∷ b ∷ d ∷ []))
+unfolding threeNumbers same
+three-scan c a b d e h g w = ap (λ (x : Bool). told (pick x (some (Line.Scan a b d)) none)) (sym (less-yes w)) ∙ three-letter c 83 a b d e h g
+
+pub three-scan-wide : (c a b d : ℕ) → c ≡ 83 → a < 2 ^ 32 → b < 2 ^ 32 → 2 ^ 32 ≤ d → event.Malformed ≡ told (lineOf c (a ∷ b ∷ d ∷ []))
+unfolding threeNumbers same
+three-scan-wide c a b d e h g w = ap (λ (x : Bool). told (pick x (some (Line.Scan a b d)) none)) (sym (less-no w)) ∙ three-letter c 83 a b d e h g
+
+pub three-other : (c a b d : ℕ) → (c ≡ 80 → ⊥) → (c ≡ 83 → ⊥) → a < 2 ^ 32 → b < 2 ^ 32 → event.Malformed ≡ told (lineOf c (a ∷ b ∷ d ∷ []))
+unfolding lineOf threeNumbers
+three-other c a b d p s h g = rw (less-yes h, less-yes g, same-no s, same-no p)
+
+-- ---- any count
+
+pub complete-as : (c n : ℕ) {f g : Fields} → f ≡ g → told (lineOf c (values f ++ (n ∷ []))) ≡ told (lineOf c (values g ++ (n ∷ [])))
+complete-as c n e = ap (λ (x : Fields). told (lineOf c (values x ++ (n ∷ [])))) e

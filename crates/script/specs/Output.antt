@@ -1,0 +1,103 @@
+-- Document 01, "The script program": the text that the program writes, as bytes.
+-- Assumes nothing.
+use Prim.Native.Nat.{ℕ, zero, suc, _+_, _/_, _%_, _≤_}
+use mathlib.Core.Path.{_≡_}
+use mathlib.Core.Bool.{Bool, true, false}
+use mathlib.Core.List.{List, [], _∷_, _++_}
+use mathlib.Core.Option.{Option, none, some}
+use lib.ListN.{length}
+use lib.Seq.{sets}
+use Rattle.lists.specs.Tests.{pick, less}
+use Rattle.lists.specs.Rows.{Row}
+use Rattle.spec.specs.Refusals.{numberOf}
+use Rattle.spec.specs.Records.{Payload, Record}
+use Rattle.spec.specs.Steps.{Step, begin, read, scan, put, remove, lock, validate, install, abort, merge, Answer, refused, done, found, listed, numbered, counted}
+use Rattle.script.specs.declared.Line.{Line}
+use Rattle.script.specs.declared.Line.the-variants.{Begin, Read, Scan, Put, Remove, Lock, Validate, Install, Abort, Merge}
+
+-- ---- numbers
+
+-- The digits of n, the most significant first: those of n / 10, if there are any, and the last. The count bounds the digits.
+unfoldable pub digitsWithin : ℕ → ℕ → List ℕ
+digitsWithin zero n = []
+digitsWithin (suc count) n =
+    let others = digitsWithin count (n / 10) in
+    pick (less n 10) ((48 + n) ∷ []) (others ++ ((48 + n % 10) ∷ []))
+
+-- n in decimal, without leading zeros; 0 is `0`
+unfoldable pub decimal : ℕ → List ℕ
+decimal n = digitsWithin (suc n) n
+
+-- a space and the number
+unfoldable pub field : ℕ → List ℕ
+field n = 32 ∷ decimal n
+
+-- a space and `-`
+abbrev pub absent : List ℕ
+absent = 32 ∷ 45 ∷ []
+
+-- an address and a value
+unfoldable pub pair : ℕ → ℕ → List ℕ
+pair k v = field k ++ field v
+
+-- ---- lines
+
+abbrev pub letterOf : Line → ℕ
+letterOf (Begin w) = 66
+letterOf (Read w k) = 82
+letterOf (Scan w lo hi) = 83
+letterOf (Put w k v) = 80
+letterOf (Remove w k) = 68
+letterOf (Lock w) = 76
+letterOf (Validate w) = 86
+letterOf (Install w) = 73
+letterOf (Abort w) = 65
+letterOf (Merge k) = 77
+
+-- the step that a line asks for; a scan's two buffers have so many places
+abbrev pub stepOf : ℕ → Line → Step
+stepOf places (Begin w) = begin w
+stepOf places (Read w k) = read w k
+stepOf places (Scan w lo hi) = scan w lo hi places places
+stepOf places (Put w k v) = put w k (record { value = v })
+stepOf places (Remove w k) = remove w k
+stepOf places (Lock w) = lock w
+stepOf places (Validate w) = validate w
+stepOf places (Install w) = install w
+stepOf places (Abort w) = abort w
+stepOf places (Merge k) = merge k
+
+-- the address of each row, and the value of its item
+unfoldable pub pairs : {A : Type 0} → (A → ℕ) → List (Row A) → List ℕ
+pairs v [] = []
+pairs v (r ∷ rs) = pair (r .key) (v (r .item)) ++ pairs v rs
+
+-- the answer number, 0 if granted, and what a granted step adds
+unfoldable pub answerText : Answer → List ℕ
+answerText (refused r) = field (numberOf r)
+answerText done = field 0
+answerText (found none) = field 0 ++ absent
+answerText (found (some p)) = field 0 ++ field (p .value)
+answerText (listed rs) = field 0 ++ field (length rs) ++ pairs (λ (p : Payload). p .value) rs
+answerText (numbered n) = field 0 ++ field n
+answerText (counted n) = field 0 ++ field n
+
+-- the letter and the answer
+unfoldable pub answerLine : Line → Answer → List ℕ
+answerLine l a = letterOf l ∷ answerText a ++ (10 ∷ [])
+
+-- at the end `E`, the number of present records, and the pairs
+unfoldable pub endLine : List (Row Record) → List ℕ
+endLine rs = 69 ∷ field (length rs) ++ pairs (λ (r : Record). r .payload .value) rs ++ (10 ∷ [])
+
+-- after a malformed line
+abbrev pub malformedLine : List ℕ
+malformedLine = 63 ∷ 10 ∷ []
+
+-- ---- what is promised
+
+-- the text stands in the bytes from the place on, all others are as before, and next is the place after it
+pub record Wrote (old : List ℕ) (at : ℕ) (text : List ℕ) (new : List ℕ) (next : ℕ) : Type 0 where
+  pub written : new ≡ sets old at text
+  pub within : at + length text ≤ length old
+  pub place : next ≡ at + length text

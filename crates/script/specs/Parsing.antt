@@ -1,0 +1,92 @@
+-- The parser: what it is after the bytes of a line so far, and what a call of it tells.
+-- Assumes nothing.
+use Prim.Native.Nat.{ℕ, _+_}
+use mathlib.Core.Path.{_≡_}
+use mathlib.Core.Logic.{_⊎_}
+use mathlib.Core.Bool.{Bool, true, false}
+use mathlib.Core.List.{List, [], _∷_, _++_}
+use mathlib.Core.Option.{Option, none, some}
+use lib.ListN.{length, drop}
+use Rattle.lists.specs.Tests.{pick, either, maybe, same}
+use Rattle.lists.specs.Rows.{has}
+use Rattle.script.specs.declared.Line.{Line}
+use Rattle.script.specs.declared.Fields.{Fields}
+use Rattle.script.specs.declared.Fields.the-variants.{None, One, Two}
+use Rattle.script.specs.declared.Parser.{Parser}
+use Rattle.script.specs.declared.Parser.the-variants.{Start, Letter, Field}
+use Rattle.script.specs.declared.Event.{Event}
+use Rattle.script.specs.declared.Event.the-variants as event
+use Rattle.script.specs.declared.Parsed.{Parsed}
+use Rattle.script.specs.declared.Run.{Run}
+use Rattle.script.specs.Grammar.{firstWord, moreWords, isDigit, extend, numbers, lineOf, meaning}
+
+-- ---- what the line says whose first bytes the parser has read, if the given bytes are the rest of it
+
+abbrev pub values : Fields → List ℕ
+values None = []
+values (One a) = a ∷ []
+values (Two a b) = a ∷ b ∷ []
+
+-- a number begun: n so far, and whether it has a digit yet
+unfoldable pub numberOn : Bool → ℕ → List ℕ → Option ℕ
+numberOn true n w = extend n w
+numberOn false n [] = none
+numberOn false n (b ∷ w) = extend n (b ∷ w)
+
+unfoldable pub fieldsOn : ℕ → List ℕ → Bool → ℕ → List ℕ → Option Line
+fieldsOn c ns d n l =
+    maybe (numberOn d n (firstWord l)) none
+    (λ (m : ℕ). maybe (numbers (moreWords l)) none (λ (ms : List ℕ). lineOf c (ns ++ (m ∷ ms))))
+
+unfoldable pub letterOn : ℕ → List ℕ → Option Line
+letterOn c [] = none
+letterOn c (b ∷ l) = pick (same b 32) (fieldsOn c [] false 0 l) none
+
+unfoldable pub continued : Parser → List ℕ → Option Line
+continued Start l = meaning l
+continued (Letter c) l = letterOn c l
+continued (Field c ns d n) l = fieldsOn c (values ns) d n l
+
+-- ---- what is promised
+
+abbrev pub started : Parser → Bool
+started Start = false
+started (Letter c) = true
+started (Field c ns d n) = true
+
+abbrev pub filled : List ℕ → Bool
+filled [] = false
+filled (b ∷ bs) = true
+
+-- p is the parser after these bytes of a line: none is a line feed, and p knows what the line says, whatever follows
+pub record After (seen : List ℕ) (p : Parser) : Type 0 where
+  pub unbroken : has 10 seen ≡ false
+  pub begun : started p ≡ filled seen
+  pub means : (rest : List ℕ) → meaning (seen ++ rest) ≡ continued p rest
+
+-- the bytes are those of the line l and its line feed
+pub record Whole (l bs : List ℕ) : Type 0 where
+  pub unbroken : has 10 l ≡ false
+  pub fed : bs ≡ l ++ (10 ∷ [])
+
+-- the bytes bs of s stand from place i up to place j
+pub record Cut (s : List ℕ) (i : ℕ) (bs : List ℕ) (j : ℕ) : Type 0 where
+  pub rest : drop i s ≡ bs ++ drop j s
+  pub place : j ≡ i + length bs
+
+-- What an event says of the line's bytes: of a line, that it is complete, and what it says; of a malformed one, that it is
+-- complete and says nothing, or that no line that begins so says anything; else, what the parser is.
+unfoldable pub Says : Event → Parser → List ℕ → Type 0
+Says (event.Line x) p bs = (l : List ℕ) × Whole l bs × (meaning l ≡ some x) × (p ≡ Start)
+Says event.Malformed p bs =
+    (((l : List ℕ) × Whole l bs × (meaning l ≡ none))
+    ⊎ ((has 10 bs ≡ false) × ((rest : List ℕ) → meaning (bs ++ rest) ≡ none)))
+    × (p ≡ Start)
+Says event.Ended p bs = After bs p
+
+-- r is what reading s from a place on tells, after the bytes seen of the current line: the slice is read up to an event
+pub record Reads (seen s : List ℕ) (from : ℕ) (r : Parsed) : Type 0 where
+  pub taken : List ℕ
+  pub cut : Cut s from taken (r .next)
+  pub says : Says (r .event) (r .parser) (seen ++ taken)
+  pub whole : r .event ≡ event.Ended → drop (r .next) s ≡ []

@@ -1,0 +1,403 @@
+// Script lines: the parser, which takes a line byte by byte from slices of any size and keeps no line, and in `text` the
+// lines of answers. What a line says is `meaning`, in specs/Grammar.antt.
+pub mod text;
+
+ghost use mathlib.Core.Path.{_≡_};
+ghost use mathlib.Core.Bool.{true, not};
+ghost use mathlib.Core.List.{List, [], _∷_, _++_};
+ghost use Prim.Native.Nat.{ℕ, _+_, _*_, _^_, _<_};
+ghost use lib.ListN.{length};
+ghost use Rattle.lists.specs.Tests.{less};
+ghost use Rattle.script.specs.Grammar.{lineOf};
+ghost use Rattle.script.specs.Parsing.{values, started, filled, After, Reads};
+ghost use Rattle.script.specs.ParsingLaws.{Tells, Turns, Digits, told};
+
+// A line of a script, with its numbers.
+pub enum Line {
+    Begin(u32),
+    Read(u32, u32),
+    Scan(u32, u32, u32),
+    Put(u32, u32, u64),
+    Remove(u32, u32),
+    Lock(u32),
+    Validate(u32),
+    Install(u32),
+    Abort(u32),
+    Merge(u32),
+}
+
+// The numbers of a line before the current one.
+pub enum Fields {
+    None,
+    One(u64),
+    Two(u64, u64),
+}
+
+// What is kept of the current line: nothing is read; the letter is; or a space after it, and the current number so far,
+// if it has a digit yet.
+pub enum Parser {
+    Start,
+    Letter(u8),
+    Field {
+        letter: u8,
+        before: Fields,
+        digit: bool,
+        value: u64,
+    },
+}
+
+pub enum Event {
+    Line(Line),
+    Malformed,
+    Ended,
+}
+
+pub struct Parsed {
+    pub parser: Parser,
+    pub next: usize,
+    pub event: Event,
+}
+
+struct Run {
+    next: usize,
+    digit: bool,
+    value: u64,
+}
+
+const SPACE: u8 = 32;
+
+const LINE_FEED: u8 = 10;
+
+// A seat or an address is below this.
+const WIDE: u64 = 0x1_0000_0000;
+
+// The largest number that ten times fits 64 bits, and then a digit up to 5.
+const TENTH: u64 = 1844674407370955161;
+
+// The parser at the start of a line.
+pub fn fresh() -> Parser
+    ensures { λ r. ⌜ After [] r ⌝ }
+{
+    Parser::Start
+}
+
+// Nothing of a line has been read. At the end of the input anything else is a line without its line feed, and malformed.
+pub fn at_line_start(p: Parser) -> bool
+    ensures { λ r. ⌜ ((seen : List ℕ) → After seen p → r ≡ not (filled seen)) ⌝ }
+{
+    match p {
+        Parser::Start => true,
+        Parser::Letter(_) => false,
+        Parser::Field {
+            letter: _,
+            before: _,
+            digit: _,
+            value: _,
+        } => false,
+    }
+}
+
+// A line of one number.
+fn one(letter: u8, a: u64) -> Event
+    ensures { λ r. ⌜ r ≡ told (lineOf letter (a ∷ [])) ⌝ }
+{
+    if a >= WIDE {
+        return Event::Malformed;
+    }
+    let n = a as u32;
+    match letter {
+        b'B' => Event::Line(Line::Begin(n)),
+        b'L' => Event::Line(Line::Lock(n)),
+        b'V' => Event::Line(Line::Validate(n)),
+        b'I' => Event::Line(Line::Install(n)),
+        b'A' => Event::Line(Line::Abort(n)),
+        b'M' => Event::Line(Line::Merge(n)),
+        _ => Event::Malformed,
+    }
+}
+
+// A line of two numbers.
+fn two(letter: u8, a: u64, b: u64) -> Event
+    ensures { λ r. ⌜ r ≡ told (lineOf letter (a ∷ b ∷ [])) ⌝ }
+{
+    if a >= WIDE {
+        return Event::Malformed;
+    }
+    if b >= WIDE {
+        return Event::Malformed;
+    }
+    let m = a as u32;
+    let n = b as u32;
+    match letter {
+        b'R' => Event::Line(Line::Read(m, n)),
+        b'D' => Event::Line(Line::Remove(m, n)),
+        _ => Event::Malformed,
+    }
+}
+
+// A line of three numbers.
+fn three(letter: u8, a: u64, b: u64, c: u64) -> Event
+    ensures { λ r. ⌜ r ≡ told (lineOf letter (a ∷ b ∷ c ∷ [])) ⌝ }
+{
+    if a >= WIDE {
+        return Event::Malformed;
+    }
+    if b >= WIDE {
+        return Event::Malformed;
+    }
+    let m = a as u32;
+    let n = b as u32;
+    match letter {
+        b'P' => Event::Line(Line::Put(m, n, c)),
+        b'S' => {
+            if c >= WIDE {
+                return Event::Malformed;
+            }
+            Event::Line(Line::Scan(m, n, c as u32))
+        }
+        _ => Event::Malformed,
+    }
+}
+
+// A line whose line feed was read.
+fn complete(letter: u8, before: Fields, value: u64) -> Event
+    ensures { λ r. ⌜ r ≡ told (lineOf letter (values before ++ (value ∷ []))) ⌝ }
+{
+    match before {
+        Fields::None => one(letter, value),
+        Fields::One(a) => two(letter, a, value),
+        Fields::Two(a, b) => three(letter, a, b, value),
+    }
+}
+
+// The number with one more digit has 64 bits at most.
+fn room(n: u64, d: u64) -> bool
+    requires { ⌜ d < 10 ⌝ }
+    ensures { λ r. ⌜ r ≡ less (n * 10 + d) (2 ^ 64) ⌝ }
+{
+    if n < TENTH {
+        return true;
+    }
+    if n > TENTH {
+        return false;
+    }
+    if d > 5 {
+        return false;
+    }
+    true
+}
+
+// A number's digits from a place on: where they end, if the number has a digit, and its value so far. They end at the
+// slice's end, or at a byte that goes on with no number: no digit, or one that makes it more than 64 bits.
+fn digits(s: &[u8], from: usize, digit: bool, value: u64) -> Run
+    ensures { λ r. ⌜ Digits (now (s .entry)) from digit value r ⌝ }
+{
+    let mut i = from;
+    let mut seen = digit;
+    let mut n = value;
+    while i < s.len() {
+        let b = s[i];
+        if b < 48 {
+            return Run {
+                next: i,
+                digit: seen,
+                value: n,
+            };
+        }
+        if b > 57 {
+            return Run {
+                next: i,
+                digit: seen,
+                value: n,
+            };
+        }
+        let d = (b - 48) as u64;
+        if !room(n, d) {
+            return Run {
+                next: i,
+                digit: seen,
+                value: n,
+            };
+        }
+        n = n * 10 + d;
+        seen = true;
+        i += 1;
+    }
+    Run {
+        next: i,
+        digit: seen,
+        value: n,
+    }
+}
+
+// The space after a number: one more number is read, and there are three at most.
+fn spaced(letter: u8, before: Fields, value: u64, next: usize) -> Parsed
+    ensures { λ r. ⌜ Tells (Parser.Field letter before true value) (r .event) (r .parser) (32 ∷ []) ⌝ }
+    ensures { λ r. ⌜ r .next ≡ next ⌝ }
+{
+    match before {
+        Fields::None => Parsed {
+            parser: Parser::Field {
+                letter,
+                before: Fields::One(value),
+                digit: false,
+                value: 0,
+            },
+            next,
+            event: Event::Ended,
+        },
+        Fields::One(a) => Parsed {
+            parser: Parser::Field {
+                letter,
+                before: Fields::Two(a, value),
+                digit: false,
+                value: 0,
+            },
+            next,
+            event: Event::Ended,
+        },
+        Fields::Two(_, _) => Parsed {
+            parser: Parser::Start,
+            next,
+            event: Event::Malformed,
+        },
+    }
+}
+
+// From a place in or before a number on: to the slice's end, or past the byte that ends the number.
+fn field(s: &[u8], i: usize, letter: u8, before: Fields, digit: bool, value: u64) -> Parsed
+    requires { ⌜ i < length (now s) ⌝ }
+    ensures { λ r. ⌜ Turns (now (s .entry)) i (Parser.Field letter before digit value) r ⌝ }
+    ensures { λ r. ⌜ i < r .next ⌝ }
+{
+    let run = digits(s, i, digit, value);
+    let next = run.next;
+    if next >= s.len() {
+        return Parsed {
+            parser: Parser::Field {
+                letter,
+                before,
+                digit: run.digit,
+                value: run.value,
+            },
+            next,
+            event: Event::Ended,
+        };
+    }
+    let b = s[next];
+    if run.digit {
+        if b == SPACE {
+            return spaced(letter, before, run.value, next + 1);
+        }
+        if b == LINE_FEED {
+            return Parsed {
+                parser: Parser::Start,
+                next: next + 1,
+                event: complete(letter, before, run.value),
+            };
+        }
+    }
+    Parsed {
+        parser: Parser::Start,
+        next: next + 1,
+        event: Event::Malformed,
+    }
+}
+
+// The first byte of a line. Any byte but a space or a line feed may be the letter: the line's end tells.
+fn start(s: &[u8], i: usize) -> Parsed
+    requires { ⌜ i < length (now s) ⌝ }
+    ensures { λ r. ⌜ Turns (now (s .entry)) i Parser.Start r ⌝ }
+    ensures { λ r. ⌜ i < r .next ⌝ }
+{
+    let b = s[i];
+    if b == SPACE {
+        return Parsed {
+            parser: Parser::Start,
+            next: i + 1,
+            event: Event::Malformed,
+        };
+    }
+    if b == LINE_FEED {
+        return Parsed {
+            parser: Parser::Start,
+            next: i + 1,
+            event: Event::Malformed,
+        };
+    }
+    Parsed {
+        parser: Parser::Letter(b),
+        next: i + 1,
+        event: Event::Ended,
+    }
+}
+
+// The byte after the letter, which must be a space.
+fn after_letter(s: &[u8], i: usize, letter: u8) -> Parsed
+    requires { ⌜ i < length (now s) ⌝ }
+    ensures { λ r. ⌜ Turns (now (s .entry)) i (Parser.Letter letter) r ⌝ }
+    ensures { λ r. ⌜ i < r .next ⌝ }
+{
+    let b = s[i];
+    if b == SPACE {
+        return Parsed {
+            parser: Parser::Field {
+                letter,
+                before: Fields::None,
+                digit: false,
+                value: 0,
+            },
+            next: i + 1,
+            event: Event::Ended,
+        };
+    }
+    Parsed {
+        parser: Parser::Start,
+        next: i + 1,
+        event: Event::Malformed,
+    }
+}
+
+// One turn: the letter, the space after it, or a number with the byte that ends it.
+fn turn(s: &[u8], i: usize, p: Parser) -> Parsed
+    requires { ⌜ i < length (now s) ⌝ }
+    ensures { λ r. ⌜ Turns (now (s .entry)) i p r ⌝ }
+    ensures { λ r. ⌜ i < r .next ⌝ }
+{
+    match p {
+        Parser::Start => start(s, i),
+        Parser::Letter(c) => after_letter(s, i, c),
+        Parser::Field {
+            letter,
+            before,
+            digit,
+            value,
+        } => field(s, i, letter, before, digit, value),
+    }
+}
+
+// Reads the slice from a place on up to the end of a line, or up to a byte with which no line can say anything, or up to
+// the slice's end; and answers which, the place after it, and the parser to go on with.
+pub fn parse(s: &[u8], from: usize, p: Parser) -> Parsed
+    ensures { λ r. ⌜ ((seen : List ℕ) → After seen p → Reads seen (now (s .entry)) from r) ⌝ }
+{
+    let mut i = from;
+    let mut q = p;
+    while i < s.len() {
+        let t = turn(s, i, q);
+        let event = t.event;
+        match event {
+            Event::Line(_) => return t,
+            Event::Malformed => return t,
+            Event::Ended => {
+                q = t.parser;
+                i = t.next;
+            }
+        }
+    }
+    Parsed {
+        parser: q,
+        next: i,
+        event: Event::Ended,
+    }
+}

@@ -1,0 +1,100 @@
+// The text of answers, put into lent bytes at a place. Each function answers the place after its text, and asks room for
+// the longest text that it can write: 20 bytes for a number.
+ghost use mathlib.Core.Path.{_≡_};
+ghost use mathlib.Core.List.{[], _∷_};
+ghost use Prim.Native.Nat.{_+_, _≤_, _<_};
+ghost use lib.ListN.{length};
+ghost use lib.Seq.{sets};
+ghost use Rattle.script.specs.Output.{decimal, field as Output·field, absent, pair, malformedLine, Wrote};
+ghost use Rattle.script.specs.OutputLaws.{lastDigits};
+
+// How many digits a number has.
+fn width(n: u64) -> usize
+    ensures { λ r. ⌜ (r ≡ length (decimal n)) × (r ≤ 20) ⌝ }
+{
+    let mut k = 1;
+    let mut rest = n / 10;
+    while rest > 0 {
+        rest /= 10;
+        k += 1;
+    }
+    k
+}
+
+// The last k digits of n, put from a place on, from the last to the first.
+fn spell(out: &mut [u8], at: usize, k: usize, n: u64)
+    requires { ⌜ at + k ≤ length (now out) ⌝ }
+    ensures { λ _. ⌜ now (out .exit) ≡ sets (now (out .entry)) at (lastDigits k n) ⌝ }
+{
+    let mut i = k;
+    let mut rest = n;
+    while i > 0 {
+        i -= 1;
+        out[at + i] = 48 + (rest % 10) as u8;
+        rest /= 10;
+    }
+}
+
+// A byte.
+pub fn put_byte(out: &mut [u8], at: usize, b: u8) -> usize
+    requires { ⌜ at < length (now out) ⌝ }
+    ensures { λ r. ⌜ Wrote (now (out .entry)) at (b ∷ []) (now (out .exit)) r ⌝ }
+{
+    out[at] = b;
+    at + 1
+}
+
+// A number in decimal.
+pub fn put_number(out: &mut [u8], at: usize, n: u64) -> usize
+    requires { ⌜ at + 20 ≤ length (now out) ⌝ }
+    ensures { λ r. ⌜ Wrote (now (out .entry)) at (decimal n) (now (out .exit)) r ⌝ }
+{
+    let k = width(n);
+    spell(out, at, k, n);
+    at + k
+}
+
+// A space and a number.
+pub fn put_field(out: &mut [u8], at: usize, n: u64) -> usize
+    requires { ⌜ at + 21 ≤ length (now out) ⌝ }
+    ensures { λ r. ⌜ Wrote (now (out .entry)) at (Output·field n) (now (out .exit)) r ⌝ }
+{
+    let next = put_byte(out, at, b' ');
+    put_number(out, next, n)
+}
+
+// A line's letter and its answer number; also `E` and the count of the present records.
+pub fn put_answer(out: &mut [u8], at: usize, letter: u8, number: u64) -> usize
+    requires { ⌜ at + 22 ≤ length (now out) ⌝ }
+    ensures { λ r. ⌜ Wrote (now (out .entry)) at (letter ∷ Output·field number) (now (out .exit)) r ⌝ }
+{
+    let next = put_byte(out, at, letter);
+    put_field(out, next, number)
+}
+
+// What a read adds that finds nothing.
+pub fn put_absent(out: &mut [u8], at: usize) -> usize
+    requires { ⌜ at + 2 ≤ length (now out) ⌝ }
+    ensures { λ r. ⌜ Wrote (now (out .entry)) at absent (now (out .exit)) r ⌝ }
+{
+    let next = put_byte(out, at, b' ');
+    put_byte(out, next, b'-')
+}
+
+// A record's address and value.
+pub fn put_pair(out: &mut [u8], at: usize, address: u64, value: u64) -> usize
+    requires { ⌜ at + 42 ≤ length (now out) ⌝ }
+    ensures { λ r. ⌜ Wrote (now (out .entry)) at (pair address value) (now (out .exit)) r ⌝ }
+{
+    let next = put_field(out, at, address);
+    put_field(out, next, value)
+}
+
+// What is written after a malformed line.
+pub fn put_malformed(out: &mut [u8], at: usize) -> usize
+    requires { ⌜ at + 2 ≤ length (now out) ⌝ }
+    ensures { λ r. ⌜ Wrote (now (out .entry)) at malformedLine (now (out .exit)) r ⌝ }
+{
+    let next = put_byte(out, at, b'?');
+    put_byte(out, next, b'\n')
+}

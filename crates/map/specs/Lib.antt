@@ -13,3 +13,9 @@ pub mod ScanLaws
 pub mod HidingLaws
 pub mod PhantomViews
 pub mod PhantomLaws
+pub mod LeafTests
+pub mod LeafRows
+pub mod MergeWalks
+pub mod MergeCounts
+pub mod MergeSettles
+pub mod Merges

@@ -6,6 +6,7 @@
 
 pub mod locks;
 pub mod looks;
+pub mod merge;
 pub mod say;
 
 // An address of the map.

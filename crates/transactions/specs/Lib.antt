@@ -4,3 +4,4 @@ pub mod Views
 pub mod Ready
 pub mod Admits
 pub mod Begins
+pub mod Starts

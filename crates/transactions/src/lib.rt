@@ -2,6 +2,7 @@
 // knows the map only by its promises.
 pub mod admits;
 pub mod begins;
+pub mod starts;
 
 use map::Counters;
 use map::Sizes;

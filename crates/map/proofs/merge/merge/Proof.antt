@@ -1,0 +1,72 @@
+-- `map::merge::merge` meets its contract: nothing is pending, or the walk, the settling and the count come together.
+-- Assumes nothing.
+use borrow.Author.Needs.{needs}
+use Rattle.map.specs.Merges.{merges-nothing, starting, resettling, now-listed, merges-some}
+use Rattle.map.proofs.merge.merge.Statement.{statement}
+use Rattle.map.proofs.merge.merge.Tie as tie
+
+leaf-at-requires : tie.Need-leaf-at-requires
+leaf-at-requires c κs = search needs
+
+mul-if1 : tie.Need-mul-if1
+mul-if1 c = search needs
+
+element-copy-out-if1 : tie.Need-element-copy-out-if1
+element-copy-out-if1 c = search needs
+
+returns : tie.Need-returns
+returns c = let s = c .before .before .before .before in
+    merges-nothing (s .args .k) (s .pre .0) (s .args .a) (c .before .before .leaf-at .result) (c .before .before .leaf-at .ensures) (c .if1 .taken)
+
+take-all-requires : tie.Need-take-all-requires
+take-all-requires c κs = let s = c .before .before .before .before .before .before .before in
+    (starting (s .args .k) (s .pre .0) (s .args .a) (c .before .before .before .before .before .leaf-at .result) (c .before .before .before .before .before .leaf-at .ensures), s .pre .0 .tables .lows)
+
+resettle-requires : tie.Need-resettle-requires
+resettle-requires c κs = let s = c .before .before .before .before .before .before .before .before .before .before .before in
+    let i = c .before .before .before .before .before .before .before .before .before .leaf-at in
+    let w = c .before .before .before .take-all in
+    resettling (s .args .k) (s .pre .0) (s .args .a) (i .result) (i .ensures) (c .before .before .before .before .before .before .before .if1 .left) (w .last .0) (w .last .1 .0) (w .result) (w .ensures) (s .pre .1)
+
+all-requires : tie.Need-all-requires
+all-requires c κs = search needs
+
+all-requires-2 : tie.Need-all-requires-2
+all-requires-2 c κs = search needs
+
+recount-requires : tie.Need-recount-requires
+recount-requires c κs = let s = c .before .before .before .before .before .before .before .before .before .before .before .before .before .before .before .before .before .before .before .before .before in
+    let i = c .before .before .before .before .before .before .before .before .before .before .before .before .before .before .before .before .before .before .before .leaf-at in
+    let w = c .before .before .before .before .before .before .before .before .before .before .before .before .before .take-all in
+    let r = c .before .before .before .before .before .before .before .before .before .resettle in (
+      w .ensures .rows-held,
+      (
+        now-listed (s .args .k) (s .pre .0) (s .args .a) (i .result) (i .ensures) (c .before .before .before .before .before .before .before .before .before .before .before .before .before .before .before .before .before .if1 .left) (w .last .0) (w .last .1 .0) (w .result) (w .ensures)
+            (r .last .0) (r .last .1 .0) (r .result .leaves) (r .result .version) (c .before .before .before .before .before .before .before .all .ensures) (c .before .before .before .before .before .all2 .ensures) (r .ensures),
+        w .ensures .words,
+      ),
+    )
+
+returns-2 : tie.Need-returns-2
+returns-2 c = let s = c .before .before .before .before .before .before .before .before .before .before .before .before .before .before .before .before .before .before .before .before .before .before in
+    let i = c .before .before .before .before .before .before .before .before .before .before .before .before .before .before .before .before .before .before .before .before .leaf-at in
+    let w = c .before .before .before .before .before .before .before .before .before .before .before .before .before .before .take-all in
+    let r = c .before .before .before .before .before .before .before .before .before .before .resettle in
+    merges-some (s .args .k) (s .pre .0) (s .args .a) (i .result) (i .ensures) (c .before .before .before .before .before .before .before .before .before .before .before .before .before .before .before .before .before .before .if1 .left) (w .last .0) (w .last .1 .0) (w .result) (w .ensures)
+    (r .last .0) (r .last .1 .0) (r .result .leaves) (r .result .version) (c .before .before .before .before .before .before .before .before .all .ensures) (c .before .before .before .before .before .before .all2 .ensures) (r .ensures)
+    (c .recount .last .0) (c .recount .last .1 .0) (c .recount .result) (c .recount .ensures)
+
+pub merge-spec : {M : Type 1} → statement M
+merge-spec =
+    tie.close
+    (tie.spec
+    leaf-at-requires
+    mul-if1
+    element-copy-out-if1
+    returns
+    take-all-requires
+    resettle-requires
+    all-requires
+    all-requires-2
+    recount-requires
+    returns-2)

@@ -1,0 +1,374 @@
+-- The first part of a merge: a walk over the slots that takes the pending writes of a leaf into the index. What is left
+-- to take in is always what the slots had to begin with, from the walk's place on.
+-- Assumes nothing.
+use Prim.Native.Nat.{ℕ, zero, suc, _+_, _<_, _≤_, zero-le}
+use native.Mathlib.Nat.{le-trans, le-of-eq, le-refl}
+use native.Mathlib.Omega.{arith}
+use mathlib.Core.Path.{_≡_, refl, sym, ap, _∙_, subst}
+use mathlib.Core.Logic.{_⊎_, inl, inr, ⊎-elim}
+use mathlib.Core.Bool.{Bool, true, false, not}
+use mathlib.Core.List.{List, [], _∷_, _++_}
+use mathlib.Core.Option.{Option, none, some}
+use lib.ListN.{length, drop, getD}
+use lib.Seq.{drop-cons}
+use Rattle.lists.specs.Tests.{pick, both, maybe, present, same, cases, clash, same-true, same-false}
+use Rattle.lists.specs.Rows.{Row, row, look, assign, keys, has, filter, distinct, Rising}
+use Rattle.lists.specs.RowLaws.{has-keys, length-keys, look-assign, rising-assign, rising-different}
+use Rattle.lists.specs.Ascending.{keys-mem}
+use Rattle.lists.specs.Counting.{Within, different-within}
+use Rattle.lists.specs.Memberships.{member-has, has-left, has-right}
+use Rattle.lists.specs.Sums.{total-at}
+use Rattle.lists.specs.Options.{options}
+use Rattle.spec.specs.Records.{Record, outcome}
+use Rattle.spec.specs.Leaves.{Leaf}
+use Rattle.spec.specs.Slots.{slotCount, Pending, Content, isIdle, Slot, emptySlot, entries, contentOf, holds, enter}
+use Rattle.spec.specs.Maps.{MapState, outcomeOf, current, each, mergeEntry}
+use Rattle.laws.specs.SlotCounts.{Good, entryAt, tally, count, keyed, keyed-here, keyed-holds, holds-yes, only-here, entries-some, entries-none, slot-member}
+use Rattle.laws.specs.SlotChanges.{kept, Entered}
+use Rattle.laws.specs.Entering.{Entering, entering}
+use Rattle.laws.specs.SlotLaws.{Room, stands, member-content}
+use Rattle.laws.specs.MapLaws.{has-entry}
+use Rattle.laws.specs.MergeLaws.{withoutPending}
+use Rattle.indexlet.specs.Words.{pendingIn, holderIn, contentIn, slotIn, slotsOf}
+use Rattle.indexlet.specs.declared.Content.{Content as ContentWords}
+use Rattle.indexlet.specs.declared.Slot.{Slot as SlotWords}
+use Rattle.indexlet.specs.Held as indexlet
+use Rattle.index.specs.Views as index
+use Rattle.index.specs.Views.{recordFrom, recordsOf}
+use Rattle.map.specs.declared.merge.Walk.{Walk}
+use Rattle.map.specs.LeafTests.{takes}
+
+-- a map of its three parts
+abbrev pub parts : List (Row Record) → List Leaf → List Slot → MapState
+parts rs ls ss = record { records = rs; leaves = ls; slots = ss }
+
+-- what a pending write of this kind leaves in the index
+unfoldable pub leaving : ℕ → ℕ → ℕ → Option Record
+leaving kind value commit = maybe (pendingIn kind value commit) none outcomeOf
+
+pub leaving-put : (kind value commit : ℕ) → kind ≡ 1 → some (recordFrom value commit) ≡ leaving kind value commit
+unfolding leaving pendingIn outcomeOf outcome
+leaving-put kind value commit e = sym (ap (λ (k : ℕ). leaving k value commit) e)
+
+pub leaving-drop : (kind value commit : ℕ) → (kind ≡ 1 → ⊥) → none ≡ leaving kind value commit
+unfolding leaving pendingIn outcomeOf outcome
+leaving-drop zero value commit n = refl
+leaving-drop (suc zero) value commit n = absurd (n refl)
+leaving-drop (suc (suc k)) value commit n = refl
+
+kind-pending : (kind value commit : ℕ) → (kind ≡ 0 → ⊥) → (p : Pending) × (pendingIn kind value commit ≡ some p)
+unfolding pendingIn
+kind-pending zero value commit n = absurd (n refl)
+kind-pending (suc zero) value commit n = (_, refl)
+kind-pending (suc (suc k)) value commit n = (_, refl)
+
+-- ---- what is left
+
+-- the entries from slot j on that pass the test
+unfoldable pub left : (ℕ → Bool) → List Slot → ℕ → List (Row Content)
+left p ss j = filter (takes p) (entries (drop j ss))
+
+module _ (p : ℕ → Bool) (ss : List Slot) (j : ℕ) (h : j < length ss) where
+  left-none : entryAt ss j ≡ none → left p ss j ≡ left p ss (suc j)
+  unfolding left
+  left-none e =
+      ap (λ (zs : List Slot). filter (takes p) (entries zs)) (drop-cons ss j emptySlot h)
+      ∙ ap (filter (takes p)) (entries-none (getD ss j emptySlot) (drop (suc j) ss) e)
+
+  left-some : (x : Row Content) → entryAt ss j ≡ some x → left p ss j ≡ pick (takes p x) (x ∷ left p ss (suc j)) (left p ss (suc j))
+  unfolding left filter
+  left-some x e =
+      ap (λ (zs : List Slot). filter (takes p) (entries zs)) (drop-cons ss j emptySlot h)
+      ∙ ap (filter (takes p)) (entries-some (getD ss j emptySlot) (drop (suc j) ss) x e)
+
+  -- an entry that does not pass, or none
+  left-past : (k : ℕ) (c : Content) → entryAt ss j ≡ kept k c → takes p (row k c) ≡ false → left p ss j ≡ left p ss (suc j)
+  left-past k c e f =
+      ⊎-elim
+      (λ t. left-none (e ∙ ap (λ (b : Bool). pick b none (some (row k c))) t))
+      (λ t. left-some (row k c) (e ∙ ap (λ (b : Bool). pick b none (some (row k c))) t)
+      ∙ ap (λ (b : Bool). pick b (row k c ∷ left p ss (suc j)) (left p ss (suc j))) f)
+      (cases (isIdle c))
+
+left-start : (p : ℕ → Bool) (ss : List Slot) → left p ss 0 ≡ filter (takes p) (entries ss)
+unfolding left
+left-start p ss = refl
+
+drop-all : {A : Type 0} (xs : List A) (j : ℕ) → length xs ≤ j → drop j xs ≡ []
+drop-all [] j h = lib.Seq.drop-nil j
+drop-all (x ∷ xs) zero h = absurd (native.Mathlib.Nat.not-suc-le-zero h)
+drop-all (x ∷ xs) (suc j) h = drop-all xs j (native.Mathlib.Nat.le-of-suc-le-suc h)
+
+left-end : (p : ℕ → Bool) (ss : List Slot) (j : ℕ) → length ss ≤ j → left p ss j ≡ []
+unfolding left
+left-end p ss j h = ap (λ (zs : List Slot). filter (takes p) (entries zs)) (drop-all ss j h) ∙ (unfold entries filter in refl)
+
+-- ---- what is said of the address at slot j changes no other slot's entry
+
+module _ {bytes : ℕ} {ss : List Slot} {e : Row Content} (j : ℕ) (c : Content) (good : Good bytes ss) (h : j < length ss) (here : entryAt ss j ≡ some e) where
+  own-slot : (at : ℕ) (old : Option (Row Content)) → at < length ss → entryAt ss at ≡ old → count (keyed (e .key)) ss ≡ keyed (e .key) old → at ≡ j
+  unfolding tally
+  own-slot at old l b own =
+      ⊎-elim
+      (λ t. same-true at j t)
+      (λ f.
+      let one : keyed (e .key) (entryAt ss j) ≡ 1 = keyed-here (e .key) (entryAt ss j) e here refl in
+      let least : keyed (e .key) (entryAt ss j) ≤ count (keyed (e .key)) ss = total-at (λ (i : ℕ) (s : Slot). keyed (e .key) (s .entry)) ss j emptySlot h in
+      let off : holds (e .key) (getD ss at emptySlot) ≡ false
+      = only-here ss (e .key) j at (good .once (e .key)) h l (holds-yes (e .key) (getD ss j emptySlot) e here refl) (λ q. same-false at j f (sym q)) in
+      let none-there : keyed (e .key) (entryAt ss at) ≡ 0 = keyed-holds (e .key) (getD ss at emptySlot) ∙ ap (λ (b : Bool). pick b 1 0) off in
+      let z : keyed (e .key) old ≡ 0 = sym (ap (keyed (e .key)) b) ∙ none-there in
+      absurd (let q : ⊥ = omega arith in q))
+      (cases (same at j))
+
+  pub enter-others : Room ss (e .key) c → (i : ℕ) → i < length ss → (i ≡ j → ⊥) → entryAt (enter bytes ss (e .key) c) i ≡ entryAt ss i
+  unfolding Entering
+  enter-others room i l n =
+      ⊎-elim
+      (λ r. r .changed .others i l (λ q. n (q ∙ own-slot (r .at) (r .old) (r .changed .inside) (r .changed .before) (r .own))))
+      (λ r. ap (λ (ts : List Slot). entryAt ts i) (r .0))
+      (entering good room)
+
+-- ---- keys stay within a list
+
+assign-inside : (k : ℕ) (o : Option Record) (rs : List (Row Record)) (zs : List ℕ) → Within (keys rs) zs → has k zs ≡ true → Within (keys (assign k o rs)) zs
+assign-inside k o rs zs w h j e =
+    ⊎-elim
+    (λ t. ap (λ (x : ℕ). has x zs) (sym (same-true k j t)) ∙ h)
+    (λ f. w j (has-keys rs j
+    ∙ sym (ap present (look-assign k o rs j ∙ ap (λ (b : Bool). pick b o (look rs j)) f))
+    ∙ sym (has-keys (assign k o rs) j) ∙ e))
+    (cases (same k j))
+
+inside-length : (rs : List (Row Record)) (zs : List ℕ) → Rising rs → Within (keys rs) zs → length rs ≤ distinct zs
+inside-length rs zs r w = le-trans (le-of-eq (sym (length-keys rs))) (different-within (keys rs) zs (rising-different rs r) w)
+
+entry-inside : (rs : List (Row Record)) (ss : List Slot) (j : ℕ) (e : Row Content) → entryAt ss j ≡ some e → has (e .key) (keys rs ++ keys (entries ss)) ≡ true
+entry-inside rs ss j e q = has-right (e .key) (keys rs) (keys (entries ss)) (member-has (keys-mem e (entries ss) (slot-member ss j e q)))
+
+-- ---- the walk
+
+-- The walk stands before slot j. It began with the records rs and the slots ss.
+pub record Walking (p : ℕ → Bool) (rs : List (Row Record)) (ss : List Slot) (rows slots : List ℕ) (w : Walk) (j : ℕ) : Type 0 where
+  pub rows-held : index.Held rows (w .records)
+  pub words : indexlet.Held slots
+  pub number : w .entries ≡ length (entries (slotsOf slots))
+  pub full : length ss ≡ slotCount
+  pub there : j ≤ slotCount
+  pub few : w .count ≤ j
+  -- the slots from here on have the entries that they had
+  pub untouched : (i : ℕ) → j ≤ i → i < slotCount → entryAt (slotsOf slots) i ≡ entryAt ss i
+  -- an address of the index was one, or had an entry
+  pub inside : Within (keys (recordsOf rows (w .records))) (keys rs ++ keys (entries ss))
+  -- the rest of the run is the whole run
+  pub rest :
+      (ls : List Leaf) → each (mergeEntry 4) (parts (recordsOf rows (w .records)) ls (slotsOf slots)) (left p ss j)
+      ≡ each (mergeEntry 4) (parts rs ls ss) (filter (takes p) (entries ss))
+  pub counted : w .count + length (left p ss j) ≡ length (filter (takes p) (entries ss))
+
+-- what a walk begins with: as many addresses as the index has room for
+pub record Starting (rows slots : List ℕ) (n e : ℕ) : Type 0 where
+  pub rows-held : index.Held rows n
+  pub words : indexlet.Held slots
+  pub number : e ≡ length (entries (slotsOf slots))
+  pub bound : distinct (keys (recordsOf rows n) ++ keys (entries (slotsOf slots))) ≤ 1024
+
+-- a walk that began with as many addresses as the index has room for
+pub record Underway (p : ℕ → Bool) (rows slots : List ℕ) (w : Walk) (j : ℕ) : Type 0 where
+  pub records : List (Row Record)
+  pub begun : List Slot
+  pub walking : Walking p records begun rows slots w j
+  pub bound : distinct (keys records ++ keys (entries begun)) ≤ 1024
+
+-- one slot on, wherever the walk began
+pub record Steps (p : ℕ → Bool) (rows slots : List ℕ) (w : Walk) (j : ℕ) (rows' slots' : List ℕ) (w' : Walk) : Type 0 where
+  pub on : {rs : List (Row Record)} {ss : List Slot} → Walking p rs ss rows slots w j → Walking p rs ss rows' slots' w' (j + 1)
+
+-- what a walk leaves
+pub record Took (p : ℕ → Bool) (rows slots : List ℕ) (n : ℕ) (rows' slots' : List ℕ) (w : Walk) : Type 0 where
+  pub rows-held : index.Held rows' (w .records)
+  pub words : indexlet.Held slots'
+  pub number : w .entries ≡ length (entries (slotsOf slots'))
+  pub inside : Within (keys (recordsOf rows' (w .records))) (keys (recordsOf rows n) ++ keys (entries (slotsOf slots)))
+  pub after :
+      (ls : List Leaf) → parts (recordsOf rows' (w .records)) ls (slotsOf slots')
+      ≡ each (mergeEntry 4) (parts (recordsOf rows n) ls (slotsOf slots)) (filter (takes p) (entries (slotsOf slots)))
+  pub count : w .count ≡ length (filter (takes p) (entries (slotsOf slots)))
+
+abbrev pub walk : ℕ → ℕ → ℕ → Walk
+walk n e c = record { records = n; entries = e; count = c }
+
+pub walk-start : {rows slots : List ℕ} {n e : ℕ} (p : ℕ → Bool) → Starting rows slots n e → Walking p (recordsOf rows n) (slotsOf slots) rows slots (walk n e 0) 0
+walk-start {rows} {slots} {n} {e} p s =
+    record {
+      rows-held = s .rows-held;
+      words = s .words;
+      number = s .number;
+      full = s .words .good .size;
+      there = zero-le;
+      few = zero-le;
+      untouched = λ i a b. refl;
+      inside = λ k h. has-left k (keys (recordsOf rows n)) (keys (entries (slotsOf slots))) h;
+      rest = λ ls. ap (each (mergeEntry 4) (parts (recordsOf rows n) ls (slotsOf slots))) (left-start p (slotsOf slots));
+      counted = (let z : length (left p (slotsOf slots) 0) ≡ length (filter (takes p) (entries (slotsOf slots))) = ap length (left-start p (slotsOf slots)) in omega arith);
+    }
+
+pub walk-end : {p : ℕ → Bool} {rows slots : List ℕ} {n : ℕ} {rows' slots' : List ℕ} {w : Walk} {j : ℕ} → Walking p (recordsOf rows n) (slotsOf slots) rows' slots' w j → 256 ≤ j
+    → Took p rows slots n rows' slots' w
+unfolding each
+walk-end {p} {rows} {slots} {n} {rows'} {slots'} {w} {j} r h =
+    let f : length (slotsOf slots) ≡ slotCount = r .full in
+    let e : left p (slotsOf slots) j ≡ [] = left-end p (slotsOf slots) j (omega arith) in
+    record {
+      rows-held = r .rows-held;
+      words = r .words;
+      number = r .number;
+      inside = r .inside;
+      after = λ ls. sym (ap (each (mergeEntry 4) (parts (recordsOf rows' (w .records)) ls (slotsOf slots'))) e) ∙ r .rest ls;
+      count = (let z : length (left p (slotsOf slots) j) ≡ 0 = ap length e in let y : w .count + length (left p (slotsOf slots) j) ≡ length (filter (takes p) (entries (slotsOf slots))) = r .counted in omega arith);
+    }
+
+-- ---- one slot
+
+entry-in : (slots : List ℕ) (j : ℕ) (r : SlotWords) → slotIn r ≡ getD (slotsOf slots) j emptySlot → entryAt (slotsOf slots) j ≡ kept (r .key) (contentIn (r .content))
+unfolding slotIn
+entry-in slots j r e = sym (ap (λ (s : Slot). s .entry) e)
+
+-- an entry that is not taken, or none
+pub walk-past : {p : ℕ → Bool} {rows slots : List ℕ} {w : Walk} {j : ℕ} (r : SlotWords) → indexlet.Reads slots j r → j < 256
+    → takes p (row (r .key) (contentIn (r .content))) ≡ false → Steps p rows slots w j rows slots w
+walk-past {p} {rows} {slots} {w} {j} r reads h f =
+    record {
+      on = λ {rs} {ss} g.
+          let z : length ss ≡ slotCount = g .full in
+          let e : left p ss j ≡ left p ss (suc j) = left-past p ss j (omega arith) (r .key) (contentIn (r .content)) (sym (g .untouched j (le-refl j) h) ∙ entry-in slots j r (reads .slot)) f in
+          let s : suc j ≡ j + 1 = omega arith in
+          let d : left p ss (j + 1) ≡ left p ss j = sym (e ∙ ap (left p ss) s) in
+          record {
+            rows-held = g .rows-held;
+            words = g .words;
+            number = g .number;
+            full = g .full;
+            there = omega arith;
+            few = (let y : w .count ≤ j = g .few in omega arith);
+            untouched = λ i a b. g .untouched i (omega arith) b;
+            inside = g .inside;
+            rest = λ ls. ap (each (mergeEntry 4) (parts (recordsOf rows (w .records)) ls (slotsOf slots))) d ∙ g .rest ls;
+            counted = (let y : w .count + length (left p ss j) ≡ length (filter (takes p) (entries ss)) = g .counted in let x : length (left p ss (j + 1)) ≡ length (left p ss j) = ap length d in omega arith);
+          };
+    }
+
+pub takes-none : (p : ℕ → Bool) (k : ℕ) (c : ContentWords) → c .kind ≡ 0 → takes p (row k (contentIn c)) ≡ false
+unfolding takes contentIn pendingIn
+takes-none p k c e = ap (λ (n : ℕ). both (present (pendingIn n (c .value) (c .commit))) (p k)) e
+
+both-false : (b : Bool) → both b false ≡ false
+both-false true = refl
+both-false false = refl
+
+pub takes-other : (p : ℕ → Bool) (k : ℕ) (c : ContentWords) → p k ≡ false → takes p (row k (contentIn c)) ≡ false
+unfolding takes
+takes-other p k c e = ap (both (present (contentIn c .pending))) e ∙ both-false (present (contentIn c .pending))
+
+-- an entry with a pending write
+module _ {slots : List ℕ} {j : ℕ} (r : SlotWords) (held : indexlet.Held slots) (reads : indexlet.Reads slots j r) (kind : r .content .kind ≡ 0 → ⊥) where
+  said : Pending
+  said = kind-pending (r .content .kind) (r .content .value) (r .content .commit) kind .0
+
+  pending-is : contentIn (r .content) .pending ≡ some said
+  unfolding contentIn said
+  pending-is = kind-pending (r .content .kind) (r .content .value) (r .content .commit) kind .1
+
+  busy : isIdle (contentIn (r .content)) ≡ false
+  unfolding isIdle
+  busy = ap (λ (o : Option Pending). both (not (present o)) (not (present (contentIn (r .content) .holder)))) pending-is
+
+  pub entry-is : entryAt (slotsOf slots) j ≡ some (row (r .key) (contentIn (r .content)))
+  entry-is = entry-in slots j r (reads .slot) ∙ ap (λ (b : Bool). pick b none (some (row (r .key) (contentIn (r .content))))) busy
+
+  content-is : contentOf (slotsOf slots) (r .key) ≡ contentIn (r .content)
+  content-is = member-content (held .good) (slot-member (slotsOf slots) j (row (r .key) (contentIn (r .content))) entry-is)
+
+  pub slot-room : (c : Content) → Room (slotsOf slots) (r .key) c
+  slot-room c = stands (has-entry (held .good) (r .key) (ap isIdle content-is ∙ busy))
+
+  -- what enters the index and the indexlet is what the model merges
+  merged-is : (rs rs' : List (Row Record)) (ls : List Leaf) (ss' : List Slot)
+      → rs' ≡ assign (r .key) (leaving (r .content .kind) (r .content .value) (r .content .commit)) rs
+      → ss' ≡ enter 4 (slotsOf slots) (r .key) (withoutPending (contentIn (r .content)))
+      → parts rs' ls ss' ≡ mergeEntry 4 (parts rs ls (slotsOf slots)) (row (r .key) (contentIn (r .content)))
+  unfolding mergeEntry current leaving contentIn
+  merged-is rs rs' ls ss' e f =
+      let cur : current (parts rs ls (slotsOf slots)) (r .key) ≡ leaving (r .content .kind) (r .content .value) (r .content .commit)
+      = ap (λ (o : Option Pending). maybe o (look rs (r .key)) outcomeOf) (ap (λ (c : Content). c .pending) content-is ∙ pending-is)
+      ∙ sym (ap (λ (o : Option Pending). maybe o none outcomeOf) pending-is) in
+      λ i. record {
+        records = (e ∙ ap (λ (o : Option Record). assign (r .key) o rs) (sym cur)) i;
+        leaves = ls;
+        slots = (f ∙ ap (λ (c : Content). enter 4 (slotsOf slots) (r .key) (withoutPending c)) (sym content-is)) i;
+      }
+
+  taken-yes : (p : ℕ → Bool) → p (r .key) ≡ true → takes p (row (r .key) (contentIn (r .content))) ≡ true
+  unfolding takes
+  taken-yes p t = ap (λ (o : Option Pending). both (present o) (p (r .key))) pending-is ∙ t
+
+  -- there is room in the index for the entry
+  pub write-room : {p : ℕ → Bool} {rows : List ℕ} {w : Walk} → Underway p rows slots w j → j < 256 → (x : Record)
+      → length (assign (r .key) (some x) (recordsOf rows (w .records))) ≤ 1024
+  write-room {p} {rows} {w} u h x =
+      let g = u .walking in
+      le-trans
+      (inside-length (assign (r .key) (some x) (recordsOf rows (w .records))) (keys (u .records) ++ keys (entries (u .begun)))
+      (rising-assign (r .key) (some x) (recordsOf rows (w .records)) (g .rows-held .rising))
+      (assign-inside (r .key) (some x) (recordsOf rows (w .records)) (keys (u .records) ++ keys (entries (u .begun))) (g .inside)
+      (entry-inside (u .records) (u .begun) j (row (r .key) (contentIn (r .content))) (sym (g .untouched j (le-refl j) h) ∙ entry-is))))
+      (u .bound)
+
+  pub walk-on : {p : ℕ → Bool} {rows : List ℕ} {w : Walk} (rows' slots' : List ℕ) (n e : ℕ) (c : ContentWords) → j < 256 → p (r .key) ≡ true
+      → index.Holds rows' n (assign (r .key) (leaving (r .content .kind) (r .content .value) (r .content .commit)) (recordsOf rows (w .records)))
+      → contentIn c ≡ withoutPending (contentIn (r .content)) → indexlet.Enters slots (r .key) c slots' e
+      → Steps p rows slots w j rows' slots' (walk n e (w .count + 1))
+  unfolding each
+  walk-on {p} {rows} {w} rows' slots' n e c h t hold ce ent =
+      record {
+        on = λ {rs} {ss} g.
+            let z : length ss ≡ slotCount = g .full in
+            let zz : length (slotsOf slots) ≡ slotCount = held .good .size in
+            let x : Row Content = row (r .key) (contentIn (r .content)) in
+            let was : entryAt ss j ≡ some x = sym (g .untouched j (le-refl j) h) ∙ entry-is in
+            let d : left p ss j ≡ x ∷ left p ss (suc j) = left-some p ss j (omega arith) x was ∙ ap (λ (b : Bool). pick b (x ∷ left p ss (suc j)) (left p ss (suc j))) (taken-yes p t) in
+            let s : suc j ≡ j + 1 = omega arith in
+            let view : slotsOf slots' ≡ enter 4 (slotsOf slots) (r .key) (withoutPending (contentIn (r .content)))
+            = ent .view ∙ ap (enter 4 (slotsOf slots) (r .key)) ce in
+            record {
+              rows-held = hold .held;
+              words = ent .held;
+              number = ent .number;
+              full = g .full;
+              there = omega arith;
+              few = (let y : w .count ≤ j = g .few in omega arith);
+              untouched =
+                  λ i a b.
+                  ap (λ (ts : List Slot). entryAt ts i) (ent .view)
+                  ∙ enter-others j (contentIn c) (held .good) (omega arith) entry-is (slot-room (contentIn c)) i (omega arith) (λ q. let y : ⊥ = omega arith in y)
+                  ∙ g .untouched i (omega arith) b;
+              inside =
+                  subst (λ (ks : List (Row Record)). Within (keys ks) (keys rs ++ keys (entries ss))) (sym (hold .same))
+                  (assign-inside (r .key) _ (recordsOf rows (w .records)) (keys rs ++ keys (entries ss)) (g .inside) (entry-inside rs ss j x was));
+              rest =
+                  λ ls.
+                  ap (λ (m : MapState). each (mergeEntry 4) m (left p ss (j + 1)))
+                  (merged-is (recordsOf rows (w .records)) (recordsOf rows' n) ls (slotsOf slots') (hold .same) view)
+                  ∙ ap (λ (k : ℕ). each (mergeEntry 4) (parts (recordsOf rows (w .records)) ls (slotsOf slots)) (x ∷ left p ss k)) (sym s)
+                  ∙ ap (each (mergeEntry 4) (parts (recordsOf rows (w .records)) ls (slotsOf slots))) (sym d)
+                  ∙ g .rest ls;
+              counted =
+                  (let y : w .count + length (left p ss j) ≡ length (filter (takes p) (entries ss)) = g .counted in
+                  let q : length (left p ss j) ≡ suc (length (left p ss (j + 1))) = ap length d ∙ ap (λ (k : ℕ). suc (length (left p ss k))) s in
+                  omega arith);
+            };
+      }
+
+pub rest-content : (c : ContentWords) → contentIn (record { kind = 0; value = 0; commit = 0; lock = c .lock }) ≡ withoutPending (contentIn c)
+unfolding contentIn pendingIn
+rest-content c = refl

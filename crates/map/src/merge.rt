@@ -1,0 +1,305 @@
+// The merge (document 01: fold): a leaf's pending writes enter the index, and the leaf settles around its records.
+//
+// `take_all` walks the slots and takes the leaf's pending writes in; `resettle` settles the leaf; `recount` works the
+// phantomlet out anew.
+use crate::Address;
+use crate::Counters;
+use crate::Sizes;
+ghost use mathlib.Core.Path.{_≡_};
+ghost use mathlib.Core.Bool.{not};
+ghost use mathlib.Core.Option.{some};
+ghost use Prim.Native.Nat.{_+_, _^_, _<_, _≤_};
+ghost use lib.ListN.{length, getD, set, take};
+ghost use Rattle.lists.specs.Tests.{pick, present};
+ghost use Rattle.lists.specs.Rows.{look, assign};
+ghost use Rattle.indexlet.specs.Words.{contentIn, slotsOf};
+ghost use Rattle.indexlet.specs.Held as indexlet-held;
+ghost use Rattle.index.specs.Views as index-views;
+ghost use Rattle.index.specs.LeafPlaces.{Listed};
+ghost use Rattle.index.specs.Settles.{SettledAs};
+ghost use Rattle.map.specs.Views.{lent};
+ghost use Rattle.map.specs.Held.{Held};
+ghost use Rattle.map.specs.LeafTests.{placed};
+ghost use Rattle.map.specs.LeafRows.{Lows, Spans};
+ghost use Rattle.map.specs.MergeCounts.{Tallying, Counting};
+ghost use Rattle.map.specs.MergeSettles.{Resettling, leafKeys};
+ghost use Rattle.map.specs.Merges.{Merges};
+ghost use Rattle.map.specs.MergeWalks.{leaving, Underway, Steps, Starting, Took};
+
+// How far a walk over the slots has come: records of the index, entries of the indexlet, and pending writes taken in.
+pub struct Walk {
+    pub records: usize,
+    pub entries: usize,
+    pub count: usize,
+}
+
+// The rows of a leaf: from row `from` up to, not including, row `to`.
+struct Span {
+    from: usize,
+    to: usize,
+}
+
+// What a merge leaves: the sizes and counters, and how many pending writes it took in.
+pub struct Merged {
+    pub sizes: Sizes,
+    pub counters: Counters,
+    pub count: usize,
+}
+
+// A pending write enters the index: kind 1 puts a record, any other drops it. Answers how many records there are now.
+fn take_write(
+    rows: &mut [u64; 3072],
+    n: usize,
+    a: Address,
+    kind: u64,
+    value: u64,
+    commit: u64,
+) -> usize
+    requires { ⌜ index-views.Held (now rows) n ⌝ }
+    requires { ⌜ length (assign a (some (index-views.recordFrom value commit)) (index-views.recordsOf (now rows) n)) ≤ 1024 ⌝ }
+    ensures { λ r. ⌜ index-views.Holds (now (rows .exit)) r (assign a (leaving kind value commit) (index-views.recordsOf (now (rows .entry)) n)) ⌝ }
+{
+    if kind == 1 {
+        return index::records::put(rows, n, a, value, commit);
+    }
+    index::records::drop(rows, n, a)
+}
+
+// The walk at slot j: a write that is pending there, in the leaf at place i, enters the index; a lock stays.
+fn take_slot(
+    rows: &mut [u64; 3072],
+    slots: &mut [u64; 1536],
+    lows: &[u64; 1025],
+    w: Walk,
+    m: usize,
+    i: usize,
+    j: usize,
+) -> Walk
+    requires { ⌜ Underway (placed (now lows) m i) (now rows) (now slots) w j ⌝ }
+    requires { ⌜ Listed (now lows) m ⌝ }
+    requires { ⌜ j < 256 ⌝ }
+    ensures { λ r. ⌜ Steps (placed (now (lows .entry)) m i) (now (rows .entry)) (now (slots .entry)) w j (now (rows .exit)) (now (slots .exit)) r ⌝ }
+{
+    let s = indexlet::slot_at(slots, j);
+    let c = s.content;
+    if c.kind == 0 {
+        return w;
+    }
+    let a = s.key as u32;
+    if index::leaves::leaf_at(lows, m, a) != i {
+        return w;
+    }
+    let n = take_write(rows, w.records, a, c.kind, c.value, c.commit);
+    let rest = indexlet::Content {
+        kind: 0,
+        value: 0,
+        commit: 0,
+        lock: c.lock,
+    };
+    let e = indexlet::enter(slots, w.entries, a, rest);
+    Walk {
+        records: n,
+        entries: e,
+        count: w.count + 1,
+    }
+}
+
+// All pending writes of the leaf at place i enter the index.
+fn take_all(
+    rows: &mut [u64; 3072],
+    slots: &mut [u64; 1536],
+    lows: &[u64; 1025],
+    n: usize,
+    e: usize,
+    m: usize,
+    i: usize,
+) -> Walk
+    requires { ⌜ Starting (now rows) (now slots) n e ⌝ }
+    requires { ⌜ Listed (now lows) m ⌝ }
+    ensures { λ r. ⌜ Took (placed (now (lows .entry)) m i) (now (rows .entry)) (now (slots .entry)) n (now (rows .exit)) (now (slots .exit)) r ⌝ }
+{
+    let mut w = Walk {
+        records: n,
+        entries: e,
+        count: 0,
+    };
+    let mut j = 0;
+    while j < 256 {
+        w = take_slot(rows, slots, lows, w, m, i, j);
+        j += 1;
+    }
+    w
+}
+
+// The rows of the leaf at place i.
+fn leaf_rows(rows: &[u64; 3072], lows: &[u64; 1025], n: usize, m: usize, i: usize) -> Span
+    requires { ⌜ index-views.Held (now rows) n ⌝ }
+    requires { ⌜ Lows (now lows) m ⌝ }
+    requires { ⌜ i < m ⌝ }
+    ensures { λ r. ⌜ Spans (placed (now (lows .entry)) m i) (now (rows .entry)) n (r .from) (r .to) ⌝ }
+{
+    index::shifts::all(lows);
+    let low = lows[i] as u32;
+    let from = index::records::locate(rows, n, low);
+    if i + 1 < m {
+        let next = lows[i + 1] as u32;
+        let to = index::records::locate(rows, n, next);
+        return Span { from, to };
+    }
+    Span { from, to: n }
+}
+
+// The leaf at place i settles around the records that it has now; v is the last version given.
+fn resettle(
+    lows: &mut [u64; 1025],
+    versions: &mut [u64; 1025],
+    rows: &[u64; 3072],
+    n: usize,
+    m: usize,
+    i: usize,
+    v: u64,
+) -> index::leaves::Settled
+    requires { ⌜ Resettling (now lows) (now rows) n m i v ⌝ }
+    ensures { λ r. ⌜ SettledAs (now (lows .entry)) (now (versions .entry)) m i v (leafKeys (now (lows .entry)) (now (rows .entry)) n m i) (now (lows .exit)) (now (versions .exit)) (r .leaves) (r .version) ⌝ }
+{
+    let s = leaf_rows(rows, lows, n, m, i);
+    index::leaves::settle(lows, versions, rows, m, i, s.from, s.to, v)
+}
+
+// 1 if a write is pending.
+fn waits(c: indexlet::Content) -> usize
+    ensures { λ r. ⌜ r ≡ pick (present (contentIn c .pending)) 1 0 ⌝ }
+{
+    if c.kind == 0 {
+        return 0;
+    }
+    1
+}
+
+// 1 if the index has no record at the address.
+fn lacks(rows: &[u64; 3072], n: usize, a: Address) -> usize
+    requires { ⌜ index-views.Held (now rows) n ⌝ }
+    ensures { λ r. ⌜ r ≡ pick (not (present (look (index-views.recordsOf (now (rows .entry)) n) a))) 1 0 ⌝ }
+{
+    match index::records::find(rows, n, a) {
+        index::records::Found::At {
+            value: _,
+            commit: _,
+        } => 0,
+        index::records::Found::Nothing => 1,
+    }
+}
+
+// Adds to the number at a place.
+fn raise(xs: &mut [u64; 1025], at: usize, by: usize)
+    requires { ⌜ (at < 1025) × (getD (now xs) at 0 + by < 2 ^ 64) ⌝ }
+    ensures { λ _. ⌜ now (xs .exit) ≡ set (now (xs .entry)) at (getD (now (xs .entry)) at 0 + by) ⌝ }
+{
+    let x = xs[at];
+    xs[at] = x + (by as u64);
+}
+
+// The walk at slot j: its entry counts for the leaf that it lies in. Answers how many entries so far lie at addresses
+// that the index lacks.
+fn tally_slot(
+    outside: &mut [u64; 1025],
+    pending: &mut [u64; 1025],
+    rows: &[u64; 3072],
+    lows: &[u64; 1025],
+    slots: &[u64; 1536],
+    n: usize,
+    m: usize,
+    total: usize,
+    j: usize,
+) -> usize
+    requires { ⌜ Tallying (now rows) (now lows) (now slots) n m (now outside) (now pending) total j ⌝ }
+    requires { ⌜ j < 256 ⌝ }
+    ensures { λ r. ⌜ Tallying (now (rows .entry)) (now (lows .entry)) (now (slots .entry)) n m (now (outside .exit)) (now (pending .exit)) r (j + 1) ⌝ }
+{
+    let s = indexlet::slot_at(slots, j);
+    let c = s.content;
+    if indexlet::idle(c) {
+        return total;
+    }
+    let a = s.key as u32;
+    let at = index::leaves::leaf_at(lows, m, a);
+    let x = lacks(rows, n, a);
+    let w = waits(c);
+    raise(outside, at, x);
+    raise(pending, at, w);
+    total + x
+}
+
+// Works the phantomlet out anew. Answers how many entries lie at addresses that the index lacks.
+fn recount(
+    outside: &mut [u64; 1025],
+    pending: &mut [u64; 1025],
+    rows: &[u64; 3072],
+    lows: &[u64; 1025],
+    slots: &[u64; 1536],
+    n: usize,
+    m: usize,
+) -> usize
+    requires { ⌜ index-views.Held (now rows) n ⌝ }
+    requires { ⌜ Listed (now lows) m ⌝ }
+    requires { ⌜ indexlet-held.Held (now slots) ⌝ }
+    ensures { λ r. ⌜ Counting (now (rows .entry)) (now (lows .entry)) (now (slots .entry)) n m (now (outside .exit)) (now (pending .exit)) r ⌝ }
+{
+    let zeros = [0u64; 1025];
+    *outside = zeros;
+    *pending = zeros;
+    let mut total = 0;
+    let mut j = 0;
+    while j < 256 {
+        total = tally_slot(outside, pending, rows, lows, slots, n, m, total, j);
+        j += 1;
+    }
+    total
+}
+
+// A merge at an address: all pending writes of the leaf that holds it enter the index. With none, nothing changes.
+pub fn merge(
+    rows: &mut [u64; 3072],
+    lows: &mut [u64; 1025],
+    versions: &mut [u64; 1025],
+    outside: &mut [u64; 1025],
+    pending: &mut [u64; 1025],
+    slots: &mut [u64; 1536],
+    z: Sizes,
+    k: Counters,
+    a: Address,
+) -> Merged
+    requires { ⌜ Held (lent (now rows) (now lows) (now versions) (now outside) (now pending) (now slots)) z (k .version) ⌝ }
+    requires { ⌜ k .version + 129 < 2 ^ 64 ⌝ }
+    ensures { λ r. ⌜ Merges (lent (now (rows .entry)) (now (lows .entry)) (now (versions .entry)) (now (outside .entry)) (now (pending .entry)) (now (slots .entry))) z k a (lent (now (rows .exit)) (now (lows .exit)) (now (versions .exit)) (now (outside .exit)) (now (pending .exit)) (now (slots .exit))) r ⌝ }
+{
+    let m = z.leaves;
+    let i = index::leaves::leaf_at(lows, m, a);
+    if pending[i] == 0 {
+        return Merged {
+            sizes: z,
+            counters: k,
+            count: 0,
+        };
+    }
+    let w = take_all(rows, slots, lows, z.records, z.entries, m, i);
+    let s = resettle(lows, versions, rows, w.records, m, i, k.version);
+    index::shifts::all(lows);
+    index::shifts::all(versions);
+    let out = recount(outside, pending, rows, lows, slots, w.records, s.leaves);
+    let sizes = Sizes {
+        records: w.records,
+        leaves: s.leaves,
+        entries: w.entries,
+        outside: out,
+    };
+    let counters = Counters {
+        number: k.number,
+        version: s.version,
+    };
+    Merged {
+        sizes,
+        counters,
+        count: w.count,
+    }
+}

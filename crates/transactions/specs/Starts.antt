@@ -1,0 +1,85 @@
+-- The arrays of a fresh map, with every worker free.
+-- Assumes nothing.
+use Prim.Native.Nat.{ℕ, zero, suc, _<_, _≤_, zero-le}
+use native.Mathlib.Nat.{not-suc-le-zero}
+use mathlib.Core.Path.{_≡_, refl, sym, ap, _∙_, subst}
+use mathlib.Core.List.{List, [], _∷_}
+use lib.ListN.{length, getD, replicate, length-replicate}
+use Rattle.spec.specs.Records.{standard}
+use Rattle.spec.specs.Maps.{MapState, freshMap}
+use Rattle.spec.specs.Steps as model
+use Rattle.spec.specs.Steps.{State, fresh, freeWorker}
+use Rattle.laws.specs.WorkerLaws.{standard-settings}
+use Rattle.limits.specs.Invariant.{Kept, fresh-kept}
+use Rattle.sets.specs.declared.workers.Worker.{Worker}
+use Rattle.sets.specs.Workers.{workerIn, freed}
+use Rattle.sets.specs.Reads.{readsIn}
+use Rattle.sets.specs.Leaves.{versionsIn, lowsIn}
+use Rattle.sets.specs.Writes.{writesIn}
+use Rattle.sets.specs.ReadLaws.{reads-zero}
+use Rattle.sets.specs.LeafLaws.{leaves-zero}
+use Rattle.sets.specs.WriteRows.{writes-zero}
+use Rattle.map.specs.declared.Sizes.{Sizes}
+use Rattle.map.specs.Views.{Lent, mapOf}
+use Rattle.map.specs.Says.{Becomes}
+use Rattle.transactions.specs.declared.Core.{Core}
+use Rattle.transactions.specs.Views.{Logs, logs, seatIn, workersFrom, stateOf}
+use Rattle.transactions.specs.Ready.{seat, Within, Stored, Ready}
+
+pub record Fresh (l : Lent) (g : Logs) (c : Core) : Type 0 where
+  pub ready : Ready l g c
+  pub state : stateOf l g c ≡ fresh standard
+
+-- the words of sets with nothing in them
+abbrev pub noLogs : Logs
+noLogs = logs (replicate 2048 0) (replicate 512 0) (replicate 384 0)
+
+abbrev pub startCore : Sizes → Core
+startCore z = record { seats = replicate 8 freed; sizes = z; counters = record { number = 0; version = 0 } }
+
+free-seat : (g : Logs) (w : ℕ) → seatIn g freed w ≡ freeWorker
+unfolding workerIn readsIn versionsIn writesIn
+free-seat g w = refl
+
+free-crew : (g : Logs) (n w : ℕ) → workersFrom g (replicate n freed) w ≡ replicate n freeWorker
+unfolding workersFrom
+free-crew g zero w = refl
+free-crew g (suc n) w = λ i. free-seat g w i ∷ free-crew g n (suc w) i
+
+getD-free : (n w : ℕ) → getD (replicate n freed) w freed ≡ freed
+getD-free zero w = refl
+getD-free (suc n) zero = refl
+getD-free (suc n) (suc w) = getD-free n w
+
+module _ (l : Lent) (z : Sizes) (b : Becomes l z 0 freshMap) where
+  fresh-state : stateOf l noLogs (startCore z) ≡ fresh standard
+  unfolding stateOf
+  fresh-state =
+      λ i. record {
+        settings = standard;
+        counters = record { number = 0; version = 0 };
+        map = b .map i;
+        workers = free-crew noLogs 8 0 i;
+      }
+
+  no-leaf : (w i : ℕ) → i < seat (startCore z) w .leaves → {A : Type 0} → A
+  no-leaf w i h = absurd (not-suc-le-zero (subst (λ (x : Worker). i < x .leaves) (getD-free 8 w) h))
+
+  fresh-stored : Stored l noLogs (startCore z)
+  fresh-stored =
+      record {
+        map = b .held;
+        reads = reads-zero;
+        leaves = leaves-zero;
+        writes = writes-zero;
+        seats = length-replicate 8 freed;
+        counts = λ w h. subst Within (sym (getD-free 8 w)) (record { reads = zero-le; leaves = zero-le; writes = zero-le });
+        lows = λ w h i j. no-leaf w i j;
+      }
+
+  pub fresh-start : Fresh l noLogs (startCore z)
+  fresh-start =
+      record {
+        ready = record { stored = fresh-stored; kept = subst Kept (sym fresh-state) (fresh-kept standard standard-settings) };
+        state = fresh-state;
+      }

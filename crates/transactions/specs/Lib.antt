@@ -5,3 +5,8 @@ pub mod Ready
 pub mod Admits
 pub mod Begins
 pub mod Starts
+pub mod SeatLaws
+pub mod Edits
+pub mod WriteBlocks
+pub mod Commits
+pub mod Finishes

@@ -2,6 +2,8 @@
 // knows the map only by its promises.
 pub mod admits;
 pub mod begins;
+pub mod commits;
+pub mod edits;
 pub mod starts;
 
 use map::Counters;

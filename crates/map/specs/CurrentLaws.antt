@@ -3,15 +3,14 @@
 use Prim.Native.Nat.{ℕ, zero, suc}
 use native.Mathlib.Omega.{arith}
 use mathlib.Core.Path.{_≡_, refl, sym, ap, _∙_}
-use mathlib.Core.Bool.{Bool, true, false}
+use mathlib.Core.Bool.{true, false}
 use mathlib.Core.List.{List}
-use mathlib.Core.Option.{Option, none, some}
+use mathlib.Core.Option.{Option}
 use lib.Dec.{eqb}
 use borrow.Author.Tests.{ne-eqb}
-use Rattle.lists.specs.Tests.{pick, maybe}
+use Rattle.lists.specs.Tests.{maybe}
 use Rattle.lists.specs.Rows.{look}
 use Rattle.spec.specs.Records.{Record, outcome}
-use Rattle.spec.specs.Leaves.{Leaf}
 use Rattle.spec.specs.Slots.{Pending, Content, contentOf}
 use Rattle.spec.specs.Maps.{outcomeOf, current}
 use Rattle.indexlet.specs.declared.Content.{Content as ContentWords}
@@ -20,7 +19,7 @@ use Rattle.index.specs.declared.records.Found.{Found}
 use Rattle.index.specs.declared.records.Found.the-variants.{At, Nothing}
 use Rattle.index.specs.Views.{foundOf, recordsOf}
 use Rattle.map.specs.declared.looks.Current.{Current}
-use Rattle.map.specs.LookViews.{mapWith, recordIn, Sees}
+use Rattle.map.specs.LookViews.{recordIn, Sees}
 
 -- a pending write, if there is one, in the words of the indexlet
 pending-of : (c : ContentWords) → contentIn c .pending ≡ pendingIn (c .kind) (c .value) (c .commit)

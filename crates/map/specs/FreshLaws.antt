@@ -1,12 +1,11 @@
 -- An empty map in the lent arrays: one leaf with version 0, no record, no entry.
 -- Assumes nothing.
-use Prim.Native.Nat.{ℕ, zero, suc, _+_, _^_, _<_, _≤_, zero-le}
+use Prim.Native.Nat.{ℕ, zero, suc, _<_, zero-le}
 use native.Mathlib.Nat.{not-suc-le-zero}
 use native.Mathlib.Omega.{arith}
 use mathlib.Core.Path.{_≡_, refl, sym, ap, _∙_, subst}
 use mathlib.Core.Bool.{Bool}
 use mathlib.Core.List.{List, [], _∷_}
-use mathlib.Core.Option.{none}
 use lib.ListN.{length, take, getD, replicate}
 use Rattle.lists.specs.Rows.{Row, Rising}
 use Rattle.lists.specs.RowLaws.{rising-nil}
@@ -14,19 +13,18 @@ use Rattle.lists.specs.Ascending.{Ascends}
 use Rattle.lists.specs.Sums.{total}
 use Rattle.spec.specs.Records.{Record, standard}
 use Rattle.spec.specs.Leaves.{Leaf, firstLeaf}
-use Rattle.spec.specs.Slots.{Content, Slot, emptySlot, emptySlots, entries}
-use Rattle.spec.specs.Maps.{MapState, freshMap}
+use Rattle.spec.specs.Slots.{Content, Slot, emptySlot, entries}
+use Rattle.spec.specs.Maps.{freshMap}
 use Rattle.laws.specs.SlotCounts.{tally}
 use Rattle.laws.specs.LeafVersions.{GoodLeaves, fresh-leaves}
 use Rattle.laws.specs.MapBounds.{Bounded, fresh-bounded}
 use Rattle.indexlet.specs.Words.{slotsOf}
 use Rattle.indexlet.specs.Held as indexlet
 use Rattle.index.specs.Views.{paired, recordsOf, leavesOf}
-use Rattle.index.specs.LeafPlaces.{Listed}
 use Rattle.map.specs.declared.Sizes.{Sizes}
-use Rattle.map.specs.Views.{Lent, lent, mapOf}
-use Rattle.map.specs.Phantoms.{weigh, howMany, outsideAny, outsideIn, pendingIn, versionOf, Phantomlet}
-use Rattle.map.specs.Held.{Tables, Held}
+use Rattle.map.specs.Views.{lent, mapOf}
+use Rattle.map.specs.Phantoms.{weigh, howMany, outsideAny}
+use Rattle.map.specs.Held.{Tables}
 use Rattle.map.specs.Says.{Becomes, Emptied}
 
 abbrev pub freshSizes : Sizes

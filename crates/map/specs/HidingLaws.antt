@@ -1,14 +1,15 @@
 -- When a leaf hides a key from a worker, by counting. Of the entries in the leaf at addresses that the index lacks, those
 -- that hide nothing from worker w are its own locks at which no write is pending: addresses of its write set.
 -- Assumes nothing.
-use Prim.Native.Nat.{ℕ, zero, suc, _+_, _<_, _≤_, zero-le, suc-le-suc}
+use Prim.Native.Nat.{ℕ, suc, _+_, _<_, _≤_, zero-le, suc-le-suc}
 use native.Mathlib.Omega.{arith}
 use mathlib.Core.Path.{_≡_, refl, sym, ap, _∙_, subst}
-use mathlib.Core.Logic.{_⊎_, inl, inr, ⊎-elim}
+use mathlib.Core.Logic.{⊎-elim}
 use mathlib.Core.Bool.{Bool, true, false, not}
 use mathlib.Core.List.{List, [], _∷_, List·Memᴰ}
 use mathlib.Core.Option.{Option, none, some}
 use lib.ListN.{length}
+use borrow.Author.Tests.{not-true}
 use Rattle.lists.specs.Tests.{pick, both, either, maybe, present, same, less, cases, clash, same-true, same-refl, less-true, less-false, less-yes, less-no}
 use Rattle.lists.specs.Rows.{Row, row, look, keys, any, filter, has, Different}
 use Rattle.lists.specs.RowLaws.{length-keys}
@@ -20,6 +21,7 @@ use Rattle.spec.specs.Leaves.{versionAt}
 use Rattle.spec.specs.Slots.{Pending, Content, isIdle, Slot, entries, contentOf}
 use Rattle.spec.specs.Maps.{MapState, heldByOther, hiding, hiddenIn, hides}
 use Rattle.laws.specs.SlotCounts.{Good, tally, count, count-cons, entries-some, entries-none}
+use Rattle.laws.specs.RecordLaws.{both-left, both-right}
 use Rattle.laws.specs.SlotLaws.{keys-differ, member-content, content-member, not-idle}
 use Rattle.map.specs.Phantoms.{weigh, howMany, outsideAny, outsideIn}
 
@@ -134,15 +136,10 @@ own-quiet w c p h = (
 )
 
 both-true : (a b : Bool) → both a b ≡ true → (a ≡ true) × (b ≡ true)
-both-true true b e = (refl, e)
-both-true false b e = clash e refl
+both-true a b e = (both-left a b e, both-right a b e)
 
 both-yes : (a b : Bool) → a ≡ true → b ≡ true → both a b ≡ true
 both-yes a b p q = ap (λ (x : Bool). both x b) p ∙ q
-
-not-true : (b : Bool) → not b ≡ true → b ≡ false
-not-true true e = clash e refl
-not-true false e = refl
 
 different-filter : (p : ℕ → Bool) (ks : List ℕ) → Different ks → Different (filter p ks)
 unfolding Different filter

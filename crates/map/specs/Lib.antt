@@ -6,6 +6,7 @@ pub mod SayLaws
 pub mod FreshLaws
 pub mod Blocks
 pub mod LockLaws
+pub mod AddressCounts
 pub mod LookViews
 pub mod CurrentLaws
 pub mod RangeLaws
@@ -19,3 +20,5 @@ pub mod MergeWalks
 pub mod MergeCounts
 pub mod MergeSettles
 pub mod Merges
+pub mod NextViews
+pub mod NextLaws

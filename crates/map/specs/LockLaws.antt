@@ -1,25 +1,24 @@
 -- The laws behind lock, unlock and install: one address after the other, and the limits in the end.
 -- Assumes nothing.
-use Prim.Native.Nat.{ℕ, zero, suc, _+_, _-_, _^_, _<_, _≤_}
+use Prim.Native.Nat.{ℕ, zero, suc, _+_, _-_, _<_, _≤_}
 use native.Mathlib.Nat.{lt-of-le-of-lt}
 use native.Mathlib.Numerals.{add-one}
 use native.Mathlib.Omega.{arith}
 use mathlib.Core.Path.{_≡_, refl, sym, ap, _∙_, subst}
-use mathlib.Core.Logic.{_⊎_, inl, inr, ⊎-elim}
 use mathlib.Core.Bool.{Bool, true, false, not}
 use mathlib.Core.List.{List, [], _∷_}
 use mathlib.Core.Option.{Option, none, some}
 use lib.ListN.{length}
 use lib.Dec.{eqb}
-use Rattle.lists.specs.Tests.{pick, maybe, present, same, cases, clash, same-yes, same-no}
-use Rattle.lists.specs.Rows.{Row, row, look, keys, any}
+use Rattle.lists.specs.Tests.{pick, maybe, present, same}
+use Rattle.lists.specs.Rows.{Row, look, keys, any}
 use Rattle.lists.specs.RowLaws.{look-here}
-use Rattle.spec.specs.Records.{standard, Write, deleted}
-use Rattle.spec.specs.Slots.{slotCount, Pending, Content, isIdle, Slot, entries, contentOf, enter}
+use Rattle.spec.specs.Records.{standard, Write}
+use Rattle.spec.specs.Slots.{slotCount, Pending, Content, idle, isIdle, Slot, entries, contentOf, enter}
 use Rattle.spec.specs.Maps.{MapState, heldByOther, waitingWith, addressesWith, lockKey, unlockKey, installRow, each, withSlots, lockAll, unlockAll, installAll}
 use Rattle.laws.specs.SlotCounts.{Good}
-use Rattle.laws.specs.SlotLaws.{Room, goes, stands, fits}
-use Rattle.laws.specs.MapLaws.{Changes, LockRoom, Installable, Always, withHolder, withoutHolder, unlocked, rowKey, ident, installedAs, idle-pending, has-entry, room-old, entry-count, locking, unlocking, installing}
+use Rattle.laws.specs.SlotLaws.{Room, stands}
+use Rattle.laws.specs.MapLaws.{Changes, LockRoom, Installable, Always, withHolder, withoutHolder, installedAs, idle-pending, has-entry, room-old, entry-count, locking, unlocking, installing}
 use Rattle.laws.specs.MapBounds.{Bounded, lock-room, lock-bounded, unlock-bounded, install-bounded}
 use Rattle.indexlet.specs.declared.Content.{Content as ContentWords}
 use Rattle.indexlet.specs.Words.{contentIn, holderIn, slotsOf}
@@ -29,7 +28,7 @@ use Rattle.map.specs.declared.locks.WriteRow.{WriteRow}
 use Rattle.map.specs.Views.{Lent, mapOf, writeIn, block}
 use Rattle.map.specs.Held.{Tables, Held}
 use Rattle.map.specs.Says.{Becomes, Said}
-use Rattle.map.specs.Blocks.{Narrow, blockAt, writeOf, rest, rest-all, rest-none, rest-cons, restKeys, keys-all, keys-none, keys-cons}
+use Rattle.map.specs.Blocks.{blockAt, writeOf, rest, rest-all, rest-none, rest-cons, restKeys, keys-all, keys-none, keys-cons}
 
 -- ---- one address after the other
 
@@ -66,15 +65,23 @@ unfolding withSlots
 said-nothing {l} {z} {v} t ss e =
     record { tables = t; map = ap (withSlots (mapOf l z)) (sym e); view = sym e; records = refl; leaves = refl }
 
--- ---- lock
+-- ---- the words of a content
 
-pub locks : (c : ContentWords) (w : ℕ) → contentIn (record { kind = c .kind; value = c .value; commit = c .commit; lock = w + 1 }) ≡ withHolder w (contentIn c)
-unfolding contentIn holderIn
-locks c w = ap (λ (o : Option ℕ). record { pending = words.pendingIn (c .kind) (c .value) (c .commit); holder = o }) (ap holderIn (add-one w))
+-- the content with the lock that a word says
+unfoldable pub holding : ℕ → Content → Content
+holding lock c = record { pending = c .pending; holder = holderIn lock }
 
-pub unlocks : (c : ContentWords) → contentIn (record { kind = c .kind; value = c .value; commit = c .commit; lock = 0 }) ≡ withoutHolder (contentIn c)
-unfolding contentIn holderIn
-unlocks c = refl
+pub holding-words : (c : ContentWords) (lock : ℕ) → contentIn (record { kind = c .kind; value = c .value; commit = c .commit; lock = lock }) ≡ holding lock (contentIn c)
+unfolding contentIn holding
+holding-words c lock = refl
+
+holding-own : (c : Content) (w : ℕ) → holding (w + 1) c ≡ withHolder w c
+unfolding holding holderIn
+holding-own c w = ap (λ (o : Option ℕ). record { pending = c .pending; holder = o }) (ap holderIn (add-one w))
+
+holding-none : (c : Content) → holding 0 c ≡ withoutHolder c
+unfolding holding holderIn
+holding-none c = refl
 
 -- the worker that holds the lock is w
 unfoldable pub heldBy : ℕ → Content → Bool
@@ -114,9 +121,9 @@ module _ (ss : List Slot) (a b : ℕ) (old c : Content) (e : a ≡ b) (o : conte
   there : contentOf ss b ≡ old
   there = ap (contentOf ss) (sym e) ∙ o
 
-  pub lock-said : (w : ℕ) → c ≡ withHolder w old → enter 4 ss a c ≡ lockKey 4 w ss b
+  pub lock-said : (w : ℕ) → c ≡ holding (w + 1) old → enter 4 ss a c ≡ lockKey 4 w ss b
   unfolding lockKey
-  lock-said w q = entered-as ss e (q ∙ ap (withHolder w) (sym there))
+  lock-said w q = entered-as ss e (q ∙ holding-own old w ∙ ap (withHolder w) (sym there))
 
   unlock-picks : (w : ℕ) → unlockKey 4 w ss b ≡ pick (heldBy w old) (enter 4 ss b (withoutHolder old)) ss
   unfolding unlockKey heldBy
@@ -129,18 +136,18 @@ module _ (ss : List Slot) (a b : ℕ) (old c : Content) (e : a ≡ b) (o : conte
       go none = refl
       go (some x) = refl
 
-  pub unlock-said : (w : ℕ) → true ≡ heldBy w old → c ≡ withoutHolder old → enter 4 ss a c ≡ unlockKey 4 w ss b
+  pub unlock-said : (w : ℕ) → true ≡ heldBy w old → c ≡ holding 0 old → enter 4 ss a c ≡ unlockKey 4 w ss b
   unlock-said w t q =
-      entered-as ss e q ∙ sym (unlock-picks w ∙ ap (λ (x : Bool). pick x (enter 4 ss b (withoutHolder old)) ss) (sym t))
+      entered-as ss e (q ∙ holding-none old) ∙ sym (unlock-picks w ∙ ap (λ (x : Bool). pick x (enter 4 ss b (withoutHolder old)) ss) (sym t))
 
   pub unlock-other : (w : ℕ) → false ≡ heldBy w old → unlockKey 4 w ss b ≡ ss
   unlock-other w t = unlock-picks w ∙ ap (λ (x : Bool). pick x (enter 4 ss b (withoutHolder old)) ss) (sym t)
 
   -- an entry that loses its lock has room
-  pub unlock-room : Good 4 ss → c ≡ withoutHolder old → Room ss a c
+  pub unlock-room : Good 4 ss → c ≡ holding 0 old → Room ss a c
   unlock-room g q =
       room-old g a c
-      (λ t. ap isIdle (q ∙ ap withoutHolder (sym o)) ∙ (unfold isIdle in rw (idle-pending (contentOf ss a) t)))
+      (λ t. ap isIdle (q ∙ holding-none old ∙ ap withoutHolder (sym o)) ∙ (unfold isIdle in rw (idle-pending (contentOf ss a) t)))
 
 pub install-said : (ss : List Slot) (n : ℕ) (x : Row Write) (r : WriteRow) (c : Content) → writeOf r ≡ x → c ≡ installedAs n (writeOf r) c → enter 4 ss (r .address) c ≡ installRow 4 n ss x
 unfolding installRow writeOf
@@ -151,20 +158,34 @@ pub install-room : (ss : List Slot) (x : Row Write) (r : WriteRow) (c : Content)
 unfolding writeOf
 install-room ss x r c g e b = stands (has-entry g (r .address) (ap (λ (y : Row Write). isIdle (contentOf ss (y .key))) e ∙ b))
 
-write-gone : (k v : ℕ) → (k ≡ 1 → ⊥) → writeIn k v ≡ deleted
-unfolding writeIn
-write-gone zero v e = refl
-write-gone (suc zero) v e = absurd (e refl)
-write-gone (suc (suc k)) v e = refl
+-- the kind of the pending write that a write of this kind leaves
+unfoldable pub pendingKind : ℕ → ℕ
+pendingKind zero = 2
+pendingKind (suc zero) = 1
+pendingKind (suc (suc k)) = 2
 
-module _ (r : WriteRow) (n : ℕ) where
-  pub installs-put : r .kind ≡ 1 → contentIn (record { kind = 1; value = r .value; commit = n; lock = 0 }) ≡ record { pending = some (record { write = writeOf r .item; commit = n }); holder = none }
-  unfolding contentIn words.pendingIn holderIn writeOf writeIn
-  installs-put e = ap (λ (w : Write). record { pending = some (record { write = w; commit = n }); holder = none }) (sym (ap (λ (k : ℕ). writeIn k (r .value)) e))
+pub kind-put : (k : ℕ) → k ≡ 1 → 1 ≡ pendingKind k
+unfolding pendingKind
+kind-put k e = sym (ap pendingKind e)
 
-  pub installs-delete : (r .kind ≡ 1 → ⊥) → contentIn (record { kind = 2; value = r .value; commit = n; lock = 0 }) ≡ record { pending = some (record { write = writeOf r .item; commit = n }); holder = none }
-  unfolding contentIn words.pendingIn holderIn writeOf
-  installs-delete e = ap (λ (w : Write). record { pending = some (record { write = w; commit = n }); holder = none }) (sym (write-gone (r .kind) (r .value) e))
+pub kind-delete : (k : ℕ) → (k ≡ 1 → ⊥) → 2 ≡ pendingKind k
+unfolding pendingKind
+kind-delete zero e = refl
+kind-delete (suc zero) e = absurd (e refl)
+kind-delete (suc (suc k)) e = refl
+
+pending-write : (k v n : ℕ) → words.pendingIn (pendingKind k) v n ≡ some (record { write = writeIn k v; commit = n })
+unfolding pendingKind words.pendingIn writeIn
+pending-write zero v n = refl
+pending-write (suc zero) v n = refl
+pending-write (suc (suc k)) v n = refl
+
+pub installs : (r : WriteRow) (n k : ℕ) → k ≡ pendingKind (r .kind)
+    → contentIn (record { kind = k; value = r .value; commit = n; lock = 0 }) ≡ installedAs n (writeOf r) idle
+unfolding contentIn holderIn writeOf
+installs r n k e =
+    ap (λ (o : Option Pending). record { pending = o; holder = none })
+    (ap (λ (x : ℕ). words.pendingIn x (r .value) n) e ∙ pending-write (r .kind) (r .value) n)
 
 -- ---- the whole write set
 

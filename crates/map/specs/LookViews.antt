@@ -17,12 +17,13 @@ use Rattle.map.specs.declared.looks.Current.{Current}
 use Rattle.map.specs.declared.looks.Range.{Range}
 use Rattle.map.specs.declared.looks.Seen.{Seen}
 use Rattle.map.specs.declared.looks.Mark.{Mark}
+use Rattle.map.specs.Held.{perLeaf}
 
 -- the map of these rows and slots, with any leaves
 abbrev pub mapWith : List ℕ → ℕ → List ℕ → List Leaf → MapState
 mapWith rows n slots ls = record { records = recordsOf rows n; leaves = ls; slots = slotsOf slots }
 
--- the record, or none
+-- the record, or none (document 01: present record)
 unfoldable pub recordIn : Current → Option Record
 recordIn r = pick (r .there) (some (recordFrom (r .value) (r .commit))) none
 
@@ -62,11 +63,7 @@ pub record SeenAt (rows : List ℕ) (n : ℕ) (slots : List ℕ) (i : ℕ) (r : 
 
 -- ---- leaves
 
--- a word for each leaf
-abbrev places : ℕ
-places = 1025
-
--- the version of the leaf at place i
+-- the version of the leaf at place i (document 01: mark)
 unfoldable pub versionIn : List Leaf → ℕ → ℕ
 versionIn ls i = getD ls i firstLeaf .version
 
@@ -74,17 +71,17 @@ versionIn ls i = getD ls i firstLeaf .version
 pub record Meets (lows : List ℕ) (m lo hi : ℕ) (r : Range) : Type 0 where
   pub ordered : r .from < r .to
   pub within : r .to ≤ m
-  pub versions-are : (versions : List ℕ) (v : ℕ) → length versions ≡ places → GoodLeaves v (leavesOf lows versions m)
+  pub versions-are : (versions : List ℕ) (v : ℕ) → length versions ≡ perLeaf → GoodLeaves v (leavesOf lows versions m)
       → walk (versionIn (leavesOf lows versions m)) (r .from) (r .to - r .from) ≡ meeting (leavesOf lows versions m) lo hi
 
 -- the leaf of a stands at place p
 pub record LeafAt (lows : List ℕ) (m a p : ℕ) : Type 0 where
   pub inside : p < m
-  pub leaf-is : (versions : List ℕ) → length versions ≡ places → getD (leavesOf lows versions m) p firstLeaf ≡ leafOf (leavesOf lows versions m) a
+  pub leaf-is : (versions : List ℕ) → length versions ≡ perLeaf → getD (leavesOf lows versions m) p firstLeaf ≡ leafOf (leavesOf lows versions m) a
 
 unfoldable pub markIn : Mark → Leaf
 markIn r = record { low = r .low; version = r .version }
 
 -- r is the leaf at place i
 pub record Marks (lows versions : List ℕ) (i : ℕ) (r : Mark) : Type 0 where
-  pub leaf-is : (m : ℕ) → i < m → m ≤ places → markIn r ≡ getD (leavesOf lows versions m) i firstLeaf
+  pub leaf-is : (m : ℕ) → i < m → m ≤ perLeaf → markIn r ≡ getD (leavesOf lows versions m) i firstLeaf

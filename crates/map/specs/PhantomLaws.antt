@@ -1,24 +1,24 @@
 -- The test for phantoms on words: counting the worker's own addresses in a leaf, and what the count says.
 -- Assumes nothing.
-use Prim.Native.Nat.{ℕ, zero, suc, _+_, _*_, _-_, _^_, _<_, _≤_, zero-le, suc-le-suc}
-use native.Mathlib.Nat.{le-refl, le-trans, not-suc-le-zero}
+use Prim.Native.Nat.{ℕ, zero, suc, _+_, _*_, _-_, _<_, _≤_, zero-le}
+use native.Mathlib.Nat.{le-refl, not-suc-le-zero}
 use native.Mathlib.Omega.{arith}
 use native.Mathlib.Numerals.{add-one}
 use mathlib.Core.Path.{_≡_, refl, sym, ap, _∙_, subst}
-use mathlib.Core.Logic.{_⊎_, inl, inr, ⊎-elim}
+use mathlib.Core.Logic.{⊎-elim}
 use mathlib.Core.Bool.{Bool, true, false, not}
 use mathlib.Core.List.{List, [], _∷_, _++_, List·Memᴰ, List·Memᴰ·head, List·Memᴰ·tail}
-use mathlib.Core.Option.{Option, none, some}
+use mathlib.Core.Option.{some}
 use lib.Dec.{ltb}
 use lib.ListN.{length, take, getD}
 use lib.Seq.{length-take-le}
 use Rattle.lists.specs.Tests.{pick, both, either, present, same, less, cases, clash, same-true, same-false, same-yes, same-no}
-use Rattle.lists.specs.Rows.{Row, row, look, keys, filter, has, Rising}
+use Rattle.lists.specs.Rows.{look, keys, filter}
 use Rattle.lists.specs.RowLaws.{rising-different}
-use Rattle.spec.specs.Records.{Record, Write}
 use Rattle.spec.specs.Leaves.{Leaf, firstLeaf, leafOf, versionAt, live}
-use Rattle.spec.specs.Slots.{Pending, Content, contentOf}
-use Rattle.spec.specs.Maps.{MapState, hides}
+use Rattle.spec.specs.Slots.{Content, contentOf}
+use Rattle.spec.specs.Maps.{hides}
+use Rattle.spec.specs.Steps.{State, phantomIn}
 use Rattle.laws.specs.LeafParts.{LowsFrom, Apart, live-head, live-later}
 use Rattle.laws.specs.LeafVersions.{GoodLeaves, version-live, Standing, standing, leaf-of-low}
 use Rattle.indexlet.specs.declared.Content.{Content as ContentWords}
@@ -26,15 +26,15 @@ use Rattle.indexlet.specs.Words.{pendingIn, contentIn, slotsOf}
 use Rattle.index.specs.declared.records.Found.{Found}
 use Rattle.index.specs.declared.records.Found.the-variants.{At, Nothing}
 use Rattle.index.specs.Views.{foundOf, recordsOf, leavesOf}
-use Rattle.index.specs.LeafPlaces.{lowPlace, place-inside, Listed, AtLeaf}
+use Rattle.index.specs.LeafPlaces.{lowPlace, place-inside, AtLeaf}
 use Rattle.map.specs.declared.Sizes.{Sizes}
-use Rattle.map.specs.Phantoms.{howMany, outsideIn, versionOf}
-use Rattle.map.specs.Views.{lent, mapOf, writeIn, block, blockFrom}
+use Rattle.map.specs.Phantoms.{howMany, outsideIn}
+use Rattle.map.specs.Views.{Lent, lent, block, blockFrom}
 use Rattle.map.specs.Held.{Tables, Held}
 use Rattle.map.specs.LookViews.{LeafAt}
-use Rattle.map.specs.ScanLaws.{lows-read, length-leaves, leaf-read, leaf-found}
+use Rattle.map.specs.ScanLaws.{length-leaves, leaf-read, leaf-found}
 use Rattle.map.specs.HidingLaws.{length-filter, silentAt, Locking, hides-count, hides-none}
-use Rattle.map.specs.PhantomViews.{mapIn, HeldBut, phantomAt, Fitting, Owns, Logged, silentIn, silentOf, Counting}
+use Rattle.map.specs.PhantomViews.{mapIn, HeldBut, phantomAt, Owns, Logged, silentIn, silentOf, Counting}
 
 -- ---- one address
 
@@ -271,6 +271,16 @@ module _ (rows lows versions outside slots : List ℕ) (z : Sizes) (b : HeldBut 
         (stays w v low i at e
         ∙ hides-count (mapIn rows lows versions slots z) w v (keys (block ws n)) (tables .words .good) locking (getD outside i 0) mine (outside-there low i v at e)
         (c ∙ ap (λ (ks : List ℕ). length ks) (filter-same (silentIn rows lows slots (z .records) (z .leaves) i) (silentAt (mapIn rows lows versions slots z) v) (keys (block ws n)) (λ a. silent-same i v a (at .inside) (version-there low i v at e)))))
+
+-- all arrays hold a map
+pub held-but : {l : Lent} {z : Sizes} {v : ℕ} → Held l z v → HeldBut (l .rows) (l .lows) (l .versions) (l .outside) (l .slots) z
+held-but {l} {z} {v} h = record { pending = l .pending; version = v; held = h }
+
+-- ---- the model's test
+
+pub phantom-model : (σ : State) (w v : ℕ) → phantomIn σ w v ≡ phantomAt (σ .map) w v
+unfolding phantomIn phantomAt
+phantom-model σ w v = refl
 
 -- ---- a logged leaf
 

@@ -1,21 +1,19 @@
 -- The rows with keys in a range stand side by side, between two places; so do the leaves that meet a range.
 -- Assumes nothing.
 use Prim.Native.Nat.{ℕ, zero, suc, _+_, _-_, _<_, _≤_, zero-le, suc-le-suc}
-use native.Mathlib.Nat.{le-refl, le-trans, not-suc-le-zero}
+use native.Mathlib.Nat.{le-refl, le-trans}
 use native.Mathlib.Omega.{arith}
-use mathlib.Core.Path.{_≡_, refl, sym, ap, _∙_, subst}
-use mathlib.Core.Logic.{_⊎_, ⊎-elim}
-use mathlib.Core.Bool.{Bool, true, false}
+use mathlib.Core.Path.{_≡_, refl, sym, ap, _∙_}
+use mathlib.Core.Logic.{⊎-elim}
 use mathlib.Core.List.{List, [], _∷_, map}
-use mathlib.Core.Option.{Option, none, some}
 use lib.ListN.{length, take, drop, getD}
 use lib.Seq.{drop-cons}
-use Rattle.lists.specs.Tests.{pick, both, present, same, less, atMost, within, cases, same-true, same-false, less-true, less-false, less-yes, less-no, atMost-yes, atMost-no}
-use Rattle.lists.specs.Rows.{Row, look, between, From, Rising, filter}
-use Rattle.lists.specs.RowLaws.{look-here, look-there, look-low, from-weaken}
+use Rattle.lists.specs.Tests.{pick, present, same, less, within, cases, same-true, same-false, less-true, less-false, less-yes, less-no, atMost-yes, atMost-no}
+use Rattle.lists.specs.Rows.{Row, look, between, From, filter}
+use Rattle.lists.specs.RowLaws.{look-here, look-there, look-low}
 use Rattle.lists.specs.Places.{place}
-use Rattle.spec.specs.Leaves.{Leaf, firstLeaf, startsIn}
-use Rattle.laws.specs.LeafParts.{LowsFrom, lows-weaken}
+use Rattle.spec.specs.Leaves.{Leaf, startsIn}
+use Rattle.laws.specs.LeafParts.{LowsFrom}
 use Rattle.index.specs.LeafPlaces.{upTo}
 use Rattle.map.specs.LookViews.{walk}
 

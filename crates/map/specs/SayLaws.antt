@@ -1,34 +1,33 @@
 -- The laws behind `say`: a count over the entries changes by the address's own terms, at the leaf of the address and
 -- nowhere else.
 -- Assumes nothing.
-use Prim.Native.Nat.{ℕ, zero, suc, _+_, _-_, _^_, _<_, _≤_, zero-le, suc-le-suc}
+use Prim.Native.Nat.{ℕ, zero, suc, _+_, _-_, _^_, _<_, _≤_, zero-le}
 use native.Mathlib.Nat.{le-refl, le-trans, not-suc-le-zero, le-of-suc-le-suc}
 use native.Mathlib.Omega.{arith}
 use mathlib.Core.Path.{_≡_, refl, sym, ap, _∙_, subst}
-use mathlib.Core.Logic.{_⊎_, inl, inr, ⊎-elim}
+use mathlib.Core.Logic.{⊎-elim}
 use mathlib.Core.Bool.{Bool, true, false, not}
 use mathlib.Core.List.{List, [], _∷_, map}
 use mathlib.Core.Option.{Option, none, some}
-use lib.ListN.{length, take, getD, set, length-set}
+use lib.ListN.{length, take, getD, length-set}
 use lib.Seq.{length-take-le, getD-set-same, getD-set-other}
 use Rattle.lists.specs.Tests.{pick, both, present, same, cases, clash, same-true, same-false, same-yes, same-no}
 use Rattle.lists.specs.Rows.{Row, row, look}
-use Rattle.lists.specs.Sums.{total, total-most}
-use Rattle.spec.specs.Leaves.{Leaf, firstLeaf, leafOf, versionAt, live}
+use Rattle.lists.specs.Sums.{total-most}
+use Rattle.spec.specs.Leaves.{Leaf, firstLeaf, versionAt, live}
 use Rattle.spec.specs.Slots.{slotCount, Pending, Content, isIdle, Slot, entries, contentOf, enter}
 use Rattle.spec.specs.Maps.{MapState, withSlots}
-use Rattle.laws.specs.SlotCounts.{Good, tally, count}
+use Rattle.laws.specs.SlotCounts.{Good, tally}
 use Rattle.laws.specs.SlotChanges.{kept}
 use Rattle.laws.specs.SlotLaws.{Room}
 use Rattle.laws.specs.LeafParts.{Apart, live-head, live-later}
-use Rattle.laws.specs.LeafVersions.{GoodLeaves}
 use Rattle.laws.specs.MapLaws.{idle-pending}
 use Rattle.indexlet.specs.declared.Content.{Content as ContentWords}
 use Rattle.indexlet.specs.Words.{contentIn, slotsOf}
 use Rattle.indexlet.specs.Words as words
 use Rattle.indexlet.specs.Held as indexlet
-use Rattle.index.specs.Views.{recordsOf, leavesOf}
-use Rattle.index.specs.LeafPlaces.{Listed, AtLeaf, lowPlace}
+use Rattle.index.specs.Views.{leavesOf}
+use Rattle.index.specs.LeafPlaces.{AtLeaf, lowPlace}
 use Rattle.index.specs.LeafViews.{paired-length, paired-lows, parted, parted-leaf}
 use Rattle.map.specs.declared.Sizes.{Sizes}
 use Rattle.map.specs.declared.say.Change.{Change}

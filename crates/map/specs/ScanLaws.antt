@@ -1,30 +1,29 @@
 -- What a scan walks over, on words: the places of a range's records and of the leaves that meet it.
 -- Assumes nothing.
-use Prim.Native.Nat.{ℕ, zero, suc, _+_, _-_, _^_, _<_, _≤_, zero-le, suc-le-suc}
-use native.Mathlib.Nat.{le-refl, le-trans}
+use Prim.Native.Nat.{ℕ, suc, _+_, _-_, _^_, _<_, _≤_, zero-le, suc-le-suc}
+use native.Mathlib.Nat.{le-refl}
 use native.Mathlib.Omega.{arith}
 use mathlib.Core.Path.{_≡_, refl, sym, ap, _∙_, subst}
-use mathlib.Core.Bool.{Bool, true, false}
 use mathlib.Core.List.{List, [], _∷_, map}
-use mathlib.Core.Option.{Option, none, some}
+use mathlib.Core.Option.{Option, none}
 use lib.ListN.{length, take, drop, getD, length-map}
 use lib.Seq.{drop-cons, length-take-le, getD-take}
 use Rattle.lists.specs.Tests.{pick, present}
 use Rattle.lists.specs.Rows.{Row, row, look, between, Rising, filter}
-use Rattle.lists.specs.Places.{place, place-most, Present, Absent, look-present, look-absent}
+use Rattle.lists.specs.Places.{place, place-most, Absent, look-present, look-absent}
 use Rattle.spec.specs.Records.{Record}
 use Rattle.spec.specs.Leaves.{Leaf, firstLeaf, leafOf, versionAt, startsIn, meeting}
 use Rattle.spec.specs.Maps.{current, indexedBetween}
 use Rattle.laws.specs.LeafParts.{LowsFrom, Covers}
 use Rattle.laws.specs.LeafVersions.{GoodLeaves}
 use Rattle.index.specs.declared.rows.RecordRow.{RecordRow}
-use Rattle.index.specs.Views.{rowOf, noRow, rowsOf, recordsOf, paired, leavesOf, Held, AtPlace}
+use Rattle.index.specs.Views.{rowOf, noRow, rowsOf, recordsOf, leavesOf, Held, AtPlace}
 use Rattle.index.specs.ViewLaws.{length-records, record-read}
 use Rattle.index.specs.RecordLaws.{present-at, absent-at, absent-past}
 use Rattle.index.specs.LeafPlaces.{upTo, lowPlace, place-inside, AtLeaf}
 use Rattle.index.specs.LeafViews.{paired-length, paired-getD, paired-lows, parted, parted-leaf}
 use Rattle.map.specs.declared.looks.Current.{Current}
-use Rattle.map.specs.LookViews.{mapWith, recordIn, Sees, walk, Narrow, indexedAt, Spans, seenIn, SeenAt, versionIn, Meets, LeafAt, markIn, Marks}
+use Rattle.map.specs.LookViews.{mapWith, Sees, walk, Narrow, indexedAt, Spans, seenIn, SeenAt, versionIn, Meets, LeafAt, markIn, Marks}
 use Rattle.map.specs.RangeLaws.{walk-map, place-mono, place-next, between-places, up-mono, starts-before, starts-places}
 
 -- ---- records

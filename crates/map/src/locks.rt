@@ -5,20 +5,24 @@ use crate::Sizes;
 use crate::say;
 ghost use mathlib.Core.Path.{_≡_};
 ghost use mathlib.Core.Bool.{false};
-ghost use Prim.Native.Nat.{ℕ, _+_, _^_, _<_, _≤_};
+ghost use Prim.Native.Nat.{ℕ, _+_, _^_, _<_};
 ghost use lib.ListN.{length};
-ghost use Rattle.lists.specs.Rows.{any, keys};
+ghost use Rattle.lists.specs.Tests.{pick};
+ghost use Rattle.lists.specs.Rows.{any, keys, Rising};
 ghost use Rattle.spec.specs.Records.{standard};
 ghost use Rattle.spec.specs.Slots.{slotCount, idle, isIdle, entries, contentOf};
-ghost use Rattle.spec.specs.Maps.{heldByOther, waitingWith, addressesWith, lockKey, unlockKey, installRow, lockAll, unlockAll, installAll};
-ghost use Rattle.laws.specs.MapLaws.{Installable, withHolder, withoutHolder, installedAs};
+ghost use Rattle.spec.specs.Slots as model;
+ghost use Rattle.spec.specs.Maps.{heldByOther, lockKey, unlockKey, installRow, lockAll, unlockAll, installAll};
+ghost use Rattle.laws.specs.MapLaws.{Installable, installedAs};
 ghost use Rattle.indexlet.specs.Words.{contentIn, slotsOf};
 ghost use Rattle.indexlet.specs.Held as indexlet;
+ghost use Rattle.index.specs.Views as index;
 ghost use Rattle.map.specs.Views.{lent, mapOf, block};
 ghost use Rattle.map.specs.Held.{Tables, Held};
 ghost use Rattle.map.specs.Says.{Becomes, Said};
 ghost use Rattle.map.specs.Blocks.{Narrow, blockAt, writeOf};
-ghost use Rattle.map.specs.LockLaws.{heldBy, Lockable};
+ghost use Rattle.map.specs.LockLaws.{heldBy, holding, pendingKind, Lockable};
+ghost use Rattle.map.specs.AddressCounts.{unsaid, unknown, Waits, Addressed, Counted};
 
 // A write of a write set, in words: kind 1 is a put of the value, any other a deletion.
 struct WriteRow {
@@ -101,28 +105,15 @@ pub fn held(slots: &[u64; 1536], ws: &[u64; 48], n: usize, w: u64) -> bool
     false
 }
 
-// The content with a lock of worker w.
-fn locked(c: indexlet::Content, w: u64) -> indexlet::Content
-    requires { ⌜ w + 1 < 2 ^ 64 ⌝ }
-    ensures { λ r. ⌜ contentIn r ≡ withHolder w (contentIn c) ⌝ }
+// The content with another lock.
+fn with_lock(c: indexlet::Content, lock: u64) -> indexlet::Content
+    ensures { λ r. ⌜ contentIn r ≡ holding lock (contentIn c) ⌝ }
 {
     indexlet::Content {
         kind: c.kind,
         value: c.value,
         commit: c.commit,
-        lock: w + 1,
-    }
-}
-
-// The content without a lock.
-fn unlocked(c: indexlet::Content) -> indexlet::Content
-    ensures { λ r. ⌜ contentIn r ≡ withoutHolder (contentIn c) ⌝ }
-{
-    indexlet::Content {
-        kind: c.kind,
-        value: c.value,
-        commit: c.commit,
-        lock: 0,
+        lock,
     }
 }
 
@@ -149,7 +140,7 @@ fn lock_one(
     let a = key_at(ws, n, i);
     let found = indexlet::look_up(slots, a);
     let old = found.content;
-    let c = locked(old, w);
+    let c = with_lock(old, w + 1);
     say::say(outside, pending, slots, rows, lows, versions, z, k, a, c)
 }
 
@@ -177,26 +168,28 @@ fn unlock_one(
     let found = indexlet::look_up(slots, a);
     let old = found.content;
     if by_own(old, w) {
-        let c = unlocked(old);
+        let c = with_lock(old, 0);
         return say::say(outside, pending, slots, rows, lows, versions, z, k, a, c);
     }
     z
+}
+
+// The kind of a pending write: a put or a deletion.
+fn pending_kind(kind: u64) -> u64
+    ensures { λ r. ⌜ r ≡ pendingKind kind ⌝ }
+{
+    if kind == 1 {
+        return 1;
+    }
+    2
 }
 
 // What an installed write says of its address: it is pending under the commit number, and no lock is left.
 fn installed(r: WriteRow, number: u64) -> indexlet::Content
     ensures { λ c. ⌜ contentIn c ≡ installedAs number (writeOf r) idle ⌝ }
 {
-    if r.kind == 1 {
-        return indexlet::Content {
-            kind: 1,
-            value: r.value,
-            commit: number,
-            lock: 0,
-        };
-    }
     indexlet::Content {
-        kind: 2,
+        kind: pending_kind(r.kind),
         value: r.value,
         commit: number,
         lock: 0,
@@ -360,4 +353,83 @@ pub fn install_all(
         i += 1;
     }
     sizes
+}
+
+// 1 if the address in row i has no entry.
+fn unsaid_at(slots: &[u64; 1536], ws: &[u64; 48], n: usize, i: usize) -> usize
+    requires { ⌜ indexlet.Held (now slots) ⌝ }
+    requires { ⌜ Narrow (now ws) n ⌝ }
+    requires { ⌜ i < n ⌝ }
+    ensures { λ r. ⌜ r ≡ pick (unsaid (now (slots .entry)) (blockAt (now (ws .entry)) i .key)) 1 0 ⌝ }
+{
+    let a = key_at(ws, n, i);
+    let found = indexlet::look_up(slots, a);
+    let c = found.content;
+    if indexlet::idle(c) {
+        return 1;
+    }
+    0
+}
+
+// How many addresses are waiting or locked, those of the write set included (refusal 10); `entries` is the number of
+// entries.
+pub fn waiting_with(slots: &[u64; 1536], ws: &[u64; 48], n: usize, entries: usize) -> usize
+    requires { ⌜ indexlet.Held (now slots) ⌝ }
+    requires { ⌜ entries ≡ length (model.entries (slotsOf (now slots))) ⌝ }
+    requires { ⌜ Narrow (now ws) n ⌝ }
+    requires { ⌜ Rising (block (now ws) n) ⌝ }
+    ensures { λ r. ⌜ Waits (now (slots .entry)) (now (ws .entry)) n r ⌝ }
+{
+    let mut sum = entries;
+    let mut i = 0;
+    while i < n {
+        sum += unsaid_at(slots, ws, n, i);
+        i += 1;
+    }
+    sum
+}
+
+// 1 if the address in row i has no entry and the index lacks it.
+fn unknown_at(
+    rows: &[u64; 3072],
+    slots: &[u64; 1536],
+    ws: &[u64; 48],
+    records: usize,
+    n: usize,
+    i: usize,
+) -> usize
+    requires { ⌜ index.Held (now rows) records ⌝ }
+    requires { ⌜ indexlet.Held (now slots) ⌝ }
+    requires { ⌜ Narrow (now ws) n ⌝ }
+    requires { ⌜ i < n ⌝ }
+    ensures { λ r. ⌜ r ≡ pick (unknown (now (rows .entry)) records (now (slots .entry)) (blockAt (now (ws .entry)) i .key)) 1 0 ⌝ }
+{
+    let a = key_at(ws, n, i);
+    if say::lacks(rows, records, a) {
+        return unsaid_at(slots, ws, n, i);
+    }
+    0
+}
+
+// How many addresses the index, the indexlet and the write set have together (refusal 11).
+pub fn addresses_with(
+    rows: &[u64; 3072],
+    slots: &[u64; 1536],
+    ws: &[u64; 48],
+    n: usize,
+    z: Sizes,
+) -> usize
+    requires { ⌜ Counted (now rows) (now slots) z ⌝ }
+    requires { ⌜ Narrow (now ws) n ⌝ }
+    requires { ⌜ Rising (block (now ws) n) ⌝ }
+    ensures { λ r. ⌜ Addressed (now (rows .entry)) (now (slots .entry)) (now (ws .entry)) z n r ⌝ }
+{
+    let records = z.records;
+    let mut sum = records + z.outside;
+    let mut i = 0;
+    while i < n {
+        sum += unknown_at(rows, slots, ws, records, n, i);
+        i += 1;
+    }
+    sum
 }

@@ -7,7 +7,7 @@ use index::records::Found;
 use index::rows;
 use index::shifts;
 ghost use mathlib.Core.Path.{_≡_};
-ghost use Prim.Native.Nat.{_^_, _<_, _≤_};
+ghost use Prim.Native.Nat.{_^_, _<_, _≤_, min};
 ghost use lib.ListN.{getD};
 ghost use Rattle.lists.specs.Tests.{pick};
 ghost use Rattle.index.specs.Views.{leavesOf};
@@ -15,6 +15,7 @@ ghost use Rattle.indexlet.specs.Held as indexlet;
 ghost use Rattle.index.specs.Views as index;
 ghost use Rattle.index.specs.LeafPlaces.{Listed};
 ghost use Rattle.map.specs.LookViews.{Sees, Narrow, Spans, SeenAt, Meets, LeafAt, Marks};
+ghost use Rattle.map.specs.NextViews.{IndexFrom, Nearer, SlotFrom, Follows, Numbers};
 ghost use Rattle.map.specs.PhantomViews.{mapIn, HeldBut, phantomAt, Fitting, Owns, Logged, silentIn, silentOf};
 
 // A current record, or none there.
@@ -40,6 +41,16 @@ pub struct Seen {
 pub struct Mark {
     pub version: u64,
     pub low: Address,
+}
+
+// The next record of the contents.
+pub enum Next {
+    At {
+        address: Address,
+        value: u64,
+        commit: u64,
+    },
+    Done,
 }
 
 // The current record of an address: what a pending write leaves there, else what the index has.
@@ -237,4 +248,118 @@ pub fn phantom(
     }
     let own = silent_of(rows, lows, slots, ws, z.records, z.leaves, i, n);
     (own as u64) < out
+}
+
+// The first address of the index from an address on, or 2 to the 32 if there is none.
+fn index_from(rows: &[u64; 3072], n: usize, from: Address) -> u64
+    requires { ⌜ index.Held (now rows) n ⌝ }
+    ensures { λ r. ⌜ IndexFrom (now (rows .entry)) n from r ⌝ }
+{
+    let p = records::locate(rows, n, from);
+    if n <= p {
+        return 4294967296;
+    }
+    let r = rows::get(rows, p);
+    r.address
+}
+
+// The key of a slot with an entry, if it lies from `from` on and below `best`; else `best`.
+fn nearer(s: indexlet::Slot, from: u64, best: u64) -> u64
+    ensures { λ r. ⌜ Nearer s from best r ⌝ }
+{
+    let c = s.content;
+    if indexlet::idle(c) {
+        return best;
+    }
+    if s.key < from {
+        return best;
+    }
+    if best <= s.key {
+        return best;
+    }
+    s.key
+}
+
+// The first address from an address on of which the indexlet says something, or 2 to the 32 if there is none.
+fn slot_from(slots: &[u64; 1536], from: Address) -> u64
+    requires { ⌜ indexlet.Held (now slots) ⌝ }
+    ensures { λ r. ⌜ SlotFrom (now (slots .entry)) from r ⌝ }
+{
+    let low = from as u64;
+    let mut best = 4294967296;
+    let mut i = 0;
+    while i < 256 {
+        let s = indexlet::slot_at(slots, i);
+        best = nearer(s, low, best);
+        i += 1;
+    }
+    best
+}
+
+fn least(a: u64, b: u64) -> u64
+    ensures { λ r. ⌜ r ≡ min a b ⌝ }
+{
+    if a < b {
+        return a;
+    }
+    b
+}
+
+// The first record of the contents from an address on. Candidates are the addresses of the index and of the indexlet;
+// one that has no current record is passed over.
+pub fn next_record(rows: &[u64; 3072], slots: &[u64; 1536], n: usize, from: u64) -> Next
+    requires { ⌜ index.Held (now rows) n ⌝ }
+    requires { ⌜ Narrow (now rows) n ⌝ }
+    requires { ⌜ indexlet.Held (now slots) ⌝ }
+    ensures { λ r. ⌜ Follows (now (rows .entry)) n (now (slots .entry)) from r ⌝ }
+{
+    let mut at = from;
+    while at < 4294967296 {
+        let here = at as Address;
+        let a = index_from(rows, n, here);
+        let b = slot_from(slots, here);
+        let c = least(a, b);
+        if 4294967296 <= c {
+            return Next::Done;
+        }
+        let address = c as Address;
+        let r = current_record(rows, slots, n, address);
+        if r.there {
+            return Next::At {
+                address,
+                value: r.value,
+                commit: r.commit,
+            };
+        }
+        at = c + 1;
+    }
+    Next::Done
+}
+
+// How many records the contents have.
+pub fn count_records(rows: &[u64; 3072], slots: &[u64; 1536], n: usize) -> usize
+    requires { ⌜ index.Held (now rows) n ⌝ }
+    requires { ⌜ Narrow (now rows) n ⌝ }
+    requires { ⌜ indexlet.Held (now slots) ⌝ }
+    ensures { λ r. ⌜ Numbers (now (rows .entry)) n (now (slots .entry)) r ⌝ }
+{
+    let mut at: u64 = 0;
+    let mut count = 0;
+    while at < 4294967296 {
+        let next = next_record(rows, slots, n, at);
+        match next {
+            Next::At {
+                address,
+                value: _,
+                commit: _,
+            } => {
+                count += 1;
+                at = address as u64 + 1;
+            }
+            Next::Done => {
+                return count;
+            }
+        }
+    }
+    count
 }

@@ -1,13 +1,14 @@
--- `map::locks::installed` meets its contract: by the kind of the write. Assumes nothing.
-use Rattle.map.specs.LockLaws.{installs-put, installs-delete}
+-- `map::locks::installed` meets its contract: the kind, value and number of the write, and no lock. Assumes nothing.
+use borrow.Author.Needs.{needs}
+use Rattle.map.specs.LockLaws.{installs}
 use Rattle.map.proofs.locks.installed.Statement.{statement}
 use Rattle.map.proofs.locks.installed.Tie as tie
 
-returns : tie.Need-returns
-returns c = installs-put (c .before .before .args .r) (c .before .before .args .number) (c .if1 .taken)
+pending-kind-requires : tie.Need-pending-kind-requires
+pending-kind-requires c κs = search needs
 
-returns-2 : tie.Need-returns-2
-returns-2 c = installs-delete (c .before .before .args .r) (c .before .before .args .number) (c .if1 .left)
+returns : tie.Need-returns
+returns c = installs (c .before .args .r) (c .before .args .number) _ (c .pending-kind .ensures)
 
 pub installed-spec : {M : Type 1} → statement M
-installed-spec = tie.close (tie.spec returns returns-2)
+installed-spec = tie.close (tie.spec pending-kind-requires returns)

@@ -11,15 +11,25 @@ key-at-requires c κs = search needs
 look-up-requires : tie.Need-look-up-requires
 look-up-requires c κs = search needs
 
-locked-requires : tie.Need-locked-requires
-locked-requires c κs = search needs
+add-with-lock : tie.Need-add-with-lock
+add-with-lock c = search needs
+
+with-lock-requires : tie.Need-with-lock-requires
+with-lock-requires c κs = search needs
 
 say-requires : tie.Need-say-requires
 say-requires c κs = let s = c .before .before .before .before .before .before .before .before in (s .pre .0, fits (s .pre .1 .1 .2))
 
 returns : tie.Need-returns
-returns c = let s = c .before .before .before .before .before .before .before .before .before in said-as (c .say .ensures) (lock-said _ _ _ _ _ (c .before .before .before .before .before .before .before .before .key-at .ensures) (c .before .before .before .before .before .before .look-up .ensures .content) (s .args .w) (c .before .before .before .before .locked .ensures))
+returns c = let s = c .before .before .before .before .before .before .before .before .before in said-as (c .say .ensures) (lock-said _ _ _ _ _ (c .before .before .before .before .before .before .before .before .key-at .ensures) (c .before .before .before .before .before .before .look-up .ensures .content) (s .args .w) (c .before .before .before .before .with-lock .ensures))
 
 pub lock-one-spec : {M : Type 1} → statement M
 lock-one-spec =
-    tie.close (tie.spec key-at-requires look-up-requires locked-requires say-requires returns)
+    tie.close
+    (tie.spec
+    key-at-requires
+    look-up-requires
+    add-with-lock
+    with-lock-requires
+    say-requires
+    returns)

@@ -8,3 +8,4 @@ pub mod Finishing
 pub mod Keeping
 pub mod Currents
 pub mod Validating
+pub mod LoggedVersions

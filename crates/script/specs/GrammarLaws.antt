@@ -1,18 +1,18 @@
 -- What one more byte of a line makes of what the line says.
 -- Assumes nothing.
-use Prim.Native.Nat.{ℕ, suc, _+_, _-_, _*_, _^_, _<_, _≤_}
+use Prim.Native.Nat.{ℕ, _+_, _-_, _*_, _^_, _<_, _≤_}
 use native.Mathlib.Omega.{arith}
 use mathlib.Core.Path.{_≡_, refl, sym, ap, _∙_}
-use mathlib.Core.Logic.{_⊎_, inl, inr, ⊎-elim}
+use mathlib.Core.Logic.{⊎-elim}
 use mathlib.Core.Bool.{Bool, true, false}
 use mathlib.Core.List.{List, [], _∷_, _++_}
 use mathlib.Core.Option.{Option, none, some}
-use Rattle.lists.specs.Tests.{pick, both, maybe, same, less, within, atMost, cases, clash, same-yes, same-no, same-true, same-false, same-refl, less-no, atMost-yes, atMost-no, atMost-true, atMost-false}
+use Rattle.lists.specs.Tests.{pick, both, maybe, same, less, within, atMost, cases, clash, same-no, same-refl, less-no, atMost-yes, atMost-no, atMost-true}
 use lib.Seq.{append-snoc}
 use Rattle.script.specs.declared.Line.{Line}
 use Rattle.script.specs.declared.Fields.{Fields}
 use Rattle.script.specs.declared.Fields.the-variants.{None, One, Two}
-use Rattle.script.specs.Grammar.{firstWord, moreWords, isDigit, extend, number, numbers, oneNumber, twoNumbers, threeNumbers, lineOf, lettered, meaning}
+use Rattle.script.specs.Grammar.{firstWord, moreWords, isDigit, extend, number, numbers, threeNumbers, lineOf, lettered, meaning}
 use Rattle.script.specs.Parsing.{values, numberOn, fieldsOn, letterOn}
 
 -- ---- bytes

@@ -2,18 +2,16 @@
 -- Assumes nothing.
 use Prim.Native.Nat.{ℕ, _^_, _<_, _≤_}
 use mathlib.Core.Path.{_≡_, refl, sym, ap, _∙_}
-use mathlib.Core.Logic.{⊎-elim}
 use mathlib.Core.Bool.{Bool, true, false}
-use mathlib.Core.List.{List, [], _∷_, _++_}
+use mathlib.Core.List.{[], _∷_, _++_}
 use mathlib.Core.Option.{Option, none, some}
-use Rattle.lists.specs.Tests.{pick, both, same, less, cases, same-no, less-yes, less-no}
+use Rattle.lists.specs.Tests.{pick, both, same, less, same-no, less-yes, less-no}
 use Rattle.script.specs.declared.Line.{Line}
 use Rattle.script.specs.declared.Fields.{Fields}
-use Rattle.script.specs.declared.Event.{Event}
 use Rattle.script.specs.declared.Event.the-variants as event
 use Rattle.script.specs.Grammar.{oneNumber, twoNumbers, threeNumbers, lineOf}
 use Rattle.script.specs.Parsing.{values}
-use Rattle.script.specs.ParsingLaws.{told}
+use Rattle.script.specs.Turns.{told}
 
 -- ---- one number
 

@@ -1,7 +1,10 @@
 pub mod Grammar
 pub mod Parsing
 pub mod GrammarLaws
-pub mod ParsingLaws
+pub mod Turns
+pub mod TurnLaws
 pub mod LetterLaws
 pub mod Output
 pub mod OutputLaws
+pub mod Examples
+pub mod LineLaws

@@ -2,9 +2,8 @@
 -- Assumes nothing.
 use Prim.Native.Nat.{ℕ, zero, suc, _+_, _/_, _%_, _≤_}
 use mathlib.Core.Path.{_≡_}
-use mathlib.Core.Bool.{Bool, true, false}
 use mathlib.Core.List.{List, [], _∷_, _++_}
-use mathlib.Core.Option.{Option, none, some}
+use mathlib.Core.Option.{none, some}
 use lib.ListN.{length}
 use lib.Seq.{sets}
 use Rattle.lists.specs.Tests.{pick, less}
@@ -42,6 +41,7 @@ pair k v = field k ++ field v
 
 -- ---- lines
 
+-- the letter of a line
 abbrev pub letterOf : Line → ℕ
 letterOf (Begin w) = 66
 letterOf (Read w k) = 82
@@ -71,6 +71,12 @@ stepOf places (Merge k) = merge k
 unfoldable pub pairs : {A : Type 0} → (A → ℕ) → List (Row A) → List ℕ
 pairs v [] = []
 pairs v (r ∷ rs) = pair (r .key) (v (r .item)) ++ pairs v rs
+
+-- addresses and values side by side
+unfoldable pub pairsOf : List ℕ → List ℕ → List ℕ
+pairsOf [] vs = []
+pairsOf (k ∷ ks) [] = []
+pairsOf (k ∷ ks) (v ∷ vs) = pair k v ++ pairsOf ks vs
 
 -- the answer number, 0 if granted, and what a granted step adds
 unfoldable pub answerText : Answer → List ℕ

@@ -1,17 +1,23 @@
 -- Decimal digits, how many there are, and texts one after the other.
 -- Assumes nothing.
-use Prim.Native.Nat.{ℕ, zero, suc, _+_, _-_, _*_, _/_, _%_, _^_, _<_, _≤_, zero-le, suc-le-suc}
+use Prim.Native.Nat.{ℕ, zero, suc, _+_, _-_, _*_, _/_, _%_, _^_, _<_, _≤_}
 use native.Mathlib.Nat.{le-refl, pow-suc}
 use native.Mathlib.Numerals.{add-one}
 use native.Mathlib.Omega.{arith}
 use mathlib.Core.Path.{_≡_, refl, sym, ap, _∙_, subst}
-use mathlib.Core.Logic.{_⊎_, inl, inr, ⊎-elim}
-use mathlib.Core.Bool.{Bool, true, false}
-use mathlib.Core.List.{List, [], _∷_, _++_, append-assoc, append-nil}
-use lib.ListN.{length, set, length-append, length-set}
-use lib.Seq.{sets, length-sets, set-comm, append-snoc}
+use mathlib.Core.Logic.{⊎-elim}
+use mathlib.Core.List.{List, [], _∷_, _++_, map, append-assoc, append-nil}
+use mathlib.Core.Option.{none, some}
+use lib.ListN.{length, getD, take, set, length-append}
+use lib.Seq.{sets, length-sets, set-comm, append-snoc, take-suc, length-take-le}
 use Rattle.lists.specs.Tests.{pick, less, cases, less-yes, less-no, less-true, less-false}
-use Rattle.script.specs.Output.{digitsWithin, decimal, field, Wrote}
+use Rattle.lists.specs.Rows.{Row, keys}
+use Rattle.spec.specs.declared.Refusal.{Refusal}
+use Rattle.spec.specs.Refusals.{numberOf}
+use Rattle.spec.specs.Records.{Payload}
+use Rattle.spec.specs.Steps.{refused, done, found, listed, numbered, counted}
+use Rattle.script.specs.declared.Line.{Line}
+use Rattle.script.specs.Output.{digitsWithin, decimal, field, absent, pair, pairs, pairsOf, letterOf, answerText, answerLine, Wrote}
 
 -- ---- the equations that a reader expects
 
@@ -215,3 +221,87 @@ wrote-byte l at b h = record { written = refl; within = omega arith; place = ref
 pub field-most : (n : ℕ) → n < 2 ^ 64 → length (field n) ≤ 21
 unfolding field
 field-most n h = let e : length (decimal n) ≤ 20 = decimal-word n h in omega arith
+
+-- ---- pairs
+
+pub pair-most : (k v : ℕ) → k < 2 ^ 64 → v < 2 ^ 64 → length (pair k v) ≤ 42
+unfolding pair
+pair-most k v h g =
+    let e : length (field k ++ field v) ≡ length (field k) + length (field v) = length-append (field k) (field v) in
+    omega (arith, field-most k h, field-most v g)
+
+-- the pairs of rows are those of their keys and values
+pub pairs-rows : {A : Type 0} (v : A → ℕ) (rs : List (Row A)) → pairsOf (keys rs) (map (λ (r : Row A). v (r .item)) rs) ≡ pairs v rs
+unfolding pairsOf keys pairs
+pairs-rows v [] = refl
+pairs-rows v (r ∷ rs) = ap (λ (x : List ℕ). pair (r .key) (v (r .item)) ++ x) (pairs-rows v rs)
+
+pairs-snoc : (ks vs : List ℕ) (k v : ℕ) → length ks ≡ length vs → pairsOf (ks ++ (k ∷ [])) (vs ++ (v ∷ [])) ≡ pairsOf ks vs ++ pair k v
+unfolding pairsOf
+pairs-snoc [] [] k v e = append-nil (pair k v)
+pairs-snoc [] (y ∷ vs) k v e = absurd (omega arith)
+pairs-snoc (x ∷ ks) [] k v e = absurd (omega arith)
+pairs-snoc (x ∷ ks) (y ∷ vs) k v e =
+    ap (λ (l : List ℕ). pair x y ++ l) (pairs-snoc ks vs k v (omega arith))
+    ∙ sym (append-assoc (pair x y) (pairsOf ks vs) (pair k v))
+
+-- one pair more
+pairs-more : (ks vs : List ℕ) (i : ℕ) → i < length ks → i < length vs
+    → pairsOf (take (i + 1) ks) (take (i + 1) vs) ≡ pairsOf (take i ks) (take i vs) ++ pair (getD ks i 0) (getD vs i 0)
+pairs-more ks vs i h g =
+    rw (add-one, take-suc ks i 0 h, take-suc vs i 0 g)
+    (pairs-snoc (take i ks) (take i vs) (getD ks i 0) (getD vs i 0) (length-take-le i ks (omega arith) ∙ sym (length-take-le i vs (omega arith))))
+
+-- the first i pairs are written
+pub record Pairing (ks vs old : List ℕ) (at : ℕ) (new : List ℕ) (next i : ℕ) : Type 0 where
+  pub wrote : Wrote old at (pairsOf (take i ks) (take i vs)) new next
+  pub most : next ≤ at + 42 * i
+
+pub pairing-none : (ks vs l : List ℕ) (at : ℕ) → at ≤ length l → Pairing ks vs l at l at 0
+unfolding pairsOf
+pairing-none ks vs l at h = record { wrote = record { written = refl; within = omega arith; place = omega arith }; most = omega arith }
+
+pub pairing-on : {ks vs l m n : List ℕ} {at j k : ℕ} (i : ℕ) → Pairing ks vs l at m j i → i < length ks → i < length vs
+    → getD ks i 0 < 2 ^ 64 → getD vs i 0 < 2 ^ 64 → Wrote m j (pair (getD ks i 0) (getD vs i 0)) n k → Pairing ks vs l at n k (i + 1)
+pairing-on {ks} {vs} {l} {m} {n} {at} {j} {k} i p h g a b w =
+    record {
+      wrote = rw (pairs-more ks vs i h g) (wrote-join (p .wrote) w);
+      most = let q = p .most in let e = w .place in omega (arith, pair-most (getD ks i 0) (getD vs i 0) a b);
+    }
+
+pub pairing-end : {ks vs l m : List ℕ} {at j : ℕ} (i n : ℕ) → Pairing ks vs l at m j i → i ≤ n → n ≤ i → Wrote l at (pairsOf (take n ks) (take n vs)) m j
+pairing-end {ks} {vs} {l} {m} {at} {j} i n p h g =
+    let e : i ≡ n = omega arith in
+    subst (λ (x : ℕ). Wrote l at (pairsOf (take x ks) (take x vs)) m j) e (p .wrote)
+
+-- ---- a line by its answer, as the functions write it
+
+pub line-refused : (l : Line) (r : Refusal) → answerLine l (refused r) ≡ (letterOf l ∷ field (numberOf r)) ++ (10 ∷ [])
+unfolding answerLine answerText
+line-refused l r = refl
+
+pub line-done : (l : Line) → answerLine l done ≡ (letterOf l ∷ field 0) ++ (10 ∷ [])
+unfolding answerLine answerText
+line-done l = refl
+
+pub line-absent : (l : Line) → answerLine l (found none) ≡ (letterOf l ∷ field 0) ++ absent ++ (10 ∷ [])
+unfolding answerLine answerText
+line-absent l = refl
+
+pub line-found : (l : Line) (p : Payload) → answerLine l (found (some p)) ≡ (letterOf l ∷ field 0) ++ field (p .value) ++ (10 ∷ [])
+unfolding answerLine answerText
+line-found l p = refl
+
+pub line-numbered : (l : Line) (n : ℕ) → answerLine l (numbered n) ≡ (letterOf l ∷ field 0) ++ field n ++ (10 ∷ [])
+unfolding answerLine answerText
+line-numbered l n = refl
+
+pub line-counted : (l : Line) (n : ℕ) → answerLine l (counted n) ≡ (letterOf l ∷ field 0) ++ field n ++ (10 ∷ [])
+unfolding answerLine answerText
+line-counted l n = refl
+
+pub line-listed : (l : Line) (rs : List (Row Payload))
+    → answerLine l (listed rs) ≡ (letterOf l ∷ field 0) ++ field (length rs) ++ pairsOf (keys rs) (map (λ (r : Row Payload). r .item .value) rs) ++ (10 ∷ [])
+unfolding answerLine answerText
+line-listed l rs =
+    ap (λ (x : List ℕ). (letterOf l ∷ field 0) ++ field (length rs) ++ x ++ (10 ∷ [])) (sym (pairs-rows (λ (p : Payload). p .value) rs))

@@ -1,4 +1,5 @@
--- The parser: what it is after the bytes of a line so far, and what a call of it tells.
+-- The parser: what it is after the bytes of a line so far, and what a call of it tells. What a reader has to believe of
+-- reading is `Reads`, with `Says`; how the parser keeps what it knows (`continued`) only ties one call to the next.
 -- Assumes nothing.
 use Prim.Native.Nat.{ℕ, _+_}
 use mathlib.Core.Path.{_≡_}
@@ -7,7 +8,7 @@ use mathlib.Core.Bool.{Bool, true, false}
 use mathlib.Core.List.{List, [], _∷_, _++_}
 use mathlib.Core.Option.{Option, none, some}
 use lib.ListN.{length, drop}
-use Rattle.lists.specs.Tests.{pick, either, maybe, same}
+use Rattle.lists.specs.Tests.{pick, maybe, same}
 use Rattle.lists.specs.Rows.{has}
 use Rattle.script.specs.declared.Line.{Line}
 use Rattle.script.specs.declared.Fields.{Fields}
@@ -17,11 +18,11 @@ use Rattle.script.specs.declared.Parser.the-variants.{Start, Letter, Fie
 use Rattle.script.specs.declared.Event.{Event}
 use Rattle.script.specs.declared.Event.the-variants as event
 use Rattle.script.specs.declared.Parsed.{Parsed}
-use Rattle.script.specs.declared.Run.{Run}
-use Rattle.script.specs.Grammar.{firstWord, moreWords, isDigit, extend, numbers, lineOf, meaning}
+use Rattle.script.specs.Grammar.{firstWord, moreWords, extend, numbers, lineOf, meaning}
 
 -- ---- what the line says whose first bytes the parser has read, if the given bytes are the rest of it
 
+-- the numbers before the current one
 abbrev pub values : Fields → List ℕ
 values None = []
 values (One a) = a ∷ []
@@ -33,15 +34,18 @@ numberOn true n w = extend n w
 numberOn false n [] = none
 numberOn false n (b ∷ w) = extend n (b ∷ w)
 
+-- a letter, the numbers ns before the current one, and the current one begun
 unfoldable pub fieldsOn : ℕ → List ℕ → Bool → ℕ → List ℕ → Option Line
 fieldsOn c ns d n l =
     maybe (numberOn d n (firstWord l)) none
     (λ (m : ℕ). maybe (numbers (moreWords l)) none (λ (ms : List ℕ). lineOf c (ns ++ (m ∷ ms))))
 
+-- a letter
 unfoldable pub letterOn : ℕ → List ℕ → Option Line
 letterOn c [] = none
 letterOn c (b ∷ l) = pick (same b 32) (fieldsOn c [] false 0 l) none
 
+-- any parser
 unfoldable pub continued : Parser → List ℕ → Option Line
 continued Start l = meaning l
 continued (Letter c) l = letterOn c l
@@ -49,11 +53,13 @@ continued (Field c ns d n) l = fieldsOn c (values ns) d n l
 
 -- ---- what is promised
 
+-- something of the line has been read
 abbrev pub started : Parser → Bool
 started Start = false
 started (Letter c) = true
 started (Field c ns d n) = true
 
+-- the list is not empty
 abbrev pub filled : List ℕ → Bool
 filled [] = false
 filled (b ∷ bs) = true
@@ -84,7 +90,8 @@ Says event.Malformed p bs =
     × (p ≡ Start)
 Says event.Ended p bs = After bs p
 
--- r is what reading s from a place on tells, after the bytes seen of the current line: the slice is read up to an event
+-- r is what reading s from a place on tells, after the bytes seen of the current line: what the bytes taken say, and that
+-- none is left at the slice's end
 pub record Reads (seen s : List ℕ) (from : ℕ) (r : Parsed) : Type 0 where
   pub taken : List ℕ
   pub cut : Cut s from taken (r .next)

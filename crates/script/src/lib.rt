@@ -9,8 +9,8 @@ ghost use Prim.Native.Nat.{ℕ, _+_, _*_, _^_, _<_};
 ghost use lib.ListN.{length};
 ghost use Rattle.lists.specs.Tests.{less};
 ghost use Rattle.script.specs.Grammar.{lineOf};
-ghost use Rattle.script.specs.Parsing.{values, started, filled, After, Reads};
-ghost use Rattle.script.specs.ParsingLaws.{Tells, Turns, Digits, told};
+ghost use Rattle.script.specs.Parsing.{values, filled, After, Reads};
+ghost use Rattle.script.specs.Turns.{Tells, Turns, Digits, told};
 
 // A line of a script, with its numbers.
 pub enum Line {
@@ -33,8 +33,8 @@ pub enum Fields {
     Two(u64, u64),
 }
 
-// What is kept of the current line: nothing is read; the letter is; or a space after it, and the current number so far,
-// if it has a digit yet.
+// What is kept of the current line: nothing is read; or the letter; or also a space, and of the current number whether it
+// has a digit yet, and its value so far.
 pub enum Parser {
     Start,
     Letter(u8),
@@ -46,18 +46,21 @@ pub enum Parser {
     },
 }
 
+// What reading came to: a line; a malformed line; or the slice's end.
 pub enum Event {
     Line(Line),
     Malformed,
     Ended,
 }
 
+// The parser to go on with, the place after the last byte read, and what reading came to.
 pub struct Parsed {
     pub parser: Parser,
     pub next: usize,
     pub event: Event,
 }
 
+// A run of digits: the place after it, whether the number has a digit, and its value.
 struct Run {
     next: usize,
     digit: bool,

@@ -1,11 +1,11 @@
 // The text of answers, put into lent bytes at a place. Each function answers the place after its text, and asks room for
 // the longest text that it can write: 20 bytes for a number.
 ghost use mathlib.Core.Path.{_≡_};
-ghost use mathlib.Core.List.{[], _∷_};
-ghost use Prim.Native.Nat.{_+_, _≤_, _<_};
-ghost use lib.ListN.{length};
+ghost use mathlib.Core.List.{[], _∷_, _++_};
+ghost use Prim.Native.Nat.{_+_, _*_, _≤_, _<_};
+ghost use lib.ListN.{length, take};
 ghost use lib.Seq.{sets};
-ghost use Rattle.script.specs.Output.{decimal, field as Output·field, absent, pair, malformedLine, Wrote};
+ghost use Rattle.script.specs.Output.{decimal, field as Output·field, absent, pair, pairsOf, malformedLine, Wrote};
 ghost use Rattle.script.specs.OutputLaws.{lastDigits};
 
 // How many digits a number has.
@@ -88,6 +88,40 @@ pub fn put_pair(out: &mut [u8], at: usize, address: u64, value: u64) -> usize
 {
     let next = put_field(out, at, address);
     put_field(out, next, value)
+}
+
+// The first n addresses and values.
+pub fn put_pairs(out: &mut [u8], at: usize, addresses: &[u32], values: &[u64], n: usize) -> usize
+    requires { ⌜ (n ≤ length (now addresses)) × (n ≤ length (now values)) ⌝ }
+    requires { ⌜ at + 42 * n ≤ length (now out) ⌝ }
+    ensures { λ r. ⌜ Wrote (now (out .entry)) at (pairsOf (take n (now (addresses .entry))) (take n (now (values .entry)))) (now (out .exit)) r ⌝ }
+{
+    let mut next = at;
+    let mut i = 0;
+    while i < n {
+        next = put_pair(out, next, addresses[i] as u64, values[i]);
+        i += 1;
+    }
+    next
+}
+
+// A whole line with nothing but the answer number: a refused step, or a granted one that adds nothing.
+pub fn put_line(out: &mut [u8], at: usize, letter: u8, number: u64) -> usize
+    requires { ⌜ at + 23 ≤ length (now out) ⌝ }
+    ensures { λ r. ⌜ Wrote (now (out .entry)) at ((letter ∷ Output·field number) ++ (10 ∷ [])) (now (out .exit)) r ⌝ }
+{
+    let next = put_answer(out, at, letter, number);
+    put_byte(out, next, b'\n')
+}
+
+// A whole line of a granted step that adds a number: a read's value, a validation's number, a merge's count.
+pub fn put_granted_line(out: &mut [u8], at: usize, letter: u8, n: u64) -> usize
+    requires { ⌜ at + 44 ≤ length (now out) ⌝ }
+    ensures { λ r. ⌜ Wrote (now (out .entry)) at ((letter ∷ Output·field 0 ++ Output·field n) ++ (10 ∷ [])) (now (out .exit)) r ⌝ }
+{
+    let next = put_answer(out, at, letter, 0);
+    let last = put_field(out, next, n);
+    put_byte(out, last, b'\n')
 }
 
 // What is written after a malformed line.

@@ -7,9 +7,9 @@ use mathlib.Core.Logic.{_⊎_}
 use mathlib.Core.Bool.{Bool, true, false, not}
 use mathlib.Core.List.{List, [], _∷_}
 use mathlib.Core.Option.{Option, none, some}
-use lib.ListN.{length, getD}
+use lib.ListN.{length}
 use Rattle.lists.specs.Tests.{both, maybe, present, less, less-yes, less-no}
-use Rattle.lists.specs.Rows.{Row, look, any}
+use Rattle.lists.specs.Rows.{look, any}
 use Rattle.spec.specs.declared.Refusal.{Refusal}
 use Rattle.spec.specs.declared.Refusal.the-variants.{WritesFull}
 use Rattle.spec.specs.Refusals.{ends}
@@ -19,7 +19,7 @@ use Rattle.spec.specs.Steps.{State, Step, put, remove, Answer, done, isOpen, wo
 use Rattle.laws.specs.WorkerLaws.{mild-cause}
 use Rattle.sets.specs.declared.workers.Worker.{Worker}
 use Rattle.sets.specs.declared.writes.Found.{Found}
-use Rattle.sets.specs.Workers.{workerIn, freed, withWrites}
+use Rattle.sets.specs.Workers.{workerIn, withWrites}
 use Rattle.sets.specs.WorkerLaws.{write-in}
 use Rattle.sets.specs.Writes.{writeOf, foundIn, writesIn, PutsWrite}
 use Rattle.sets.specs.WriteRows.{length-writes}
@@ -30,10 +30,10 @@ use Rattle.transactions.specs.declared.begins.Plain.the-variants.{Grante
 use Rattle.transactions.specs.declared.begins.Done.{Done}
 use Rattle.transactions.specs.Answering.{Comes, comes-granted, cause-holds, cause-fails, front, front-first}
 use Rattle.transactions.specs.Admits.{Turned, Entered}
-use Rattle.transactions.specs.Views.{Logs, logs, seatIn, stateOf, withSeat, OthersSame, state-with, worker-at}
-use Rattle.transactions.specs.Ready.{seat, Within, Ready, Goes, goes, goes-refused}
+use Rattle.transactions.specs.Views.{Logs, logs, stateOf, withSeat, state-with}
+use Rattle.transactions.specs.Ready.{Within, Ready, Goes, goes, goes-refused}
 use Rattle.transactions.specs.Begins.{plainIn}
-use Rattle.transactions.specs.SeatLaws.{stored-seat}
+use Rattle.transactions.specs.SeatLaws.{seated, within, stored-seat}
 
 -- the step that gives worker w this write
 abbrev pub editing : ℕ → ℕ → Write → Step
@@ -104,20 +104,12 @@ edit-refused ws c w a e r t =
 -- ---- the worker in the open stage
 
 module _ (l : Lent) (g : Logs) (c : Core) (w : ℕ) (x : Worker) (k : Ready l g c) (t : Entered isOpen (c .seats) w x) where
-  pub seated : workerOf (stateOf l g c) w ≡ seatIn g x w
-  seated =
-      worker-at l g c w (subst (λ (n : ℕ). w < n) (sym (k .stored .seats)) (t .inside))
-      ∙ ap (λ (y : Worker). seatIn g y w) (sym (t .is))
-
-  pub within : Within x
-  within = subst Within (sym (t .is)) (k .stored .counts w (t .inside))
-
   full-is : (a : ℕ) → writesFull (stateOf l g c) w a ≡ fullAt (g .writes) w (x .writes) a
   unfolding writesFull ownWrite workerIn stateOf
   full-is a =
-      ap (λ (y : model.Worker). both (not (present (look (y .writes) a))) (not (less (length (y .writes)) 16))) seated
+      ap (λ (y : model.Worker). both (not (present (look (y .writes) a))) (not (less (length (y .writes)) 16))) (seated isOpen l g c w x k t)
       ∙ ap (λ (n : ℕ). both (not (present (look (writesIn (g .writes) w (x .writes)) a))) (not (less n 16)))
-      (length-writes (g .writes) w (x .writes) (within .writes))
+      (length-writes (g .writes) w (x .writes) (within isOpen l g c w x k t .writes))
 
   refusal-is : (a : ℕ) (e : Write) (b : Bool) → b ≡ fullAt (g .writes) w (x .writes) a
       → refusal (stateOf l g c) (editing w a e) ≡ firstCause (cause b WritesFull ∷ [])
@@ -161,10 +153,10 @@ edit-granted ws us c w a kind value x b n t q f p =
           goes k d
           (state-with l (logs rs ls ws) (logs rs ls us) c w (withWrites x n)
           (record { reads = λ v m d. refl; leaves = λ v m d. refl; writes = p .others })
-          ∙ ap (withWorker σ w) (write-in x rs ls ws us w n a kind value p ∙ ap (writing a e) (sym (seated l (logs rs ls ws) c w x k t)))
+          ∙ ap (withWorker σ w) (write-in x rs ls ws us w n a kind value p ∙ ap (writing a e) (sym (seated isOpen l (logs rs ls ws) c w x k t)))
           ∙ sym (effect-editing σ w a e))
           (stored-seat l rs ls ws rs us c w (withWrites x n) (t .inside) (k .stored) (k .stored .reads) (p .set .held)
-          (let h : Within x = within l (logs rs ls ws) c w x k t in record { reads = h .reads; leaves = h .leaves; writes = p .set .room })
+          (let h : Within x = within isOpen l (logs rs ls ws) c w x k t in record { reads = h .reads; leaves = h .leaves; writes = p .set .room })
           (ap (λ (y : Worker). y .leaves) (t .is)));
     }
 

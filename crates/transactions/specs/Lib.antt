@@ -7,6 +7,8 @@ pub mod Begins
 pub mod Starts
 pub mod SeatLaws
 pub mod Edits
+pub mod ReadSteps
 pub mod WriteBlocks
 pub mod Commits
 pub mod Finishes
+pub mod MergeSteps

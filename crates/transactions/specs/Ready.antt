@@ -13,6 +13,7 @@ use Rattle.spec.specs.Leaves.{versionAt, live}
 use Rattle.spec.specs.Steps.{State, Step, Answer, refused, refusal, granted, effect, answer, next}
 use Rattle.limits.specs.Invariant.{Kept}
 use Rattle.limits.specs.Keeping.{next-kept}
+use Rattle.limits.specs.LoggedVersions.{LoggedOld, next-logged}
 use Rattle.sets.specs.declared.workers.Worker.{Worker}
 use Rattle.sets.specs.Workers.{freed}
 use Rattle.sets.specs.Reads.{ReadsHeld}
@@ -51,6 +52,7 @@ pub record Stored (l : Lent) (g : Logs) (c : Core) : Type 0 where
 pub record Ready (l : Lent) (g : Logs) (c : Core) : Type 0 where
   pub stored : Stored l g c
   pub kept : Kept (stateOf l g c)
+  pub logged : LoggedOld (stateOf l g c)
 
 -- A step taken: the arrays and the core before it, the step, those after it, and its answer.
 pub record Goes (l : Lent) (g : Logs) (c : Core) (s : Step) (l' : Lent) (g' : Logs) (c' : Core) (a : Answer) : Type 0 where
@@ -63,7 +65,12 @@ pub goes : {l l' : Lent} {g g' : Logs} {c c' : Core} {s : Step} {a : Answer} {σ
 goes {l} {l'} {g} {g'} {c} {c'} {s} h k e t =
     let q : stateOf l' g' c' ≡ next (stateOf l g c) s = e ∙ sym (k .leaves) in
     record {
-      ready = record { stored = t; kept = subst Kept (sym q) (next-kept (h .kept) s) };
+      ready =
+          record {
+            stored = t;
+            kept = subst Kept (sym q) (next-kept (h .kept) s);
+            logged = subst LoggedOld (sym q) (next-logged (h .kept) (h .logged) s);
+          };
       state = q;
       says = sym (k .answers);
     }

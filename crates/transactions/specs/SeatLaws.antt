@@ -1,18 +1,18 @@
 -- A worker put back with other counts of its reads and writes: the arrays still hold what is asked of them.
 -- Assumes nothing.
-use Prim.Native.Nat.{ℕ, _<_, _≤_}
-use mathlib.Core.Path.{_≡_, refl, sym, ap, _∙_, subst}
-use mathlib.Core.Logic.{_⊎_, ⊎-elim}
-use mathlib.Core.Bool.{Bool, true, false}
+use Prim.Native.Nat.{ℕ, _<_}
+use mathlib.Core.Path.{_≡_, sym, ap, _∙_, subst}
+use mathlib.Core.Logic.{⊎-elim}
+use mathlib.Core.Bool.{Bool, true}
 use mathlib.Core.List.{List}
-use lib.ListN.{length, getD, set, length-set}
+use lib.ListN.{getD, set, length-set}
 use lib.Seq.{getD-set-same, getD-set-other}
 use Rattle.lists.specs.Tests.{same, cases, same-true, same-false}
-use Rattle.lists.specs.Rows.{Row, Rising}
-use Rattle.spec.specs.Records.{Write}
+use Rattle.lists.specs.Rows.{Rising}
+use Rattle.spec.specs.declared.Stage.{Stage}
 use Rattle.spec.specs.Leaves.{live, versionAt}
 use Rattle.spec.specs.Steps as model
-use Rattle.spec.specs.Steps.{workerOf, isOpen}
+use Rattle.spec.specs.Steps.{workerOf}
 use Rattle.sets.specs.declared.workers.Worker.{Worker}
 use Rattle.sets.specs.Workers.{workerIn, freed}
 use Rattle.sets.specs.Reads.{ReadsHeld}
@@ -43,8 +43,22 @@ ready-writable {l} {g} {c} k =
       };
     }
 
-pub seat-writable : {ws : List ℕ} {c : Core} {w : ℕ} {x : Worker} → Writable ws c → Entered isOpen (c .seats) w x → WriteSet ws w (x .writes)
-seat-writable {ws} {c} {w} {x} h t = subst (λ (y : Worker). WriteSet ws w (y .writes)) (sym (t .is)) (h .set w (t .inside))
+-- ---- the worker that passed the first tests
+
+module _ (right : Stage → Bool) (l : Lent) (g : Logs) (c : Core) (w : ℕ) (x : Worker) (k : Ready l g c) (t : Entered right (c .seats) w x) where
+  pub seated : workerOf (stateOf l g c) w ≡ seatIn g x w
+  seated =
+      worker-at l g c w (subst (λ (n : ℕ). w < n) (sym (k .stored .seats)) (t .inside))
+      ∙ ap (λ (y : Worker). seatIn g y w) (sym (t .is))
+
+  pub within : Within x
+  within = subst Within (sym (t .is)) (k .stored .counts w (t .inside))
+
+pub seat-writable : {right : Stage → Bool} {ws : List ℕ} {c : Core} {w : ℕ} {x : Worker} → Writable ws c → Entered right (c .seats) w x
+    → WriteSet ws w (x .writes)
+seat-writable {right} {ws} {c} {w} {x} h t = subst (λ (y : Worker). WriteSet ws w (y .writes)) (sym (t .is)) (h .set w (t .inside))
+
+-- ---- the seat put back
 
 -- the lows logged by worker v, n of them
 abbrev Lows : Lent → Logs → Core → ℕ → ℕ → Type 0

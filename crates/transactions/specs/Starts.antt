@@ -11,6 +11,7 @@ use Rattle.spec.specs.Steps as model
 use Rattle.spec.specs.Steps.{State, fresh, freeWorker}
 use Rattle.laws.specs.WorkerLaws.{standard-settings}
 use Rattle.limits.specs.Invariant.{Kept, fresh-kept}
+use Rattle.limits.specs.LoggedVersions.{LoggedOld, fresh-logged}
 use Rattle.sets.specs.declared.workers.Worker.{Worker}
 use Rattle.sets.specs.Workers.{workerIn, freed}
 use Rattle.sets.specs.Reads.{readsIn}
@@ -80,6 +81,11 @@ module _ (l : Lent) (z : Sizes) (b : Becomes l z 0 freshMap) where
   pub fresh-start : Fresh l noLogs (startCore z)
   fresh-start =
       record {
-        ready = record { stored = fresh-stored; kept = subst Kept (sym fresh-state) (fresh-kept standard standard-settings) };
+        ready =
+            record {
+              stored = fresh-stored;
+              kept = subst Kept (sym fresh-state) (fresh-kept standard standard-settings);
+              logged = subst LoggedOld (sym fresh-state) (fresh-logged standard);
+            };
         state = fresh-state;
       }

@@ -4,6 +4,8 @@ pub mod admits;
 pub mod begins;
 pub mod commits;
 pub mod edits;
+pub mod merges;
+pub mod reads;
 pub mod starts;
 
 use map::Counters;

@@ -1,5 +1,5 @@
 -- `script::fresh` meets its contract. Assumes nothing.
-use Rattle.script.specs.ParsingLaws.{after-fresh}
+use Rattle.script.specs.Turns.{after-fresh}
 use Rattle.script.proofs.fresh.Statement.{statement}
 use Rattle.script.proofs.fresh.Tie as tie
 

@@ -3,7 +3,7 @@ use Prim.Native.Nat.{_-_}
 use native.Mathlib.Omega.{arith}
 use lib.ListN.{length}
 use borrow.Author.Needs.{needs}
-use Rattle.script.specs.ParsingLaws.{Goes, goes-none, goes-on, goes-ends, goes-whole, line-ends, malformed-ends}
+use Rattle.script.specs.Turns.{Goes, goes-none, goes-on, goes-ends, goes-whole, line-ends, malformed-ends}
 use Rattle.script.proofs.parse.Statement.{statement}
 use Rattle.script.proofs.parse.Tie as tie
 

@@ -1,6 +1,6 @@
 -- `script::turn` meets its contract: each state has its own function. Assumes nothing.
 use borrow.Author.Needs.{needs}
-use Rattle.script.specs.ParsingLaws.{turns-as}
+use Rattle.script.specs.Turns.{turns-as}
 use Rattle.script.proofs.turn.Statement.{statement}
 use Rattle.script.proofs.turn.Tie as tie
 

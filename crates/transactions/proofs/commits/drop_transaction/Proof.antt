@@ -3,49 +3,36 @@ use borrow.Author.Needs.{needs}
 use Rattle.transactions.specs.Commits.{drops}
 use Rattle.transactions.proofs.commits.drop_transaction.Statement.{statement}
 use Rattle.transactions.proofs.commits.drop_transaction.Tie as tie
-use Rattle.transactions.proofs.commits.drop_transaction.Reads as reads
-use Rattle.transactions.proofs.commits.drop_transaction.Lts as lts
-use Rattle.map.proofs.locks.unlock_all.Reads as unlock-all-reads
-use Rattle.sets.proofs.workers.Worker.free.Reads as free-reads
-use Rattle.transactions.proofs.commits.block_of.Reads as block-of-reads
 
--- src/commits.rt:48:13
 mul-x : tie.Need-mul-x
 mul-x c = search needs
 
--- src/commits.rt:48:13
 array-copy-out-x : tie.Need-array-copy-out-x
 array-copy-out-x c = search needs
 
--- src/commits.rt:49:17
 block-of-requires : tie.Need-block-of-requires
 block-of-requires c κs = search needs
 
--- src/commits.rt:50:9
 unlock-all-requires : tie.Need-unlock-all-requires
 unlock-all-requires c κs =
     let b = c .before .before .before .before in
     let s = b .before .before .before .before .before in
     (s .pre .0, b .block-of .ensures .narrow _ (s .pre .1 .1 .1))
 
--- src/commits.rt:63:9
 free-requires : tie.Need-free-requires
 free-requires c κs = search needs
 
--- src/commits.rt:64:5
 mul-seats : tie.Need-mul-seats
 mul-seats c =
     let s = c .before .before .before .before .before .before .before .before .before .before .before in
     let h = s .pre .1 .1 .0 in
     search needs
 
--- src/commits.rt:64:5
 array-set-from-seats : tie.Need-array-set-from-seats
 array-set-from-seats c =
     let s = c .before .before .before .before .before .before .before .before .before .before .before in
     s .pre .1 .1 .0
 
--- src/commits.rt:29:1
 returns : tie.Need-returns
 returns c =
     let b = c .before .before .before .before .before .before in

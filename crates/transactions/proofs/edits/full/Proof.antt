@@ -1,6 +1,6 @@
 -- `edits::full` meets its contract: there is room, or the write is looked up. Assumes nothing.
 use mathlib.Core.Path.{refl}
-use Rattle.sets.specs.declared.writes.Found.the-variants.{Put, Deletion, Nothing}
+use Rattle.sets.specs.declared.writes.Found.the-variants.{Deletion, Nothing}
 use Rattle.transactions.specs.Edits.{full-room, full-there, full-none}
 use borrow.Author.Needs.{needs}
 use Rattle.transactions.proofs.edits.full.Statement.{statement}

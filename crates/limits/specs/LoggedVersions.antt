@@ -1,0 +1,101 @@
+-- A logged leaf version was given: it is not above the last one. Every step keeps this.
+-- Assumes nothing.
+use Prim.Native.Nat.{ℕ, zero, suc, _<_, _≤_}
+use native.Mathlib.Nat.{le-refl, le-trans}
+use mathlib.Core.Path.{_≡_, refl, sym, ap, _∙_, subst}
+use mathlib.Core.Logic.{_⊎_, ⊎-elim}
+use mathlib.Core.Bool.{Bool, true, false}
+use mathlib.Core.List.{List, [], _∷_, _++_, List·Memᴰ, List·Memᴰ·not-nil, List·Memᴰ·append-cases}
+use mathlib.Core.Option.{Option, none, some}
+use lib.ListN.{length, getD, set, replicate, List·getD-eq-default}
+use lib.Seq.{set-out}
+use Rattle.lists.specs.Tests.{pick, maybe, same, less, cases, same-true, same-false, less-true, less-false}
+use Rattle.spec.specs.declared.Refusal.{Refusal}
+use Rattle.spec.specs.Refusals.{ends}
+use Rattle.spec.specs.Records.{Settings}
+use Rattle.spec.specs.Leaves.{meeting}
+use Rattle.spec.specs.Maps.{mergeAt}
+use Rattle.spec.specs.Steps.{Worker, freeWorker, State, fresh, workerOf, Step, begin, read, scan, put, remove, lock, validate, install, abort, merge, workerIn, scanVersions, refusal, withWorker, withMap, withCounters, atStage, logged, writing, checkedAs, dropped, merged, effect, afterRefusal, next}
+use Rattle.laws.specs.LeafVersions.{meeting-old}
+use Rattle.laws.specs.MergeLaws.{Merges, merges}
+use Rattle.laws.specs.WorkerLaws.{set-same, set-other, worker-fresh}
+use Rattle.limits.specs.Invariant.{Kept}
+
+-- none of the versions is above v
+abbrev pub Old : ℕ → List ℕ → Type 0
+Old v vs = (u : ℕ) → List·Memᴰ u vs → u ≤ v
+
+abbrev AllOld : ℕ → List Worker → Type 0
+AllOld v xs = (w : ℕ) → Old v (getD xs w freeWorker .versions)
+
+pub record LoggedOld (σ : State) : Type 0 where
+  pub old : (w : ℕ) → Old (σ .counters .version) (workerOf σ w .versions)
+
+none-old : (v : ℕ) → Old v []
+none-old v u m = absurd (List·Memᴰ·not-nil m)
+
+more-old : (v : ℕ) (us vs : List ℕ) → Old v us → Old v vs → Old v (us ++ vs)
+more-old v us vs a b u m = ⊎-elim (λ q. a u q) (λ q. b u q) (List·Memᴰ·append-cases us m)
+
+set-old : (v : ℕ) (xs : List Worker) (w : ℕ) (x : Worker) → AllOld v xs → Old v (x .versions) → AllOld v (set xs w x)
+set-old v xs w x a b u =
+    ⊎-elim
+    (λ e. subst (λ (j : ℕ). Old v (getD (set xs w x) j freeWorker .versions)) (sym (same-true u w e)) here)
+    (λ e. subst (λ (y : Worker). Old v (y .versions)) (sym (set-other xs w x u (same-false u w e))) (a u))
+    (cases (same u w))
+  where
+    here : Old v (getD (set xs w x) w freeWorker .versions)
+    here =
+        ⊎-elim
+        (λ e. subst (λ (y : Worker). Old v (y .versions)) (sym (set-same xs w x (less-true w (length xs) e))) b)
+        (λ e. subst (λ (ys : List Worker). Old v (getD ys w freeWorker .versions)) (sym (set-out xs w x (less-false w (length xs) e))) (a w))
+        (cases (less w (length xs)))
+
+module _ {σ : State} (k : Kept σ) (h : AllOld (σ .counters .version) (σ .workers)) where
+  own : (w : ℕ) → Old (σ .counters .version) (workerOf σ w .versions)
+  unfolding workerOf
+  own w = h w
+
+  dropped-old : (w : ℕ) → AllOld (dropped σ w .counters .version) (dropped σ w .workers)
+  unfolding dropped withWorker withMap
+  dropped-old w = set-old (σ .counters .version) (σ .workers) w freeWorker h (none-old (σ .counters .version))
+
+  granted-old : (s : Step) → AllOld (effect σ s .counters .version) (effect σ s .workers)
+  unfolding effect withWorker withMap withCounters atStage logged writing checkedAs merged
+  granted-old (begin w) = set-old (σ .counters .version) (σ .workers) w _ h (none-old (σ .counters .version))
+  granted-old (read w j) = set-old (σ .counters .version) (σ .workers) w _ h (more-old _ (workerOf σ w .versions) [] (own w) (none-old _))
+  granted-old (scan w lo hi m n) =
+      set-old (σ .counters .version) (σ .workers) w _ h
+      (more-old _ (workerOf σ w .versions) (scanVersions σ lo hi) (own w) (unfold scanVersions in meeting-old (k .map .leaves) lo hi))
+  granted-old (put w j p) = set-old (σ .counters .version) (σ .workers) w _ h (own w)
+  granted-old (remove w j) = set-old (σ .counters .version) (σ .workers) w _ h (own w)
+  granted-old (lock w) = set-old (σ .counters .version) (σ .workers) w _ h (own w)
+  granted-old (validate w) = set-old (σ .counters .version) (σ .workers) w _ h (own w)
+  granted-old (install w) = set-old (σ .counters .version) (σ .workers) w freeWorker h (none-old (σ .counters .version))
+  granted-old (abort w) = dropped-old w
+  granted-old (merge a) =
+      λ w u m. le-trans (h w u m) (merges a (k .settings .cut) (k .map .slots) (k .map .records) (k .map .leaves) .later)
+
+  refused-old : (s : Step) (r : Refusal) → AllOld (afterRefusal σ s r .counters .version) (afterRefusal σ s r .workers)
+  unfolding afterRefusal
+  refused-old s r = go (ends r) (workerIn s)
+    where
+      go : (b : Bool) (o : Option ℕ) → AllOld (pick b (maybe o σ (dropped σ)) σ .counters .version) (pick b (maybe o σ (dropped σ)) σ .workers)
+      go true none = h
+      go true (some w) = dropped-old w
+      go false o = h
+
+  next-old : (s : Step) → AllOld (next σ s .counters .version) (next σ s .workers)
+  unfolding next
+  next-old s = go (refusal σ s)
+    where
+      go : (o : Option Refusal) → AllOld (maybe o (effect σ s) (afterRefusal σ s) .counters .version) (maybe o (effect σ s) (afterRefusal σ s) .workers)
+      go none = granted-old s
+      go (some r) = refused-old s r
+
+pub next-logged : {σ : State} → Kept σ → LoggedOld σ → (s : Step) → LoggedOld (next σ s)
+unfolding workerOf
+next-logged k h s = record { old = next-old k (h .old) s }
+
+pub fresh-logged : (s : Settings) → LoggedOld (fresh s)
+fresh-logged s = record { old = λ w. subst (λ (x : Worker). Old 0 (x .versions)) (sym (worker-fresh s w)) (none-old 0) }

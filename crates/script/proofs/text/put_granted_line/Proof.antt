@@ -1,0 +1,29 @@
+-- `script::text::put_granted_line` meets its contract: an answer, a field and a byte. Assumes nothing.
+use native.Mathlib.Omega.{arith}
+use borrow.Author.Needs.{needs}
+use Rattle.script.specs.OutputLaws.{wrote-join, field-most}
+use Rattle.script.proofs.text.put_granted_line.Statement.{statement}
+use Rattle.script.proofs.text.put_granted_line.Tie as tie
+
+put-answer-requires : tie.Need-put-answer-requires
+put-answer-requires c κs = search needs
+
+put-field-requires : tie.Need-put-field-requires
+put-field-requires c κs = omega (arith, c .before .before .before .put-answer .ensures, field-most 0 (omega arith))
+
+put-byte-requires : tie.Need-put-byte-requires
+put-byte-requires c κs =
+    let s = c .before .before .before .before .before .before .before .before .before .before in
+    omega (arith, c .before .before .before .before .before .before .before .put-answer .ensures, c .before .before .before .put-field .ensures, field-most 0 (omega arith), field-most (s .args .n) (s .fits .n .fits))
+
+same-length : tie.Need-same-length
+same-length c = search needs
+
+returns : tie.Need-returns
+returns c =
+    wrote-join (wrote-join (c .before .before .before .before .before .before .before .before .before .before .put-answer .ensures) (c .before .before .before .before .before .before .put-field .ensures)) (c .before .before .put-byte .ensures)
+
+pub put-granted-line-spec : {M : Type 1} → statement M
+put-granted-line-spec =
+    tie.close
+    (tie.spec put-answer-requires put-field-requires put-byte-requires same-length returns)

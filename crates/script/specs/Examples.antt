@@ -1,0 +1,117 @@
+-- Document 01's full run as text: each line read, what it says, and what is written for its answer. The steps and answers
+-- are those of the model's run, which is proved in `spec`. Then lines that are malformed, each for one cause.
+-- Assumes nothing.
+use Prim.Native.Nat.{ℕ}
+use Prim.Native.Char.{code}
+use Prim.Native.String.{String}
+use Prim.Native.String as text
+use mathlib.Core.Path.{_≡_, refl}
+use mathlib.Core.List.{List, [], _∷_, _++_, map}
+use mathlib.Core.Option.{none, some}
+use Rattle.lists.specs.Tests.{same, less, atMost, within}
+use Rattle.lists.specs.Rows.{row}
+use Rattle.spec.specs.Steps.{Answer, refused, done, found, listed, numbered, counted, Event}
+use Rattle.spec.specs.Runs.{fullRun, value, entryOf, event}
+use Rattle.spec.specs.declared.Refusal.the-variants.{NoWorker, Phantom}
+use Rattle.script.specs.declared.Line.{Line}
+use Rattle.script.specs.declared.Line.the-variants.{Begin, Read, Scan, Put, Remove, Lock, Validate, Install, Abort, Merge}
+use Rattle.script.specs.Grammar.{firstWord, moreWords, isDigit, extend, number, numbers, oneNumber, twoNumbers, threeNumbers, lineOf, lettered, meaning}
+use Rattle.script.specs.Output.{digitsWithin, decimal, field, pair, pairs, stepOf, answerText, answerLine, endLine}
+
+-- the bytes of a text; every character here is one byte
+abbrev bytes : String → List ℕ
+bytes text.[] = []
+bytes (text._∷_ c s) = code c ∷ bytes s
+
+-- a line read, what it says, the answer, and the line written
+pub record Case : Type 0 where
+  pub reads : String
+  pub line : Line
+  pub answer : Answer
+  pub writes : String
+
+abbrev case : String → Line → Answer → String → Case
+case r l a w = record { reads = r; line = l; answer = a; writes = w }
+
+-- document 01's run
+abbrev pub run : List Case
+run =
+    case "B 0" (Begin 0) done "B 0\n"
+    ∷ case "P 0 4096 32" (Put 0 4096 32) done "P 0\n"
+    ∷ case "L 0" (Lock 0) done "L 0\n"
+    ∷ case "V 0" (Validate 0) (numbered 1) "V 0 1\n"
+    ∷ case "I 0" (Install 0) done "I 0\n"
+    ∷ case "B 1" (Begin 1) done "B 0\n"
+    ∷ case "S 1 4000 5000" (Scan 1 4000 5000) (listed []) "S 0 0\n"
+    ∷ case "L 1" (Lock 1) done "L 0\n"
+    ∷ case "V 1" (Validate 1) (refused Phantom) "V 14\n"
+    ∷ case "M 4096" (Merge 4096) (counted 1) "M 0 1\n"
+    ∷ case "B 1" (Begin 1) done "B 0\n"
+    ∷ case "S 1 4000 5000" (Scan 1 4000 5000) (listed (row 4096 (value 32) ∷ [])) "S 0 1 4096 32\n"
+    ∷ case "L 1" (Lock 1) done "L 0\n"
+    ∷ case "V 1" (Validate 1) (numbered 2) "V 0 2\n"
+    ∷ case "I 1" (Install 1) done "I 0\n"
+    ∷ []
+
+-- more lines: the other letters, leading zeros, the widest numbers, and a read's two answers
+abbrev pub more : List Case
+more =
+    case "R 0007 0" (Read 7 0) (found (some (value 18446744073709551615))) "R 0 18446744073709551615\n"
+    ∷ case "R 1 4294967295" (Read 1 4294967295) (found none) "R 0 -\n"
+    ∷ case "D 8 10" (Remove 8 10) (refused NoWorker) "D 1\n"
+    ∷ case "A 3" (Abort 3) done "A 0\n"
+    ∷ case "P 4294967295 1 18446744073709551615" (Put 4294967295 1 18446744073709551615) done "P 0\n"
+    ∷ []
+
+-- malformed lines
+abbrev pub malformed : List String
+malformed =
+    ""
+    ∷ "B"
+    ∷ "B "
+    ∷ " B 0"
+    ∷ "B  0"
+    ∷ "B 0 "
+    ∷ "B 0\r"
+    ∷ "B\t0"
+    ∷ "B +0"
+    ∷ "B -0"
+    ∷ "b 0"
+    ∷ "E 0"
+    ∷ "BB 0"
+    ∷ "B0"
+    ∷ "B x"
+    ∷ "R 0"
+    ∷ "R 0 0 0"
+    ∷ "P 0 0 0 0"
+    ∷ "B 4294967296"
+    ∷ "R 0 4294967296"
+    ∷ "S 0 0 4294967296"
+    ∷ "P 0 4294967296 0"
+    ∷ "P 0 0 18446744073709551616"
+    ∷ []
+
+-- the step that the line asks for, with its answer
+abbrev eventOf : Case → Event
+eventOf c = event (stepOf 64 (c .line)) (c .answer)
+
+pub record Written : Type 0 where
+  -- the run is the model's
+  pub model : map eventOf run ≡ fullRun
+  pub said : map (λ (c : Case). meaning (bytes (c .reads))) (run ++ more) ≡ map (λ (c : Case). some (c .line)) (run ++ more)
+  pub wrote : map (λ (c : Case). answerLine (c .line) (c .answer)) (run ++ more) ≡ map (λ (c : Case). bytes (c .writes)) (run ++ more)
+  pub wrong : map (λ (s : String). meaning (bytes s)) malformed ≡ map (λ (s : String). none) malformed
+  pub end : endLine (entryOf 4096 32 1 ∷ []) ≡ bytes "E 1 4096 32\n"
+  pub nothing : endLine [] ≡ bytes "E 0\n"
+
+pub written : Written
+unfolding same less atMost within firstWord moreWords isDigit extend number numbers oneNumber twoNumbers threeNumbers lineOf lettered meaning digitsWithin decimal field pair pairs answerText answerLine endLine
+written =
+    record {
+      model = refl;
+      said = refl;
+      wrote = refl;
+      wrong = refl;
+      end = refl;
+      nothing = refl;
+    }

@@ -1,0 +1,34 @@
+-- `reads::read_current` meets its contract: the log is full, or it has the current record. Assumes nothing.
+use Rattle.transactions.specs.ReadSteps.{read-full, read-logged}
+use borrow.Author.Needs.{needs}
+use Rattle.transactions.proofs.reads.read_current.Statement.{statement}
+use Rattle.transactions.proofs.reads.read_current.Tie as tie
+
+returns : tie.Need-returns
+returns c = let s = c .before .before .before .before .before in read-full _ _ _ _ _ _ _ (s .pre .1) (c .if1 .taken)
+
+take-requires : tie.Need-take-requires
+take-requires c κs =
+    let s = c .before .before .before .before .before .before in
+    (s .pre .0 .reads, (s .pre .0 .records, (s .pre .0 .entries, (s .pre .1 .inside, c .before .if1 .left))))
+
+mul-seats : tie.Need-mul-seats
+mul-seats c = search needs
+
+array-set-from-seats : tie.Need-array-set-from-seats
+array-set-from-seats c = search needs
+
+shown-requires : tie.Need-shown-requires
+shown-requires c κs = search needs
+
+returns-2 : tie.Need-returns-2
+returns-2 c =
+    let t = c .before .before in
+    let e = t .before .before in
+    let s = e .before .before .before .before .before in
+    read-logged _ _ _ _ _ _ _ _ _ _ (s .pre .1) (e .if1 .left) (t .take .ensures) (c .shown .ensures)
+
+pub read-current-spec : {M : Type 1} → statement M
+read-current-spec =
+    tie.close
+    (tie.spec returns take-requires mul-seats array-set-from-seats shown-requires returns-2)

@@ -1,0 +1,133 @@
+-- A merge, as it goes: the map and the last version are the model's, and each logged low still lies in its leaf.
+-- Assumes nothing.
+use Prim.Native.Nat.{ℕ, zero, suc, _+_, _*_, _^_, _<_, _≤_}
+use native.Mathlib.Nat.{le-refl, le-trans, le-of-eq}
+use native.Mathlib.Omega.{arith}
+use mathlib.Core.Path.{_≡_, refl, sym, ap, _∙_, subst}
+use mathlib.Core.Logic.{_⊎_, ⊎-elim}
+use mathlib.Core.Bool.{Bool, true, false}
+use mathlib.Core.List.{List, List·Memᴰ}
+use mathlib.Core.Option.{none}
+use lib.ListN.{getD}
+use Rattle.lists.specs.Tests.{cases, clash}
+use Rattle.spec.specs.Records.{standard}
+use Rattle.spec.specs.Leaves.{Leaf, versionAt, live}
+use Rattle.spec.specs.Maps.{MapState, mergeAt, merging}
+use Rattle.spec.specs.Steps as model
+use Rattle.spec.specs.Steps.{State, merge, counted, refusal, causes, firstCause, granted, effect, withMap, withCounters, merged}
+use Rattle.laws.specs.LeafVersions.{GoodLeaves, version-live, live-version}
+use Rattle.laws.specs.LeafCuts.{standard-cut}
+use Rattle.laws.specs.MergeLaws as laws
+use Rattle.limits.specs.Invariant.{Kept, standard-version}
+use Rattle.limits.specs.LoggedVersions.{LoggedOld}
+use Rattle.sets.specs.Leaves.{versionsIn, lowsIn}
+use Rattle.sets.specs.LeafLaws.{length-versions}
+use Rattle.lists.specs.Ascending.{mem-getD}
+use Rattle.map.specs.declared.merge.Merged.{Merged}
+use Rattle.map.specs.Views.{Lent, mapOf}
+use Rattle.map.specs.Merges.{Merges}
+use Rattle.transactions.specs.declared.Core.{Core}
+use Rattle.transactions.specs.Answering.{comes-granted}
+use Rattle.transactions.specs.Views.{Logs, stateOf, worker-at}
+use Rattle.transactions.specs.Ready.{seat, Stored, Ready, Goes, goes}
+
+-- the core after a merge
+abbrev pub mergedCore : Core → Merged → Core
+mergedCore c r = record { seats = c .seats; sizes = r .sizes; counters = r .counters }
+
+-- the version counter is far from its end
+pub version-room : {l : Lent} {g : Logs} {c : Core} → Ready l g c → c .counters .version + 129 < 2 ^ 64
+version-room {l} {g} {c} h =
+    let e : c .counters .version ≤ 129 * 16 * 1000000 = small in
+    omega arith
+  where
+    small : c .counters .version ≤ 129 * 16 * 1000000
+    small = unfold stateOf in standard-version (h .kept) refl
+
+-- ---- a logged low stays in its leaf
+
+-- a version that is live after the merge, and not above the last one of before, was not renewed
+kept-low : {v : ℕ} {m : MapState} {r : Rattle.spec.specs.Maps.Merged} → laws.Merges standard v m r → GoodLeaves v (m .leaves)
+    → (u low : ℕ) → u ≤ v → (live (m .leaves) u ≡ true → versionAt (m .leaves) low ≡ u)
+    → live (r .map .leaves) u ≡ true → versionAt (r .map .leaves) low ≡ u
+kept-low {v} {m} {r} k g u low b h e = ⊎-elim renewed stayed (cases (k .gone (versionAt (m .leaves) (j .0))))
+  where
+    j : (x : ℕ) × (versionAt (r .map .leaves) x ≡ u)
+    j = live-version (k .leaves) u e
+
+    renewed : k .gone (versionAt (m .leaves) (j .0)) ≡ true → versionAt (r .map .leaves) low ≡ u
+    renewed t =
+        let a : v < versionAt (r .map .leaves) (j .0) = k .renewed (j .0) t in
+        let q : versionAt (r .map .leaves) (j .0) ≡ u = j .1 in
+        absurd (let z : ⊥ = omega arith in z)
+
+    stayed : k .gone (versionAt (m .leaves) (j .0)) ≡ false → versionAt (r .map .leaves) low ≡ u
+    stayed t =
+        let p : versionAt (m .leaves) (j .0) ≡ u = sym (k .kept-version (j .0) t) ∙ j .1 in
+        let l : live (m .leaves) u ≡ true = subst (λ (x : ℕ). live (m .leaves) x ≡ true) p (version-live g (j .0)) in
+        let s : versionAt (m .leaves) low ≡ u = h l in
+        k .kept-version low (ap (k .gone) (s ∙ sym p) ∙ t) ∙ s
+
+-- ---- the step
+
+never-refused : (σ : State) (a : ℕ) → refusal σ (merge a) ≡ none
+unfolding refusal causes firstCause
+never-refused σ a = refl
+
+module _ {l l' : Lent} {g : Logs} {c : Core} {a : ℕ} {r : Merged} (h : Ready l g c) (m : Merges l (c .sizes) (c .counters) a l' r) where
+  merged-state : stateOf l' g (mergedCore c r) ≡ effect (stateOf l g c) (merge a)
+  unfolding stateOf effect merged withCounters withMap
+  merged-state =
+      λ i. record {
+        settings = standard;
+        counters = record { number = m .number i; version = m .version i };
+        map = m .map i;
+        workers = Rattle.transactions.specs.Views.workersFrom g (c .seats) 0;
+      }
+
+  good : GoodLeaves (c .counters .version) (mapOf l (c .sizes) .leaves)
+  good = h .stored .map .bounded .leaves
+
+  does : laws.Merges standard (c .counters .version) (mapOf l (c .sizes)) (mergeAt standard (c .counters .version) (mapOf l (c .sizes)) a)
+  does =
+      laws.merges a standard-cut (h .stored .map .bounded .slots) (h .stored .map .bounded .records) good
+
+  merged-stored : ((w : ℕ) → w < 8 → (i : ℕ) → i < seat c w .leaves → getD (versionsIn (g .leaves) w (seat c w .leaves)) i 0 ≤ c .counters .version)
+      → Stored l' g (mergedCore c r)
+  merged-stored old =
+      record {
+        map = subst (Rattle.map.specs.Held.Held l' (r .sizes)) (sym (m .version)) (m .held);
+        reads = h .stored .reads;
+        leaves = h .stored .leaves;
+        writes = h .stored .writes;
+        seats = h .stored .seats;
+        counts = h .stored .counts;
+        lows = λ w b i j e.
+            subst (λ (x : MapState). versionAt (x .leaves) (getD (lowsIn (g .leaves) w (seat c w .leaves)) i 0) ≡ getD (versionsIn (g .leaves) w (seat c w .leaves)) i 0) (sym (m .map))
+            (kept-low does good (getD (versionsIn (g .leaves) w (seat c w .leaves)) i 0) (getD (lowsIn (g .leaves) w (seat c w .leaves)) i 0) (old w b i j) (h .stored .lows w b i j)
+            (subst (λ (x : MapState). live (x .leaves) (getD (versionsIn (g .leaves) w (seat c w .leaves)) i 0) ≡ true) (m .map) e));
+      }
+
+  versions-at : (w : ℕ) → w < 8 → model.workerOf (stateOf l g c) w .versions ≡ versionsIn (g .leaves) w (seat c w .leaves)
+  unfolding Rattle.sets.specs.Workers.workerIn
+  versions-at w b =
+      ap (λ (x : model.Worker). x .versions) (worker-at l g c w (subst (λ (n : ℕ). w < n) (sym (h .stored .seats)) b))
+
+  version-given : (w u : ℕ) → List·Memᴰ u (model.workerOf (stateOf l g c) w .versions) → u ≤ c .counters .version
+  unfolding stateOf
+  version-given w u q = h .logged .old w u q
+
+  -- a logged version is one of those that the model has logged
+  logged-old : (w : ℕ) → w < 8 → (i : ℕ) → i < seat c w .leaves → getD (versionsIn (g .leaves) w (seat c w .leaves)) i 0 ≤ c .counters .version
+  logged-old w b i j =
+      version-given w (getD (versionsIn (g .leaves) w (seat c w .leaves)) i 0)
+      (subst (List·Memᴰ (getD (versionsIn (g .leaves) w (seat c w .leaves)) i 0)) (sym (versions-at w b))
+      (mem-getD (versionsIn (g .leaves) w (seat c w .leaves)) i 0 (le-trans j (le-of-eq (sym (length-versions (g .leaves) w (seat c w .leaves) (h .stored .counts w b .leaves)))))))
+
+  pub merge-goes : Goes l g c (merge a) l' g (mergedCore c r) (counted (r .count))
+  merge-goes =
+      subst (Goes l g c (merge a) l' g (mergedCore c r)) answer-is
+      (goes h (comes-granted (stateOf l g c) (merge a) (never-refused (stateOf l g c) a)) merged-state (merged-stored logged-old))
+    where
+      answer-is : granted (stateOf l g c) (merge a) ≡ counted (r .count)
+      answer-is = unfold granted stateOf in ap counted (sym (m .count))

@@ -1,16 +1,16 @@
 -- The records of a leaf stand in a row: from the place of its low on, up to the place of the next low.
 -- Assumes nothing.
 use Prim.Native.Nat.{ℕ, zero, suc, _+_, _-_, _^_, _<_, _≤_, zero-le}
-use native.Mathlib.Nat.{not-suc-le-zero, le-of-suc-le-suc}
+use native.Mathlib.Nat.{not-suc-le-zero}
 use native.Mathlib.Omega.{arith}
-use mathlib.Core.Path.{_≡_, refl, sym, ap, _∙_, subst}
-use mathlib.Core.Logic.{_⊎_, inl, inr, ⊎-elim}
+use mathlib.Core.Path.{_≡_, sym, ap, _∙_, subst}
+use mathlib.Core.Logic.{_⊎_, ⊎-elim}
 use mathlib.Core.Bool.{Bool, true, false}
 use mathlib.Core.List.{List, [], _∷_}
-use lib.ListN.{length, take, drop, getD}
-use lib.Seq.{take-nil, drop-nil, length-take-le, getD-take, take-take}
-use Rattle.lists.specs.Tests.{pick, same, less, cases, less-true, less-false, same-yes, same-no}
-use Rattle.lists.specs.Rows.{Row, keys, filter, From, Rising}
+use lib.ListN.{length, take, drop, getD, length-drop}
+use lib.Seq.{take-nil, drop-nil, length-take-le, getD-take, getD-drop, take-take}
+use Rattle.lists.specs.Tests.{pick, less, cases, less-true, less-false, same-yes, same-no}
+use Rattle.lists.specs.Rows.{Row, keys, filter, Rising}
 use Rattle.lists.specs.Ascending.{Ascends, ascends-at, ascends-drop}
 use Rattle.lists.specs.Places.{place, place-most, place-below, place-above}
 use Rattle.lists.specs.Shifts.{drop-take}
@@ -62,53 +62,67 @@ from-place k rs y r h l =
     (λ f. less-false (getD rs y noRow .key) k f)
     (cases (less (getD rs y noRow .key) k))
 
--- ---- an address and the leaf at place i
+-- ---- an address and the low at place i
 
-module _ (lows : List ℕ) (m i : ℕ) (listed : Listed lows m) (al : length lows ≡ 1025) (h : i < m) where
+module _ (lows : List ℕ) (m : ℕ) (listed : Listed lows m) (al : length lows ≡ 1025) where
   few : length (take m lows) ≡ m
   few = length-take-le m lows (let r : m ≤ 1025 = listed .room in omega arith)
 
-  low-read : (y : ℕ) → y < m → getD (take m lows) y 0 ≡ getD lows y 0
-  low-read y l = getD-take m lows y 0 l
+  pub low-from : (i k : ℕ) → i < m → getD lows i 0 ≤ k → i ≤ lowPlace k (take m lows)
+  low-from i k h l = leaf-below k 0 (take m lows) i (listed .rising) (rw few h) (rw (getD-take m lows i 0 h) l)
 
-  pub place-low : (k : ℕ) → getD lows 0 0 ≡ 0 → k < getD lows i 0 → placed lows m i k ≡ false
-  unfolding placed
-  place-low k z l =
-      same-no {m = lowPlace k (take m lows)} {n = i}
-      (λ e. ⊎-elim
-      (λ t. let q : lowPlace k (take m lows) < i = leaf-above k (take m lows) i (less-true 0 i t) (rw few h) (rw (low-read i h) l) in let w : ⊥ = omega arith in w)
+  pub low-before : (i k : ℕ) → 0 < i → i < m → k < getD lows i 0 → lowPlace k (take m lows) < i
+  low-before i k p h l = leaf-above k (take m lows) i p (rw few h) (rw (getD-take m lows i 0 h) l)
+
+  -- no address lies below the first low
+  pub low-below : (i k : ℕ) → getD lows 0 0 ≡ 0 → i < m → k < getD lows i 0 → lowPlace k (take m lows) < i
+  low-below i k z h l =
+      ⊎-elim
+      (λ t. low-before i k (less-true 0 i t) h l)
       (λ f. let q : i ≡ 0 = (let w : i ≤ 0 = less-false 0 i f in omega arith) in
-      let w : getD lows i 0 ≡ 0 = ap (λ (n : ℕ). getD lows n 0) q ∙ z in let u : ⊥ = omega arith in u)
-      (cases (less 0 i)))
+      let w : getD lows i 0 ≡ 0 = ap (λ (n : ℕ). getD lows n 0) q ∙ z in absurd (let u : ⊥ = omega arith in u))
+      (cases (less 0 i))
 
-  pub place-high : (k : ℕ) → i + 1 < m → getD lows (i + 1) 0 ≤ k → placed lows m i k ≡ false
-  unfolding placed
-  place-high k n l =
-      let q : i + 1 ≤ lowPlace k (take m lows) = leaf-below k 0 (take m lows) (i + 1) (listed .rising) (rw few n) (rw (low-read (i + 1) n) l) in
-      same-no {m = lowPlace k (take m lows)} {n = i} (λ e. let w : ⊥ = omega arith in w)
-
-  pub place-here : (k : ℕ) → getD lows i 0 ≤ k → (i + 1 < m → k < getD lows (i + 1) 0) → placed lows m i k ≡ true
-  unfolding placed
-  place-here k l n =
-      let q : i ≤ lowPlace k (take m lows) = leaf-below k 0 (take m lows) i (listed .rising) (rw few h) (rw (low-read i h) l) in
-      let w : lowPlace k (take m lows) < i + 1 = ⊎-elim
-      (λ t. let u : i + 1 < m = less-true (i + 1) m t in
-      leaf-above k (take m lows) (i + 1) (omega arith) (rw few u) (rw (low-read (i + 1) u) (n u)))
-      (λ f. let u : m ≤ i + 1 = less-false (i + 1) m f in
+  pub low-inside : (k : ℕ) → lowPlace k (take m lows) < m
+  low-inside k =
       let s : 1 ≤ m = listed .some in
       let x : lowPlace k (take m lows) < length (take m lows) = place-inside k (take m lows) (rw few s) in
-      let y : length (take m lows) ≡ m = few in omega arith)
+      let y : length (take m lows) ≡ m = few in
+      omega arith
+
+-- ---- an address and the leaf at place i
+
+module _ (lows : List ℕ) (m i : ℕ) (listed : Listed lows m) (al : length lows ≡ 1025) (h : i < m) where
+  place-low : (k : ℕ) → getD lows 0 0 ≡ 0 → k < getD lows i 0 → placed lows m i k ≡ false
+  unfolding placed
+  place-low k z l =
+      let q : lowPlace k (take m lows) < i = low-below lows m listed al i k z h l in
+      same-no {m = lowPlace k (take m lows)} {n = i} (λ e. let w : ⊥ = omega arith in w)
+
+  place-high : (k : ℕ) → i + 1 < m → getD lows (i + 1) 0 ≤ k → placed lows m i k ≡ false
+  unfolding placed
+  place-high k n l =
+      let q : i + 1 ≤ lowPlace k (take m lows) = low-from lows m listed al (i + 1) k n l in
+      same-no {m = lowPlace k (take m lows)} {n = i} (λ e. let w : ⊥ = omega arith in w)
+
+  place-here : (k : ℕ) → getD lows i 0 ≤ k → (i + 1 < m → k < getD lows (i + 1) 0) → placed lows m i k ≡ true
+  unfolding placed
+  place-here k l n =
+      let q : i ≤ lowPlace k (take m lows) = low-from lows m listed al i k h l in
+      let w : lowPlace k (take m lows) < i + 1 = ⊎-elim
+      (λ t. let u : i + 1 < m = less-true (i + 1) m t in low-before lows m listed al (i + 1) k (omega arith) u (n u))
+      (λ f. let u : m ≤ i + 1 = less-false (i + 1) m f in let x : lowPlace k (take m lows) < m = low-inside lows m listed al k in omega arith)
       (cases (less (i + 1) m)) in
       same-yes {m = lowPlace k (take m lows)} {n = i} (omega arith)
 
-  pub lows-rise : i + 1 < m → getD lows i 0 < getD lows (i + 1) 0
+  lows-rise : i + 1 < m → getD lows i 0 < getD lows (i + 1) 0
   unfolding Ascends
   lows-rise n =
-      let d : Ascends (getD (take m lows) i 0) (drop i (take m lows)) = ascends-drop 0 (take m lows) i (listed .rising) (rw few h) in
-      let a : getD (take m lows) i 0 + 1 ≤ getD (drop i (take m lows)) 1 0 = ascends-at (getD (take m lows) i 0) (drop i (take m lows)) 1 d (rw (lib.ListN.length-drop i (take m lows)) (rw few (omega arith))) in
-      let e : getD (drop i (take m lows)) 1 0 ≡ getD (take m lows) (i + 1) 0 = lib.Seq.getD-drop i (take m lows) 1 0 in
-      let f : getD (take m lows) i 0 ≡ getD lows i 0 = low-read i h in
-      let g : getD (take m lows) (i + 1) 0 ≡ getD lows (i + 1) 0 = low-read (i + 1) n in
+      let d : Ascends (getD (take m lows) i 0) (drop i (take m lows)) = ascends-drop 0 (take m lows) i (listed .rising) (rw (few lows m listed al) h) in
+      let a : getD (take m lows) i 0 + 1 ≤ getD (drop i (take m lows)) 1 0 = ascends-at (getD (take m lows) i 0) (drop i (take m lows)) 1 d (rw (length-drop i (take m lows)) (rw (few lows m listed al) (omega arith))) in
+      let e : getD (drop i (take m lows)) 1 0 ≡ getD (take m lows) (i + 1) 0 = getD-drop i (take m lows) 1 0 in
+      let f : getD (take m lows) i 0 ≡ getD lows i 0 = getD-take m lows i 0 h in
+      let g : getD (take m lows) (i + 1) 0 ≡ getD lows (i + 1) 0 = getD-take m lows (i + 1) 0 n in
       omega arith
 
 -- ---- the rows of the leaf at place i

@@ -4,24 +4,24 @@ use Prim.Native.Nat.{ℕ, zero, suc, _+_, _<_, _≤_}
 use native.Mathlib.Nat.{not-suc-le-zero, le-of-suc-le-suc}
 use native.Mathlib.Omega.{arith}
 use mathlib.Core.Path.{_≡_, refl, sym, ap, _∙_, subst, fun-ext}
-use mathlib.Core.Logic.{_⊎_, inl, inr, ⊎-elim}
-use mathlib.Core.Bool.{Bool, true, false, not}
+use mathlib.Core.Logic.{_⊎_, ⊎-elim}
+use mathlib.Core.Bool.{Bool, true, false}
 use mathlib.Core.List.{List, [], _∷_, map}
-use mathlib.Core.Option.{Option, none, some}
-use lib.ListN.{length, take, getD, length-map}
-use lib.Seq.{length-take-le}
-use Rattle.lists.specs.Tests.{pick, both, present, same, cases, clash, same-true, same-false, same-yes, same-no}
-use Rattle.lists.specs.Rows.{Row, row, filter}
+use mathlib.Core.Option.{Option}
+use lib.ListN.{length, take, drop, getD, length-map}
+use lib.Seq.{length-take-le, drop-nil}
+use Rattle.lists.specs.Tests.{both, present, same, cases, clash, same-true, same-false, same-yes, same-no}
+use Rattle.lists.specs.Rows.{Row, filter}
 use Rattle.lists.specs.Options.{options}
-use Rattle.spec.specs.Leaves.{Leaf, firstLeaf, leafOf, versionAt, live}
+use Rattle.spec.specs.Leaves.{Leaf, firstLeaf, versionAt, live}
 use Rattle.spec.specs.Slots.{Content, Slot, entries}
 use Rattle.spec.specs.Maps.{MapState, mergesAt, merging}
 use Rattle.laws.specs.LeafParts.{Covers, Apart, live-head, live-later}
 use Rattle.laws.specs.LeafVersions.{GoodLeaves}
 use Rattle.laws.specs.SlotCounts.{tally, count, count-cons, entries-some, entries-none}
-use Rattle.index.specs.Views.{paired, leavesOf}
+use Rattle.index.specs.Views.{leavesOf}
 use Rattle.index.specs.LeafPlaces.{lowPlace, place-inside, AtLeaf}
-use Rattle.index.specs.LeafViews.{paired-lows, paired-length, Parted, parted, parted-leaf}
+use Rattle.index.specs.LeafViews.{paired-lows, paired-length, parted, parted-leaf}
 use Rattle.map.specs.Phantoms.{weigh, howMany, pendingIn}
 
 -- the leaf of k stands at place i of the first m lows
@@ -34,7 +34,7 @@ takes p e = both (present (e .item .pending)) (p (e .key))
 
 -- ---- places and versions
 
-live-at : (ls : List Leaf) (i u : ℕ) → i < length ls → getD ls i firstLeaf .version ≡ u → live ls u ≡ true
+pub live-at : (ls : List Leaf) (i u : ℕ) → i < length ls → getD ls i firstLeaf .version ≡ u → live ls u ≡ true
 live-at [] i u h e = absurd (not-suc-le-zero h)
 live-at (l ∷ ls) zero u h e = live-head l ls u e
 live-at (l ∷ ls) (suc i) u h e = live-later l ls u (live-at ls i u (le-of-suc-le-suc h) e)
@@ -106,6 +106,17 @@ module _ {v : ℕ} (lows versions : List ℕ) (m : ℕ) (al : length lows ≡ 10
       → same (versionAt (leavesOf lows versions m) k) (versionAt (leavesOf lows versions m) a) ≡ placed lows m i k
   placed-own a i k at =
       ap (same (versionAt (leavesOf lows versions m) k)) (sym (at-version a i at)) ∙ placed-version i k (at .inside)
+
+-- ---- lists
+
+pub none-left : {A : Type 0} (xs : List A) → length xs ≡ 0 → xs ≡ []
+none-left [] e = refl
+none-left (x ∷ xs) e = absurd (let q : ⊥ = omega arith in q)
+
+pub drop-past : {A : Type 0} (xs : List A) (j : ℕ) → length xs ≤ j → drop j xs ≡ []
+drop-past [] j h = drop-nil j
+drop-past (x ∷ xs) zero h = absurd (not-suc-le-zero h)
+drop-past (x ∷ xs) (suc j) h = drop-past xs j (le-of-suc-le-suc h)
 
 -- ---- tests and counts
 

@@ -14,11 +14,15 @@ pub mod ScanLaws
 pub mod HidingLaws
 pub mod PhantomViews
 pub mod PhantomLaws
+pub mod NextViews
+pub mod NextLaws
 pub mod LeafTests
 pub mod LeafRows
+pub mod LeafNumbers
+pub mod LeafCounts
 pub mod MergeWalks
 pub mod MergeCounts
 pub mod MergeSettles
+pub mod MergeKeeps
+pub mod MergeKeys
 pub mod Merges
-pub mod NextViews
-pub mod NextLaws

@@ -1,29 +1,26 @@
 -- The second part of a merge: the leaf settles around the records that it has now. There is room for the leaves and the
 -- versions that it makes, and their lows are addresses.
 -- Assumes nothing.
-use Prim.Native.Nat.{ℕ, zero, suc, _+_, _-_, _^_, _<_, _≤_, zero-le, suc-le-suc}
-use native.Mathlib.Nat.{not-suc-le-zero, le-of-suc-le-suc, le-trans, le-of-eq, le-refl}
+use Prim.Native.Nat.{ℕ, zero, suc, _+_, _-_, _^_, _<_, _≤_, suc-le-suc}
+use native.Mathlib.Nat.{not-suc-le-zero, le-of-suc-le-suc}
 use native.Mathlib.Omega.{arith}
 use mathlib.Core.Path.{_≡_, refl, sym, ap, _∙_, subst}
 use mathlib.Core.Logic.{_⊎_, inl, inr, ⊎-elim}
-use mathlib.Core.Bool.{Bool, true, false}
-use mathlib.Core.List.{List, [], _∷_, _++_, map, List·Memᴰ}
-use lib.ListN.{length, take, drop, getD, length-append, List·getD-eq-default}
-use Rattle.lists.specs.Tests.{pick, same, less, cases, less-true, less-false}
+use mathlib.Core.Bool.{Bool, true}
+use mathlib.Core.List.{List, [], _∷_, _++_, map}
+use lib.ListN.{length, drop, getD, length-append, List·getD-eq-default}
+use Rattle.lists.specs.Tests.{less, cases, less-true, less-false}
 use Rattle.lists.specs.Rows.{Row, keys, has, filter}
-use Rattle.lists.specs.RowLaws.{length-keys}
-use Rattle.lists.specs.Ascending.{Ascends, mem-getD, mem-drop, mem-filter, mem-keys, keys-mem}
+use Rattle.lists.specs.Ascending.{Ascends, mem-getD, mem-filter, mem-keys, keys-mem}
 use Rattle.lists.specs.Memberships.{member-has}
 use Rattle.spec.specs.Records.{Settings, Record, standard}
-use Rattle.spec.specs.Leaves.{Leaf, firstLeaf, versionAt, cuts, starts, newLows, freshLeaves, Around, around, widened, settled, settle, versionsTaken}
+use Rattle.spec.specs.Leaves.{Leaf, firstLeaf, cuts, starts, newLows, freshLeaves, Around, around, widened, settled, settle, versionsTaken}
 use Rattle.laws.specs.LeafParts.{LowsFrom, Covers}
-use Rattle.laws.specs.LeafVersions.{GoodLeaves}
-use Rattle.laws.specs.LeafCuts.{taken-none, lows-taken, taken-bound}
+use Rattle.laws.specs.LeafCuts.{taken-none, lows-taken}
 use Rattle.laws.specs.SettleLaws.{around-parts}
 use Rattle.index.specs.Views.{recordsOf, keysBetween}
 use Rattle.index.specs.Views as index
-use Rattle.index.specs.LeafPlaces.{Listed}
-use Rattle.index.specs.Settles.{Settling}
+use Rattle.index.specs.Settles.{Settling, SettledAs}
 use Rattle.map.specs.LeafTests.{placed}
 use Rattle.map.specs.LeafRows.{Lows, Spans}
 
@@ -54,9 +51,16 @@ settling {lows} {rows} {n} {m} {i} {v} {from} {to} r s =
       next = subst (λ (ks : List ℕ). v + versionsTaken standard ks < 2 ^ 64) (sym (s .keys-are)) (r .next);
     }
 
+-- the rows of the leaf hold its records
+pub resettled : {lows versions rows : List ℕ} {n m i v from to : ℕ} {lows' versions' : List ℕ} {m' v' : ℕ} → Spans (placed lows m i) rows n from to
+    → SettledAs lows versions m i v (keysBetween rows from to) lows' versions' m' v' → SettledAs lows versions m i v (leafKeys lows rows n m i) lows' versions' m' v'
+unfolding leafKeys
+resettled {lows} {versions} {rows} {n} {m} {i} {v} {from} {to} {lows'} {versions'} {m'} {v'} s r =
+    subst (λ (ks : List ℕ). SettledAs lows versions m i v ks lows' versions' m' v') (s .keys-are) r
+
 -- ---- how many leaves there are then
 
-length-fresh : (v : ℕ) (lows : List ℕ) → length (freshLeaves v lows) ≡ length lows
+pub length-fresh : (v : ℕ) (lows : List ℕ) → length (freshLeaves v lows) ≡ length lows
 unfolding freshLeaves
 length-fresh v [] = refl
 length-fresh v (l ∷ ls) = ap suc (length-fresh (suc v) ls)

@@ -5,38 +5,38 @@ use Prim.Native.Nat.{ℕ, zero, suc, _+_, _<_, _≤_, zero-le}
 use native.Mathlib.Nat.{le-trans, le-of-eq, le-refl}
 use native.Mathlib.Omega.{arith}
 use mathlib.Core.Path.{_≡_, refl, sym, ap, _∙_, subst}
-use mathlib.Core.Logic.{_⊎_, inl, inr, ⊎-elim}
+use mathlib.Core.Logic.{_⊎_, ⊎-elim}
 use mathlib.Core.Bool.{Bool, true, false, not}
 use mathlib.Core.List.{List, [], _∷_, _++_}
 use mathlib.Core.Option.{Option, none, some}
 use lib.ListN.{length, drop, getD}
 use lib.Seq.{drop-cons}
-use Rattle.lists.specs.Tests.{pick, both, maybe, present, same, cases, clash, same-true, same-false}
+use Rattle.lists.specs.Tests.{pick, both, maybe, present, same, cases, clash, same-true, same-false, same-no}
 use Rattle.lists.specs.Rows.{Row, row, look, assign, keys, has, filter, distinct, Rising}
 use Rattle.lists.specs.RowLaws.{has-keys, length-keys, look-assign, rising-assign, rising-different}
 use Rattle.lists.specs.Ascending.{keys-mem}
 use Rattle.lists.specs.Counting.{Within, different-within}
 use Rattle.lists.specs.Memberships.{member-has, has-left, has-right}
 use Rattle.lists.specs.Sums.{total-at}
-use Rattle.lists.specs.Options.{options}
 use Rattle.spec.specs.Records.{Record, outcome}
 use Rattle.spec.specs.Leaves.{Leaf}
 use Rattle.spec.specs.Slots.{slotCount, Pending, Content, isIdle, Slot, emptySlot, entries, contentOf, holds, enter}
 use Rattle.spec.specs.Maps.{MapState, outcomeOf, current, each, mergeEntry}
 use Rattle.laws.specs.SlotCounts.{Good, entryAt, tally, count, keyed, keyed-here, keyed-holds, holds-yes, only-here, entries-some, entries-none, slot-member}
-use Rattle.laws.specs.SlotChanges.{kept, Entered}
+use Rattle.laws.specs.SlotChanges.{kept}
 use Rattle.laws.specs.Entering.{Entering, entering}
 use Rattle.laws.specs.SlotLaws.{Room, stands, member-content}
 use Rattle.laws.specs.MapLaws.{has-entry}
 use Rattle.laws.specs.MergeLaws.{withoutPending}
-use Rattle.indexlet.specs.Words.{pendingIn, holderIn, contentIn, slotIn, slotsOf}
+use Rattle.indexlet.specs.Words.{pendingIn, contentIn, slotIn, slotsOf}
 use Rattle.indexlet.specs.declared.Content.{Content as ContentWords}
 use Rattle.indexlet.specs.declared.Slot.{Slot as SlotWords}
 use Rattle.indexlet.specs.Held as indexlet
 use Rattle.index.specs.Views as index
 use Rattle.index.specs.Views.{recordFrom, recordsOf}
 use Rattle.map.specs.declared.merge.Walk.{Walk}
-use Rattle.map.specs.LeafTests.{takes}
+use Rattle.map.specs.Phantoms.{weigh, howMany, many-change, weigh-kept}
+use Rattle.map.specs.LeafTests.{none-left, drop-past, takes}
 
 -- a map of its three parts
 abbrev pub parts : List (Row Record) → List Leaf → List Slot → MapState
@@ -94,14 +94,9 @@ left-start : (p : ℕ → Bool) (ss : List Slot) → left p ss 0 ≡ filter (tak
 unfolding left
 left-start p ss = refl
 
-drop-all : {A : Type 0} (xs : List A) (j : ℕ) → length xs ≤ j → drop j xs ≡ []
-drop-all [] j h = lib.Seq.drop-nil j
-drop-all (x ∷ xs) zero h = absurd (native.Mathlib.Nat.not-suc-le-zero h)
-drop-all (x ∷ xs) (suc j) h = drop-all xs j (native.Mathlib.Nat.le-of-suc-le-suc h)
-
 left-end : (p : ℕ → Bool) (ss : List Slot) (j : ℕ) → length ss ≤ j → left p ss j ≡ []
 unfolding left
-left-end p ss j h = ap (λ (zs : List Slot). filter (takes p) (entries zs)) (drop-all ss j h) ∙ (unfold entries filter in refl)
+left-end p ss j h = ap (λ (zs : List Slot). filter (takes p) (entries zs)) (drop-past ss j h) ∙ (unfold entries filter in refl)
 
 -- ---- what is said of the address at slot j changes no other slot's entry
 
@@ -160,6 +155,9 @@ pub record Walking (p : ℕ → Bool) (rs : List (Row Record)) (ss : List Slot) 
   pub untouched : (i : ℕ) → j ≤ i → i < slotCount → entryAt (slotsOf slots) i ≡ entryAt ss i
   -- an address of the index was one, or had an entry
   pub inside : Within (keys (recordsOf rows (w .records))) (keys rs ++ keys (entries ss))
+  -- addresses that do not pass keep their records, and every count of entries there stays
+  pub apart : (k : ℕ) → p k ≡ false → look (recordsOf rows (w .records)) k ≡ look rs k
+  pub elsewhere : (q : Row Content → Bool) → ((e : Row Content) → p (e .key) ≡ true → q e ≡ false) → howMany q (slotsOf slots) ≡ howMany q ss
   -- the rest of the run is the whole run
   pub rest :
       (ls : List Leaf) → each (mergeEntry 4) (parts (recordsOf rows (w .records)) ls (slotsOf slots)) (left p ss j)
@@ -190,6 +188,8 @@ pub record Took (p : ℕ → Bool) (rows slots : List ℕ) (n : ℕ) (rows' slot
   pub words : indexlet.Held slots'
   pub number : w .entries ≡ length (entries (slotsOf slots'))
   pub inside : Within (keys (recordsOf rows' (w .records))) (keys (recordsOf rows n) ++ keys (entries (slotsOf slots)))
+  pub apart : (k : ℕ) → p k ≡ false → look (recordsOf rows' (w .records)) k ≡ look (recordsOf rows n) k
+  pub elsewhere : (q : Row Content → Bool) → ((e : Row Content) → p (e .key) ≡ true → q e ≡ false) → howMany q (slotsOf slots') ≡ howMany q (slotsOf slots)
   pub after :
       (ls : List Leaf) → parts (recordsOf rows' (w .records)) ls (slotsOf slots')
       ≡ each (mergeEntry 4) (parts (recordsOf rows n) ls (slotsOf slots)) (filter (takes p) (entries (slotsOf slots)))
@@ -209,24 +209,39 @@ walk-start {rows} {slots} {n} {e} p s =
       few = zero-le;
       untouched = λ i a b. refl;
       inside = λ k h. has-left k (keys (recordsOf rows n)) (keys (entries (slotsOf slots))) h;
+      apart = λ k h. refl;
+      elsewhere = λ q h. refl;
       rest = λ ls. ap (each (mergeEntry 4) (parts (recordsOf rows n) ls (slotsOf slots))) (left-start p (slotsOf slots));
       counted = (let z : length (left p (slotsOf slots) 0) ≡ length (filter (takes p) (entries (slotsOf slots))) = ap length (left-start p (slotsOf slots)) in omega arith);
     }
 
-pub walk-end : {p : ℕ → Bool} {rows slots : List ℕ} {n : ℕ} {rows' slots' : List ℕ} {w : Walk} {j : ℕ} → Walking p (recordsOf rows n) (slotsOf slots) rows' slots' w j → 256 ≤ j
-    → Took p rows slots n rows' slots' w
+walked : {p : ℕ → Bool} {rows slots : List ℕ} {n : ℕ} {rows' slots' : List ℕ} {w : Walk} {j : ℕ} → Walking p (recordsOf rows n) (slotsOf slots) rows' slots' w j
+    → left p (slotsOf slots) j ≡ [] → Took p rows slots n rows' slots' w
 unfolding each
-walk-end {p} {rows} {slots} {n} {rows'} {slots'} {w} {j} r h =
-    let f : length (slotsOf slots) ≡ slotCount = r .full in
-    let e : left p (slotsOf slots) j ≡ [] = left-end p (slotsOf slots) j (omega arith) in
+walked {p} {rows} {slots} {n} {rows'} {slots'} {w} {j} r e =
     record {
       rows-held = r .rows-held;
       words = r .words;
       number = r .number;
       inside = r .inside;
+      apart = r .apart;
+      elsewhere = r .elsewhere;
       after = λ ls. sym (ap (each (mergeEntry 4) (parts (recordsOf rows' (w .records)) ls (slotsOf slots'))) e) ∙ r .rest ls;
       count = (let z : length (left p (slotsOf slots) j) ≡ 0 = ap length e in let y : w .count + length (left p (slotsOf slots) j) ≡ length (filter (takes p) (entries (slotsOf slots))) = r .counted in omega arith);
     }
+
+-- at the last slot
+pub walk-end : {p : ℕ → Bool} {rows slots : List ℕ} {n : ℕ} {rows' slots' : List ℕ} {w : Walk} {j : ℕ} → Walking p (recordsOf rows n) (slotsOf slots) rows' slots' w j → 256 ≤ j
+    → Took p rows slots n rows' slots' w
+walk-end {p} {slots = slots} {j = j} r h = let f : length (slotsOf slots) ≡ slotCount = r .full in walked r (left-end p (slotsOf slots) j (omega arith))
+
+-- as soon as all are taken in
+pub walk-stop : {p : ℕ → Bool} {rows slots : List ℕ} {n : ℕ} {rows' slots' : List ℕ} {w : Walk} {j limit : ℕ} → Walking p (recordsOf rows n) (slotsOf slots) rows' slots' w j
+    → limit ≡ length (filter (takes p) (entries (slotsOf slots))) → w .count ≡ limit → Took p rows slots n rows' slots' w
+walk-stop {p} {slots = slots} {w = w} {j = j} r l e =
+    walked r
+    (none-left (left p (slotsOf slots) j)
+    (let y : w .count + length (left p (slotsOf slots) j) ≡ length (filter (takes p) (entries (slotsOf slots))) = r .counted in omega arith))
 
 -- ---- one slot
 
@@ -253,6 +268,8 @@ walk-past {p} {rows} {slots} {w} {j} r reads h f =
             few = (let y : w .count ≤ j = g .few in omega arith);
             untouched = λ i a b. g .untouched i (omega arith) b;
             inside = g .inside;
+            apart = g .apart;
+            elsewhere = g .elsewhere;
             rest = λ ls. ap (each (mergeEntry 4) (parts (recordsOf rows (w .records)) ls (slotsOf slots))) d ∙ g .rest ls;
             counted = (let y : w .count + length (left p ss j) ≡ length (filter (takes p) (entries ss)) = g .counted in let x : length (left p ss (j + 1)) ≡ length (left p ss j) = ap length d in omega arith);
           };
@@ -269,6 +286,10 @@ both-false false = refl
 pub takes-other : (p : ℕ → Bool) (k : ℕ) (c : ContentWords) → p k ≡ false → takes p (row k (contentIn c)) ≡ false
 unfolding takes
 takes-other p k c e = ap (both (present (contentIn c .pending))) e ∙ both-false (present (contentIn c .pending))
+
+weigh-nothing : (q : Row Content → Bool) (k : ℕ) (c : Content) → q (row k c) ≡ false → weigh q (kept k c) ≡ 0
+weigh-nothing q k c e =
+    weigh-kept q k c ∙ ap (λ (b : Bool). pick (isIdle c) 0 (pick b 1 0)) e ∙ ⊎-elim (λ t. rw t) (λ t. rw t) (cases (isIdle c))
 
 -- an entry with a pending write
 module _ {slots : List ℕ} {j : ℕ} (r : SlotWords) (held : indexlet.Held slots) (reads : indexlet.Reads slots j r) (kind : r .content .kind ≡ 0 → ⊥) where
@@ -311,6 +332,17 @@ module _ {slots : List ℕ} {j : ℕ} (r : SlotWords) (held : indexlet.Held slot
   taken-yes : (p : ℕ → Bool) → p (r .key) ≡ true → takes p (row (r .key) (contentIn (r .content))) ≡ true
   unfolding takes
   taken-yes p t = ap (λ (o : Option Pending). both (present o) (p (r .key))) pending-is ∙ t
+
+  -- a count that does not look at the entry's address stays
+  many-apart : (q : Row Content → Bool) (c : Content) → ((x : Content) → q (row (r .key) x) ≡ false) → howMany q (enter 4 (slotsOf slots) (r .key) c) ≡ howMany q (slotsOf slots)
+  many-apart q c f =
+      let e : howMany q (enter 4 (slotsOf slots) (r .key) c) + weigh q (kept (r .key) (contentOf (slotsOf slots) (r .key))) ≡ howMany q (slotsOf slots) + weigh q (kept (r .key) c) = many-change (held .good) (slot-room c) q in
+      let a : weigh q (kept (r .key) (contentOf (slotsOf slots) (r .key))) ≡ 0 = weigh-nothing q (r .key) (contentOf (slotsOf slots) (r .key)) (f (contentOf (slotsOf slots) (r .key))) in
+      let b : weigh q (kept (r .key) c) ≡ 0 = weigh-nothing q (r .key) c (f c) in
+      omega arith
+
+  other : (p : ℕ → Bool) → p (r .key) ≡ true → (x : ℕ) → p x ≡ false → same (r .key) x ≡ false
+  other p t x f = same-no {m = r .key} {n = x} (λ e. clash (ap p (sym e) ∙ t) f)
 
   -- there is room in the index for the entry
   pub write-room : {p : ℕ → Bool} {rows : List ℕ} {w : Walk} → Underway p rows slots w j → j < 256 → (x : Record)
@@ -355,6 +387,13 @@ module _ {slots : List ℕ} {j : ℕ} (r : SlotWords) (held : indexlet.Held slot
               inside =
                   subst (λ (ks : List (Row Record)). Within (keys ks) (keys rs ++ keys (entries ss))) (sym (hold .same))
                   (assign-inside (r .key) _ (recordsOf rows (w .records)) (keys rs ++ keys (entries ss)) (g .inside) (entry-inside rs ss j x was));
+              apart =
+                  λ x f.
+                  ap (λ (ks : List (Row Record)). look ks x) (hold .same)
+                  ∙ look-assign (r .key) (leaving (r .content .kind) (r .content .value) (r .content .commit)) (recordsOf rows (w .records)) x
+                  ∙ ap (λ (b : Bool). pick b (leaving (r .content .kind) (r .content .value) (r .content .commit)) (look (recordsOf rows (w .records)) x)) (other p t x f)
+                  ∙ g .apart x f;
+              elsewhere = λ q f. ap (howMany q) (ent .view) ∙ many-apart q (contentIn c) (λ x. f (row (r .key) x) t) ∙ g .elsewhere q f;
               rest =
                   λ ls.
                   ap (λ (m : MapState). each (mergeEntry 4) m (left p ss (j + 1)))

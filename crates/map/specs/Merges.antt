@@ -1,42 +1,36 @@
 -- What a merge promises, and why its parts keep it: the walk takes the leaf's pending writes in, the leaf settles, and the
 -- phantomlet is worked out.
 -- Assumes nothing.
-use Prim.Native.Nat.{ℕ, zero, suc, _+_, _^_, _<_, _≤_, zero-le}
-use native.Mathlib.Nat.{not-suc-le-zero, le-trans, le-of-eq}
+use Prim.Native.Nat.{ℕ, suc, _+_, _-_, _^_, _<_, _≤_, zero-le}
+use native.Mathlib.Nat.{not-suc-le-zero}
 use native.Mathlib.Omega.{arith}
 use mathlib.Core.Path.{_≡_, refl, sym, ap, _∙_, subst}
-use mathlib.Core.Logic.{_⊎_, inl, inr, ⊎-elim}
+use mathlib.Core.Logic.{_⊎_, ⊎-elim}
 use mathlib.Core.Bool.{Bool, true, false, not}
-use mathlib.Core.List.{List, [], _∷_, _++_, map, List·Memᴰ, List·Memᴰ·head, List·Memᴰ·tail}
-use mathlib.Core.Option.{Option, none, some}
+use mathlib.Core.List.{List, [], _∷_, map}
+use mathlib.Core.Option.{Option, some}
 use lib.ListN.{length, take, getD}
-use lib.Seq.{length-take-le, getD-take}
-use Rattle.lists.specs.Tests.{pick, both, present, same, cases}
-use Rattle.lists.specs.Rows.{Row, row, look, keys, has, filter}
+use Rattle.lists.specs.Tests.{both, present, same, cases, same-true, same-no}
+use Rattle.lists.specs.Rows.{Row, look, keys, has, filter}
 use Rattle.lists.specs.RowLaws.{length-keys}
-use Rattle.lists.specs.Ascending.{Ascends, mem-getD, mem-keys, keys-mem}
-use Rattle.lists.specs.Memberships.{member-has, has-member, has-parts}
-use Rattle.lists.specs.Tabs.{getD-tab}
+use Rattle.lists.specs.Ascending.{Ascends}
+use Rattle.lists.specs.Memberships.{has-parts}
 use Rattle.spec.specs.Records.{Settings, Record, standard}
 use Rattle.spec.specs.Leaves.{Leaf, firstLeaf, versionAt, settle, versionsTaken}
-use Rattle.spec.specs.Slots.{slotCount, Content, Slot, emptySlot, entries}
+use Rattle.spec.specs.Slots.{Content, entries}
 use Rattle.spec.specs.Maps.{MapState, current, each, mergesAt, merging, mergeEntry, recordsIn, settleMap, mergeAll, mergeAt}
 use Rattle.spec.specs.Maps as model
-use Rattle.laws.specs.SlotCounts.{Good, entryAt, member-slot}
-use Rattle.laws.specs.SlotChanges.{kept}
-use Rattle.laws.specs.SlotLaws.{kept-entry}
-use Rattle.laws.specs.LeafParts.{Covers}
 use Rattle.laws.specs.LeafVersions.{GoodLeaves}
+use Rattle.laws.specs.LeafSwaps.{Kept}
+use Rattle.laws.specs.SettleLaws.{InLeaf, records-in-leaf, settle-keeps}
 use Rattle.laws.specs.LeafCuts.{standard-cut, taken-bound}
 use Rattle.laws.specs.MergeLaws.{merges}
 use Rattle.laws.specs.MapBounds.{Bounded, standard-leaves, merge-bounded}
-use Rattle.indexlet.specs.Words.{contentIn, slotIn, rowAt, slotsOf}
-use Rattle.indexlet.specs.Held as indexlet
-use Rattle.index.specs.Views.{noRow, rowsOf, recordsOf, paired, leavesOf}
-use Rattle.index.specs.Views as index
-use Rattle.index.specs.ViewLaws.{length-records, record-read}
-use Rattle.index.specs.LeafPlaces.{AtLeaf, Listed}
-use Rattle.index.specs.LeafViews.{paired-getD}
+use Rattle.indexlet.specs.Words.{slotsOf}
+use Rattle.index.specs.Views.{recordsOf, leavesOf}
+use Rattle.index.specs.ViewLaws.{length-records}
+use Rattle.index.specs.LeafPlaces.{lowPlace, AtLeaf, Listed}
+use Rattle.index.specs.LeafViews.{parted}
 use Rattle.index.specs.Settles.{SettledAs}
 use Rattle.map.specs.declared.Sizes.{Sizes}
 use Rattle.map.specs.declared.Counters.{Counters}
@@ -45,10 +39,12 @@ use Rattle.map.specs.declared.merge.Merged.{Merged}
 use Rattle.map.specs.Phantoms.{howMany, outsideAny, outsideIn, pendingIn, versionOf, Phantomlet}
 use Rattle.map.specs.Views.{Lent, lent, mapOf}
 use Rattle.map.specs.Held.{Tables, Held}
-use Rattle.map.specs.LeafTests.{placed, takes, filter-same, many-same, pending-merging, lows-are, leaves-count, placed-version, at-version, placed-own}
-use Rattle.map.specs.LeafRows.{Lows}
+use Rattle.map.specs.LeafTests.{none-left, placed, takes, filter-same, many-same, pending-merging, lows-are, leaves-count, live-at, placed-version, at-version, placed-own}
 use Rattle.map.specs.MergeWalks.{parts, Starting, Took}
-use Rattle.map.specs.MergeCounts.{lacking, waiting, inLeaf, Counting}
+use Rattle.map.specs.MergeCounts.{Recounting, Counting}
+use Rattle.map.specs.LeafCounts.{lacking, waiting, inLeaf}
+use Rattle.map.specs.MergeKeys.{entry-narrow, record-narrow, rows-narrow, low-at, first-low}
+use Rattle.map.specs.MergeKeeps.{Shape, settle-shape, shape-length, shape-early, shape-after, kept-test}
 use Rattle.map.specs.MergeSettles.{leafKeys, Resettling, settle-room, Narrow, settle-narrow, narrow-leaves, narrow-at, keys-narrow, lows-ascend}
 
 -- A merge at address a (document 01: fold): the map, the counters and the answer are the model's, the arrays stay what
@@ -61,27 +57,12 @@ pub record Merges (l : Lent) (z : Sizes) (k : Counters) (a : ℕ) (l' : Lent) (r
   pub held : Held l' (r .sizes) (mergeAt standard (k .version) (mapOf l z) a .version)
   pub same-current : (j : ℕ) → current (mapOf l' (r .sizes)) j ≡ current (mapOf l z) j
 
--- ---- lists
-
-mem-place : {A : Type 0} {x : A} (xs : List A) (d : A) → List·Memᴰ x xs → (i : ℕ) × (i < length xs) × (getD xs i d ≡ x)
-mem-place (y ∷ ys) d (List·Memᴰ·head q) = (0, omega arith, sym q)
-mem-place (y ∷ ys) d (List·Memᴰ·tail m) = let r = mem-place ys d m in (suc (r .0), let h : r .0 < length ys = r .1 in omega arith, r .2)
-
 filter-short : {A : Type 0} (p : A → Bool) (xs : List A) → length (filter p xs) ≤ length xs
 unfolding filter
 filter-short p [] = zero-le
 filter-short p (x ∷ xs) =
     let h : length (filter p xs) ≤ length xs = filter-short p xs in
     ⊎-elim (λ t. rw t (omega arith)) (λ t. rw t (omega arith)) (cases (p x))
-
-none-left : {A : Type 0} (xs : List A) → length xs ≡ 0 → xs ≡ []
-none-left [] e = refl
-none-left (x ∷ xs) e = absurd (let q : ⊥ = omega arith in q)
-
-covers-first : (ls : List Leaf) → Covers ls → getD (map (λ (l : Leaf). l .low) ls) 0 0 ≡ 0
-unfolding Covers
-covers-first [] c = refl
-covers-first (l ∷ ls) c = c
 
 -- ---- the model's merge, with and without pending writes
 
@@ -99,43 +80,23 @@ merge-some : (s : Settings) (v : ℕ) (m : MapState) (a : ℕ) → 1 ≤ length 
 unfolding mergeAt
 merge-some s v m a h = all-some s v m a (merging m a) h
 
--- ---- keys that are addresses
+-- ---- counts of kept leaves
 
-entry-narrow : (ws : List ℕ) → indexlet.Held ws → (k : ℕ) → has k (keys (entries (slotsOf ws))) ≡ true → k < 2 ^ 32
-unfolding slotsOf slotIn
-entry-narrow ws h k e =
-    let q = mem-keys (entries (slotsOf ws)) (has-member k (keys (entries (slotsOf ws))) e) in
-    let r = member-slot (slotsOf ws) (q .0) (q .1) in
-    let f : length (slotsOf ws) ≡ slotCount = h .good .size in
-    let b : r .0 < slotCount = (let g : r .0 < length (slotsOf ws) = r .1 in omega arith) in
-    let s : kept (rowAt ws (r .0) .key) (contentIn (rowAt ws (r .0) .content)) ≡ some (q .0)
-    = sym (ap (λ (s : Slot). s .entry) (getD-tab (λ (i : ℕ). slotIn (rowAt ws i)) slotCount (r .0) emptySlot b)) ∙ r .2 in
-    let t : row (rowAt ws (r .0) .key) (contentIn (rowAt ws (r .0) .content)) ≡ q .0 = kept-entry (rowAt ws (r .0) .key) (contentIn (rowAt ws (r .0) .content)) (q .0) s .1 in
-    subst (λ (x : ℕ). x < 2 ^ 32) (ap (λ (x : Row Content). x .key) t ∙ q .2) (h .sized .narrow (r .0) b)
+-- two tests that agree on addresses, of which those that pass keep their records
+lacking-same : (b c : Bool) (rs rs' : List (Row Record)) (e : Row Content) → b ≡ c → (c ≡ true → look rs' (e .key) ≡ look rs (e .key)) → both b (lacking rs' e) ≡ both c (lacking rs e)
+unfolding lacking
+lacking-same b c rs rs' e q h =
+    ap (λ (x : Bool). both x (not (present (look rs' (e .key))))) q
+    ∙ ⊎-elim
+    (λ t. (rw t) ∙ ap (λ (o : Option Record). not (present o)) (h t) ∙ sym (ap (λ (x : Bool). both x (not (present (look rs (e .key))))) t))
+    (λ f. (rw f) ∙ sym (ap (λ (x : Bool). both x (not (present (look rs (e .key))))) f))
+    (cases c)
 
-record-narrow : (ws : List ℕ) (n : ℕ) → index.Held ws n → ((i : ℕ) → i < n → getD (rowsOf ws) i noRow .key < 2 ^ 32)
-    → (k : ℕ) → has k (keys (recordsOf ws n)) ≡ true → k < 2 ^ 32
-record-narrow ws n held h k e =
-    let q = mem-keys (recordsOf ws n) (has-member k (keys (recordsOf ws n)) e) in
-    let r = mem-place (recordsOf ws n) noRow (q .1) in
-    let f : length (recordsOf ws n) ≡ n = length-records ws n (held .room) in
-    let b : r .0 < n = (let g : r .0 < length (recordsOf ws n) = r .1 in omega arith) in
-    subst (λ (x : ℕ). x < 2 ^ 32) (ap (λ (x : Row Record). x .key) (sym (record-read ws n (r .0) b) ∙ r .2) ∙ q .2) (h (r .0) b)
-
-rows-narrow : (ws : List ℕ) (n : ℕ) → index.Held ws n → ((k : ℕ) → has k (keys (recordsOf ws n)) ≡ true → k < 2 ^ 32)
-    → (i : ℕ) → i < n → getD (rowsOf ws) i noRow .key < 2 ^ 32
-rows-narrow ws n held h i b =
-    let f : length (recordsOf ws n) ≡ n = length-records ws n (held .room) in
-    subst (λ (x : Row Record). x .key < 2 ^ 32) (record-read ws n i b)
-    (h (getD (recordsOf ws n) i noRow .key) (member-has (keys-mem (getD (recordsOf ws n) i noRow) (recordsOf ws n) (mem-getD (recordsOf ws n) i noRow (omega arith)))))
-
-low-at : (lows versions : List ℕ) (m i : ℕ) → length lows ≡ 1025 → length versions ≡ 1025 → m ≤ 1025 → i < m
-    → getD (leavesOf lows versions m) i firstLeaf .low ≡ getD lows i 0
-unfolding leavesOf
-low-at lows versions m i al av mr h =
-    let x : length (take m lows) ≡ m = length-take-le m lows (omega arith) in
-    let y : length (take m versions) ≡ m = length-take-le m versions (omega arith) in
-    ap (λ (l : Leaf). l .low) (paired-getD (take m lows) (take m versions) i (x ∙ sym y) (omega arith)) ∙ getD-take m lows i 0 h
+-- a place is one place
+placed-one : (lows : List ℕ) (m i o k : ℕ) → (o ≡ i → ⊥) → placed lows m i k ≡ true → placed lows m o k ≡ false
+unfolding placed
+placed-one lows m i o k n t =
+    same-no {m = lowPlace k (take m lows)} {n = o} (λ e. n (sym e ∙ same-true (lowPlace k (take m lows)) i t))
 
 -- ---- a merge
 
@@ -179,6 +140,10 @@ module _ {l : Lent} {z : Sizes} (k : Counters) (h : Held l z (k .version)) (a i 
 
   pub starting : Starting (l .rows) (l .slots) (z .records) (z .entries)
   starting = record { rows-held = h .tables .rows; words = h .tables .words; number = h .tables .entries-are; bound = h .bounded .addresses }
+
+  -- as many as the walk takes in
+  pub limit-is : getD (l .pending) i 0 ≡ length (filter (takes (placed (l .lows) (z .leaves) i)) (entries (slotsOf (l .slots))))
+  limit-is = pending-count ∙ ap length merging-is
 
   -- something is pending, and was taken in
   module _ (some-pending : getD (l .pending) i 0 ≡ 0 → ⊥) (rows slots : List ℕ) (w : Walk)
@@ -227,12 +192,6 @@ module _ {l : Lent} {z : Sizes} (k : Counters) (h : Held l z (k .version)) (a i 
         let t : length (keys (filter (λ (r : Row Record). placed (l .lows) (z .leaves) i (r .key)) (recordsOf rows (w .records)))) ≡ length (filter (λ (r : Row Record). placed (l .lows) (z .leaves) i (r .key)) (recordsOf rows (w .records))) = length-keys (filter (λ (r : Row Record). placed (l .lows) (z .leaves) i (r .key)) (recordsOf rows (w .records))) in
         omega arith
 
-    first-low : getD (l .lows) 0 0 ≡ 0
-    first-low =
-        sym (getD-take (z .leaves) (l .lows) 0 0 (h .tables .lows .some))
-        ∙ ap (λ (xs : List ℕ). getD xs 0 0) (sym (lows-are (l .lows) (l .versions) (z .leaves) (h .tables .lows-size) (h .tables .versions-size) (h .tables .lows .room) good))
-        ∙ covers-first (mapOf l z .leaves) (good .covers)
-
     pub resettling : k .version + 129 < 2 ^ 64 → Resettling (l .lows) rows (w .records) (z .leaves) i (k .version)
     unfolding ks settledTo
     resettling room =
@@ -244,7 +203,7 @@ module _ {l : Lent} {z : Sizes} (k : Counters) (h : Held l z (k .version)) (a i 
         let f : versionsTaken standard ks ≤ 129 = taken-bound ks ks-short in
         record {
           rows-held = took .rows-held;
-          lows-are = record { listed = h .tables .lows; first = first-low; narrow = h .tables .lows-narrow };
+          lows-are = record { listed = h .tables .lows; first = first-low (l .lows) (l .versions) (z .leaves) (h .tables .lows-size) (h .tables .versions-size) (h .tables .lows .some) (h .tables .lows .room) good; narrow = h .tables .lows-narrow };
           leaf-in = at .inside;
           room = subst (λ (n : ℕ). n + versionsTaken standard ks ≤ 1026) c e;
           next = omega arith;
@@ -301,7 +260,7 @@ module _ {l : Lent} {z : Sizes} (k : Counters) (h : Held l z (k .version)) (a i 
       count-is : length (leavesOf lows versions m) ≡ m
       count-is = leaves-count lows versions m al av (settled .room) now-good
 
-      pub now-listed : Listed lows m
+      now-listed : Listed lows m
       now-listed =
           record {
             some = settled .some;
@@ -322,6 +281,118 @@ module _ {l : Lent} {z : Sizes} (k : Counters) (h : Held l z (k .version)) (a i 
           ap (λ (t : Bool). both t (present (e .item .pending)))
           (sym (placed-version lows versions m al av (settled .room) now-good j (e .key) g))
 
+      -- ---- the leaves that the merge keeps
+
+      shape : Shape (mapOf l z .leaves) (leavesOf lows versions m) i
+      shape =
+          subst (λ (ls : List Leaf). Shape (mapOf l z .leaves) ls i) (sym leaves-is)
+          (settle-shape standard (k .version) (mapOf l z .leaves) a i ks
+          (parted a (mapOf l z .leaves) i (let s : 1 ≤ z .leaves = h .tables .lows .some in let e : length (mapOf l z .leaves) ≡ z .leaves = many-leaves in omega arith)
+          (at .is ∙ ap (lowPlace a) (sym (lows-are (l .lows) (l .versions) (z .leaves) (h .tables .lows-size) (h .tables .versions-size) (h .tables .lows .room) good))))
+          (rw many-leaves (at .inside)))
+
+      keeps : Kept (k .version) (mapOf l z .leaves) (leavesOf lows versions m) a
+      unfolding recordsIn after
+      keeps =
+          subst (λ (ls : List Leaf). Kept (k .version) (mapOf l z .leaves) ls a) (sym leaves-is)
+          (settle-keeps standard-cut good
+          (subst (InLeaf (mapOf l z .leaves) a) keys-in (records-in-leaf (mapOf l z .leaves) a (recordsOf rows (w .records)) (took .rows-held .rising))))
+
+      -- the leaf at place j is the one that stood at place o: it holds the addresses that it held
+      same-leaf : (j o : ℕ) → j < m → o < z .leaves → getD (leavesOf lows versions m) j firstLeaf ≡ getD (mapOf l z .leaves) o firstLeaf
+          → (x : ℕ) → placed lows m j x ≡ placed (l .lows) (z .leaves) o x
+      same-leaf j o g b e x =
+          let u : getD (leavesOf lows versions m) j firstLeaf .version ≡ getD (mapOf l z .leaves) o firstLeaf .version = ap (λ (y : Leaf). y .version) e in
+          sym (placed-version lows versions m al av (settled .room) now-good j x g)
+          ∙ kept-test keeps now-good (getD (leavesOf lows versions m) j firstLeaf .version)
+          (live-at (leavesOf lows versions m) j _ (rw count-is g) refl)
+          (subst (λ (y : ℕ). y ≤ k .version) (sym u) (good .old _ (live-at (mapOf l z .leaves) o _ (rw many-leaves b) refl))) x
+          ∙ ap (same (versionAt (mapOf l z .leaves) x)) u
+          ∙ placed-version (l .lows) (l .versions) (z .leaves) (h .tables .lows-size) (h .tables .versions-size) (h .tables .lows .room) good o x b
+
+      module _ (j o : ℕ) (g : j < m) (b : o < z .leaves) (n : o ≡ i → ⊥) (e : getD (leavesOf lows versions m) j firstLeaf ≡ getD (mapOf l z .leaves) o firstLeaf) where
+        outside-kept : getD (l .outside) o 0 ≡ howMany (inLeaf lows m (lacking (recordsOf rows (w .records))) j) (slotsOf slots)
+        unfolding inLeaf outsideIn outsideAny lacking
+        outside-kept =
+            h .tables .phantoms .outside-is o (rw many-leaves b)
+            ∙ many-same (outsideIn (mapOf l z) (versionOf (mapOf l z) o)) (inLeaf (l .lows) (z .leaves) (lacking (recordsOf (l .rows) (z .records))) o) (slotsOf (l .slots))
+            (λ x. ap (λ (t : Bool). both t (not (present (look (recordsOf (l .rows) (z .records)) (x .key)))))
+            (placed-version (l .lows) (l .versions) (z .leaves) (h .tables .lows-size) (h .tables .versions-size) (h .tables .lows .room) good o (x .key) b))
+            ∙ sym (took .elsewhere (inLeaf (l .lows) (z .leaves) (lacking (recordsOf (l .rows) (z .records))) o)
+            (λ x t. ap (λ (c : Bool). both c (not (present (look (recordsOf (l .rows) (z .records)) (x .key))))) (placed-one (l .lows) (z .leaves) i o (x .key) n t)))
+            ∙ many-same (inLeaf (l .lows) (z .leaves) (lacking (recordsOf (l .rows) (z .records))) o) (inLeaf lows m (lacking (recordsOf rows (w .records))) j) (slotsOf slots)
+            (λ x. sym (lacking-same (placed lows m j (x .key)) (placed (l .lows) (z .leaves) o (x .key)) (recordsOf (l .rows) (z .records)) (recordsOf rows (w .records)) x
+            (same-leaf j o g b e (x .key))
+            (λ t. took .apart (x .key) (placed-one (l .lows) (z .leaves) o i (x .key) (λ q. n (sym q)) t))))
+
+        pending-kept : getD (l .pending) o 0 ≡ howMany (inLeaf lows m waiting j) (slotsOf slots)
+        unfolding inLeaf pendingIn waiting
+        pending-kept =
+            h .tables .phantoms .pending-is o (rw many-leaves b)
+            ∙ many-same (pendingIn (mapOf l z) (versionOf (mapOf l z) o)) (inLeaf (l .lows) (z .leaves) waiting o) (slotsOf (l .slots))
+            (λ x. ap (λ (t : Bool). both t (present (x .item .pending)))
+            (placed-version (l .lows) (l .versions) (z .leaves) (h .tables .lows-size) (h .tables .versions-size) (h .tables .lows .room) good o (x .key) b))
+            ∙ sym (took .elsewhere (inLeaf (l .lows) (z .leaves) waiting o)
+            (λ x t. ap (λ (c : Bool). both c (present (x .item .pending))) (placed-one (l .lows) (z .leaves) i o (x .key) n t)))
+            ∙ many-same (inLeaf (l .lows) (z .leaves) waiting o) (inLeaf lows m waiting j) (slotsOf slots)
+            (λ x. ap (λ (c : Bool). both c (present (x .item .pending))) (sym (same-leaf j o g b e (x .key))))
+
+      -- where they stand
+      to-is : i + 1 + m - z .leaves ≡ length (shape .front)
+      to-is =
+          let e : length (leavesOf lows versions m) ≡ length (shape .front) + (length (mapOf l z .leaves) - suc i) = shape-length shape in
+          let f : length (leavesOf lows versions m) ≡ m = count-is in
+          let c : length (mapOf l z .leaves) ≡ z .leaves = many-leaves in
+          let b : i < z .leaves = at .inside in
+          omega arith
+
+      early-leaf : (j : ℕ) → j + 1 < i → j < m
+      early-leaf j b =
+          let e : length (leavesOf lows versions m) ≡ length (shape .front) + (length (mapOf l z .leaves) - suc i) = shape-length shape in
+          let f : length (leavesOf lows versions m) ≡ m = count-is in
+          let c : i ≤ length (shape .front) = shape .long in
+          omega arith
+
+      later-leaf : (y : ℕ) → i + 1 + y < z .leaves → i + 1 + m - z .leaves + y < m
+      later-leaf y b =
+          let e : length (leavesOf lows versions m) ≡ length (shape .front) + (length (mapOf l z .leaves) - suc i) = shape-length shape in
+          let f : length (leavesOf lows versions m) ≡ m = count-is in
+          let c : length (mapOf l z .leaves) ≡ z .leaves = many-leaves in
+          let d : i + 1 + m - z .leaves ≡ length (shape .front) = to-is in
+          omega arith
+
+      later-is : (y : ℕ) → getD (leavesOf lows versions m) (i + 1 + m - z .leaves + y) firstLeaf ≡ getD (mapOf l z .leaves) (i + 1 + y) firstLeaf
+      later-is y = ap (λ (q : ℕ). getD (leavesOf lows versions m) (q + y) firstLeaf) to-is ∙ shape-after shape y
+
+      pub recounting : Recounting rows lows slots (w .records) m (l .outside) (l .pending) i (z .leaves)
+      recounting =
+          let e : length (leavesOf lows versions m) ≡ length (shape .front) + (length (mapOf l z .leaves) - suc i) = shape-length shape in
+          let f : length (leavesOf lows versions m) ≡ m = count-is in
+          let c : length (mapOf l z .leaves) ≡ z .leaves = many-leaves in
+          let d : i ≤ length (shape .front) = shape .long in
+          let q : 1 ≤ length (shape .front) = shape .some in
+          let b : i < z .leaves = at .inside in
+          record {
+            rows-held = took .rows-held;
+            listed = now-listed;
+            first = first-low lows versions m al av (settled .some) (settled .room) now-good;
+            words = took .words;
+            leaf-in = at .inside;
+            old-in = h .tables .lows .room;
+            some-made = omega arith;
+            one-less = omega arith;
+            outside-kept =
+                record {
+                  before = λ j g. outside-kept j j (early-leaf j g) (omega arith) (λ x. let y : ⊥ = omega arith in y) (shape-early shape j g);
+                  after = λ y g. outside-kept (i + 1 + m - z .leaves + y) (i + 1 + y) (later-leaf y g) g (λ x. let u : ⊥ = omega arith in u) (later-is y);
+                };
+            pending-kept =
+                record {
+                  before = λ j g. pending-kept j j (early-leaf j g) (omega arith) (λ x. let y : ⊥ = omega arith in y) (shape-early shape j g);
+                  after = λ y g. pending-kept (i + 1 + m - z .leaves + y) (i + 1 + y) (later-leaf y g) g (λ x. let u : ⊥ = omega arith in u) (later-is y);
+                };
+          }
+
       -- the phantomlet is worked out
       module _ (outside pending : List ℕ) (out : ℕ) (counting : Counting rows lows slots (w .records) m outside pending out) where
         now-phantoms : Phantomlet now outside pending
@@ -331,12 +402,12 @@ module _ {l : Lent} {z : Sizes} (k : Counters) (h : Held l z (k .version)) (a i 
               outside-is =
                   λ j b.
                   let g : j < m = subst (λ (n : ℕ). j < n) count-is b in
-                  counting .outside-is j g
+                  counting .numbers .outside-is j g
                   ∙ many-same (inLeaf lows m (lacking (recordsOf rows (w .records))) j) (outsideIn now (versionOf now j)) (slotsOf slots) (outside-test j g);
               pending-is =
                   λ j b.
                   let g : j < m = subst (λ (n : ℕ). j < n) count-is b in
-                  counting .pending-is j g ∙ many-same (inLeaf lows m waiting j) (pendingIn now (versionOf now j)) (slotsOf slots) (pending-test j g);
+                  counting .numbers .pending-is j g ∙ many-same (inLeaf lows m waiting j) (pendingIn now (versionOf now j)) (slotsOf slots) (pending-test j g);
             }
 
         outside-all : out ≡ howMany (outsideAny now) (slotsOf slots)
@@ -359,8 +430,8 @@ module _ {l : Lent} {z : Sizes} (k : Counters) (h : Held l z (k .version)) (a i 
               leaves = now-good;
               words = took .words;
               entries-are = took .number;
-              outside-size = counting .outside-size;
-              pending-size = counting .pending-size;
+              outside-size = counting .numbers .outside-size;
+              pending-size = counting .numbers .pending-size;
               outside-are = outside-all;
               phantoms = now-phantoms;
             }

@@ -7,6 +7,7 @@
 pub mod locks;
 pub mod looks;
 pub mod merge;
+mod recount;
 pub mod say;
 
 // An address of the map.

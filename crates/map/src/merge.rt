@@ -1,36 +1,34 @@
 // The merge (document 01: fold): a leaf's pending writes enter the index, and the leaf settles around its records.
 //
-// `take_all` walks the slots and takes the leaf's pending writes in; `resettle` settles the leaf; `recount` works the
-// phantomlet out anew.
+// `take_all` walks the slots and takes the leaf's pending writes in; `resettle` settles the leaf; `recount` brings the
+// phantomlet up to date.
 use crate::Address;
 use crate::Counters;
 use crate::Sizes;
+use crate::recount;
 ghost use mathlib.Core.Path.{_≡_};
-ghost use mathlib.Core.Bool.{not};
 ghost use mathlib.Core.Option.{some};
 ghost use Prim.Native.Nat.{_+_, _^_, _<_, _≤_};
-ghost use lib.ListN.{length, getD, set, take};
-ghost use Rattle.lists.specs.Tests.{pick, present};
-ghost use Rattle.lists.specs.Rows.{look, assign};
-ghost use Rattle.indexlet.specs.Words.{contentIn, slotsOf};
-ghost use Rattle.indexlet.specs.Held as indexlet-held;
+ghost use lib.ListN.{length};
+ghost use Rattle.lists.specs.Rows.{assign, filter};
+ghost use Rattle.spec.specs.Slots.{entries};
+ghost use Rattle.indexlet.specs.Words.{slotsOf};
 ghost use Rattle.index.specs.Views as index-views;
 ghost use Rattle.index.specs.LeafPlaces.{Listed};
 ghost use Rattle.index.specs.Settles.{SettledAs};
 ghost use Rattle.map.specs.Views.{lent};
 ghost use Rattle.map.specs.Held.{Held};
-ghost use Rattle.map.specs.LeafTests.{placed};
+ghost use Rattle.map.specs.LeafTests.{placed, takes};
 ghost use Rattle.map.specs.LeafRows.{Lows, Spans};
-ghost use Rattle.map.specs.MergeCounts.{Tallying, Counting};
 ghost use Rattle.map.specs.MergeSettles.{Resettling, leafKeys};
 ghost use Rattle.map.specs.Merges.{Merges};
 ghost use Rattle.map.specs.MergeWalks.{leaving, Underway, Steps, Starting, Took};
 
 // How far a walk over the slots has come: records of the index, entries of the indexlet, and pending writes taken in.
-pub struct Walk {
-    pub records: usize,
-    pub entries: usize,
-    pub count: usize,
+struct Walk {
+    records: usize,
+    entries: usize,
+    count: usize,
 }
 
 // The rows of a leaf: from row `from` up to, not including, row `to`.
@@ -104,7 +102,7 @@ fn take_slot(
     }
 }
 
-// All pending writes of the leaf at place i enter the index.
+// All pending writes of the leaf at place i enter the index. There are `limit` of them: with the last one the walk ends.
 fn take_all(
     rows: &mut [u64; 3072],
     slots: &mut [u64; 1536],
@@ -113,9 +111,11 @@ fn take_all(
     e: usize,
     m: usize,
     i: usize,
+    limit: usize,
 ) -> Walk
     requires { ⌜ Starting (now rows) (now slots) n e ⌝ }
     requires { ⌜ Listed (now lows) m ⌝ }
+    requires { ⌜ limit ≡ length (filter (takes (placed (now lows) m i)) (entries (slotsOf (now slots)))) ⌝ }
     ensures { λ r. ⌜ Took (placed (now (lows .entry)) m i) (now (rows .entry)) (now (slots .entry)) n (now (rows .exit)) (now (slots .exit)) r ⌝ }
 {
     let mut w = Walk {
@@ -125,6 +125,9 @@ fn take_all(
     };
     let mut j = 0;
     while j < 256 {
+        if w.count == limit {
+            return w;
+        }
         w = take_slot(rows, slots, lows, w, m, i, j);
         j += 1;
     }
@@ -166,97 +169,6 @@ fn resettle(
     index::leaves::settle(lows, versions, rows, m, i, s.from, s.to, v)
 }
 
-// 1 if a write is pending.
-fn waits(c: indexlet::Content) -> usize
-    ensures { λ r. ⌜ r ≡ pick (present (contentIn c .pending)) 1 0 ⌝ }
-{
-    if c.kind == 0 {
-        return 0;
-    }
-    1
-}
-
-// 1 if the index has no record at the address.
-fn lacks(rows: &[u64; 3072], n: usize, a: Address) -> usize
-    requires { ⌜ index-views.Held (now rows) n ⌝ }
-    ensures { λ r. ⌜ r ≡ pick (not (present (look (index-views.recordsOf (now (rows .entry)) n) a))) 1 0 ⌝ }
-{
-    match index::records::find(rows, n, a) {
-        index::records::Found::At {
-            value: _,
-            commit: _,
-        } => 0,
-        index::records::Found::Nothing => 1,
-    }
-}
-
-// Adds to the number at a place.
-fn raise(xs: &mut [u64; 1025], at: usize, by: usize)
-    requires { ⌜ (at < 1025) × (getD (now xs) at 0 + by < 2 ^ 64) ⌝ }
-    ensures { λ _. ⌜ now (xs .exit) ≡ set (now (xs .entry)) at (getD (now (xs .entry)) at 0 + by) ⌝ }
-{
-    let x = xs[at];
-    xs[at] = x + (by as u64);
-}
-
-// The walk at slot j: its entry counts for the leaf that it lies in. Answers how many entries so far lie at addresses
-// that the index lacks.
-fn tally_slot(
-    outside: &mut [u64; 1025],
-    pending: &mut [u64; 1025],
-    rows: &[u64; 3072],
-    lows: &[u64; 1025],
-    slots: &[u64; 1536],
-    n: usize,
-    m: usize,
-    total: usize,
-    j: usize,
-) -> usize
-    requires { ⌜ Tallying (now rows) (now lows) (now slots) n m (now outside) (now pending) total j ⌝ }
-    requires { ⌜ j < 256 ⌝ }
-    ensures { λ r. ⌜ Tallying (now (rows .entry)) (now (lows .entry)) (now (slots .entry)) n m (now (outside .exit)) (now (pending .exit)) r (j + 1) ⌝ }
-{
-    let s = indexlet::slot_at(slots, j);
-    let c = s.content;
-    if indexlet::idle(c) {
-        return total;
-    }
-    let a = s.key as u32;
-    let at = index::leaves::leaf_at(lows, m, a);
-    let x = lacks(rows, n, a);
-    let w = waits(c);
-    raise(outside, at, x);
-    raise(pending, at, w);
-    total + x
-}
-
-// Works the phantomlet out anew. Answers how many entries lie at addresses that the index lacks.
-fn recount(
-    outside: &mut [u64; 1025],
-    pending: &mut [u64; 1025],
-    rows: &[u64; 3072],
-    lows: &[u64; 1025],
-    slots: &[u64; 1536],
-    n: usize,
-    m: usize,
-) -> usize
-    requires { ⌜ index-views.Held (now rows) n ⌝ }
-    requires { ⌜ Listed (now lows) m ⌝ }
-    requires { ⌜ indexlet-held.Held (now slots) ⌝ }
-    ensures { λ r. ⌜ Counting (now (rows .entry)) (now (lows .entry)) (now (slots .entry)) n m (now (outside .exit)) (now (pending .exit)) r ⌝ }
-{
-    let zeros = [0u64; 1025];
-    *outside = zeros;
-    *pending = zeros;
-    let mut total = 0;
-    let mut j = 0;
-    while j < 256 {
-        total = tally_slot(outside, pending, rows, lows, slots, n, m, total, j);
-        j += 1;
-    }
-    total
-}
-
 // A merge at an address: all pending writes of the leaf that holds it enter the index. With none, nothing changes.
 pub fn merge(
     rows: &mut [u64; 3072],
@@ -275,18 +187,29 @@ pub fn merge(
 {
     let m = z.leaves;
     let i = index::leaves::leaf_at(lows, m, a);
-    if pending[i] == 0 {
+    let limit = pending[i] as usize;
+    if limit == 0 {
         return Merged {
             sizes: z,
             counters: k,
             count: 0,
         };
     }
-    let w = take_all(rows, slots, lows, z.records, z.entries, m, i);
+    let w = take_all(rows, slots, lows, z.records, z.entries, m, i, limit);
     let s = resettle(lows, versions, rows, w.records, m, i, k.version);
     index::shifts::all(lows);
     index::shifts::all(versions);
-    let out = recount(outside, pending, rows, lows, slots, w.records, s.leaves);
+    let out = recount::recount(
+        outside,
+        pending,
+        rows,
+        lows,
+        slots,
+        w.records,
+        s.leaves,
+        i,
+        m,
+    );
     let sizes = Sizes {
         records: w.records,
         leaves: s.leaves,

@@ -1,18 +1,18 @@
 -- `map::merge::merge` meets its contract: nothing is pending, or the walk, the settling and the count come together.
 -- Assumes nothing.
 use borrow.Author.Needs.{needs}
-use Rattle.map.specs.Merges.{merges-nothing, starting, resettling, now-listed, merges-some}
+use Rattle.map.specs.Merges.{merges-nothing, starting, resettling, limit-is, recounting, merges-some}
 use Rattle.map.proofs.merge.merge.Statement.{statement}
 use Rattle.map.proofs.merge.merge.Tie as tie
 
 leaf-at-requires : tie.Need-leaf-at-requires
 leaf-at-requires c κs = search needs
 
-mul-if1 : tie.Need-mul-if1
-mul-if1 c = search needs
+mul-limit : tie.Need-mul-limit
+mul-limit c = search needs
 
-element-copy-out-if1 : tie.Need-element-copy-out-if1
-element-copy-out-if1 c = search needs
+element-copy-out-limit : tie.Need-element-copy-out-limit
+element-copy-out-limit c = search needs
 
 returns : tie.Need-returns
 returns c = let s = c .before .before .before .before in
@@ -20,7 +20,10 @@ returns c = let s = c .before .before .before .before in
 
 take-all-requires : tie.Need-take-all-requires
 take-all-requires c κs = let s = c .before .before .before .before .before .before .before in
-    (starting (s .args .k) (s .pre .0) (s .args .a) (c .before .before .before .before .before .leaf-at .result) (c .before .before .before .before .before .leaf-at .ensures), s .pre .0 .tables .lows)
+    let i = c .before .before .before .before .before .leaf-at in (
+      starting (s .args .k) (s .pre .0) (s .args .a) (i .result) (i .ensures),
+      (s .pre .0 .tables .lows, limit-is (s .args .k) (s .pre .0) (s .args .a) (i .result) (i .ensures)),
+    )
 
 resettle-requires : tie.Need-resettle-requires
 resettle-requires c κs = let s = c .before .before .before .before .before .before .before .before .before .before .before in
@@ -38,14 +41,9 @@ recount-requires : tie.Need-recount-requires
 recount-requires c κs = let s = c .before .before .before .before .before .before .before .before .before .before .before .before .before .before .before .before .before .before .before .before .before in
     let i = c .before .before .before .before .before .before .before .before .before .before .before .before .before .before .before .before .before .before .before .leaf-at in
     let w = c .before .before .before .before .before .before .before .before .before .before .before .before .before .take-all in
-    let r = c .before .before .before .before .before .before .before .before .before .resettle in (
-      w .ensures .rows-held,
-      (
-        now-listed (s .args .k) (s .pre .0) (s .args .a) (i .result) (i .ensures) (c .before .before .before .before .before .before .before .before .before .before .before .before .before .before .before .before .before .if1 .left) (w .last .0) (w .last .1 .0) (w .result) (w .ensures)
-            (r .last .0) (r .last .1 .0) (r .result .leaves) (r .result .version) (c .before .before .before .before .before .before .before .all .ensures) (c .before .before .before .before .before .all2 .ensures) (r .ensures),
-        w .ensures .words,
-      ),
-    )
+    let r = c .before .before .before .before .before .before .before .before .before .resettle in
+    recounting (s .args .k) (s .pre .0) (s .args .a) (i .result) (i .ensures) (c .before .before .before .before .before .before .before .before .before .before .before .before .before .before .before .before .before .if1 .left) (w .last .0) (w .last .1 .0) (w .result) (w .ensures)
+    (r .last .0) (r .last .1 .0) (r .result .leaves) (r .result .version) (c .before .before .before .before .before .before .before .all .ensures) (c .before .before .before .before .before .all2 .ensures) (r .ensures)
 
 returns-2 : tie.Need-returns-2
 returns-2 c = let s = c .before .before .before .before .before .before .before .before .before .before .before .before .before .before .before .before .before .before .before .before .before .before in
@@ -61,8 +59,8 @@ merge-spec =
     tie.close
     (tie.spec
     leaf-at-requires
-    mul-if1
-    element-copy-out-if1
+    mul-limit
+    element-copy-out-limit
     returns
     take-all-requires
     resettle-requires

@@ -1,18 +1,18 @@
--- `map::merge::recount` meets its contract: from zeros, each slot adds its own. Assumes nothing.
+-- `map::recount::tally_all` meets its contract. Assumes nothing.
 use Prim.Native.Nat.{_-_}
 use borrow.Author.Needs.{needs}
-use Rattle.map.specs.MergeCounts.{Tallying, tally-start, tally-end}
-use Rattle.map.proofs.merge.recount.Statement.{statement}
-use Rattle.map.proofs.merge.recount.Tie as tie
+use Rattle.map.specs.MergeCounts.{Tallying, tally-end}
+use Rattle.map.proofs.recount.tally_all.Statement.{statement}
+use Rattle.map.proofs.recount.tally_all.Tie as tie
 
 abbrev Inv-loop : tie.InvT-loop
-Inv-loop outside₀ pending₀ rows lows slots n m total₀ j₀ outside pending total j = Tallying rows lows slots n m outside pending total j
+Inv-loop outside₀ pending₀ rows lows slots n m r j₀ outside pending j = Tallying rows lows slots n m r outside pending j
 
 abbrev μ-loop : tie.MeasureT-loop
-μ-loop outside₀ pending₀ rows lows slots n m total₀ j₀ outside pending total j = 256 - j
+μ-loop outside₀ pending₀ rows lows slots n m r j₀ outside pending j = 256 - j
 
 loop-holds : tie.Need-loop-holds Inv-loop μ-loop
-loop-holds c = tally-start (c .pre .0) (c .pre .1 .0) (c .pre .1 .1)
+loop-holds c = c .pre
 
 tally-slot-requires : tie.Need-tally-slot-requires Inv-loop μ-loop
 tally-slot-requires c κs = (c .before .before .before .loop .inv, c .before .before .loop-test .taken)
@@ -29,7 +29,7 @@ loop-again c = c .tally-slot .ensures
 returns : tie.Need-returns Inv-loop μ-loop
 returns c = tally-end (c .before .loop .inv) (c .loop-test .left)
 
-pub recount-spec : {M : Type 1} → statement M
-recount-spec =
+pub tally-all-spec : {M : Type 1} → statement M
+tally-all-spec =
     tie.close
     (tie.spec Inv-loop μ-loop loop-holds tally-slot-requires add-j loop-less loop-again returns)

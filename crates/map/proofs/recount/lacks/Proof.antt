@@ -1,4 +1,4 @@
--- `map::merge::lacks` meets its contract: the search found a record, or nothing. Assumes nothing.
+-- `map::recount::lacks` meets its contract: the search found a record, or nothing. Assumes nothing.
 use Prim.Native.Nat.{ℕ}
 use mathlib.Core.Path.{sym, ap, _∙_}
 use mathlib.Core.Bool.{not}
@@ -7,8 +7,8 @@ use borrow.Author.Needs.{needs}
 use Rattle.lists.specs.Tests.{pick, present}
 use Rattle.spec.specs.Records.{Record}
 use Rattle.index.specs.Views.{foundOf}
-use Rattle.map.proofs.merge.lacks.Statement.{statement}
-use Rattle.map.proofs.merge.lacks.Tie as tie
+use Rattle.map.proofs.recount.lacks.Statement.{statement}
+use Rattle.map.proofs.recount.lacks.Tie as tie
 
 find-requires : tie.Need-find-requires
 find-requires c κs = search needs

@@ -1,20 +1,27 @@
-// The steps of a worker that has written: the end of a transaction.
+// The steps that end a transaction: lock, install and abort.
 use crate::Core;
 use crate::admits;
 use crate::admits::Admit;
 use crate::begins::Done;
 use crate::begins::Plain;
+use map::Sizes;
 use sets::workers::Worker;
 use spec::Refusal;
 use spec::Stage;
+ghost use mathlib.Core.Path.{_≡_};
 ghost use Prim.Native.Nat.{_<_, _≤_};
+ghost use lib.ListN.{length};
+ghost use Rattle.lists.specs.Rows.{Rising};
+ghost use Rattle.spec.specs.Slots.{entries};
 ghost use Rattle.spec.specs.Steps as model;
 ghost use Rattle.spec.specs.Steps.{State, dropped, effect};
 ghost use Rattle.laws.specs.MapLaws.{Installable};
 ghost use Rattle.sets.specs.Writes.{WritesHeld, writesIn};
 ghost use Rattle.indexlet.specs.Words.{slotsOf};
-ghost use Rattle.map.specs.Views.{lent};
+ghost use Rattle.map.specs.Views.{lent, block};
 ghost use Rattle.map.specs.Held as map;
+ghost use Rattle.map.specs.Blocks.{Narrow};
+ghost use Rattle.map.specs.AddressCounts.{Counted};
 ghost use Rattle.transactions.specs.Views.{logs};
 ghost use Rattle.transactions.specs.Ready.{seat, Ready, Goes};
 ghost use Rattle.transactions.specs.Admits.{Admitted};
@@ -22,6 +29,7 @@ ghost use Rattle.transactions.specs.Begins.{plainIn};
 ghost use Rattle.transactions.specs.WriteBlocks.{BlockOf};
 ghost use Rattle.transactions.specs.Commits.{Reaches};
 ghost use Rattle.transactions.specs.Finishes.{anyStage};
+ghost use Rattle.transactions.specs.Locks.{Tested, LocksOpen};
 
 // The write set of worker w in a block, as the map takes it.
 fn block_of(writes: &[u64; 384], w: usize) -> [u64; 48]
@@ -227,5 +235,127 @@ pub fn install(
                 answer: Plain::Granted,
             }
         }
+    }
+}
+
+// The tests of a write set before its addresses are locked: refusals 9, 10 and 11.
+fn lock_tests(
+    rows: &[u64; 3072],
+    slots: &[u64; 1536],
+    ws: &[u64; 48],
+    z: Sizes,
+    n: usize,
+    w: u64,
+) -> Plain
+    requires { ⌜ Counted (now rows) (now slots) z ⌝ }
+    requires { ⌜ z .entries ≡ length (entries (slotsOf (now slots))) ⌝ }
+    requires { ⌜ Narrow (now ws) n ⌝ }
+    requires { ⌜ Rising (block (now ws) n) ⌝ }
+    ensures { λ r. ⌜ Tested (now (rows .entry)) (now (slots .entry)) (now (ws .entry)) z n w r ⌝ }
+{
+    if map::locks::held(slots, ws, n, w) {
+        return Plain::Refused(Refusal::Held);
+    }
+    if 192 < map::locks::waiting_with(slots, ws, n, z.entries) {
+        return Plain::Refused(Refusal::IndexletFull);
+    }
+    if 1024 < map::locks::addresses_with(rows, slots, ws, n, z) {
+        return Plain::Refused(Refusal::MapFull);
+    }
+    Plain::Granted
+}
+
+// The lock of worker w, which is open.
+fn lock_open(
+    outside: &mut [u64; 1025],
+    pending: &mut [u64; 1025],
+    slots: &mut [u64; 1536],
+    rows: &[u64; 3072],
+    lows: &[u64; 1025],
+    versions: &[u64; 1025],
+    writes: &[u64; 384],
+    c: Core,
+    w: usize,
+) -> Done
+    requires { ⌜ map.Held (lent (now rows) (now lows) (now versions) (now outside) (now pending) (now slots)) (c .sizes) (c .counters .version) ⌝ }
+    requires { ⌜ WritesHeld (now writes) ⌝ }
+    requires { ⌜ (w < 8) × (seat c w .writes ≤ 16) ⌝ }
+    requires { ⌜ Rising (writesIn (now writes) w (seat c w .writes)) ⌝ }
+    ensures { λ r. ⌜ LocksOpen (lent (now (rows .entry)) (now (lows .entry)) (now (versions .entry)) (now (outside .entry)) (now (pending .entry)) (now (slots .entry))) (now (writes .entry)) c w (lent (now (rows .entry)) (now (lows .entry)) (now (versions .entry)) (now (outside .exit)) (now (pending .exit)) (now (slots .exit))) (r .core) (r .answer) ⌝ }
+{
+    let mut seats = c.seats;
+    let sizes = c.sizes;
+    let counters = c.counters;
+    let x = seats[w];
+    let n = x.writes;
+    let block = block_of(writes, w);
+    match lock_tests(rows, slots, &block, sizes, n, w as u64) {
+        Plain::Refused(r) => Done {
+            core: c,
+            answer: Plain::Refused(r),
+        },
+        Plain::Granted => {
+            let z = map::locks::lock_all(
+                outside,
+                pending,
+                slots,
+                rows,
+                lows,
+                versions,
+                &block,
+                sizes,
+                counters,
+                n,
+                w as u64,
+            );
+            let locked = x.lock();
+            seats[w] = locked;
+            let core = Core {
+                seats,
+                sizes: z,
+                counters,
+            };
+            Done {
+                core,
+                answer: Plain::Granted,
+            }
+        }
+    }
+}
+
+// Worker w locks the addresses of its write set.
+pub fn lock(
+    outside: &mut [u64; 1025],
+    pending: &mut [u64; 1025],
+    slots: &mut [u64; 1536],
+    rows: &[u64; 3072],
+    lows: &[u64; 1025],
+    versions: &[u64; 1025],
+    reads: &[u64; 2048],
+    leaves: &[u64; 512],
+    writes: &[u64; 384],
+    c: Core,
+    w: u32,
+) -> Done
+    requires { ⌜ Ready (lent (now rows) (now lows) (now versions) (now outside) (now pending) (now slots)) (logs (now reads) (now leaves) (now writes)) c ⌝ }
+    ensures { λ r. ⌜ Goes (lent (now (rows .entry)) (now (lows .entry)) (now (versions .entry)) (now (outside .entry)) (now (pending .entry)) (now (slots .entry))) (logs (now (reads .entry)) (now (leaves .entry)) (now (writes .entry))) c (model.lock w) (lent (now (rows .entry)) (now (lows .entry)) (now (versions .entry)) (now (outside .exit)) (now (pending .exit)) (now (slots .exit))) (logs (now (reads .entry)) (now (leaves .entry)) (now (writes .entry))) (r .core) (plainIn (r .answer)) ⌝ }
+{
+    let seats = c.seats;
+    match admits::open(seats, w) {
+        Admit::Refused(r) => Done {
+            core: c,
+            answer: Plain::Refused(r),
+        },
+        Admit::Seat(_) => lock_open(
+            outside,
+            pending,
+            slots,
+            rows,
+            lows,
+            versions,
+            writes,
+            c,
+            w as usize,
+        ),
     }
 }

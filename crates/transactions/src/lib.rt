@@ -6,7 +6,9 @@ pub mod commits;
 pub mod edits;
 pub mod merges;
 pub mod reads;
+pub mod scans;
 pub mod starts;
+pub mod walks;
 
 use map::Counters;
 use map::Sizes;

@@ -55,7 +55,7 @@ fn key_at(ws: &[u64; 48], n: usize, i: usize) -> Address
 }
 
 // Another worker than w has the lock.
-fn by_other(c: indexlet::Content, w: u64) -> bool
+pub fn by_other(c: indexlet::Content, w: u64) -> bool
     ensures { λ r. ⌜ r ≡ heldByOther w (contentIn c) ⌝ }
 {
     let lock = c.lock;

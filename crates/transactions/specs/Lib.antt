@@ -24,3 +24,6 @@ pub mod PlanLaws
 pub mod ScanSteps
 pub mod Scans
 pub mod MergeSteps
+pub mod Searching
+pub mod Validates
+pub mod Verdicts

@@ -32,7 +32,7 @@ ghost use Rattle.transactions.specs.Finishes.{anyStage};
 ghost use Rattle.transactions.specs.Locks.{Tested, LocksOpen};
 
 // The write set of worker w in a block, as the map takes it.
-fn block_of(writes: &[u64; 384], w: usize) -> [u64; 48]
+pub fn block_of(writes: &[u64; 384], w: usize) -> [u64; 48]
     requires { ⌜ WritesHeld (now writes) ⌝ }
     requires { ⌜ w < 8 ⌝ }
     ensures { λ r. ⌜ BlockOf (now (writes .entry)) w r ⌝ }

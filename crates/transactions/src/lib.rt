@@ -8,6 +8,7 @@ pub mod merges;
 pub mod reads;
 pub mod scans;
 pub mod starts;
+pub mod validates;
 pub mod walks;
 
 use map::Counters;

@@ -1,0 +1,55 @@
+-- `validates::judge` meets its contract: by the three tests, in their order. Assumes nothing.
+use borrow.Author.Needs.{needs}
+use Rattle.transactions.specs.Verdicts.{judge-changed, judge-locked, judge-phantom, judge-passed, examined-owns}
+use Rattle.transactions.proofs.validates.judge.Statement.{statement}
+use Rattle.transactions.proofs.validates.judge.Tie as tie
+
+changed-requires : tie.Need-changed-requires
+changed-requires c κs = search needs
+
+returns : tie.Need-returns
+returns c = judge-changed _ _ _ _ _ _ _ _ _ _ (c .before .changed .ensures) (c .if1 .taken)
+
+under-lock-requires : tie.Need-under-lock-requires
+under-lock-requires c κs = search needs
+
+returns-2 : tie.Need-returns-2
+returns-2 c =
+    let n = c .before .before in
+    judge-locked _ _ _ _ _ _ _ _ _ _ _ (n .before .changed .ensures) (n .if1 .left) (c .before .under-lock .ensures) (c .if2 .taken)
+
+block-of-requires : tie.Need-block-of-requires
+block-of-requires c κs = search needs
+
+phantoms-requires : tie.Need-phantoms-requires
+phantoms-requires c κs =
+    let s = c .before .before .before .before .before .before in
+    let e = s .pre in
+    (e .held, (examined-owns e (c .before .block-of .ensures), (e .leaves-held, (e .logged-all, (e .worker, e .counts .leaves)))))
+
+returns-3 : tie.Need-returns-3
+returns-3 c =
+    let b = c .before .before .before in
+    let n = b .before .before .before in
+    judge-phantom _ _ _ _ _ _ _ _ _ _ _ _ (n .before .changed .ensures) (n .if1 .left)
+    (b .before .before .under-lock .ensures) (b .before .if2 .left) (c .before .phantoms .ensures) (c .if3 .taken)
+
+returns-4 : tie.Need-returns-4
+returns-4 c =
+    let b = c .before .before .before in
+    let n = b .before .before .before in
+    judge-passed _ _ _ _ _ _ _ _ _ _ _ _ (n .before .changed .ensures) (n .if1 .left)
+    (b .before .before .under-lock .ensures) (b .before .if2 .left) (c .before .phantoms .ensures) (c .if3 .left)
+
+pub judge-spec : {M : Type 1} → statement M
+judge-spec =
+    tie.close
+    (tie.spec
+    changed-requires
+    returns
+    under-lock-requires
+    returns-2
+    block-of-requires
+    phantoms-requires
+    returns-3
+    returns-4)

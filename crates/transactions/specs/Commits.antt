@@ -1,34 +1,30 @@
 -- What lock, install and the end of a transaction make of the state: a new map, and a new seat of one worker.
 -- Assumes nothing.
-use Prim.Native.Nat.{ℕ, zero, suc, _+_, _<_, _≤_, zero-le}
+use Prim.Native.Nat.{ℕ, _<_, _≤_, zero-le}
 use native.Mathlib.Nat.{not-suc-le-zero}
-use native.Mathlib.Omega.{arith}
 use mathlib.Core.Path.{_≡_, refl, sym, ap, _∙_, subst}
-use mathlib.Core.Logic.{_⊎_, inl, inr, ⊎-elim}
-use mathlib.Core.Bool.{Bool, true, false, not}
-use mathlib.Core.List.{List, [], _∷_}
-use mathlib.Core.Option.{Option, none, some}
+use mathlib.Core.Logic.{_⊎_, inr, ⊎-elim}
+use mathlib.Core.Bool.{true}
+use mathlib.Core.List.{List}
 use lib.ListN.{length, getD, set, length-set}
 use lib.Seq.{getD-set-same, getD-set-other}
 use Rattle.lists.specs.Tests.{same, cases, same-true, same-false}
 use Rattle.lists.specs.Rows.{Row, keys}
-use Rattle.spec.specs.declared.Refusal.{Refusal}
-use Rattle.spec.specs.declared.Stage.{Stage}
 use Rattle.spec.specs.Records.{standard, Write}
 use Rattle.spec.specs.Leaves.{Leaf, live, versionAt}
-use Rattle.spec.specs.Maps.{MapState, withSlots, lockAll, unlockAll, installAll}
+use Rattle.spec.specs.Maps.{MapState, withSlots, unlockAll, installAll}
 use Rattle.spec.specs.Steps as model
-use Rattle.spec.specs.Steps.{State, workerOf, writeKeys, withWorker, withMap, dropped, freeWorker, effect, install, abort}
+use Rattle.spec.specs.Steps.{State, workerOf, writeKeys, withWorker, withMap, dropped, effect, install}
 use Rattle.sets.specs.declared.workers.Worker.{Worker}
 use Rattle.sets.specs.Workers.{workerIn, freed}
 use Rattle.sets.specs.WorkerLaws.{free-in}
 use Rattle.sets.specs.Leaves.{versionsIn, lowsIn}
-use Rattle.sets.specs.Writes.{writesIn, WritesHeld}
+use Rattle.sets.specs.Writes.{writesIn}
 use Rattle.map.specs.declared.Sizes.{Sizes}
 use Rattle.map.specs.Views.{Lent, mapOf, block}
 use Rattle.map.specs.Says.{Becomes}
 use Rattle.transactions.specs.declared.Core.{Core}
-use Rattle.transactions.specs.Views.{Logs, logs, seatIn, stateOf, withSeat, worker-at, OthersSame, state-with}
+use Rattle.transactions.specs.Views.{Logs, logs, seatIn, workersFrom, stateOf, worker-at, OthersSame, state-with}
 use Rattle.transactions.specs.Ready.{seat, Within, Stored}
 use Rattle.transactions.specs.WriteBlocks.{BlockOf}
 
@@ -56,7 +52,7 @@ new-map l l' g c z m e =
       settings = standard;
       counters = record { number = c .counters .number; version = c .counters .version };
       map = x;
-      workers = Rattle.transactions.specs.Views.workersFrom g (c .seats) 0;
+      workers = workersFrom g (c .seats) 0;
     })
     e
 
@@ -111,13 +107,8 @@ stored-both l l' g c w x z m h b e q k t =
 
 -- ---- the worker's write set
 
-settings-are : (l : Lent) (g : Logs) (c : Core) → stateOf l g c .settings ≡ standard
-unfolding stateOf
-settings-are l g c = refl
-
-map-is : (l : Lent) (g : Logs) (c : Core) → stateOf l g c .map ≡ mapOf l (c .sizes)
-unfolding stateOf
-map-is l g c = refl
+pub seat-inside : {l : Lent} {g : Logs} {c : Core} → Stored l g c → (w : ℕ) → w < 8 → w < length (c .seats)
+seat-inside t w h = subst (λ (n : ℕ). w < n) (sym (t .seats)) h
 
 module _ (l : Lent) (g : Logs) (c : Core) (w : ℕ) (inside : w < length (c .seats)) where
   pub writes-are : workerOf (stateOf l g c) w .writes ≡ writesIn (g .writes) w (seat c w .writes)
@@ -132,6 +123,20 @@ module _ (l : Lent) (g : Logs) (c : Core) (w : ℕ) (inside : w < length (c .sea
   unfolding writeKeys
   keys-are = ap keys writes-are
 
+-- A change f of the state that is a new map m and a new seat x of worker w: `is` says that it is, `within` that the seat's
+-- counts stay within its rows.
+pub reached : (f : State → State) (l l' : Lent) (ws : List ℕ) (c : Core) (w : ℕ) (x : Worker) (z : Sizes) (m : MapState) → w < 8
+    → Becomes l' z (c .counters .version) m → m .leaves ≡ mapOf l (c .sizes) .leaves → LeavesKept c w x
+    → ((rs ls : List ℕ) → Stored l (logs rs ls ws) c → Within x)
+    → ((rs ls : List ℕ) → Stored l (logs rs ls ws) c
+    → withWorker (withMap (stateOf l (logs rs ls ws) c) m) w (workerIn x rs ls ws w) ≡ f (stateOf l (logs rs ls ws) c))
+    → Reaches f l ws c l' (withBoth c w x z)
+reached f l l' ws c w x z m h b e k within is =
+    record {
+      state = λ rs ls t. state-both l l' (logs rs ls ws) c w x z m (b .map) ∙ is rs ls t;
+      stored = λ rs ls t. stored-both l l' (logs rs ls ws) c w x z m h b e (within rs ls t) k t;
+    }
+
 freed-within : Within freed
 freed-within = record { reads = zero-le; leaves = zero-le; writes = zero-le }
 
@@ -142,26 +147,19 @@ unfolding unlockAll withSlots
 unlock-leaves w m ks = refl
 
 -- y the worker after it, us the block of its writes
-pub drops : (l l' : Lent) (ws us : List ℕ) (c : Core) (w : ℕ) (y : Worker) (z : Sizes) → w < 8 → seat c w .writes ≤ 16
-    → BlockOf ws w us → y ≡ freed
-    → Becomes l' z (c .counters .version) (unlockAll standard w (mapOf l (c .sizes)) (keys (block us (seat c w .writes))))
+pub drops : (l l' : Lent) (ws us : List ℕ) (c : Core) (w : ℕ) (y : Worker) (z : Sizes) → w < 8 → seat c w .writes ≤ 16 → BlockOf ws w us
+    → y ≡ freed → Becomes l' z (c .counters .version) (unlockAll standard w (mapOf l (c .sizes)) (keys (block us (seat c w .writes))))
     → Reaches (λ (σ : State). dropped σ w) l ws c l' (withBoth c w y z)
 drops l l' ws us c w y z h few v q b =
     subst (λ (u : Worker). Reaches (λ (σ : State). dropped σ w) l ws c l' (withBoth c w u z)) (sym q)
-    (record {
-      state = λ rs ls t.
-          state-both l l' (logs rs ls ws) c w freed z _ (b .map)
-          ∙ (λ i. withWorker (withMap (stateOf l (logs rs ls ws) c) (unlockAll standard w (mapOf l (c .sizes)) (ks rs ls t i))) w (free-in rs ls ws w i))
-          ∙ (unfold dropped stateOf in refl);
-      stored = λ rs ls.
-          stored-both l l' (logs rs ls ws) c w freed z _ h b (unlock-leaves w (mapOf l (c .sizes)) (keys (block us (seat c w .writes)))) freed-within (inr refl);
-    })
+    (reached (λ (σ : State). dropped σ w) l l' ws c w freed z _ h b (unlock-leaves w (mapOf l (c .sizes)) (keys (block us (seat c w .writes)))) (inr refl)
+    (λ rs ls t. freed-within)
+    (λ rs ls t.
+    (λ i. withWorker (withMap (stateOf l (logs rs ls ws) c) (unlockAll standard w (mapOf l (c .sizes)) (ks rs ls t i))) w (free-in rs ls ws w i))
+    ∙ (unfold dropped stateOf in refl)))
   where
-    inside : (rs ls : List ℕ) → Stored l (logs rs ls ws) c → w < length (c .seats)
-    inside rs ls t = subst (λ (n : ℕ). w < n) (sym (t .seats)) h
-
     ks : (rs ls : List ℕ) → Stored l (logs rs ls ws) c → keys (block us (seat c w .writes)) ≡ writeKeys (stateOf l (logs rs ls ws) c) w
-    ks rs ls t = ap keys (v .view (seat c w .writes) few) ∙ sym (keys-are l (logs rs ls ws) c w (inside rs ls t))
+    ks rs ls t = ap keys (v .view (seat c w .writes) few) ∙ sym (keys-are l (logs rs ls ws) c w (seat-inside t w h))
 
 -- ---- install
 
@@ -170,28 +168,20 @@ unfolding installAll withSlots
 install-leaves n m rs = refl
 
 -- y the worker after it, us the block of its writes
-pub installs : (l l' : Lent) (ws us : List ℕ) (c : Core) (w : ℕ) (y : Worker) (z : Sizes) → w < 8 → seat c w .writes ≤ 16
-    → BlockOf ws w us → y ≡ freed
-    → Becomes l' z (c .counters .version) (installAll standard (seat c w .number) (mapOf l (c .sizes)) (block us (seat c w .writes)))
+pub installs : (l l' : Lent) (ws us : List ℕ) (c : Core) (w : ℕ) (y : Worker) (z : Sizes) → w < 8 → seat c w .writes ≤ 16 → BlockOf ws w us
+    → y ≡ freed → Becomes l' z (c .counters .version) (installAll standard (seat c w .number) (mapOf l (c .sizes)) (block us (seat c w .writes)))
     → Reaches (λ (σ : State). effect σ (install w)) l ws c l' (withBoth c w y z)
 installs l l' ws us c w y z h few v q b =
     subst (λ (u : Worker). Reaches (λ (σ : State). effect σ (install w)) l ws c l' (withBoth c w u z)) (sym q)
-    (record {
-      state = λ rs ls t.
-          state-both l l' (logs rs ls ws) c w freed z _ (b .map)
-          ∙ (λ i.
-          withWorker
-          (withMap (stateOf l (logs rs ls ws) c)
-          (installAll standard (sym (number-is l (logs rs ls ws) c w (inside rs ls t)) i) (mapOf l (c .sizes)) (writes rs ls t i)))
-          w (free-in rs ls ws w i))
-          ∙ (unfold effect stateOf in refl);
-      stored = λ rs ls.
-          stored-both l l' (logs rs ls ws) c w freed z _ h b
-          (install-leaves (seat c w .number) (mapOf l (c .sizes)) (block us (seat c w .writes))) freed-within (inr refl);
-    })
+    (reached (λ (σ : State). effect σ (install w)) l l' ws c w freed z _ h b
+    (install-leaves (seat c w .number) (mapOf l (c .sizes)) (block us (seat c w .writes))) (inr refl) (λ rs ls t. freed-within)
+    (λ rs ls t.
+    (λ i.
+    withWorker (withMap (stateOf l (logs rs ls ws) c) (installAll standard (number rs ls t i) (mapOf l (c .sizes)) (writes rs ls t i))) w (free-in rs ls ws w i))
+    ∙ (unfold effect stateOf in refl)))
   where
-    inside : (rs ls : List ℕ) → Stored l (logs rs ls ws) c → w < length (c .seats)
-    inside rs ls t = subst (λ (n : ℕ). w < n) (sym (t .seats)) h
+    number : (rs ls : List ℕ) → Stored l (logs rs ls ws) c → seat c w .number ≡ workerOf (stateOf l (logs rs ls ws) c) w .number
+    number rs ls t = sym (number-is l (logs rs ls ws) c w (seat-inside t w h))
 
     writes : (rs ls : List ℕ) → Stored l (logs rs ls ws) c → block us (seat c w .writes) ≡ workerOf (stateOf l (logs rs ls ws) c) w .writes
-    writes rs ls t = v .view (seat c w .writes) few ∙ sym (writes-are l (logs rs ls ws) c w (inside rs ls t))
+    writes rs ls t = v .view (seat c w .writes) few ∙ sym (writes-are l (logs rs ls ws) c w (seat-inside t w h))

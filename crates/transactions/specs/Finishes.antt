@@ -1,23 +1,23 @@
 -- Abort and install, as they go: refused by 1, 2 or 4, or the transaction is over.
 -- Assumes nothing.
-use Prim.Native.Nat.{ℕ, _<_, _≤_}
+use Prim.Native.Nat.{ℕ, _<_}
 use mathlib.Core.Path.{_≡_, refl, sym, ap, _∙_, subst}
 use mathlib.Core.Bool.{Bool, true, false}
 use mathlib.Core.List.{List}
 use mathlib.Core.Option.{some}
-use lib.ListN.{length, getD}
+use lib.ListN.{length}
 use Rattle.lists.specs.Rows.{Row, any}
 use Rattle.spec.specs.declared.Refusal.{Refusal}
 use Rattle.spec.specs.declared.Stage.{Stage}
 use Rattle.spec.specs.Records.{Write}
 use Rattle.spec.specs.Refusals.{ends}
 use Rattle.spec.specs.Steps as model
-use Rattle.spec.specs.Steps.{State, workerOf, Step, abort, install, done, isChecked, Cause, noWorker, workerFree, wrongStage, causes, firstCause, refusal, granted, effect, dropped}
+use Rattle.spec.specs.Steps.{State, workerOf, Step, abort, install, isChecked, Cause, noWorker, workerFree, wrongStage, causes, firstCause, refusal, granted, effect, dropped}
 use Rattle.laws.specs.WorkerLaws.{mild-cause}
 use Rattle.laws.specs.MapLaws.{Installable}
 use Rattle.limits.specs.Finishing.{installable}
 use Rattle.sets.specs.declared.workers.Worker.{Worker}
-use Rattle.sets.specs.Workers.{workerIn, freed}
+use Rattle.sets.specs.Workers.{workerIn}
 use Rattle.sets.specs.Writes.{writesIn}
 use Rattle.indexlet.specs.Words.{slotsOf}
 use Rattle.map.specs.Views.{Lent}
@@ -26,9 +26,9 @@ use Rattle.transactions.specs.declared.begins.Plain.the-variants.{Grante
 use Rattle.transactions.specs.Answering.{front, comes-granted}
 use Rattle.transactions.specs.Admits.{Turned, Entered}
 use Rattle.transactions.specs.Views.{Logs, logs, stateOf, worker-at}
-use Rattle.transactions.specs.Ready.{seat, Stored, Ready, Goes, goes, goes-refused}
+use Rattle.transactions.specs.Ready.{seat, Ready, Goes, goes, goes-refused}
 use Rattle.transactions.specs.Begins.{plainIn}
-use Rattle.transactions.specs.Commits.{Reaches, writes-are}
+use Rattle.transactions.specs.Commits.{Reaches, seat-inside, writes-are}
 
 -- abort has no wrong stage
 abbrev pub anyStage : Stage → Bool
@@ -98,7 +98,7 @@ module _ {l : Lent} {rs ls ws : List ℕ} {c : Core} (w : ℕ) (k : Ready l (log
       (installable (k .kept) w (ap isChecked (stage-is l (logs rs ls ws) c w inside ∙ ap (λ (y : Worker). y .stage) (sym (t .is))) ∙ t .stage)))
     where
       inside : w < length (c .seats)
-      inside = subst (λ (n : ℕ). w < n) (sym (k .stored .seats)) (t .inside)
+      inside = seat-inside (k .stored) w (t .inside)
 
   pub install-granted : {l' : Lent} {c' : Core} (x : Worker) → Entered isChecked (c .seats) w x → Reaches (λ (σ : State). effect σ (install w)) l ws c l' c'
       → Goes l (logs rs ls ws) c (install w) l' (logs rs ls ws) c' (plainIn Granted)

@@ -7,7 +7,6 @@ use mathlib.Core.Logic.{inl}
 use mathlib.Core.Bool.{Bool, true, false}
 use mathlib.Core.List.{List, [], _∷_}
 use mathlib.Core.Option.{Option, none, some}
-use lib.ListN.{length, getD}
 use Rattle.lists.specs.Tests.{maybe, less, less-yes, less-no, less-false}
 use Rattle.lists.specs.Rows.{Row, keys, any, Rising}
 use Rattle.spec.specs.declared.Refusal.{Refusal}
@@ -16,13 +15,12 @@ use Rattle.spec.specs.declared.Stage.the-variants.{Locked}
 use Rattle.spec.specs.Records.{standard, Write}
 use Rattle.spec.specs.Refusals.{ends}
 use Rattle.spec.specs.Leaves.{Leaf}
-use Rattle.spec.specs.Slots.{Slot, entries, contentOf}
+use Rattle.spec.specs.Slots.{Slot, contentOf}
 use Rattle.spec.specs.Maps.{MapState, heldByOther, waitingWith, addressesWith, withSlots, lockAll}
-use Rattle.spec.specs.Steps as model
 use Rattle.spec.specs.Steps.{State, workerOf, lock, isOpen, lockedByOther, writeKeys, Cause, cause, noWorker, workerFree, wrongStage, causes, firstCause, refusal, granted, effect, withWorker, withMap, atStage}
 use Rattle.laws.specs.WorkerLaws.{cause-passed}
 use Rattle.sets.specs.declared.workers.Worker.{Worker}
-use Rattle.sets.specs.Workers.{workerIn, freed, atLock}
+use Rattle.sets.specs.Workers.{workerIn, atLock}
 use Rattle.sets.specs.WorkerLaws.{lock-in}
 use Rattle.sets.specs.Writes.{writesIn}
 use Rattle.indexlet.specs.Words.{slotsOf}
@@ -38,10 +36,10 @@ use Rattle.transactions.specs.declared.begins.Plain.the-variants.{Grante
 use Rattle.transactions.specs.Answering.{front, front-first, cause-holds, cause-fails, comes-granted, comes-refused}
 use Rattle.transactions.specs.Admits.{Turned, Entered}
 use Rattle.transactions.specs.Views.{Logs, logs, stateOf, worker-at}
-use Rattle.transactions.specs.Ready.{seat, Within, Stored, Ready, Goes, goes, goes-refused}
+use Rattle.transactions.specs.Ready.{seat, Stored, Ready, Goes, goes, goes-refused}
 use Rattle.transactions.specs.Begins.{plainIn}
 use Rattle.transactions.specs.WriteBlocks.{BlockOf}
-use Rattle.transactions.specs.Commits.{withBoth, Reaches, state-both, stored-both, writes-are, keys-are}
+use Rattle.transactions.specs.Commits.{withBoth, Reaches, reached, seat-inside, writes-are, keys-are}
 use Rattle.transactions.specs.Finishes.{mild}
 
 -- the refusal that is answered
@@ -152,26 +150,19 @@ locks : (l l' : Lent) (ws us : List ℕ) (c : Core) (w : ℕ) (y : Worker) (z : 
     → Reaches (λ (σ : State). effect σ (lock w)) l ws c l' (withBoth c w y z)
 locks l l' ws us c w y z h few v q b =
     subst (λ (u : Worker). Reaches (λ (σ : State). effect σ (lock w)) l ws c l' (withBoth c w u z)) (sym q)
-    (record {
-      state = λ rs ls t.
-          state-both l l' (logs rs ls ws) c w (atLock (seat c w)) z _ (b .map)
-          ∙ (λ i. withWorker (withMap (stateOf l (logs rs ls ws) c) (lockAll standard w (mapOf l (c .sizes)) (ks rs ls t i))) w (worker rs ls t i))
-          ∙ (unfold effect stateOf in refl);
-      stored = λ rs ls t.
-          stored-both l l' (logs rs ls ws) c w (atLock (seat c w)) z _ h b
-          (lock-leaves w (mapOf l (c .sizes)) (keys (block us (seat c w .writes))))
-          (record { reads = t .counts w h .reads; leaves = t .counts w h .leaves; writes = t .counts w h .writes }) (inl refl) t;
-    })
+    (reached (λ (σ : State). effect σ (lock w)) l l' ws c w (atLock (seat c w)) z _ h b
+    (lock-leaves w (mapOf l (c .sizes)) (keys (block us (seat c w .writes)))) (inl refl)
+    (λ rs ls t. record { reads = t .counts w h .reads; leaves = t .counts w h .leaves; writes = t .counts w h .writes })
+    (λ rs ls t.
+    (λ i. withWorker (withMap (stateOf l (logs rs ls ws) c) (lockAll standard w (mapOf l (c .sizes)) (ks rs ls t i))) w (worker rs ls t i))
+    ∙ (unfold effect stateOf in refl)))
   where
-    inside : (rs ls : List ℕ) → Stored l (logs rs ls ws) c → w < length (c .seats)
-    inside rs ls t = subst (λ (n : ℕ). w < n) (sym (t .seats)) h
-
     ks : (rs ls : List ℕ) → Stored l (logs rs ls ws) c → keys (block us (seat c w .writes)) ≡ writeKeys (stateOf l (logs rs ls ws) c) w
-    ks rs ls t = ap keys (v .view (seat c w .writes) few) ∙ sym (keys-are l (logs rs ls ws) c w (inside rs ls t))
+    ks rs ls t = ap keys (v .view (seat c w .writes) few) ∙ sym (keys-are l (logs rs ls ws) c w (seat-inside t w h))
 
     worker : (rs ls : List ℕ) → Stored l (logs rs ls ws) c
         → workerIn (atLock (seat c w)) rs ls ws w ≡ atStage Locked (workerOf (stateOf l (logs rs ls ws) c) w)
-    worker rs ls t = lock-in rs ls ws w (seat c w) ∙ ap (atStage Locked) (sym (worker-at l (logs rs ls ws) c w (inside rs ls t)))
+    worker rs ls t = lock-in rs ls ws w (seat c w) ∙ ap (atStage Locked) (sym (worker-at l (logs rs ls ws) c w (seat-inside t w h)))
 
 pub locks-granted : (l l' : Lent) (ws us : List ℕ) (c : Core) (w : ℕ) (y : Worker) (z : Sizes) → w < 8 → seat c w .writes ≤ 16
     → BlockOf ws w us → Tested (l .rows) (l .slots) us (c .sizes) (seat c w .writes) w Granted → y ≡ atLock (seat c w)
@@ -205,7 +196,7 @@ module _ {l : Lent} {rs ls ws : List ℕ} {c : Core} (w : ℕ) (k : Ready l (log
 
   pub lock-rising : (x : Worker) → Entered isOpen (c .seats) w x → Rising (writesIn ws w (seat c w .writes))
   lock-rising x t =
-      subst Rising (writes-are l (logs rs ls ws) c w (subst (λ (n : ℕ). w < n) (sym (k .stored .seats)) (t .inside))) (k .kept .worker w .rising)
+      subst Rising (writes-are l (logs rs ls ws) c w (seat-inside (k .stored) w (t .inside))) (k .kept .worker w .rising)
 
   tests-are : (x : Worker) → Entered isOpen (c .seats) w x
       → refusal (stateOf l (logs rs ls ws) c) (lock w) ≡ lockTests (mapOf l (c .sizes)) (keys (writesIn ws w (seat c w .writes))) w
@@ -214,7 +205,7 @@ module _ {l : Lent} {rs ls ws : List ℕ} {c : Core} (w : ℕ) (k : Ready l (log
       lock-first l (logs rs ls ws) c w
       ∙ ap (λ (o : Option Refusal). maybe o rest-tests some) (t .front-is l (logs rs ls ws) c refl)
       ∙ ap (λ (ks : List ℕ). lockTests (mapOf l (c .sizes)) ks w)
-      (keys-are l (logs rs ls ws) c w (subst (λ (n : ℕ). w < n) (sym (k .stored .seats)) (t .inside)))
+      (keys-are l (logs rs ls ws) c w (seat-inside (k .stored) w (t .inside)))
 
   pub lock-goes : {l' : Lent} {c' : Core} (x : Worker) → Entered isOpen (c .seats) w x → (a : Plain) → LocksOpen l ws c w l' c' a
       → Goes l (logs rs ls ws) c (lock w) l' (logs rs ls ws) c' (plainIn a)

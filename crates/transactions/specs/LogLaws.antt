@@ -1,41 +1,34 @@
 -- The laws of what a scan logs, and of the places of the worker's own writes.
 -- Assumes nothing.
-use Prim.Native.Nat.{ℕ, zero, suc, _+_, _-_, _<_, _≤_}
-use native.Mathlib.Nat.{le-trans}
+use Prim.Native.Nat.{ℕ, suc, _+_, _-_, _<_, _≤_}
 use native.Mathlib.Omega.{arith}
-use mathlib.Core.Path.{_≡_, refl, sym, ap, _∙_, subst}
-use mathlib.Core.Bool.{Bool, true, false}
+use mathlib.Core.Path.{_≡_, refl, sym, ap, _∙_}
 use mathlib.Core.List.{List, [], _∷_, _++_, append-nil}
-use mathlib.Core.Option.{Option, none, some}
+use mathlib.Core.Option.{Option, none}
 use lib.ListN.{length, take, drop, getD}
 use lib.Seq.{take-take}
 use Rattle.lists.specs.Tests.{pick, present}
-use Rattle.lists.specs.Rows.{Row, row, look, between, Rising}
-use Rattle.lists.specs.Places.{place, place-most, Present, Absent, look-present, look-absent}
+use Rattle.lists.specs.Rows.{Row, row, look, Rising}
+use Rattle.lists.specs.Places.{place, place-most, Absent, look-present, look-absent}
 use Rattle.spec.specs.Records.{Record, Write}
-use Rattle.spec.specs.Leaves.{Leaf, firstLeaf}
-use Rattle.sets.specs.declared.reads.Seen as logged
+use Rattle.spec.specs.Leaves.{Leaf}
 use Rattle.sets.specs.declared.writes.Entry.{Entry}
 use Rattle.sets.specs.Reads.{readsIn, ReadsHeld, LogsRead}
 use Rattle.sets.specs.Reads as reads
 use Rattle.sets.specs.Leaves.{versionsIn, lowsIn, LeavesHeld, LogsLeaf}
-use Rattle.sets.specs.Writes.{WriteSet, noWrite, entryIn, writesOf, writesIn, PlaceOf, GivesWrite}
+use Rattle.sets.specs.Writes.{WriteSet, noWrite, writesOf, writesIn, PlaceOf, GivesWrite}
 use Rattle.sets.specs.WriteRows.{length-writes}
 use Rattle.index.specs.Views.{leavesOf}
-use Rattle.map.specs.declared.looks.Range.{Range}
 use Rattle.map.specs.declared.looks.Seen.{Seen}
 use Rattle.map.specs.declared.looks.Mark.{Mark}
 use Rattle.map.specs.LookViews.{mapWith, recordIn, walk, indexedAt, seenIn, SeenAt, versionIn, markIn, Marks}
 use Rattle.map.specs.RangeLaws.{place-mono, place-next, between-places}
 use Rattle.transactions.specs.Parts.{walk-on, walk-past, length-walk, done-one, drop-take}
-use Rattle.transactions.specs.Scanning.{OwnSpans, seenRows, ReadsRoom, LogsRows, LoggingRows, lowIn, LeavesRoom, LogsMarks, LoggingMarks}
+use Rattle.transactions.specs.Scanning.{OwnSpans, seenRows, LogsRows, LoggingRows, lowIn, LogsMarks, LoggingMarks}
 
 -- ---- the worker's writes of a range
 
 module _ (ws : List ℕ) (w n lo hi p : ℕ) (set : WriteSet ws w n) (fits : lo ≤ hi) (from : PlaceOf ws w n lo p) where
-  rs : List (Row Write)
-  rs = writesIn ws w n
-
   size : length (writesIn ws w n) ≡ n
   size = length-writes ws w n (set .room)
 

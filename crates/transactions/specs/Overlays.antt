@@ -1,14 +1,14 @@
 -- One list of rows laid over another, taken row by row: the smaller first key comes first, and at one key the upper list
 -- decides.
 -- Assumes nothing.
-use Prim.Native.Nat.{ℕ, zero, suc, _<_, _≤_, zero-le}
-use native.Mathlib.Nat.{le-refl, le-trans, le-step}
+use Prim.Native.Nat.{ℕ, zero, suc, _<_, _≤_}
+use native.Mathlib.Nat.{le-refl, le-step}
 use native.Mathlib.Omega.{arith}
 use mathlib.Core.Path.{_≡_, refl, sym, ap, _∙_, subst}
-use mathlib.Core.List.{List, [], _∷_, _++_, map}
+use mathlib.Core.List.{List, [], _∷_, map}
 use mathlib.Core.Option.{Option, none, some}
-use lib.ListN.{length, take, drop}
-use Rattle.lists.specs.Tests.{pick, maybe, same, less, same-yes, same-no, same-refl, less-yes, less-no}
+use lib.ListN.{take, drop}
+use Rattle.lists.specs.Tests.{maybe, same, same-no, same-refl, less-yes, less-no}
 use Rattle.lists.specs.Rows.{Row, row, insert, delete, assign, lay, From, Rising}
 use Rattle.lists.specs.RowLaws.{from-weaken, from-assign}
 

@@ -1,23 +1,20 @@
 -- The laws of a scan's tests and of carrying it out: what the parts' promises ask and give.
 -- Assumes nothing.
-use Prim.Native.Nat.{ℕ, _+_, _-_, _^_, _<_, _≤_}
+use Prim.Native.Nat.{ℕ, _+_, _-_, _≤_}
 use native.Mathlib.Nat.{le-trans, le-of-lt}
-use native.Mathlib.Omega.{arith}
-use mathlib.Core.Path.{_≡_, refl, sym, ap, _∙_, subst}
+use mathlib.Core.Path.{sym, _∙_, subst}
 use mathlib.Core.List.{List}
-use lib.ListN.{length, take, getD}
+use lib.ListN.{length}
 use lib.Seq.{take-take}
-use Rattle.lists.specs.Rows.{Row, Rising}
+use Rattle.lists.specs.Rows.{Rising}
 use Rattle.spec.specs.Records.{Write}
 use Rattle.sets.specs.declared.workers.Worker.{Worker}
 use Rattle.sets.specs.Writes.{WriteSet, writesOf, writesIn}
 use Rattle.map.specs.declared.Sizes.{Sizes}
-use Rattle.map.specs.declared.looks.Range.{Range}
-use Rattle.map.specs.LookViews.{Spans, Meets}
 use Rattle.transactions.specs.declared.scans.Task.{Task}
 use Rattle.transactions.specs.Overlays.{rising-first}
-use Rattle.transactions.specs.Walks.{ground, rest, Walks, Inside, Room, Fills}
-use Rattle.transactions.specs.Scanning.{OwnSpans, ReadsRoom, LeavesRoom}
+use Rattle.transactions.specs.Walks.{ground, rest, Walks, Room, Fills}
+use Rattle.transactions.specs.Scanning.{ReadsRoom, LeavesRoom}
 use Rattle.transactions.specs.Plans.{Planning, field, Measured, Roomy, Planned}
 
 -- the first rows of a write set are one

@@ -1,25 +1,24 @@
 -- A scan of the model, from what its tests told and what it left.
 -- Assumes nothing.
-use Prim.Native.Nat.{ℕ, zero, suc, _+_, _-_, _<_, _≤_, min}
-use native.Mathlib.Nat.{le-trans}
+use Prim.Native.Nat.{ℕ, suc, _+_, _-_, _<_, _≤_, min}
 use native.Mathlib.Omega.{arith}
 use mathlib.Core.Path.{_≡_, refl, sym, ap, _∙_, subst}
 use mathlib.Core.Logic.{_⊎_, ⊎-elim}
-use mathlib.Core.Bool.{Bool, true, false, not}
+use mathlib.Core.Bool.{Bool, true, false}
 use mathlib.Core.List.{List, [], _∷_, _++_}
 use mathlib.Core.Option.{Option, none, some}
 use lib.ListN.{length, take, drop, getD, set, length-set, List·getD-append}
 use lib.Seq.{split-at, getD-append-add, getD-set-same, getD-set-other}
-use Rattle.lists.specs.Tests.{pick, either, maybe, same, less, cases, same-true, same-false, less-true, less-false, less-yes, less-no}
-use Rattle.lists.specs.Rows.{Row, row, lay, between, mapItems, Rising}
+use Rattle.lists.specs.Tests.{either, maybe, same, less, cases, same-true, same-false, less-true, less-false, less-yes, less-no}
+use Rattle.lists.specs.Rows.{Row, between, mapItems, Rising}
 use Rattle.spec.specs.declared.Refusal.{Refusal}
 use Rattle.spec.specs.declared.Refusal.the-variants.{NoWorker, WorkerFree, WrongStage, Backward, LogFull, ShortBuffer}
 use Rattle.spec.specs.Refusals.{ends}
 use Rattle.spec.specs.Records.{Payload, Record, Write, ownView, payloadOf}
-use Rattle.spec.specs.Leaves.{Leaf, firstLeaf, leafOf, versionAt, live, meeting}
+use Rattle.spec.specs.Leaves.{Leaf, firstLeaf, leafOf, versionAt, live}
 use Rattle.spec.specs.Maps.{current, indexedBetween}
 use Rattle.spec.specs.Steps as model
-use Rattle.spec.specs.Steps.{State, Step, Answer, refused, listed, workerOf, scan, isOpen, scanned, scanReads, scanVersions, scanLogFull, Cause, cause, noWorker, workerFree, wrongStage, causes, firstCause, refusal, granted, effect, withWorker, logged}
+use Rattle.spec.specs.Steps.{State, refused, listed, workerOf, scan, isOpen, scanned, scanReads, scanVersions, scanLogFull, Cause, cause, noWorker, workerFree, wrongStage, causes, firstCause, refusal, granted, effect, withWorker, logged}
 use Rattle.laws.specs.LeafParts.{LowsFrom}
 use Rattle.laws.specs.LeafVersions.{GoodLeaves, leaf-of-low}
 use Rattle.sets.specs.declared.workers.Worker.{Worker}
@@ -28,7 +27,7 @@ use Rattle.sets.specs.Reads.{readsIn}
 use Rattle.sets.specs.ReadLaws.{length-reads}
 use Rattle.sets.specs.Leaves.{versionsIn, lowsIn}
 use Rattle.sets.specs.LeafLaws.{length-versions, length-lows}
-use Rattle.sets.specs.Writes.{WriteSet, writesIn}
+use Rattle.sets.specs.Writes.{writesIn}
 use Rattle.index.specs.Views.{leavesOf}
 use Rattle.map.specs.declared.looks.Range.{Range}
 use Rattle.map.specs.Views.{Lent, mapOf}
@@ -42,9 +41,9 @@ use Rattle.transactions.specs.Views.{Logs, logs, seatIn, stateOf, withSe
 use Rattle.transactions.specs.Ready.{seat, Within, Stored, Ready, Goes, goes, goes-refused}
 use Rattle.transactions.specs.Overlays.{overlay}
 use Rattle.transactions.specs.Parts.{length-walk, getD-walk, walk-same}
-use Rattle.transactions.specs.Walks.{seenFrom, ownFrom, rest, rowsIn, Fills}
-use Rattle.transactions.specs.Scanning.{seenRows, LogsRows, lowIn, LogsMarks}
-use Rattle.transactions.specs.Plans.{Planning, field, Measured, Declined, backward, many-reads, many-leaves, short, Roomy, Passed, Carried}
+use Rattle.transactions.specs.Walks.{seenFrom, ownFrom, rest, rowsIn}
+use Rattle.transactions.specs.Scanning.{seenRows, lowIn}
+use Rattle.transactions.specs.Plans.{Planning, field, Measured, Declined, backward, many-reads, many-leaves, short, Passed, Carried}
 
 -- the causes that come after those of the worker
 further : State → ℕ → ℕ → ℕ → ℕ → ℕ → List Cause

@@ -2,7 +2,7 @@
 -- Assumes nothing.
 use Prim.Native.Nat.{ℕ, _+_, _-_, _^_, _<_, _≤_}
 use mathlib.Core.Path.{_≡_}
-use mathlib.Core.List.{List, [], _∷_, _++_}
+use mathlib.Core.List.{List, [], _++_}
 use mathlib.Core.Option.{Option}
 use lib.ListN.{length, drop, getD}
 use Rattle.lists.specs.Rows.{Row, between}
@@ -10,7 +10,7 @@ use Rattle.spec.specs.Records.{Record}
 use Rattle.spec.specs.Leaves.{Leaf, firstLeaf}
 use Rattle.sets.specs.Reads.{readsIn, ReadsHeld}
 use Rattle.sets.specs.Leaves.{versionsIn, lowsIn, LeavesHeld}
-use Rattle.sets.specs.Writes.{WriteSet, writesIn}
+use Rattle.sets.specs.Writes.{writesIn}
 use Rattle.indexlet.specs.Held as indexlet
 use Rattle.index.specs.Views as index
 use Rattle.index.specs.Views.{leavesOf}

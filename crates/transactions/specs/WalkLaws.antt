@@ -1,30 +1,27 @@
 -- The laws of a scan's walk: what comes next by the two addresses, and that both lists rise.
 -- Assumes nothing.
-use Prim.Native.Nat.{ℕ, zero, suc, _+_, _-_, _<_, _≤_}
-use native.Mathlib.Nat.{le-refl, le-trans}
+use Prim.Native.Nat.{ℕ, suc, _+_, _-_, _<_, _≤_}
 use native.Mathlib.Omega.{arith}
 use mathlib.Core.Path.{_≡_, refl, sym, ap, _∙_, subst}
 use mathlib.Core.Bool.{Bool, true, false}
-use mathlib.Core.List.{List, [], _∷_, _++_, map}
+use mathlib.Core.List.{List, [], _∷_}
 use mathlib.Core.Option.{Option, none, some}
 use lib.ListN.{length, take, drop, getD}
 use lib.Dec.{eqb}
 use lib.Seq.{drop-cons}
 use Rattle.lists.specs.Tests.{pick, same}
 use Rattle.lists.specs.Rows.{Row, row, mapItems, From, Rising}
-use Rattle.lists.specs.RowLaws.{from-mapItems, rising-mapItems}
+use Rattle.lists.specs.RowLaws.{from-mapItems}
 use Rattle.spec.specs.Records.{Payload, Record, Write, written, deleted, ownView, payloadOf}
 use Rattle.spec.specs.Maps.{current}
 use Rattle.sets.specs.declared.writes.Entry.{Entry}
-use Rattle.sets.specs.Writes.{WriteSet, writeOf, entryIn, noWrite, writesIn, GivesWrite}
+use Rattle.sets.specs.Writes.{writeOf, entryIn, noWrite, writesIn, GivesWrite}
 use Rattle.sets.specs.WriteRows.{length-writes}
 use Rattle.index.specs.Views.{noRow, recordsOf}
 use Rattle.index.specs.ViewLaws.{length-records}
 use Rattle.map.specs.declared.looks.Seen.{Seen}
 use Rattle.map.specs.LookViews.{mapWith, recordIn, walk, indexedAt, seenIn, SeenAt}
 use Rattle.map.specs.RangeLaws.{walk-map}
-use Rattle.transactions.specs.declared.walks.Bounds.{Bounds}
-use Rattle.transactions.specs.declared.walks.Turn.{Turn}
 use Rattle.transactions.specs.Parts.{walk-on, walk-past, drop-all}
 use Rattle.transactions.specs.Overlays.{from-drop, shown, overlay, overlay-none, overlay-upper, overlay-lower, overlay-both, rising-part, rising-tail, rising-map}
 use Rattle.transactions.specs.Walks.{Ground, seenFrom, ownFrom, rest, Walks, Inside, indexTurn, ownTurn, turnIn, Steps}

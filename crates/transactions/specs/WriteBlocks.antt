@@ -3,15 +3,14 @@
 use Prim.Native.Nat.{ℕ, zero, suc, _+_, _*_, _<_, _≤_}
 use native.Mathlib.Nat.{not-suc-le-zero, le-of-suc-le-suc}
 use native.Mathlib.Omega.{arith}
-use mathlib.Core.Path.{_≡_, refl, sym, ap, _∙_, subst}
+use mathlib.Core.Path.{_≡_, refl, sym, ap, _∙_}
 use mathlib.Core.Logic.{⊎-elim}
-use mathlib.Core.List.{List, [], _∷_}
-use lib.ListN.{length, take, getD, set, length-set}
+use mathlib.Core.List.{List}
+use lib.ListN.{length, getD, set, length-set}
 use lib.Seq.{ext-getD, getD-set-same, getD-set-other}
 use Rattle.lists.specs.Tests.{same, cases, same-true, same-false}
-use Rattle.lists.specs.Rows.{Row, row}
+use Rattle.lists.specs.Rows.{row}
 use Rattle.lists.specs.Shifts.{getD-tab}
-use Rattle.spec.specs.Records.{Write}
 use Rattle.sets.specs.Writes.{writeOf, noWrite, writeAt, writesOf, writesIn, WritesHeld}
 use Rattle.sets.specs.WriteRows.{length-writes, write-read}
 use Rattle.sets.specs.WriteLaws.{put-kind, deletion-kind}

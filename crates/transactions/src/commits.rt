@@ -68,6 +68,7 @@ pub fn drop_transaction(
     let counters = c.counters;
     let x = seats[w];
     let block = block_of(writes, w);
+    let own = w as u64;
     let z = map::locks::unlock_all(
         outside,
         pending,
@@ -79,7 +80,7 @@ pub fn drop_transaction(
         sizes,
         counters,
         x.writes,
-        w as u64,
+        own,
     );
     let free = x.free();
     seats[w] = free;

@@ -14,7 +14,6 @@ use sets::reads::Seen;
 use sets::workers::Worker;
 use sets::writes;
 use spec::Refusal;
-ghost use mathlib.Core.Path.{_≡_};
 ghost use Prim.Native.Nat.{_+_, _-_, _<_, _≤_};
 ghost use lib.ListN.{length};
 ghost use Rattle.sets.specs.Reads.{ReadsHeld};

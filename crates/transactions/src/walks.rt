@@ -6,7 +6,7 @@ use map::looks::Seen;
 use sets::writes;
 use sets::writes::Entry;
 ghost use mathlib.Core.Path.{_≡_};
-ghost use Prim.Native.Nat.{_+_, _<_, _≤_};
+ghost use Prim.Native.Nat.{_+_, _<_};
 ghost use lib.ListN.{length};
 ghost use Rattle.lists.specs.Tests.{pick};
 ghost use Rattle.transactions.specs.Walks.{ground, rest, Walks, Inside, Steps, indexTurn, ownTurn, Fits, Shows, Room, Fills};

@@ -6,8 +6,6 @@ use borrow.Author.Needs.{needs}
 use Rattle.transactions.specs.WriteBlocks.{Copying, copying-start, copying-on, copied}
 use Rattle.transactions.proofs.commits.block_of.Statement.{statement}
 use Rattle.transactions.proofs.commits.block_of.Tie as tie
-use Rattle.transactions.proofs.commits.block_of.Reads as reads
-use Rattle.transactions.proofs.commits.block_of.Lts as lts
 
 abbrev Inv-loop : tie.InvT-loop
 Inv-loop writes w block₀ i₀ block i = (i ≤ 48) × Copying writes w block i
@@ -15,50 +13,39 @@ Inv-loop writes w block₀ i₀ block i = (i ≤ 48) × Copying writes w block i
 abbrev μ-loop : tie.MeasureT-loop
 μ-loop writes w block₀ i₀ block i = 48 - i
 
--- src/commits.rt:21:5
 loop-holds : tie.Need-loop-holds Inv-loop μ-loop
 loop-holds c = (zero-le, copying-start (c .args .writes .now) (c .args .w) _ refl)
 
--- src/commits.rt:22:27
 mul-block : tie.Need-mul-block Inv-loop μ-loop
 mul-block c = search needs
 
--- src/commits.rt:22:27
 add-block : tie.Need-add-block Inv-loop μ-loop
 add-block c = search needs
 
--- src/commits.rt:22:20
 mul-block-2 : tie.Need-mul-block-2 Inv-loop μ-loop
 mul-block-2 c = search needs
 
--- src/commits.rt:22:20
 element-copy-out-block : tie.Need-element-copy-out-block Inv-loop μ-loop
 element-copy-out-block c = search needs
 
--- src/commits.rt:22:9
 mul-block-3 : tie.Need-mul-block-3 Inv-loop μ-loop
 mul-block-3 c = search needs
 
--- src/commits.rt:22:9
 array-write-block : tie.Need-array-write-block Inv-loop μ-loop
 array-write-block c = search needs
 
--- src/commits.rt:23:9
 add-i : tie.Need-add-i Inv-loop μ-loop
 add-i c = search needs
 
--- src/commits.rt:21:5
 loop-less : tie.Need-loop-less Inv-loop μ-loop
 loop-less c = search needs
 
--- src/commits.rt:21:5
 loop-again : tie.Need-loop-again Inv-loop μ-loop
 loop-again c =
     let l = c .before .before in
     let s = l .before in
     (omega arith, copying-on (s .args .writes .now) (s .args .w) (l .loop .block) (l .loop .i) (c .before .loop-test .taken) (l .loop .inv .1))
 
--- src/commits.rt:14:1
 returns : tie.Need-returns Inv-loop μ-loop
 returns c =
     let l = c .before in

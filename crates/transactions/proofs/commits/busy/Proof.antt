@@ -7,8 +7,6 @@ use Rattle.transactions.specs.StageTests.{free-free, open-taken, locked-
 use Rattle.transactions.specs.Admits.{turned-none, turned-free, admitted}
 use Rattle.transactions.proofs.commits.busy.Statement.{statement}
 use Rattle.transactions.proofs.commits.busy.Tie as tie
-use Rattle.transactions.proofs.commits.busy.Reads as reads
-use Rattle.transactions.proofs.commits.busy.Lts as lts
 
 returns : tie.Need-returns
 returns c = turned-none anyStage _ _ (c .if1 .taken)

@@ -1,0 +1,287 @@
+// One step, whichever it is: an operation with its arguments, and its reply.
+use map::Address;
+use spec::Refusal;
+use transactions::Core;
+use transactions::begins;
+use transactions::begins::Done;
+use transactions::begins::Plain;
+use transactions::commits;
+use transactions::edits;
+use transactions::merges;
+use transactions::merges::MergeDone;
+use transactions::reads;
+use transactions::reads::ReadAnswer;
+use transactions::reads::ReadDone;
+use transactions::scans;
+use transactions::scans::ScanAnswer;
+use transactions::scans::ScanDone;
+use transactions::validates;
+use transactions::validates::ValidateAnswer;
+use transactions::validates::ValidateDone;
+ghost use mathlib.Core.Path.{_≡_};
+ghost use Rattle.map.specs.Views.{lent};
+ghost use Rattle.transactions.specs.Views.{logs};
+ghost use Rattle.transactions.specs.Ready.{Ready};
+ghost use Rattle.engine.specs.Performs.{ofPlain, ofRead, ofScan, ofValidate, ofMerge, Performs};
+
+// A step of document 01. The buffers of a scan are lent beside it.
+pub enum Op {
+    Begin(u32),
+    Read(u32, Address),
+    Scan(u32, Address, Address),
+    Put(u32, Address, u64),
+    Remove(u32, Address),
+    Lock(u32),
+    Validate(u32),
+    Install(u32),
+    Abort(u32),
+    Merge(Address),
+}
+
+// Its answer. A scan tells how many places of the buffers it filled.
+pub enum Reply {
+    Granted,
+    Value(u64),
+    Absent,
+    Listed(usize),
+    Numbered(u64),
+    Counted(usize),
+    Refused(Refusal),
+}
+
+// The core after a step, and its answer.
+pub struct Performed {
+    pub core: Core,
+    pub reply: Reply,
+}
+
+fn of_plain(d: Done) -> Performed
+    ensures { λ r. ⌜ r ≡ ofPlain d ⌝ }
+{
+    let core = d.core;
+    let answer = d.answer;
+    match answer {
+        Plain::Granted => Performed {
+            core,
+            reply: Reply::Granted,
+        },
+        Plain::Refused(r) => Performed {
+            core,
+            reply: Reply::Refused(r),
+        },
+    }
+}
+
+fn of_read(d: ReadDone) -> Performed
+    ensures { λ r. ⌜ r ≡ ofRead d ⌝ }
+{
+    let core = d.core;
+    let answer = d.answer;
+    match answer {
+        ReadAnswer::Value(v) => Performed {
+            core,
+            reply: Reply::Value(v),
+        },
+        ReadAnswer::Absent => Performed {
+            core,
+            reply: Reply::Absent,
+        },
+        ReadAnswer::Refused(r) => Performed {
+            core,
+            reply: Reply::Refused(r),
+        },
+    }
+}
+
+fn of_scan(d: ScanDone) -> Performed
+    ensures { λ r. ⌜ r ≡ ofScan d ⌝ }
+{
+    let core = d.core;
+    let answer = d.answer;
+    match answer {
+        ScanAnswer::Count(n) => Performed {
+            core,
+            reply: Reply::Listed(n),
+        },
+        ScanAnswer::Refused(r) => Performed {
+            core,
+            reply: Reply::Refused(r),
+        },
+    }
+}
+
+fn of_validate(d: ValidateDone) -> Performed
+    ensures { λ r. ⌜ r ≡ ofValidate d ⌝ }
+{
+    let core = d.core;
+    let answer = d.answer;
+    match answer {
+        ValidateAnswer::Number(n) => Performed {
+            core,
+            reply: Reply::Numbered(n),
+        },
+        ValidateAnswer::Refused(r) => Performed {
+            core,
+            reply: Reply::Refused(r),
+        },
+    }
+}
+
+fn of_merge(d: MergeDone) -> Performed
+    ensures { λ r. ⌜ r ≡ ofMerge d ⌝ }
+{
+    let core = d.core;
+    Performed {
+        core,
+        reply: Reply::Counted(d.count),
+    }
+}
+
+// Any step. A seat may be any number, an address any, the buffers of any two lengths.
+pub fn perform(
+    addresses: &mut [u32],
+    values: &mut [u64],
+    rows: &mut [u64; 3072],
+    lows: &mut [u64; 1025],
+    versions: &mut [u64; 1025],
+    outside: &mut [u64; 1025],
+    pending: &mut [u64; 1025],
+    slots: &mut [u64; 1536],
+    reads: &mut [u64; 2048],
+    leaves: &mut [u64; 512],
+    writes: &mut [u64; 384],
+    c: Core,
+    op: Op,
+) -> Performed
+    requires { ⌜ Ready (lent (now rows) (now lows) (now versions) (now outside) (now pending) (now slots)) (logs (now reads) (now leaves) (now writes)) c ⌝ }
+    ensures { λ r. ⌜ Performs (lent (now (rows .entry)) (now (lows .entry)) (now (versions .entry)) (now (outside .entry)) (now (pending .entry)) (now (slots .entry))) (logs (now (reads .entry)) (now (leaves .entry)) (now (writes .entry))) c op (now (addresses .entry)) (now (values .entry)) (lent (now (rows .exit)) (now (lows .exit)) (now (versions .exit)) (now (outside .exit)) (now (pending .exit)) (now (slots .exit))) (logs (now (reads .exit)) (now (leaves .exit)) (now (writes .exit))) (now (addresses .exit)) (now (values .exit)) r ⌝ }
+{
+    match op {
+        Op::Begin(w) => of_plain(begins::begin(c, w)),
+        Op::Read(w, a) => of_read(reads::read(
+            reads,
+            rows,
+            lows,
+            versions,
+            outside,
+            pending,
+            slots,
+            leaves,
+            writes,
+            c,
+            w,
+            a,
+        )),
+        Op::Scan(w, lo, hi) => of_scan(scans::scan(
+            addresses,
+            values,
+            reads,
+            leaves,
+            rows,
+            lows,
+            versions,
+            outside,
+            pending,
+            slots,
+            writes,
+            c,
+            w,
+            lo,
+            hi,
+        )),
+        Op::Put(w, a, v) => of_plain(edits::put(
+            writes,
+            rows,
+            lows,
+            versions,
+            outside,
+            pending,
+            slots,
+            reads,
+            leaves,
+            c,
+            w,
+            a,
+            v,
+        )),
+        Op::Remove(w, a) => of_plain(edits::remove(
+            writes,
+            rows,
+            lows,
+            versions,
+            outside,
+            pending,
+            slots,
+            reads,
+            leaves,
+            c,
+            w,
+            a,
+        )),
+        Op::Lock(w) => of_plain(commits::lock(
+            outside,
+            pending,
+            slots,
+            rows,
+            lows,
+            versions,
+            reads,
+            leaves,
+            writes,
+            c,
+            w,
+        )),
+        Op::Validate(w) => of_validate(validates::validate(
+            outside,
+            pending,
+            slots,
+            rows,
+            lows,
+            versions,
+            reads,
+            leaves,
+            writes,
+            c,
+            w,
+        )),
+        Op::Install(w) => of_plain(commits::install(
+            outside,
+            pending,
+            slots,
+            rows,
+            lows,
+            versions,
+            reads,
+            leaves,
+            writes,
+            c,
+            w,
+        )),
+        Op::Abort(w) => of_plain(commits::abort(
+            outside,
+            pending,
+            slots,
+            rows,
+            lows,
+            versions,
+            reads,
+            leaves,
+            writes,
+            c,
+            w,
+        )),
+        Op::Merge(a) => of_merge(merges::merge_at(
+            rows,
+            lows,
+            versions,
+            outside,
+            pending,
+            slots,
+            reads,
+            leaves,
+            writes,
+            c,
+            a,
+        )),
+    }
+}

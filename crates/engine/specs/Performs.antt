@@ -22,6 +22,10 @@ use Rattle.transactions.specs.declared.validates.ValidateDone.{ValidateDone}
 use Rattle.transactions.specs.declared.validates.ValidateAnswer.{ValidateAnswer}
 use Rattle.transactions.specs.declared.validates.ValidateAnswer.the-variants as validating
 use Rattle.transactions.specs.declared.merges.MergeDone.{MergeDone}
+use Rattle.engine.specs.declared.steps.Access.{Access}
+use Rattle.engine.specs.declared.steps.Access.the-variants as access
+use Rattle.engine.specs.declared.steps.Ending.{Ending}
+use Rattle.engine.specs.declared.steps.Ending.the-variants as ending
 use Rattle.engine.specs.declared.steps.Op.{Op}
 use Rattle.engine.specs.declared.steps.Op.the-variants as op
 use Rattle.engine.specs.declared.steps.Reply.{Reply}
@@ -39,14 +43,14 @@ use Rattle.transactions.specs.Ready.{Ready, Goes}
 -- document 01's step, with the lengths of the lent buffers
 abbrev pub stepIn : Op → ℕ → ℕ → Step
 stepIn (op.Begin w) m n = model.begin w
-stepIn (op.Read w a) m n = model.read w a
-stepIn (op.Scan w lo hi) m n = model.scan w lo hi m n
-stepIn (op.Put w a v) m n = model.put w a (record { value = v })
-stepIn (op.Remove w a) m n = model.remove w a
-stepIn (op.Lock w) m n = model.lock w
-stepIn (op.Validate w) m n = model.validate w
-stepIn (op.Install w) m n = model.install w
-stepIn (op.Abort w) m n = model.abort w
+stepIn (op.Access w (access.Read a)) m n = model.read w a
+stepIn (op.Access w (access.Scan lo hi)) m n = model.scan w lo hi m n
+stepIn (op.Access w (access.Put a v)) m n = model.put w a (record { value = v })
+stepIn (op.Access w (access.Remove a)) m n = model.remove w a
+stepIn (op.Ending w ending.Lock) m n = model.lock w
+stepIn (op.Ending w ending.Validate) m n = model.validate w
+stepIn (op.Ending w ending.Install) m n = model.install w
+stepIn (op.Ending w ending.Abort) m n = model.abort w
 stepIn (op.Merge a) m n = model.merge a
 
 -- document 01's answer: of a scan, the first places of the buffers after it
@@ -75,6 +79,12 @@ pub record Performs (l : Lent) (g : Logs) (c : Core) (o : Op) (ks vs : List ℕ)
   pub goes : Goes l g c (stepIn o (length ks) (length vs)) l' g' (r .core) (replyIn (r .reply) ks' vs')
   pub addresses : Beyond (placesIn (r .reply)) ks ks'
   pub values : Beyond (placesIn (r .reply)) vs vs'
+
+-- A step that looks at no buffer, whatever they hold.
+pub record Quiet (l : Lent) (g : Logs) (c : Core) (o : Op) (l' : Lent) (g' : Logs) (r : Performed) : Type 0 where
+  pub goes :
+      (ks vs : List ℕ) → Goes l g c (stepIn o (length ks) (length vs)) l' g' (r .core) (replyIn (r .reply) ks vs)
+  pub places : placesIn (r .reply) ≡ 0
 
 -- ---- the replies of the ten entries
 
@@ -126,22 +136,26 @@ validate-is d e = ap (λ (x : ValidateAnswer). record { core = d .core; reply = 
 
 -- ---- as it goes
 
--- a step that leaves the buffers alone
-quiet : {l l' : Lent} {g g' : Logs} {c : Core} (o : Op) (ks vs : List ℕ) (k : Core) (p : Reply) (a : Answer)
-    → Goes l g c (stepIn o (length ks) (length vs)) l' g' k a → replyIn p ks vs ≡ a → placesIn p ≡ 0
-    → Performs l g c o ks vs l' g' ks vs (record { core = k; reply = p })
-quiet {l} {l'} {g} {g'} {c} o ks vs k p a h e z =
-    record {
-      goes = subst (λ (b : Answer). Goes l g c (stepIn o (length ks) (length vs)) l' g' k b) (sym e) h;
-      addresses = subst (λ (n : ℕ). Beyond n ks ks) (sym z) (beyond-refl 0 ks);
-      values = subst (λ (n : ℕ). Beyond n vs vs) (sym z) (beyond-refl 0 vs);
-    }
+-- the operation under its name
+pub accesses : (w : ℕ) {x y : Access} → x ≡ y → op.Access w x ≡ op.Access w y
+accesses w e = ap (op.Access w) e
 
--- under the names that the code has for the operation and the outcome
-joined : {l l' : Lent} {g g' : Logs} {c : Core} {o s : Op} {ks vs ks' vs' : List ℕ} {r q : Performed} → o ≡ s → r ≡ q
-    → Performs l g c s ks vs l' g' ks' vs' q → Performs l g c o ks vs l' g' ks' vs' r
-joined {l} {l'} {g} {g'} {c} {o} {s} {ks} {vs} {ks'} {vs'} {r} {q} e f h =
-    subst (λ (x : Op). Performs l g c x ks vs l' g' ks' vs' r) (sym e) (subst (λ (x : Performed). Performs l g c s ks vs l' g' ks' vs' x) (sym f) h)
+pub ending-is : (w : ℕ) {x y : Ending} → x ≡ y → op.Ending w x ≡ op.Ending w y
+ending-is w e = ap (op.Ending w) e
+
+-- an entry's promise, under the names that the code has for the operation and the outcome
+quiet : {l l' : Lent} {g g' : Logs} {c : Core} {o : Op} {r : Performed} (s : Op) (t : Step) (k : Core) (p : Reply) (a : Answer)
+    → ((m n : ℕ) → stepIn s m n ≡ t) → o ≡ s → r ≡ record { core = k; reply = p } → Goes l g c t l' g' k a
+    → ((ks vs : List ℕ) → replyIn p ks vs ≡ a) → placesIn p ≡ 0 → Quiet l g c o l' g' r
+quiet {l} {l'} {g} {g'} {c} {o} {r} s t k p a i e f h q z =
+    subst (λ (x : Op). Quiet l g c x l' g' r) (sym e)
+    (subst (λ (x : Performed). Quiet l g c s l' g' x) (sym f)
+    (record {
+      goes =
+          λ ks vs. subst (λ (b : Answer). Goes l g c (stepIn s (length ks) (length vs)) l' g' k b) (sym (q ks vs))
+          (subst (λ (u : Step). Goes l g c u l' g' k a) (sym (i (length ks) (length vs))) h);
+      places = z;
+    }))
 
 plain-answer : (p : Plain) (ks vs : List ℕ) → replyIn (plainReply p) ks vs ≡ plainIn p
 plain-answer plain.Granted ks vs = refl
@@ -151,10 +165,10 @@ plain-places : (p : Plain) → placesIn (plainReply p) ≡ 0
 plain-places plain.Granted = refl
 plain-places (plain.Refused r) = refl
 
-pub performs-plain : {l l' : Lent} {g g' : Logs} {c : Core} {o : Op} {r : Performed} (s : Op) (ks vs : List ℕ) (d : Done) → o ≡ s → r ≡ ofPlain d
-    → Goes l g c (stepIn s (length ks) (length vs)) l' g' (d .core) (plainIn (d .answer)) → Performs l g c o ks vs l' g' ks vs r
-performs-plain {l} {l'} {g} {g'} {c} s ks vs d e f h =
-    joined e f (quiet s ks vs (d .core) (plainReply (d .answer)) (plainIn (d .answer)) h (plain-answer (d .answer) ks vs) (plain-places (d .answer)))
+pub quiet-plain : {l l' : Lent} {g g' : Logs} {c : Core} {o : Op} {r : Performed} {t : Step} (s : Op) (d : Done) → ((m n : ℕ) → stepIn s m n ≡ t) → o ≡ s
+    → r ≡ ofPlain d → Goes l g c t l' g' (d .core) (plainIn (d .answer)) → Quiet l g c o l' g' r
+quiet-plain {t} s d i e f h =
+    quiet s t (d .core) (plainReply (d .answer)) (plainIn (d .answer)) i e f h (plain-answer (d .answer)) (plain-places (d .answer))
 
 read-answer : (p : ReadAnswer) (ks vs : List ℕ) → replyIn (readReply p) ks vs ≡ readIn p
 read-answer (reading.Value v) ks vs = refl
@@ -166,10 +180,10 @@ read-places (reading.Value v) = refl
 read-places reading.Absent = refl
 read-places (reading.Refused r) = refl
 
-pub performs-read : {l l' : Lent} {g g' : Logs} {c : Core} {o : Op} {r : Performed} (s : Op) (ks vs : List ℕ) (d : ReadDone) → o ≡ s → r ≡ ofRead d
-    → Goes l g c (stepIn s (length ks) (length vs)) l' g' (d .core) (readIn (d .answer)) → Performs l g c o ks vs l' g' ks vs r
-performs-read {l} {l'} {g} {g'} {c} s ks vs d e f h =
-    joined e f (quiet s ks vs (d .core) (readReply (d .answer)) (readIn (d .answer)) h (read-answer (d .answer) ks vs) (read-places (d .answer)))
+pub quiet-read : {l l' : Lent} {g g' : Logs} {c : Core} {o : Op} {r : Performed} {t : Step} (s : Op) (d : ReadDone) → ((m n : ℕ) → stepIn s m n ≡ t) → o ≡ s
+    → r ≡ ofRead d → Goes l g c t l' g' (d .core) (readIn (d .answer)) → Quiet l g c o l' g' r
+quiet-read {t} s d i e f h =
+    quiet s t (d .core) (readReply (d .answer)) (readIn (d .answer)) i e f h (read-answer (d .answer)) (read-places (d .answer))
 
 validate-answer : (p : ValidateAnswer) (ks vs : List ℕ) → replyIn (validateReply p) ks vs ≡ validateIn p
 validate-answer (validating.Number n) ks vs = refl
@@ -179,16 +193,34 @@ validate-places : (p : ValidateAnswer) → placesIn (validateReply p) ≡ 0
 validate-places (validating.Number n) = refl
 validate-places (validating.Refused r) = refl
 
-pub performs-validate : {l l' : Lent} {g g' : Logs} {c : Core} {o : Op} {r : Performed} (s : Op) (ks vs : List ℕ) (d : ValidateDone) → o ≡ s → r ≡ ofValidate d
-    → Goes l g c (stepIn s (length ks) (length vs)) l' g' (d .core) (validateIn (d .answer)) → Performs l g c o ks vs l' g' ks vs r
-performs-validate {l} {l'} {g} {g'} {c} s ks vs d e f h =
-    joined e f
-    (quiet s ks vs (d .core) (validateReply (d .answer)) (validateIn (d .answer)) h (validate-answer (d .answer) ks vs) (validate-places (d .answer)))
+pub quiet-validate : {l l' : Lent} {g g' : Logs} {c : Core} {o : Op} {r : Performed} {t : Step} (s : Op) (d : ValidateDone) → ((m n : ℕ) → stepIn s m n ≡ t) → o ≡ s
+    → r ≡ ofValidate d → Goes l g c t l' g' (d .core) (validateIn (d .answer)) → Quiet l g c o l' g' r
+quiet-validate {t} s d i e f h =
+    quiet s t (d .core) (validateReply (d .answer)) (validateIn (d .answer)) i e f h (validate-answer (d .answer)) (validate-places (d .answer))
 
-pub performs-merge : {l l' : Lent} {g g' : Logs} {c : Core} {o : Op} {r : Performed} (s : Op) (ks vs : List ℕ) (d : MergeDone) → o ≡ s → r ≡ ofMerge d
-    → Goes l g c (stepIn s (length ks) (length vs)) l' g' (d .core) (model.counted (d .count)) → Performs l g c o ks vs l' g' ks vs r
-performs-merge {l} {l'} {g} {g'} {c} s ks vs d e f h =
-    joined e f (quiet s ks vs (d .core) (reply.Counted (d .count)) (model.counted (d .count)) h refl refl)
+pub quiet-merge : {l l' : Lent} {g g' : Logs} {c : Core} {o : Op} {r : Performed} {t : Step} (s : Op) (d : MergeDone) → ((m n : ℕ) → stepIn s m n ≡ t) → o ≡ s
+    → r ≡ ofMerge d → Goes l g c t l' g' (d .core) (model.counted (d .count)) → Quiet l g c o l' g' r
+quiet-merge {t} s d i e f h =
+    quiet s t (d .core) (reply.Counted (d .count)) (model.counted (d .count)) i e f h (λ ks vs. refl) refl
+
+-- a step that looks at no buffer leaves them
+pub performs-quiet : {l l' : Lent} {g g' : Logs} {c : Core} {o : Op} {r : Performed} (ks vs : List ℕ) → Quiet l g c o l' g' r
+    → Performs l g c o ks vs l' g' ks vs r
+performs-quiet ks vs h =
+    record {
+      goes = h .goes ks vs;
+      addresses = subst (λ (n : ℕ). Beyond n ks ks) (sym (h .places)) (beyond-refl 0 ks);
+      values = subst (λ (n : ℕ). Beyond n vs vs) (sym (h .places)) (beyond-refl 0 vs);
+    }
+
+-- under the operation's other name
+pub performs-as : {l l' : Lent} {g g' : Logs} {c : Core} {o s : Op} {ks vs ks' vs' : List ℕ} {r : Performed} → o ≡ s
+    → Performs l g c s ks vs l' g' ks' vs' r → Performs l g c o ks vs l' g' ks' vs' r
+performs-as {l} {l'} {g} {g'} {c} {o} {s} {ks} {vs} {ks'} {vs'} {r} e h =
+    subst (λ (x : Op). Performs l g c x ks vs l' g' ks' vs' r) (sym e) h
+
+pub quiet-as : {l l' : Lent} {g g' : Logs} {c : Core} {o s : Op} {r : Performed} → o ≡ s → Quiet l g c s l' g' r → Quiet l g c o l' g' r
+quiet-as {l} {l'} {g} {g'} {c} {o} {s} {r} e h = subst (λ (x : Op). Quiet l g c x l' g' r) (sym e) h
 
 scan-answer : (p : ScanAnswer) (ks vs : List ℕ) → replyIn (scanReply p) ks vs ≡ scanIn p ks vs
 scan-answer (scanning.Count n) ks vs = refl
@@ -199,11 +231,12 @@ scan-places (scanning.Count n) = refl
 scan-places (scanning.Refused r) = refl
 
 pub performs-scan : {l : Lent} {g g' : Logs} {c : Core} {o : Op} {r : Performed} {w lo hi : ℕ} {ks vs ks' vs' : List ℕ} (d : ScanDone)
-    → o ≡ op.Scan w lo hi → r ≡ ofScan d → Scans l g c w lo hi ks vs g' ks' vs' d → Performs l g c o ks vs l g' ks' vs' r
-performs-scan {l} {g} {g'} {c} {w} {lo} {hi} {ks} {vs} {ks'} {vs'} d e f h =
-    joined e f
+    → o ≡ op.Access w (access.Scan lo hi) → r ≡ ofScan d → Scans l g c w lo hi ks vs g' ks' vs' d → Performs l g c o ks vs l g' ks' vs' r
+performs-scan {l} {g} {g'} {c} {o} {r} {w} {lo} {hi} {ks} {vs} {ks'} {vs'} d e f h =
+    performs-as e
+    (subst (λ (x : Performed). Performs l g c (op.Access w (access.Scan lo hi)) ks vs l g' ks' vs' x) (sym f)
     (record {
       goes = subst (λ (b : Answer). Goes l g c (model.scan w lo hi (length ks) (length vs)) l g' (d .core) b) (sym (scan-answer (d .answer) ks' vs')) (h .goes);
       addresses = subst (λ (n : ℕ). Beyond n ks ks') (sym (scan-places (d .answer))) (h .addresses);
       values = subst (λ (n : ℕ). Beyond n vs vs') (sym (scan-places (d .answer))) (h .values);
-    })
+    }))

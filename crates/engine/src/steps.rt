@@ -22,19 +22,29 @@ ghost use mathlib.Core.Path.{_≡_};
 ghost use Rattle.map.specs.Views.{lent};
 ghost use Rattle.transactions.specs.Views.{logs};
 ghost use Rattle.transactions.specs.Ready.{Ready};
-ghost use Rattle.engine.specs.Performs.{ofPlain, ofRead, ofScan, ofValidate, ofMerge, Performs};
+ghost use Rattle.engine.specs.Performs.{ofPlain, ofRead, ofScan, ofValidate, ofMerge, Quiet, Performs};
 
-// A step of document 01. The buffers of a scan are lent beside it.
+// What a worker does within an open transaction. The buffers of a scan are lent beside it.
+pub enum Access {
+    Read(Address),
+    Scan(Address, Address),
+    Put(Address, u64),
+    Remove(Address),
+}
+
+// What brings a transaction to its end.
+pub enum Ending {
+    Lock,
+    Validate,
+    Install,
+    Abort,
+}
+
+// A step of document 01; each names its worker first but a merge.
 pub enum Op {
     Begin(u32),
-    Read(u32, Address),
-    Scan(u32, Address, Address),
-    Put(u32, Address, u64),
-    Remove(u32, Address),
-    Lock(u32),
-    Validate(u32),
-    Install(u32),
-    Abort(u32),
+    Access(u32, Access),
+    Ending(u32, Ending),
     Merge(Address),
 }
 
@@ -137,6 +147,164 @@ fn of_merge(d: MergeDone) -> Performed
     }
 }
 
+// A step within an open transaction.
+fn take_access(
+    addresses: &mut [u32],
+    values: &mut [u64],
+    reads: &mut [u64; 2048],
+    leaves: &mut [u64; 512],
+    writes: &mut [u64; 384],
+    rows: &[u64; 3072],
+    lows: &[u64; 1025],
+    versions: &[u64; 1025],
+    outside: &[u64; 1025],
+    pending: &[u64; 1025],
+    slots: &[u64; 1536],
+    c: Core,
+    w: u32,
+    x: Access,
+) -> Performed
+    requires { ⌜ Ready (lent (now rows) (now lows) (now versions) (now outside) (now pending) (now slots)) (logs (now reads) (now leaves) (now writes)) c ⌝ }
+    ensures { λ r. ⌜ Performs (lent (now (rows .entry)) (now (lows .entry)) (now (versions .entry)) (now (outside .entry)) (now (pending .entry)) (now (slots .entry))) (logs (now (reads .entry)) (now (leaves .entry)) (now (writes .entry))) c (Op.Access w x) (now (addresses .entry)) (now (values .entry)) (lent (now (rows .entry)) (now (lows .entry)) (now (versions .entry)) (now (outside .entry)) (now (pending .entry)) (now (slots .entry))) (logs (now (reads .exit)) (now (leaves .exit)) (now (writes .exit))) (now (addresses .exit)) (now (values .exit)) r ⌝ }
+{
+    match x {
+        Access::Read(a) => of_read(reads::read(
+            reads,
+            rows,
+            lows,
+            versions,
+            outside,
+            pending,
+            slots,
+            leaves,
+            writes,
+            c,
+            w,
+            a,
+        )),
+        Access::Scan(lo, hi) => of_scan(scans::scan(
+            addresses,
+            values,
+            reads,
+            leaves,
+            rows,
+            lows,
+            versions,
+            outside,
+            pending,
+            slots,
+            writes,
+            c,
+            w,
+            lo,
+            hi,
+        )),
+        Access::Put(a, v) => of_plain(edits::put(
+            writes,
+            rows,
+            lows,
+            versions,
+            outside,
+            pending,
+            slots,
+            reads,
+            leaves,
+            c,
+            w,
+            a,
+            v,
+        )),
+        Access::Remove(a) => of_plain(edits::remove(
+            writes,
+            rows,
+            lows,
+            versions,
+            outside,
+            pending,
+            slots,
+            reads,
+            leaves,
+            c,
+            w,
+            a,
+        )),
+    }
+}
+
+// A step towards a transaction's end.
+fn take_ending(
+    outside: &mut [u64; 1025],
+    pending: &mut [u64; 1025],
+    slots: &mut [u64; 1536],
+    rows: &[u64; 3072],
+    lows: &[u64; 1025],
+    versions: &[u64; 1025],
+    reads: &[u64; 2048],
+    leaves: &[u64; 512],
+    writes: &[u64; 384],
+    c: Core,
+    w: u32,
+    x: Ending,
+) -> Performed
+    requires { ⌜ Ready (lent (now rows) (now lows) (now versions) (now outside) (now pending) (now slots)) (logs (now reads) (now leaves) (now writes)) c ⌝ }
+    ensures { λ r. ⌜ Quiet (lent (now (rows .entry)) (now (lows .entry)) (now (versions .entry)) (now (outside .entry)) (now (pending .entry)) (now (slots .entry))) (logs (now (reads .entry)) (now (leaves .entry)) (now (writes .entry))) c (Op.Ending w x) (lent (now (rows .entry)) (now (lows .entry)) (now (versions .entry)) (now (outside .exit)) (now (pending .exit)) (now (slots .exit))) (logs (now (reads .entry)) (now (leaves .entry)) (now (writes .entry))) r ⌝ }
+{
+    match x {
+        Ending::Lock => of_plain(commits::lock(
+            outside,
+            pending,
+            slots,
+            rows,
+            lows,
+            versions,
+            reads,
+            leaves,
+            writes,
+            c,
+            w,
+        )),
+        Ending::Validate => of_validate(validates::validate(
+            outside,
+            pending,
+            slots,
+            rows,
+            lows,
+            versions,
+            reads,
+            leaves,
+            writes,
+            c,
+            w,
+        )),
+        Ending::Install => of_plain(commits::install(
+            outside,
+            pending,
+            slots,
+            rows,
+            lows,
+            versions,
+            reads,
+            leaves,
+            writes,
+            c,
+            w,
+        )),
+        Ending::Abort => of_plain(commits::abort(
+            outside,
+            pending,
+            slots,
+            rows,
+            lows,
+            versions,
+            reads,
+            leaves,
+            writes,
+            c,
+            w,
+        )),
+    }
+}
+
 // Any step. A seat may be any number, an address any, the buffers of any two lengths.
 pub fn perform(
     addresses: &mut [u32],
@@ -158,38 +326,11 @@ pub fn perform(
 {
     match op {
         Op::Begin(w) => of_plain(begins::begin(c, w)),
-        Op::Read(w, a) => of_read(reads::read(
-            reads,
-            rows,
-            lows,
-            versions,
-            outside,
-            pending,
-            slots,
-            leaves,
-            writes,
-            c,
-            w,
-            a,
-        )),
-        Op::Scan(w, lo, hi) => of_scan(scans::scan(
+        Op::Access(w, x) => take_access(
             addresses,
             values,
             reads,
             leaves,
-            rows,
-            lows,
-            versions,
-            outside,
-            pending,
-            slots,
-            writes,
-            c,
-            w,
-            lo,
-            hi,
-        )),
-        Op::Put(w, a, v) => of_plain(edits::put(
             writes,
             rows,
             lows,
@@ -197,28 +338,11 @@ pub fn perform(
             outside,
             pending,
             slots,
-            reads,
-            leaves,
             c,
             w,
-            a,
-            v,
-        )),
-        Op::Remove(w, a) => of_plain(edits::remove(
-            writes,
-            rows,
-            lows,
-            versions,
-            outside,
-            pending,
-            slots,
-            reads,
-            leaves,
-            c,
-            w,
-            a,
-        )),
-        Op::Lock(w) => of_plain(commits::lock(
+            x,
+        ),
+        Op::Ending(w, x) => take_ending(
             outside,
             pending,
             slots,
@@ -230,46 +354,8 @@ pub fn perform(
             writes,
             c,
             w,
-        )),
-        Op::Validate(w) => of_validate(validates::validate(
-            outside,
-            pending,
-            slots,
-            rows,
-            lows,
-            versions,
-            reads,
-            leaves,
-            writes,
-            c,
-            w,
-        )),
-        Op::Install(w) => of_plain(commits::install(
-            outside,
-            pending,
-            slots,
-            rows,
-            lows,
-            versions,
-            reads,
-            leaves,
-            writes,
-            c,
-            w,
-        )),
-        Op::Abort(w) => of_plain(commits::abort(
-            outside,
-            pending,
-            slots,
-            rows,
-            lows,
-            versions,
-            reads,
-            leaves,
-            writes,
-            c,
-            w,
-        )),
+            x,
+        ),
         Op::Merge(a) => of_merge(merges::merge_at(
             rows,
             lows,

@@ -1,0 +1,76 @@
+-- `steps::take_ending` meets its contract: the promise of the entry that it calls, under the operation's name.
+-- Assumes nothing.
+use mathlib.Core.Path.{refl}
+use Rattle.engine.specs.Performs.{ending-is, quiet-plain, quiet-validate}
+use borrow.Author.Needs.{needs}
+use Rattle.engine.proofs.steps.take_ending.Statement.{statement}
+use Rattle.engine.proofs.steps.take_ending.Tie as tie
+
+enum-told : tie.Need-enum-told
+enum-told c = search needs
+
+lock-requires : tie.Need-lock-requires
+lock-requires c κs = search needs
+
+of-plain-requires : tie.Need-of-plain-requires
+of-plain-requires c κs = search needs
+
+enum-told-2 : tie.Need-enum-told-2
+enum-told-2 c = search needs
+
+validate-requires : tie.Need-validate-requires
+validate-requires c κs = search needs
+
+of-validate-requires : tie.Need-of-validate-requires
+of-validate-requires c κs = search needs
+
+enum-told-3 : tie.Need-enum-told-3
+enum-told-3 c = search needs
+
+install-requires : tie.Need-install-requires
+install-requires c κs = search needs
+
+of-plain-requires-2 : tie.Need-of-plain-requires-2
+of-plain-requires-2 c κs = search needs
+
+enum-told-4 : tie.Need-enum-told-4
+enum-told-4 c = search needs
+
+abort-requires : tie.Need-abort-requires
+abort-requires c κs = search needs
+
+of-plain-requires-3 : tie.Need-of-plain-requires-3
+of-plain-requires-3 c κs = search needs
+
+returns : tie.Need-returns
+returns c = quiet-plain _ (c .before .lock .result) (λ m n. refl) (ending-is (c .before .before .before .before .before .before .before .args .w) (c .before .before .before .before .before .enum-told .given .1)) (c .of-plain .ensures) (c .before .lock .ensures)
+
+returns-2 : tie.Need-returns-2
+returns-2 c = quiet-validate _ (c .before .validate .result) (λ m n. refl) (ending-is (c .before .before .before .before .before .before .before .args .w) (c .before .before .before .before .before .enum-told2 .given .1)) (c .of-validate .ensures) (c .before .validate .ensures)
+
+returns-3 : tie.Need-returns-3
+returns-3 c = quiet-plain _ (c .before .install .result) (λ m n. refl) (ending-is (c .before .before .before .before .before .before .before .args .w) (c .before .before .before .before .before .enum-told3 .given .1)) (c .of-plain2 .ensures) (c .before .install .ensures)
+
+returns-4 : tie.Need-returns-4
+returns-4 c = quiet-plain _ (c .before .abort .result) (λ m n. refl) (ending-is (c .before .before .before .before .before .before .before .args .w) (c .before .before .before .before .before .enum-told4 .given .1)) (c .of-plain3 .ensures) (c .before .abort .ensures)
+
+pub take-ending-spec : {M : Type 1} → statement M
+take-ending-spec =
+    tie.close
+    (tie.spec
+    enum-told
+    lock-requires
+    of-plain-requires
+    enum-told-2
+    validate-requires
+    of-validate-requires
+    enum-told-3
+    install-requires
+    of-plain-requires-2
+    enum-told-4
+    abort-requires
+    of-plain-requires-3
+    returns
+    returns-2
+    returns-3
+    returns-4)

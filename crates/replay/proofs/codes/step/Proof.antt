@@ -1,0 +1,46 @@
+-- `codes::step` meets its contract: what its code means is done, or nothing. Assumes nothing.
+use Rattle.replay.specs.CodeLaws.{steps-meant, steps-unmeant}
+use borrow.Author.Needs.{needs}
+use Rattle.replay.proofs.codes.step.Statement.{statement}
+use Rattle.replay.proofs.codes.step.Tie as tie
+
+decode-requires : tie.Need-decode-requires
+decode-requires c κs = search needs
+
+enum-known-d : tie.Need-enum-known-d
+enum-known-d c = search needs
+
+perform-requires : tie.Need-perform-requires
+perform-requires c κs = search needs
+
+encode-requires : tie.Need-encode-requires
+encode-requires c κs = search needs
+
+enum-told : tie.Need-enum-told
+enum-told c = search needs
+
+same-length : tie.Need-same-length
+same-length c = search needs
+
+same-length-2 : tie.Need-same-length-2
+same-length-2 c = search needs
+
+returns : tie.Need-returns
+returns c = steps-meant (c .before .before .before .before .before .before .perform .result) (c .before .before .before .before .before .before .before .before .before .before .before .before .before .before .before .before .before .before .before .before .before .decode .ensures) (c .before .before .before .before .before .before .before .before .before .before .before .before .before .before .before .before .before .before .before .d .given .1) (c .before .before .before .before .before .before .perform .ensures) (c .encode .ensures)
+
+returns-2 : tie.Need-returns-2
+returns-2 c = steps-unmeant (c .before .before .decode .ensures) (c .enum-told .given .1)
+
+pub step-spec : {M : Type 1} → statement M
+step-spec =
+    tie.close
+    (tie.spec
+    decode-requires
+    enum-known-d
+    perform-requires
+    encode-requires
+    enum-told
+    same-length
+    same-length-2
+    returns
+    returns-2)

@@ -1,0 +1,9 @@
+pub mod Codes
+pub mod CodeLaws
+pub mod Replays
+pub mod Words
+pub mod FitLaws
+pub mod ShownLaws
+pub mod RunLaws
+pub mod LoopLaws
+pub mod Starred

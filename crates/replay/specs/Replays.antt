@@ -1,0 +1,118 @@
+-- A list of coded steps, run from a fresh map: which steps are taken, what is written, and what the run promises, demand 3
+-- included.
+-- Assumes nothing.
+use Prim.Native.Nat.{ℕ, _+_, _-_, _*_, min}
+use mathlib.Core.Path.{_≡_}
+use mathlib.Core.List.{List, [], _∷_, _++_, map}
+use lib.ListN.{length}
+use lib.Seq.{sets}
+use Rattle.lists.specs.Tests.{pick, less}
+use Rattle.lists.specs.Rows.{Row}
+use Rattle.spec.specs.Records.{standard, Payload}
+use Rattle.spec.specs.Maps.{contents}
+use Rattle.spec.specs.Steps.{State, Step, fresh, Answer, refused, done, found, listed, numbered, counted, answer, next, Event}
+use Rattle.spec.specs.Claim.{SerialRun}
+use Rattle.map.specs.Views.{Lent, mapOf}
+use Rattle.transactions.specs.declared.Core.{Core}
+use Rattle.transactions.specs.Views.{Logs, stateOf}
+use Rattle.transactions.specs.Ready.{Ready}
+use Rattle.engine.specs.declared.steps.Op.{Op}
+use Rattle.engine.specs.Performs.{stepIn}
+use Rattle.script.specs.Output.{Wrote}
+use Rattle.replay.specs.declared.codes.Code.{Code}
+use Rattle.replay.specs.declared.codes.Decoded.{Decoded}
+use Rattle.replay.specs.declared.codes.Decoded.the-variants.{Meant, Meaningless}
+use Rattle.replay.specs.declared.runs.Stop.{Stop}
+use Rattle.replay.specs.declared.runs.Stop.the-variants as stop
+use Rattle.replay.specs.declared.runs.Replayed.{Replayed}
+use Rattle.replay.specs.Codes.{decoded, wordsOf}
+
+-- ---- which steps are taken
+
+-- The steps taken with their answers, why no more were taken, and the state after them.
+pub record Ran : Type 0 where
+  pub events : List Event
+  pub stop : Stop
+  pub state : State
+
+abbrev pub ended : Stop → State → Ran
+ended t σ = record { events = []; stop = t; state = σ }
+
+abbrev pub event : Step → Answer → Event
+event s a = record { step = s; answer = a }
+
+-- one step more, before those
+abbrev pub after : Event → Ran → Ran
+after e r = record { events = e ∷ r .events; stop = r .stop; state = r .state }
+
+abbrev pub byMeaning : Decoded → Ran → (Op → Ran) → Ran
+byMeaning (Meant o) r f = f o
+byMeaning Meaningless r f = r
+
+abbrev pub codeOf : ℕ → ℕ → ℕ → ℕ → Code
+codeOf k a b d = record { kind = k; a = a; b = b; d = d }
+
+-- the longest answer, in words, with scan buffers of so many places
+abbrev pub longest : ℕ → ℕ → ℕ
+longest m n = 3 + 2 * min m n
+
+-- The run of a list of words, four to a step, from a state, with scan buffers of m and n places and room for so many words
+-- of answers. It stops where the longest answer would find no room, at a code with no meaning, or at the end; words that
+-- make no whole code have no meaning.
+unfoldable pub ran : ℕ → ℕ → State → ℕ → List ℕ → Ran
+ran m n σ room [] = ended stop.Complete σ
+ran m n σ room (k ∷ []) = ended stop.Meaningless σ
+ran m n σ room (k ∷ a ∷ []) = ended stop.Meaningless σ
+ran m n σ room (k ∷ a ∷ b ∷ []) = ended stop.Meaningless σ
+ran m n σ room (k ∷ a ∷ b ∷ d ∷ ws) =
+    pick (less room (longest m n)) (ended stop.Full σ)
+    (byMeaning (decoded (codeOf k a b d)) (ended stop.Meaningless σ)
+    (λ (o : Op). after (event (stepIn o m n) (answer σ (stepIn o m n)))
+    (ran m n (next σ (stepIn o m n)) (room - length (wordsOf (answer σ (stepIn o m n)))) ws)))
+
+-- ---- what is written
+
+-- the answers in numbers, one after the other
+unfoldable pub allWords : List Event → List ℕ
+allWords [] = []
+allWords (e ∷ es) = wordsOf (e .answer) ++ allWords es
+
+-- a scan's records in the first places of its buffers
+abbrev pub listedIn : (Row Payload → ℕ) → Answer → List ℕ → List ℕ
+listedIn f (refused r) ks = ks
+listedIn f done ks = ks
+listedIn f (found p) ks = ks
+listedIn f (listed rs) ks = sets ks 0 (map f rs)
+listedIn f (numbered n) ks = ks
+listedIn f (counted n) ks = ks
+
+-- a scan buffer after the steps
+unfoldable pub leftIn : (Row Payload → ℕ) → List Event → List ℕ → List ℕ
+leftIn f [] ks = ks
+leftIn f (e ∷ es) ks = leftIn f es (listedIn f (e .answer) ks)
+
+abbrev pub addressOf : Row Payload → ℕ
+addressOf r = r .key
+
+abbrev pub valueOf : Row Payload → ℕ
+valueOf r = r .item .value
+
+-- ---- what is promised
+
+-- The run of these words, with these buffers, from a fresh map.
+abbrev pub runOf : List ℕ → List ℕ → List ℕ → List ℕ → Ran
+runOf words ks vs out = ran (length ks) (length vs) (fresh standard) (length out) words
+
+-- The words of the steps, the scan buffers and the answer buffer before, the arrays, the buffers and the outcome after.
+pub record Replays (words ks vs out : List ℕ) (l : Lent) (g : Logs) (ks' vs' out' : List ℕ) (r : Replayed) : Type 0 where
+  pub ready : Ready l g (r .core)
+  -- the steps that the run takes are taken, and why no more
+  pub state : stateOf l g (r .core) ≡ runOf words ks vs out .state
+  pub stop : r .stop ≡ runOf words ks vs out .stop
+  pub taken : r .taken ≡ length (runOf words ks vs out .events)
+  -- their answers are written, and nothing past them
+  pub answers : Wrote out 0 (allWords (runOf words ks vs out .events)) out' (r .written)
+  pub addresses : ks' ≡ leftIn addressOf (runOf words ks vs out .events) ks
+  pub values : vs' ≡ leftIn valueOf (runOf words ks vs out .events) vs
+  -- demand 3, of these steps, these answers and the contents after them
+  pub serial : SerialRun (runOf words ks vs out .events) (contents (mapOf l (r .core .sizes)))

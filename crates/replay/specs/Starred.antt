@@ -1,0 +1,90 @@
+-- Document 01's starred runs, of the engine: one fact about `replay`, over the table of crate `spec`.
+-- Assumes nothing.
+use Prim.Native.Nat.{ℕ}
+use mathlib.Core.Path.{_≡_, refl, sym, ap, _∙_, subst}
+use mathlib.Core.List.{List, [], _∷_, _++_}
+use lib.ListN.{length}
+use Rattle.lists.specs.Rows.{Row}
+use Rattle.spec.specs.Records.{standard, Record}
+use Rattle.spec.specs.Leaves.{cuts}
+use Rattle.spec.specs.Slots.{homeSlot}
+use Rattle.spec.specs.Maps.{contents}
+use Rattle.spec.specs.Steps.{State, Step, begin, read, scan, put, remove, lock, validate, install, abort, merge, fresh, final, Event}
+use Rattle.spec.specs.Computing.{model}
+use Rattle.spec.specs.Runs.{Run, home, leaves, script, stepsOf, starred, Holds}
+use Rattle.map.specs.Views.{Lent, mapOf}
+use Rattle.transactions.specs.Views.{Logs, stateOf}
+use Rattle.script.specs.Output.{Wrote}
+use Rattle.replay.specs.declared.runs.Stop.{Stop}
+use Rattle.replay.specs.declared.runs.Stop.the-variants as stop
+use Rattle.replay.specs.declared.runs.Replayed.{Replayed}
+use Rattle.replay.specs.Codes.{accessOf, decodedAccess, oneNumber, decoded, pairWords, wordsOf}
+use Rattle.replay.specs.Replays.{Ran, ran, allWords, Replays}
+use Rattle.replay.specs.LoopLaws.{ran-model}
+
+-- a step in coded form; the places of a scan's buffers are those lent
+abbrev pub codeFor : Step → List ℕ
+codeFor (begin w) = 0 ∷ w ∷ 0 ∷ 0 ∷ []
+codeFor (read w k) = 1 ∷ w ∷ k ∷ 0 ∷ []
+codeFor (scan w lo hi m n) = 2 ∷ w ∷ lo ∷ hi ∷ []
+codeFor (put w k p) = 3 ∷ w ∷ k ∷ p .value ∷ []
+codeFor (remove w k) = 4 ∷ w ∷ k ∷ 0 ∷ []
+codeFor (lock w) = 5 ∷ w ∷ 0 ∷ 0 ∷ []
+codeFor (validate w) = 6 ∷ w ∷ 0 ∷ 0 ∷ []
+codeFor (install w) = 7 ∷ w ∷ 0 ∷ 0 ∷ []
+codeFor (abort w) = 8 ∷ w ∷ 0 ∷ 0 ∷ []
+codeFor (merge a) = 9 ∷ a ∷ 0 ∷ 0 ∷ []
+
+abbrev pub codesFor : List Event → List ℕ
+codesFor [] = []
+codesFor (e ∷ es) = codeFor (e .step) ++ codesFor es
+
+-- The outcome of a replay is the row's: every step is taken, the answers are written, the contents are left.
+pub record Shows (h : List Event) (rs : List (Row Record)) (out : List ℕ) (l : Lent) (out' : List ℕ) (r : Replayed) : Type 0 where
+  pub complete : r .stop ≡ stop.Complete
+  pub answers : Wrote out 0 (allWords h) out' (r .written)
+  pub same-contents : contents (mapOf l (r .core .sizes)) ≡ rs
+
+-- what a row says of the engine: of every replay of its steps with scan buffers of 64 places and room for 4,096 words
+abbrev pub HoldsOf : Run → Type 0
+HoldsOf (home a h) = homeSlot (standard .bytes) a ≡ h
+HoldsOf (leaves n ns) = cuts standard n ≡ ns
+HoldsOf (script h rs) =
+    (ks vs out : List ℕ) (l : Lent) (g : Logs) (ks' vs' out' : List ℕ) (r : Replayed)
+    → length ks ≡ 64 → length vs ≡ 64 → length out ≡ 4096 → Replays (codesFor h) ks vs out l g ks' vs' out' r
+    → Shows h rs out l out' r
+
+abbrev pub AllHoldOf : List Run → Type 0
+AllHoldOf [] = Unit {0}
+AllHoldOf (r ∷ rs) = HoldsOf r × AllHoldOf rs
+
+-- a script's steps are all taken, and answered as the table says
+abbrev Runs : List Event → Type 0
+Runs h = (ran 64 64 (fresh standard) 4096 (codesFor h) .events ≡ h) × (ran 64 64 (fresh standard) 4096 (codesFor h) .stop ≡ stop.Complete)
+
+map-in : (l : Lent) (g : Logs) (r : Replayed) → stateOf l g (r .core) .map ≡ mapOf l (r .core .sizes)
+unfolding stateOf
+map-in l g r = refl
+
+shows : (h : List Event) (rs : List (Row Record)) → Runs h → Holds (script h rs) → HoldsOf (script h rs)
+shows h rs e k ks vs out l g ks' vs' out' r a b c p =
+    let run = ran 64 64 (fresh standard) 4096 (codesFor h) in
+    let same : ran (length ks) (length vs) (fresh standard) (length out) (codesFor h) ≡ run
+    = ap (λ (m : ℕ). ran m (length vs) (fresh standard) (length out) (codesFor h)) a
+    ∙ ap (λ (n : ℕ). ran 64 n (fresh standard) (length out) (codesFor h)) b
+    ∙ ap (λ (n : ℕ). ran 64 64 (fresh standard) n (codesFor h)) c in
+    let state : stateOf l g (r .core) ≡ final (fresh standard) (stepsOf h)
+    = p .state
+    ∙ ap (λ (x : Ran). x .state) same
+    ∙ sym (ran-model 64 64 (fresh standard) 4096 (codesFor h) .state)
+    ∙ ap (λ (es : List Event). final (fresh standard) (stepsOf es)) (e .0) in
+    record {
+      complete = p .stop ∙ ap (λ (x : Ran). x .stop) same ∙ e .1;
+      answers = subst (λ (es : List Event). Wrote out 0 (allWords es) out' (r .written)) (ap (λ (x : Ran). x .events) same ∙ e .0) (p .answers);
+      same-contents = ap contents (sym (map-in l g r) ∙ ap (λ (σ : State). σ .map) state) ∙ k .1;
+    }
+
+pub starred-replay : AllHoldOf starred
+unfolding model ran decoded oneNumber decodedAccess accessOf wordsOf pairWords
+starred-replay =
+    (refl, (refl, (refl, (refl, (refl, (refl, (refl, (shows _ _ (refl, refl) (refl, refl), (shows _ _ (refl, refl) (refl, refl), (shows _ _ (refl, refl) (refl, refl), (shows _ _ (refl, refl) (refl, refl), (shows _ _ (refl, refl) (refl, refl), (shows _ _ (refl, refl) (refl, refl), (shows _ _ (refl, refl) (refl, refl), tt))))))))))))))

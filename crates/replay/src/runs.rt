@@ -1,0 +1,270 @@
+// A list of steps in coded form, run from a fresh map.
+use crate::codes;
+use crate::codes::Code;
+use crate::codes::Decoded;
+use crate::words;
+use engine::steps;
+use transactions::Core;
+use transactions::starts;
+ghost use mathlib.Core.Path.{_≡_};
+ghost use mathlib.Core.Bool.{not};
+ghost use Prim.Native.Nat.{_+_, _*_, _%_, _^_, _<_, _≤_};
+ghost use lib.ListN.{length};
+ghost use Rattle.lists.specs.Tests.{less};
+ghost use Rattle.map.specs.Views.{lent};
+ghost use Rattle.transactions.specs.Views.{logs};
+ghost use Rattle.transactions.specs.Ready.{Ready};
+ghost use Rattle.transactions.specs.Starts.{Fresh};
+ghost use Rattle.replay.specs.Replays.{longest, Replays};
+ghost use Rattle.replay.specs.RunLaws.{codeAt, Turns};
+ghost use Rattle.replay.specs.LoopLaws.{restStop};
+
+// Why no more steps were taken: there are none; a code has no meaning; the answer buffer has no room for the longest answer.
+pub enum Stop {
+    Complete,
+    Meaningless,
+    Full,
+}
+
+// The core after the steps, how many were taken, how many words of answers were written, and why no more.
+pub struct Replayed {
+    pub core: Core,
+    pub taken: usize,
+    pub written: usize,
+    pub stop: Stop,
+}
+
+// After one code: the core, the place after the answers, and whether it was taken (complete).
+struct Turn {
+    core: Core,
+    at: usize,
+    stop: Stop,
+}
+
+// There is room for the longest answer with scan buffers of m and n places.
+fn fits(room: usize, m: usize, n: usize) -> bool
+    ensures { λ r. ⌜ r ≡ not (less room (longest m n)) ⌝ }
+{
+    if room < 3 {
+        return false;
+    }
+    let half = (room - 3) / 2;
+    if m < n {
+        return m <= half;
+    }
+    n <= half
+}
+
+// The code at place i, which is not the largest number.
+fn code_at(steps: &[u64], i: usize) -> Code
+    requires { ⌜ 4 * i + 4 ≤ length (now steps) ⌝ }
+    ensures { λ r. ⌜ r ≡ codeAt (now (steps .entry)) i ⌝ }
+    ensures { λ _. ⌜ i + 1 < 2 ^ 64 ⌝ }
+{
+    Code {
+        kind: steps[4 * i],
+        a: steps[4 * i + 1],
+        b: steps[4 * i + 2],
+        d: steps[4 * i + 3],
+    }
+}
+
+// One code: takes its step and writes the answer, or says why not.
+fn take_code(
+    out: &mut [u64],
+    addresses: &mut [u32],
+    values: &mut [u64],
+    rows: &mut [u64; 3072],
+    lows: &mut [u64; 1025],
+    versions: &mut [u64; 1025],
+    outside: &mut [u64; 1025],
+    pending: &mut [u64; 1025],
+    slots: &mut [u64; 1536],
+    reads: &mut [u64; 2048],
+    leaves: &mut [u64; 512],
+    writes: &mut [u64; 384],
+    c: Core,
+    k: Code,
+    at: usize,
+) -> Turn
+    requires { ⌜ Ready (lent (now rows) (now lows) (now versions) (now outside) (now pending) (now slots)) (logs (now reads) (now leaves) (now writes)) c ⌝ }
+    requires { ⌜ at ≤ length (now out) ⌝ }
+    ensures { λ r. ⌜ Turns (lent (now (rows .entry)) (now (lows .entry)) (now (versions .entry)) (now (outside .entry)) (now (pending .entry)) (now (slots .entry))) (logs (now (reads .entry)) (now (leaves .entry)) (now (writes .entry))) c k (now (addresses .entry)) (now (values .entry)) (now (out .entry)) at (lent (now (rows .exit)) (now (lows .exit)) (now (versions .exit)) (now (outside .exit)) (now (pending .exit)) (now (slots .exit))) (logs (now (reads .exit)) (now (leaves .exit)) (now (writes .exit))) (now (addresses .exit)) (now (values .exit)) (now (out .exit)) r ⌝ }
+{
+    if !fits(out.len() - at, addresses.len(), values.len()) {
+        return Turn {
+            core: c,
+            at,
+            stop: Stop::Full,
+        };
+    }
+    let d = codes::decode(k);
+    match d {
+        Decoded::Meant(op) => {
+            let p = steps::perform(
+                addresses,
+                values,
+                rows,
+                lows,
+                versions,
+                outside,
+                pending,
+                slots,
+                reads,
+                leaves,
+                writes,
+                c,
+                op,
+            );
+            let core = p.core;
+            let reply = p.reply;
+            let next = words::put_reply(out, at, addresses, values, reply);
+            Turn {
+                core,
+                at: next,
+                stop: Stop::Complete,
+            }
+        }
+        Decoded::Meaningless => Turn {
+            core: c,
+            at,
+            stop: Stop::Meaningless,
+        },
+    }
+}
+
+// Words past the last whole code have no meaning.
+fn last_stop(steps: &[u64]) -> Stop
+    ensures { λ r. ⌜ r ≡ restStop (length (now (steps .entry)) % 4) ⌝ }
+{
+    if steps.len() % 4 == 0 {
+        return Stop::Complete;
+    }
+    Stop::Meaningless
+}
+
+// All codes, one after the other, on a fresh map.
+fn take_all(
+    out: &mut [u64],
+    addresses: &mut [u32],
+    values: &mut [u64],
+    rows: &mut [u64; 3072],
+    lows: &mut [u64; 1025],
+    versions: &mut [u64; 1025],
+    outside: &mut [u64; 1025],
+    pending: &mut [u64; 1025],
+    slots: &mut [u64; 1536],
+    reads: &mut [u64; 2048],
+    leaves: &mut [u64; 512],
+    writes: &mut [u64; 384],
+    steps: &[u64],
+    start: Core,
+) -> Replayed
+    requires { ⌜ Fresh (lent (now rows) (now lows) (now versions) (now outside) (now pending) (now slots)) (logs (now reads) (now leaves) (now writes)) start ⌝ }
+    ensures { λ r. ⌜ Replays (now (steps .entry)) (now (addresses .entry)) (now (values .entry)) (now (out .entry)) (lent (now (rows .exit)) (now (lows .exit)) (now (versions .exit)) (now (outside .exit)) (now (pending .exit)) (now (slots .exit))) (logs (now (reads .exit)) (now (leaves .exit)) (now (writes .exit))) (now (addresses .exit)) (now (values .exit)) (now (out .exit)) r ⌝ }
+{
+    let count = steps.len() / 4;
+    let mut core = start;
+    let mut at = 0;
+    let mut i = 0;
+    while i < count {
+        let k = code_at(steps, i);
+        let t = take_code(
+            out,
+            addresses,
+            values,
+            rows,
+            lows,
+            versions,
+            outside,
+            pending,
+            slots,
+            reads,
+            leaves,
+            writes,
+            core,
+            k,
+            at,
+        );
+        let stop = t.stop;
+        let after = t.core;
+        match stop {
+            Stop::Complete => {
+                core = after;
+                at = t.at;
+                i += 1;
+            }
+            Stop::Meaningless => {
+                return Replayed {
+                    core: after,
+                    taken: i,
+                    written: t.at,
+                    stop: Stop::Meaningless,
+                };
+            }
+            Stop::Full => {
+                return Replayed {
+                    core: after,
+                    taken: i,
+                    written: t.at,
+                    stop: Stop::Full,
+                };
+            }
+        }
+    }
+    let stop = last_stop(steps);
+    Replayed {
+        core,
+        taken: i,
+        written: at,
+        stop,
+    }
+}
+
+// Runs a list of steps, four words to each (`Code`), from a fresh map in the lent arrays, whatever they hold, and writes the
+// answers one after the other. The buffers may have any lengths.
+pub fn replay(
+    out: &mut [u64],
+    addresses: &mut [u32],
+    values: &mut [u64],
+    rows: &mut [u64; 3072],
+    lows: &mut [u64; 1025],
+    versions: &mut [u64; 1025],
+    outside: &mut [u64; 1025],
+    pending: &mut [u64; 1025],
+    slots: &mut [u64; 1536],
+    reads: &mut [u64; 2048],
+    leaves: &mut [u64; 512],
+    writes: &mut [u64; 384],
+    steps: &[u64],
+) -> Replayed
+    ensures { λ r. ⌜ Replays (now (steps .entry)) (now (addresses .entry)) (now (values .entry)) (now (out .entry)) (lent (now (rows .exit)) (now (lows .exit)) (now (versions .exit)) (now (outside .exit)) (now (pending .exit)) (now (slots .exit))) (logs (now (reads .exit)) (now (leaves .exit)) (now (writes .exit))) (now (addresses .exit)) (now (values .exit)) (now (out .exit)) r ⌝ }
+{
+    let start = starts::fresh(
+        rows,
+        lows,
+        versions,
+        outside,
+        pending,
+        slots,
+        reads,
+        leaves,
+        writes,
+    );
+    take_all(
+        out,
+        addresses,
+        values,
+        rows,
+        lows,
+        versions,
+        outside,
+        pending,
+        slots,
+        reads,
+        leaves,
+        writes,
+        steps,
+        start,
+    )
+}

@@ -1,0 +1,72 @@
+// Answers in numbers, put into lent words at a place. Each function answers the place after what it wrote.
+use crate::codes;
+use crate::codes::Coded;
+use engine::steps::Reply;
+ghost use mathlib.Core.Path.{_≡_};
+ghost use mathlib.Core.List.{[], _∷_};
+ghost use Prim.Native.Nat.{_+_, _*_, _≤_};
+ghost use lib.ListN.{length};
+ghost use Rattle.transactions.specs.Walks.{rowsIn};
+ghost use Rattle.engine.specs.Performs.{replyIn};
+ghost use Rattle.script.specs.Output.{Wrote};
+ghost use Rattle.replay.specs.Codes.{pairWords, wordsOf};
+ghost use Rattle.replay.specs.Words.{headWords, Roomy};
+
+fn put_two(out: &mut [u64], at: usize, a: u64, b: u64) -> usize
+    requires { ⌜ at + 2 ≤ length (now out) ⌝ }
+    ensures { λ r. ⌜ Wrote (now (out .entry)) at (a ∷ b ∷ []) (now (out .exit)) r ⌝ }
+{
+    out[at] = a;
+    out[at + 1] = b;
+    at + 2
+}
+
+fn put_one(out: &mut [u64], at: usize, a: u64) -> usize
+    requires { ⌜ at + 1 ≤ length (now out) ⌝ }
+    ensures { λ r. ⌜ Wrote (now (out .entry)) at (a ∷ []) (now (out .exit)) r ⌝ }
+{
+    out[at] = a;
+    at + 1
+}
+
+// The three words of every answer.
+fn put_head(out: &mut [u64], at: usize, a: Coded) -> usize
+    requires { ⌜ at + 3 ≤ length (now out) ⌝ }
+    ensures { λ r. ⌜ Wrote (now (out .entry)) at (headWords a) (now (out .exit)) r ⌝ }
+{
+    let next = put_two(out, at, a.number, a.told);
+    put_one(out, next, a.value)
+}
+
+// The first n places of a scan's buffers.
+fn put_rows(out: &mut [u64], at: usize, addresses: &[u32], values: &[u64], n: usize) -> usize
+    requires { ⌜ (n ≤ length (now addresses)) × (n ≤ length (now values)) ⌝ }
+    requires { ⌜ at + 2 * n ≤ length (now out) ⌝ }
+    ensures { λ r. ⌜ Wrote (now (out .entry)) at (pairWords (rowsIn n (now (addresses .entry)) (now (values .entry)))) (now (out .exit)) r ⌝ }
+{
+    let mut next = at;
+    let mut i = 0;
+    while i < n {
+        next = put_two(out, next, addresses[i] as u64, values[i]);
+        i += 1;
+    }
+    next
+}
+
+// A reply, with a scan's records.
+pub fn put_reply(out: &mut [u64], at: usize, addresses: &[u32], values: &[u64], p: Reply) -> usize
+    requires { ⌜ Roomy p (now addresses) (now values) (now out) at ⌝ }
+    ensures { λ r. ⌜ Wrote (now (out .entry)) at (wordsOf (replyIn p (now (addresses .entry)) (now (values .entry)))) (now (out .exit)) r ⌝ }
+{
+    let a = codes::encode(p);
+    let next = put_head(out, at, a);
+    match p {
+        Reply::Granted => next,
+        Reply::Value(_) => next,
+        Reply::Absent => next,
+        Reply::Listed(n) => put_rows(out, next, addresses, values, n),
+        Reply::Numbered(_) => next,
+        Reply::Counted(_) => next,
+        Reply::Refused(_) => next,
+    }
+}

@@ -1,11 +1,11 @@
--- `commits::block_of` meets its contract. The invariant: the first i words are copied. Assumes nothing.
+-- `drops::block_of` meets its contract. The invariant: the first i words are copied. Assumes nothing.
 use Prim.Native.Nat.{_-_, _≤_, zero-le}
 use native.Mathlib.Omega.{arith}
 use mathlib.Core.Path.{refl, subst}
 use borrow.Author.Needs.{needs}
 use Rattle.transactions.specs.WriteBlocks.{Copying, copying-start, copying-on, copied}
-use Rattle.transactions.proofs.commits.block_of.Statement.{statement}
-use Rattle.transactions.proofs.commits.block_of.Tie as tie
+use Rattle.transactions.proofs.drops.block_of.Statement.{statement}
+use Rattle.transactions.proofs.drops.block_of.Tie as tie
 
 abbrev Inv-loop : tie.InvT-loop
 Inv-loop writes w block₀ i₀ block i = (i ≤ 48) × Copying writes w block i

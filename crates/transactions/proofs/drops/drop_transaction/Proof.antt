@@ -1,8 +1,8 @@
--- `commits::drop_transaction` meets its contract: the locks of the write set go, and the seat is free. Assumes nothing.
+-- `drops::drop_transaction` meets its contract: the locks of the write set go, and the seat is free. Assumes nothing.
 use borrow.Author.Needs.{needs}
 use Rattle.transactions.specs.Commits.{drops}
-use Rattle.transactions.proofs.commits.drop_transaction.Statement.{statement}
-use Rattle.transactions.proofs.commits.drop_transaction.Tie as tie
+use Rattle.transactions.proofs.drops.drop_transaction.Statement.{statement}
+use Rattle.transactions.proofs.drops.drop_transaction.Tie as tie
 
 mul-x : tie.Need-mul-x
 mul-x c = search needs

@@ -10,7 +10,6 @@ pub mod reads;
 pub mod scans;
 pub mod starts;
 pub mod validates;
-mod walks;
 
 use map::Counters;
 use map::Sizes;

@@ -1,10 +1,10 @@
 -- `walks::fill` meets its contract. The invariant: those written and those left are all. Assumes nothing.
 use Prim.Native.Nat.{_+_, _-_}
 use native.Mathlib.Omega.{arith}
-use Rattle.transactions.specs.Walks.{ground, Filling}
-use Rattle.transactions.specs.ShowLaws.{filling-start, filling-fits, filling-on, filling-end}
-use Rattle.transactions.proofs.walks.fill.Statement.{statement}
-use Rattle.transactions.proofs.walks.fill.Tie as tie
+use Rattle.ranges.specs.Walks.{ground, Filling}
+use Rattle.ranges.specs.ShowLaws.{filling-start, filling-fits, filling-on, filling-end}
+use Rattle.ranges.proofs.walks.fill.Statement.{statement}
+use Rattle.ranges.proofs.walks.fill.Tie as tie
 
 abbrev Inv-loop : tie.InvT-loop
 Inv-loop addresses₀ values₀ rows slots writes b from start i₀ j₀ at₀ addresses values i j at =

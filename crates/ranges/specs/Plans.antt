@@ -15,11 +15,11 @@ use Rattle.index.specs.LeafPlaces.{Listed}
 use Rattle.map.specs.declared.Sizes.{Sizes}
 use Rattle.map.specs.declared.looks.Range.{Range}
 use Rattle.map.specs.LookViews.{Narrow, Spans, Meets}
-use Rattle.transactions.specs.declared.scans.Task.{Task}
-use Rattle.transactions.specs.declared.scans.Plan.{Plan}
-use Rattle.transactions.specs.declared.scans.Plan.the-variants.{Refused, Go}
-use Rattle.transactions.specs.Walks.{Ground, ground, rest, Fills}
-use Rattle.transactions.specs.Scanning.{OwnSpans, seenRows, LogsRows, LogsMarks}
+use Rattle.ranges.specs.declared.plans.Task.{Task}
+use Rattle.ranges.specs.declared.plans.Plan.{Plan}
+use Rattle.ranges.specs.declared.plans.Plan.the-variants.{Refused, Go}
+use Rattle.ranges.specs.Walks.{Ground, ground, rest, Fills}
+use Rattle.ranges.specs.Scanning.{OwnSpans, seenRows, LogsRows, LogsMarks}
 
 -- what the tests look at holds the map and worker w, whose counts x has
 pub record Planning (rows lows slots ws : List ℕ) (z : Sizes) (x : Worker) (w : ℕ) : Type 0 where

@@ -11,11 +11,11 @@ use Rattle.spec.specs.Records.{Write}
 use Rattle.sets.specs.declared.workers.Worker.{Worker}
 use Rattle.sets.specs.Writes.{WriteSet, writesOf, writesIn}
 use Rattle.map.specs.declared.Sizes.{Sizes}
-use Rattle.transactions.specs.declared.scans.Task.{Task}
-use Rattle.transactions.specs.Overlays.{rising-first}
-use Rattle.transactions.specs.Walks.{ground, rest, Walks, Room, Fills}
-use Rattle.transactions.specs.Scanning.{ReadsRoom, LeavesRoom}
-use Rattle.transactions.specs.Plans.{Planning, field, Measured, Roomy, Planned}
+use Rattle.ranges.specs.declared.plans.Task.{Task}
+use Rattle.ranges.specs.Overlays.{rising-first}
+use Rattle.ranges.specs.Walks.{ground, rest, Walks, Room, Fills}
+use Rattle.ranges.specs.Scanning.{ReadsRoom, LeavesRoom}
+use Rattle.ranges.specs.Plans.{Planning, field, Measured, Roomy, Planned}
 
 -- the first rows of a write set are one
 set-first : (ws : List ℕ) (w n q : ℕ) → q ≤ n → WriteSet ws w n → WriteSet ws w q

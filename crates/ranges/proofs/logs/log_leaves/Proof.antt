@@ -1,11 +1,11 @@
--- `scans::log_leaves` meets its contract. The invariant: those logged and those left are all. Assumes nothing.
+-- `logs::log_leaves` meets its contract. The invariant: those logged and those left are all. Assumes nothing.
 use Prim.Native.Nat.{_-_}
 use native.Mathlib.Omega.{arith}
 use Rattle.index.specs.Views.{leavesOf}
-use Rattle.transactions.specs.Scanning.{LoggingMarks}
-use Rattle.transactions.specs.LogLaws.{marks-start, marks-room, marks-on, marks-end}
-use Rattle.transactions.proofs.scans.log_leaves.Statement.{statement}
-use Rattle.transactions.proofs.scans.log_leaves.Tie as tie
+use Rattle.ranges.specs.Scanning.{LoggingMarks}
+use Rattle.ranges.specs.LogLaws.{marks-start, marks-room, marks-on, marks-end}
+use Rattle.ranges.proofs.logs.log_leaves.Statement.{statement}
+use Rattle.ranges.proofs.logs.log_leaves.Tie as tie
 
 abbrev Inv-loop : tie.InvT-loop
 Inv-loop leaves₀ lows versions w m from to i₀ count₀ leaves i count = LoggingMarks leaves₀ w m (leavesOf lows versions to) from to leaves i count

@@ -2,10 +2,10 @@
 use Prim.Native.Nat.{_≤_, _<_}
 use native.Mathlib.Omega.{arith}
 use mathlib.Core.Path.{sym, subst}
-use Rattle.transactions.specs.Walks.{Steps}
-use Rattle.transactions.specs.WalkLaws.{index-left, step-index-only, step-own-only, step-index, step-own, step-both}
-use Rattle.transactions.proofs.walks.next.Statement.{statement}
-use Rattle.transactions.proofs.walks.next.Tie as tie
+use Rattle.ranges.specs.Walks.{Steps}
+use Rattle.ranges.specs.WalkLaws.{index-left, step-index-only, step-own-only, step-index, step-own, step-both}
+use Rattle.ranges.proofs.walks.next.Statement.{statement}
+use Rattle.ranges.proofs.walks.next.Tie as tie
 
 seen-at-requires : tie.Need-seen-at-requires
 seen-at-requires c κs =

@@ -1,10 +1,10 @@
 -- `walks::count_shown` meets its contract. The invariant: those counted and those left are all. Assumes nothing.
 use Prim.Native.Nat.{_+_, _-_}
 use native.Mathlib.Omega.{arith}
-use Rattle.transactions.specs.Walks.{ground, Counting}
-use Rattle.transactions.specs.ShowLaws.{counting-start, counting-on, counting-end}
-use Rattle.transactions.proofs.walks.count_shown.Statement.{statement}
-use Rattle.transactions.proofs.walks.count_shown.Tie as tie
+use Rattle.ranges.specs.Walks.{ground, Counting}
+use Rattle.ranges.specs.ShowLaws.{counting-start, counting-on, counting-end}
+use Rattle.ranges.proofs.walks.count_shown.Statement.{statement}
+use Rattle.ranges.proofs.walks.count_shown.Tie as tie
 
 abbrev Inv-loop : tie.InvT-loop
 Inv-loop rows slots writes b from start i₀ j₀ count₀ i j count = Counting (ground rows slots writes b) from start i j count

@@ -9,7 +9,7 @@ ghost use mathlib.Core.Path.{_≡_};
 ghost use Prim.Native.Nat.{_+_, _<_};
 ghost use lib.ListN.{length};
 ghost use Rattle.lists.specs.Tests.{pick};
-ghost use Rattle.transactions.specs.Walks.{ground, rest, Walks, Inside, Steps, indexTurn, ownTurn, Fits, Shows, Room, Fills};
+ghost use Rattle.ranges.specs.Walks.{ground, rest, Walks, Inside, Steps, indexTurn, ownTurn, Fits, Shows, Room, Fills};
 
 // How many records the index has, the worker, and where the walk ends: places of the index and of the worker's writes.
 pub struct Bounds {

@@ -1,8 +1,8 @@
--- `scans::carry` meets its contract. Assumes nothing.
+-- `plans::carry` meets its contract. Assumes nothing.
 use mathlib.Core.Path.{refl}
-use Rattle.transactions.specs.PlanLaws.{walkable, reads-room, leaves-room, room, filled}
-use Rattle.transactions.proofs.scans.carry.Statement.{statement}
-use Rattle.transactions.proofs.scans.carry.Tie as tie
+use Rattle.ranges.specs.PlanLaws.{walkable, reads-room, leaves-room, room, filled}
+use Rattle.ranges.proofs.plans.carry.Statement.{statement}
+use Rattle.ranges.proofs.plans.carry.Tie as tie
 
 fill-requires : tie.Need-fill-requires
 fill-requires c κs =

@@ -1,11 +1,11 @@
--- `scans::measure` meets its contract: each test in its order. Assumes nothing.
+-- `plans::measure` meets its contract: each test in its order. Assumes nothing.
 use native.Mathlib.Omega.{arith}
 use mathlib.Core.Path.{refl}
 use mathlib.Core.Logic.{inl, inr}
-use Rattle.transactions.specs.Plans.{backward, many-reads, many-leaves, short}
-use Rattle.transactions.specs.PlanLaws.{walkable}
-use Rattle.transactions.proofs.scans.measure.Statement.{statement}
-use Rattle.transactions.proofs.scans.measure.Tie as tie
+use Rattle.ranges.specs.Plans.{backward, many-reads, many-leaves, short}
+use Rattle.ranges.specs.PlanLaws.{walkable}
+use Rattle.ranges.proofs.plans.measure.Statement.{statement}
+use Rattle.ranges.proofs.plans.measure.Tie as tie
 
 returns : tie.Need-returns
 returns c = backward refl (c .if1 .taken)

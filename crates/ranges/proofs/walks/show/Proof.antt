@@ -2,9 +2,9 @@
 use Prim.Native.Nat.{_<_}
 use lib.ListN.{length}
 use borrow.Author.Needs.{needs}
-use Rattle.transactions.specs.ShowLaws.{show-there, show-none}
-use Rattle.transactions.proofs.walks.show.Statement.{statement}
-use Rattle.transactions.proofs.walks.show.Tie as tie
+use Rattle.ranges.specs.ShowLaws.{show-there, show-none}
+use Rattle.ranges.proofs.walks.show.Statement.{statement}
+use Rattle.ranges.proofs.walks.show.Tie as tie
 
 mul-addresses : tie.Need-mul-addresses
 mul-addresses c = let h : c .before .args .at < length (c .before .args .addresses .now) = c .before .pre .addresses (c .if1 .taken) in search needs

@@ -23,8 +23,8 @@ use Rattle.map.specs.declared.looks.Seen.{Seen}
 use Rattle.map.specs.declared.looks.Mark.{Mark}
 use Rattle.map.specs.LookViews.{mapWith, recordIn, walk, indexedAt, seenIn, SeenAt, versionIn, markIn, Marks}
 use Rattle.map.specs.RangeLaws.{place-mono, place-next, between-places}
-use Rattle.transactions.specs.Parts.{walk-on, walk-past, length-walk, done-one, drop-take}
-use Rattle.transactions.specs.Scanning.{OwnSpans, seenRows, LogsRows, LoggingRows, lowIn, LogsMarks, LoggingMarks}
+use Rattle.ranges.specs.Parts.{walk-on, walk-past, length-walk, done-one, drop-take}
+use Rattle.ranges.specs.Scanning.{OwnSpans, seenRows, LogsRows, LoggingRows, lowIn, LogsMarks, LoggingMarks}
 
 -- ---- the worker's writes of a range
 

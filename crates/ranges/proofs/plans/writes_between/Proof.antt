@@ -1,8 +1,8 @@
--- `scans::writes_between` meets its contract: by whether the worker has a write at hi. Assumes nothing.
+-- `plans::writes_between` meets its contract: by whether the worker has a write at hi. Assumes nothing.
 use native.Mathlib.Omega.{arith}
-use Rattle.transactions.specs.LogLaws.{own-past, own-other, own-last}
-use Rattle.transactions.proofs.scans.writes_between.Statement.{statement}
-use Rattle.transactions.proofs.scans.writes_between.Tie as tie
+use Rattle.ranges.specs.LogLaws.{own-past, own-other, own-last}
+use Rattle.ranges.proofs.plans.writes_between.Statement.{statement}
+use Rattle.ranges.proofs.plans.writes_between.Tie as tie
 
 writes-below-requires : tie.Need-writes-below-requires
 writes-below-requires c κs = c .pre .0

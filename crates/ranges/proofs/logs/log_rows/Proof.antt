@@ -1,12 +1,12 @@
--- `scans::log_rows` meets its contract. The invariant: those logged and those left are all. Assumes nothing.
+-- `logs::log_rows` meets its contract. The invariant: those logged and those left are all. Assumes nothing.
 use Prim.Native.Nat.{_-_}
 use mathlib.Core.List.{[]}
 use native.Mathlib.Omega.{arith}
 use Rattle.map.specs.LookViews.{mapWith, indexedAt}
-use Rattle.transactions.specs.Scanning.{LoggingRows}
-use Rattle.transactions.specs.LogLaws.{rows-start, rows-room, rows-on, rows-end}
-use Rattle.transactions.proofs.scans.log_rows.Statement.{statement}
-use Rattle.transactions.proofs.scans.log_rows.Tie as tie
+use Rattle.ranges.specs.Scanning.{LoggingRows}
+use Rattle.ranges.specs.LogLaws.{rows-start, rows-room, rows-on, rows-end}
+use Rattle.ranges.proofs.logs.log_rows.Statement.{statement}
+use Rattle.ranges.proofs.logs.log_rows.Tie as tie
 
 abbrev Inv-loop : tie.InvT-loop
 Inv-loop reads₀ rows slots n w m from to i₀ count₀ reads i count =

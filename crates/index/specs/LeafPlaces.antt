@@ -4,14 +4,14 @@ use Prim.Native.Nat.{ℕ, zero, suc, _+_, _-_, _/_, _<_, _≤_, zero-le, suc-le-
 use native.Mathlib.Nat.{le-refl, le-trans, not-suc-le-zero}
 use native.Mathlib.Omega.{arith}
 use mathlib.Core.Path.{_≡_, refl, sym, ap, _∙_, subst}
-use mathlib.Core.Logic.{_⊎_, ⊎-elim}
+use mathlib.Core.Logic.{_⊎_, inl, inr, ⊎-elim}
 use mathlib.Core.Bool.{Bool, true, false}
 use mathlib.Core.List.{List, [], _∷_}
 use lib.ListN.{length, take, getD}
 use lib.Seq.{length-take-le, getD-take}
 use Rattle.lists.specs.Tests.{pick, both, less, atMost, cases, less-true, less-false, less-yes, less-no, atMost-true, atMost-false, atMost-yes, atMost-no}
 use Rattle.lists.specs.Ascending.{Ascends, ascends-at, ascends-mem, mem-getD}
-use Rattle.lists.specs.Halving.{Narrowing, narrow-on, narrow-stay}
+use Rattle.index.specs.Nearing.{Took}
 
 -- how many of the lows, from the first one on, are not above a
 unfoldable pub upTo : ℕ → List ℕ → ℕ
@@ -96,20 +96,19 @@ low-short : (ls : List ℕ) (a base step : ℕ) → length ls ≤ base + step �
 unfolding probedLow
 low-short ls a base step h = rw (less-no {m = base + step} {n = length ls} h)
 
-pub low-narrows : (lo : ℕ) (ls : List ℕ) (a base step : ℕ) → 1 ≤ length ls → Ascends lo ls → 0 < step → Narrowing (lowPlace a ls) base step
-    → Narrowing (lowPlace a ls) (probedLow ls a base step) (step / 2)
-low-narrows lo ls a base step s f h n =
+pub low-took : (lo : ℕ) (ls : List ℕ) (a base step : ℕ) → 1 ≤ length ls → Ascends lo ls → 0 < step → Took (lowPlace a ls) base step (probedLow ls a base step)
+low-took lo ls a base step s f h =
     ⊎-elim
     (λ e. let b : base + step < length ls = less-true (base + step) (length ls) e in
     ⊎-elim
     (λ d. let l : getD ls (base + step) 0 ≤ a = atMost-true (getD ls (base + step) 0) a d in
-    rw (low-taken ls a base step b l) (narrow-on h n (leaf-below a lo ls (base + step) f b l)))
+    record { led = inl (low-taken ls a base step b l, leaf-below a lo ls (base + step) f b l) })
     (λ d. let l : a < getD ls (base + step) 0 = atMost-false (getD ls (base + step) 0) a d in
-    rw (low-passed ls a base step b l) (narrow-stay h n (leaf-above a ls (base + step) (omega arith) b l)))
+    record { led = inr (low-passed ls a base step b l, leaf-above a ls (base + step) (omega arith) b l) })
     (cases (atMost (getD ls (base + step) 0) a)))
     (λ e. let b : length ls ≤ base + step = less-false (base + step) (length ls) e in
     let p : lowPlace a ls < length ls = place-inside a ls s in
-    rw (low-short ls a base step b) (narrow-stay h n (omega arith)))
+    record { led = inr (low-short ls a base step b, omega arith) })
     (cases (less (base + step) (length ls)))
 
 -- ---- on words
@@ -123,10 +122,14 @@ module _ (lows : List ℕ) (m a base step : ℕ) (fits : m ≤ length lows) wher
       let e : getD (take m lows) (base + step) 0 ≡ getD lows (base + step) 0 = getD-take m lows (base + step) 0 h in
       sym (low-taken (take m lows) a base step (rw few h) (omega arith))
 
-  pub leaf-stay : base + step < m → a < getD lows (base + step) 0 → base ≡ probedLow (take m lows) a base step
-  leaf-stay h l =
-      let e : getD (take m lows) (base + step) 0 ≡ getD lows (base + step) 0 = getD-take m lows (base + step) 0 h in
-      sym (low-passed (take m lows) a base step (rw few h) (omega arith))
-
   pub leaf-end : m ≤ base + step → base ≡ probedLow (take m lows) a base step
   leaf-end h = sym (low-short (take m lows) a base step (rw few h))
+
+  -- the low is read whether it is a leaf's or not
+  pub leaf-stay : a < getD lows (base + step) 0 → base ≡ probedLow (take m lows) a base step
+  leaf-stay l = ⊎-elim (λ d. here (less-true (base + step) m d)) (λ d. leaf-end (less-false (base + step) m d)) (cases (less (base + step) m))
+    where
+      here : base + step < m → base ≡ probedLow (take m lows) a base step
+      here h =
+          let e : getD (take m lows) (base + step) 0 ≡ getD lows (base + step) 0 = getD-take m lows (base + step) 0 h in
+          sym (low-passed (take m lows) a base step (rw few h) (omega arith))

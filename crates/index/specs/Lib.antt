@@ -1,5 +1,6 @@
 pub mod Views
 pub mod ViewLaws
+pub mod Nearing
 pub mod Searches
 pub mod RecordLaws
 pub mod LeafPlaces

@@ -4,17 +4,17 @@ use Prim.Native.Nat.{ℕ, zero, suc, _+_, _-_, _/_, _<_, _≤_, zero-le}
 use native.Mathlib.Nat.{le-refl, le-trans}
 use native.Mathlib.Omega.{arith}
 use mathlib.Core.Path.{_≡_, refl, sym, ap, _∙_, subst}
-use mathlib.Core.Logic.{_⊎_, ⊎-elim}
+use mathlib.Core.Logic.{_⊎_, inl, inr, ⊎-elim}
 use mathlib.Core.Bool.{Bool, true, false}
 use mathlib.Core.List.{List, [], _∷_}
 use lib.ListN.{length, getD}
 use Rattle.lists.specs.Tests.{pick, both, less, atMost, cases, clash, less-true, less-false, less-yes, less-no, atMost-true, atMost-false, atMost-yes, atMost-no}
 use Rattle.lists.specs.Rows.{Row, From, Rising}
 use Rattle.lists.specs.Places.{place, place-most, place-below, place-above}
-use Rattle.lists.specs.Halving.{Narrowing, narrow-on, narrow-stay}
 use Rattle.spec.specs.Records.{Record}
 use Rattle.index.specs.Views.{noRow, rowsOf, recordsOf}
 use Rattle.index.specs.ViewLaws.{length-records, record-read}
+use Rattle.index.specs.Nearing.{Took}
 
 -- a step over records with smaller keys is taken
 unfoldable pub probed : List (Row Record) → ℕ → ℕ → ℕ → ℕ
@@ -35,23 +35,22 @@ pub probe-passed : (rs : List (Row Record)) (k base step : ℕ) → base + step 
 unfolding probed
 probe-passed rs k base step h l = rw (atMost-yes {m = base + step} {n = length rs} h, less-no {m = getD rs (base + step - 1) noRow .key} {n = k} l)
 
-pub probe-narrows : (rs : List (Row Record)) (k base step : ℕ) → Rising rs → 0 < step → Narrowing (place k rs) base step
-    → Narrowing (place k rs) (probed rs k base step) (step / 2)
+pub probe-took : (rs : List (Row Record)) (k base step : ℕ) → Rising rs → 0 < step → Took (place k rs) base step (probed rs k base step)
 unfolding Rising
-probe-narrows rs k base step f h n =
+probe-took rs k base step f h =
     ⊎-elim
     (λ e. let b : base + step ≤ length rs = atMost-true (base + step) (length rs) e in
     ⊎-elim
     (λ d. let l : getD rs (base + step - 1) noRow .key < k = less-true (getD rs (base + step - 1) noRow .key) k d in
     let p : base + step - 1 < place k rs = place-below k 0 rs (base + step - 1) noRow f (omega arith) l in
-    rw (probe-taken rs k base step b l) (narrow-on h n (omega arith)))
+    record { led = inl (probe-taken rs k base step b l, omega arith) })
     (λ d. let l : k ≤ getD rs (base + step - 1) noRow .key = less-false (getD rs (base + step - 1) noRow .key) k d in
     let p : place k rs ≤ base + step - 1 = place-above k rs (base + step - 1) noRow (omega arith) l in
-    rw (probe-passed rs k base step b l) (narrow-stay h n (omega arith)))
+    record { led = inr (probe-passed rs k base step b l, omega arith) })
     (cases (less (getD rs (base + step - 1) noRow .key) k)))
     (λ e. let b : length rs < base + step = atMost-false (base + step) (length rs) e in
     let p : place k rs ≤ length rs = place-most k rs in
-    rw (probe-short rs k base step b) (narrow-stay h n (omega arith)))
+    record { led = inr (probe-short rs k base step b, omega arith) })
     (cases (atMost (base + step) (length rs)))
 
 -- ---- on words
@@ -67,14 +66,17 @@ module _ (ws : List ℕ) (n k base step : ℕ) (room : n ≤ 1024) (some : 0 < s
       let m : length (recordsOf ws n) ≡ n = length-records ws n room in
       sym (probe-taken (recordsOf ws n) k base step (omega arith) (omega arith))
 
-  pub step-passed : (r : Row Record) → base + step ≤ n → r ≡ getD (rowsOf ws) (base + step - 1) noRow → k ≤ r .key
-      → base ≡ probed (recordsOf ws n) k base step
-  step-passed r h e l =
-      let q : getD (recordsOf ws n) (base + step - 1) noRow .key ≡ r .key = key-read h ∙ sym (ap (λ (x : Row Record). x .key) e) in
-      let m : length (recordsOf ws n) ≡ n = length-records ws n room in
-      sym (probe-passed (recordsOf ws n) k base step (omega arith) (omega arith))
-
   pub step-short : n < base + step → base ≡ probed (recordsOf ws n) k base step
   step-short h =
       let m : length (recordsOf ws n) ≡ n = length-records ws n room in
       sym (probe-short (recordsOf ws n) k base step (omega arith))
+
+  -- the row is read whether it holds a record or not
+  pub step-passed : (r : Row Record) → r ≡ getD (rowsOf ws) (base + step - 1) noRow → k ≤ r .key → base ≡ probed (recordsOf ws n) k base step
+  step-passed r e l = ⊎-elim (λ d. here (atMost-true (base + step) n d)) (λ d. step-short (atMost-false (base + step) n d)) (cases (atMost (base + step) n))
+    where
+      here : base + step ≤ n → base ≡ probed (recordsOf ws n) k base step
+      here h =
+          let q : getD (recordsOf ws n) (base + step - 1) noRow .key ≡ r .key = key-read h ∙ sym (ap (λ (x : Row Record). x .key) e) in
+          let m : length (recordsOf ws n) ≡ n = length-records ws n room in
+          sym (probe-passed (recordsOf ws n) k base step (omega arith) (omega arith))

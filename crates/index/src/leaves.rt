@@ -10,31 +10,38 @@ ghost use Rattle.index.specs.LeafPlaces.{Listed, AtLeaf, probedLow};
 ghost use Rattle.index.specs.Views.{keysBetween};
 ghost use Rattle.index.specs.Settles.{fresh, runLow, Settling, SettledAs};
 
-// One step of the search: `step` leaves on, if that leaf is there and does not start above the address.
+// One step of the search: `step` leaves on, if that leaf is there and does not start above the address. The low is read
+// first, whether it is a leaf's or not, so that no branch depends on it.
 fn probe(lows: &[u64; 1025], m: usize, key: u64, base: usize, step: usize) -> usize
     requires { ⌜ m ≤ 1025 ⌝ }
-    requires { ⌜ (step ≤ 1024) × (base ≤ 1024) ⌝ }
+    requires { ⌜ base + step ≤ 1024 ⌝ }
     ensures { λ r. ⌜ r ≡ probedLow (take m (now (lows .entry))) key base step ⌝ }
 {
     shifts::all(lows);
     let next = base + step;
-    if next < m {
-        if lows[next] <= key {
+    let low = lows[next];
+    if low <= key {
+        if next < m {
             return next;
         }
     }
     base
 }
 
-// The place of the leaf that holds an address. The steps are the same for every count of leaves.
+// The place of the leaf that holds an address. The last place of all is tried first; the steps that find the others are
+// the same for every count of leaves.
 pub fn leaf_at(lows: &[u64; 1025], m: usize, a: Address) -> usize
     requires { ⌜ Listed (now lows) m ⌝ }
     ensures { λ r. ⌜ AtLeaf (now (lows .entry)) m a r ⌝ }
 {
     shifts::all(lows);
     let key = a as u64;
+    let last = probe(lows, m, key, 0, 1024);
+    if 0 < last {
+        return last;
+    }
     let mut base = 0;
-    let mut step = 1024;
+    let mut step = 512;
     while 0 < step {
         base = probe(lows, m, key, base, step);
         step = step / 2;

@@ -17,31 +17,36 @@ pub enum Found {
     Nothing,
 }
 
-// One step of the search: past `step` more records, if they are there and have smaller addresses.
+// One step of the search: past `step` more records, if they are there and have smaller addresses. The row is read
+// first, whether it holds a record or not, so that no branch depends on what it holds.
 fn probe(rows: &[u64; 3072], n: usize, key: u64, base: usize, step: usize) -> usize
     requires { ⌜ n ≤ 1024 ⌝ }
-    requires { ⌜ (0 < step) × (step ≤ 1024) × (base ≤ 1024) ⌝ }
+    requires { ⌜ (0 < step) × (base + step ≤ 1024) ⌝ }
     ensures { λ r. ⌜ r ≡ probed (recordsOf (now (rows .entry)) n) key base step ⌝ }
 {
     let end = base + step;
-    if end <= n {
-        let r = rows::get(rows, end - 1);
-        if r.address < key {
+    let r = rows::get(rows, end - 1);
+    if r.address < key {
+        if end <= n {
             return end;
         }
     }
     base
 }
 
-// How many records have a smaller address: the place of the address, or where it would go. The steps are the same
-// for every count, so that the loop runs without a branch that depends on it.
+// How many records have a smaller address: the place of the address, or where it would go. The end of a full index is
+// tried first; the other places are below 1,024, and the steps that find them are the same for every count.
 pub fn locate(rows: &[u64; 3072], n: usize, a: Address) -> usize
     requires { ⌜ Held (now rows) n ⌝ }
     ensures { λ r. ⌜ AtPlace (now (rows .entry)) n a r ⌝ }
 {
     let key = a as u64;
+    let end = probe(rows, n, key, 0, 1024);
+    if 0 < end {
+        return end;
+    }
     let mut base = 0;
-    let mut step = 1024;
+    let mut step = 512;
     while 0 < step {
         base = probe(rows, n, key, base, step);
         step = step / 2;

@@ -12,15 +12,8 @@ pub mod WriteBlocks
 pub mod Commits
 pub mod Finishes
 pub mod Locks
-pub mod Overlays
-pub mod Parts
 pub mod Walks
-pub mod WalkLaws
 pub mod ShowLaws
-pub mod Scanning
-pub mod LogLaws
-pub mod Plans
-pub mod PlanLaws
 pub mod ScanSteps
 pub mod Scans
 pub mod MergeSteps

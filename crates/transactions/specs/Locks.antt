@@ -7,7 +7,7 @@ use mathlib.Core.Logic.{inl}
 use mathlib.Core.Bool.{Bool, true, false}
 use mathlib.Core.List.{List, [], _∷_}
 use mathlib.Core.Option.{Option, none, some}
-use Rattle.lists.specs.Tests.{maybe, less, less-yes, less-no, less-false}
+use Rattle.lists.specs.Tests.{maybe, present, clash, less, less-yes, less-no, less-false}
 use Rattle.lists.specs.Rows.{Row, keys, any, Rising}
 use Rattle.spec.specs.declared.Refusal.{Refusal}
 use Rattle.spec.specs.declared.Refusal.the-variants.{Held, IndexletFull, MapFull}
@@ -113,9 +113,10 @@ tested-lockable m ks w e =
       addresses = less-false (standard .mapLimit) (addressesWith m ks) (c .0);
     }
 
-pub tested-can : (rows slots us : List ℕ) (z : Sizes) (n w : ℕ) (ls : List Leaf) → Tested rows slots us z n w Granted
+pub tested-can : (rows slots us : List ℕ) (z : Sizes) (n w : ℕ) (ls : List Leaf) (a : Plain) → Tested rows slots us z n w a → present (refusalIn a) ≡ false
     → Lockable (record { records = recordsOf rows (z .records); leaves = ls; slots = slotsOf slots }) (keys (block us n))
-tested-can rows slots us z n w ls t = tested-lockable _ (keys (block us n)) w (t .is _ refl refl)
+tested-can rows slots us z n w ls Granted t p = tested-lockable _ (keys (block us n)) w (t .is _ refl refl)
+tested-can rows slots us z n w ls (Refused r) t p = clash refl p
 
 -- a worker's number and one more is a word
 pub worker-fits : (w : ℕ) → w < 8 → w + 1 < 2 ^ 64
@@ -134,9 +135,10 @@ same-tests : (l : Lent) (ws us : List ℕ) (c : Core) (w : ℕ) (a : Plain) → 
 same-tests l ws us c w a few v t =
     ap (λ (rs : List (Row Write)). lockTests (mapOf l (c .sizes)) (keys rs) w) (sym (v .view (seat c w .writes) few)) ∙ t .is (mapOf l (c .sizes)) refl refl
 
-pub locks-refused : (l : Lent) (ws us : List ℕ) (c : Core) (w : ℕ) (r : Refusal) → seat c w .writes ≤ 16 → BlockOf ws w us
-    → Tested (l .rows) (l .slots) us (c .sizes) (seat c w .writes) w (Refused r) → LocksOpen l ws c w l c (Refused r)
-locks-refused l ws us c w r few v t =
+pub locks-refused : (l : Lent) (ws us : List ℕ) (c : Core) (w : ℕ) (a : Plain) → seat c w .writes ≤ 16 → BlockOf ws w us
+    → Tested (l .rows) (l .slots) us (c .sizes) (seat c w .writes) w a → present (refusalIn a) ≡ true → LocksOpen l ws c w l c a
+locks-refused l ws us c w Granted few v t p = clash p refl
+locks-refused l ws us c w (Refused r) few v t p =
     record { tests = same-tests l ws us c w (Refused r) few v t; reaches = record { state = λ rs ls s. refl; stored = λ rs ls s. s } }
 
 lock-leaves : (w : ℕ) (m : MapState) (ks : List ℕ) → lockAll standard w m ks .leaves ≡ m .leaves
@@ -164,12 +166,13 @@ locks l l' ws us c w y z h few v q b =
         → workerIn (atLock (seat c w)) rs ls ws w ≡ atStage Locked (workerOf (stateOf l (logs rs ls ws) c) w)
     worker rs ls t = lock-in rs ls ws w (seat c w) ∙ ap (atStage Locked) (sym (worker-at l (logs rs ls ws) c w (seat-inside t w h)))
 
-pub locks-granted : (l l' : Lent) (ws us : List ℕ) (c : Core) (w : ℕ) (y : Worker) (z : Sizes) → w < 8 → seat c w .writes ≤ 16
-    → BlockOf ws w us → Tested (l .rows) (l .slots) us (c .sizes) (seat c w .writes) w Granted → y ≡ atLock (seat c w)
+pub locks-granted : (l l' : Lent) (ws us : List ℕ) (c : Core) (w : ℕ) (y : Worker) (z : Sizes) (a : Plain) → w < 8 → seat c w .writes ≤ 16
+    → BlockOf ws w us → Tested (l .rows) (l .slots) us (c .sizes) (seat c w .writes) w a → present (refusalIn a) ≡ false → y ≡ atLock (seat c w)
     → Becomes l' z (c .counters .version) (lockAll standard w (mapOf l (c .sizes)) (keys (block us (seat c w .writes))))
-    → LocksOpen l ws c w l' (withBoth c w y z) Granted
-locks-granted l l' ws us c w y z h few v t q b =
+    → LocksOpen l ws c w l' (withBoth c w y z) a
+locks-granted l l' ws us c w y z Granted h few v t p q b =
     record { tests = same-tests l ws us c w Granted few v t; reaches = locks l l' ws us c w y z h few v q b }
+locks-granted l l' ws us c w y z (Refused r) h few v t p q b = clash refl p
 
 -- ---- the step
 

@@ -34,16 +34,16 @@ use Rattle.map.specs.Views.{Lent, mapOf}
 use Rattle.map.specs.LookViews.{mapWith, walk, indexedAt, versionIn, Spans, Meets}
 use Rattle.map.specs.ScanLaws.{leaf-read, length-leaves}
 use Rattle.transactions.specs.declared.Core.{Core}
-use Rattle.transactions.specs.declared.scans.Task.{Task}
+use Rattle.ranges.specs.declared.plans.Task.{Task}
 use Rattle.transactions.specs.Answering.{comes-granted, cause-holds, cause-fails, front, front-first}
 use Rattle.transactions.specs.Admits.{Turned, Entered}
 use Rattle.transactions.specs.Views.{Logs, logs, seatIn, stateOf, withSeat, worker-at, OthersSame, state-with}
 use Rattle.transactions.specs.Ready.{seat, Within, Stored, Ready, Goes, goes, goes-refused}
-use Rattle.transactions.specs.Overlays.{overlay}
-use Rattle.transactions.specs.Parts.{length-walk, getD-walk, walk-same}
-use Rattle.transactions.specs.Walks.{seenFrom, ownFrom, rest, rowsIn}
-use Rattle.transactions.specs.Scanning.{seenRows, lowIn}
-use Rattle.transactions.specs.Plans.{Planning, field, Measured, Declined, backward, many-reads, many-leaves, short, Passed, Carried}
+use Rattle.ranges.specs.Overlays.{overlay}
+use Rattle.ranges.specs.Parts.{length-walk, getD-walk, walk-same}
+use Rattle.ranges.specs.Walks.{seenFrom, ownFrom, rest, rowsIn}
+use Rattle.ranges.specs.Scanning.{seenRows, lowIn}
+use Rattle.ranges.specs.Plans.{Planning, field, Measured, Declined, backward, many-reads, many-leaves, short, Passed, Carried}
 
 -- the causes that come after those of the worker
 further : State → ℕ → ℕ → ℕ → ℕ → ℕ → List Cause

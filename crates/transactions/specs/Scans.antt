@@ -11,11 +11,11 @@ use Rattle.transactions.specs.declared.Core.{Core}
 use Rattle.transactions.specs.declared.scans.ScanAnswer.{ScanAnswer}
 use Rattle.transactions.specs.declared.scans.ScanAnswer.the-variants.{Count, Refused}
 use Rattle.transactions.specs.declared.scans.ScanDone.{ScanDone}
-use Rattle.transactions.specs.declared.scans.Task.{Task}
+use Rattle.ranges.specs.declared.plans.Task.{Task}
 use Rattle.transactions.specs.Admits.{Turned, Entered}
-use Rattle.transactions.specs.Walks.{rowsIn, Beyond}
-use Rattle.transactions.specs.ShowLaws.{beyond-refl}
-use Rattle.transactions.specs.Plans.{Declined, Passed, Carried}
+use Rattle.ranges.specs.Walks.{rowsIn, Beyond}
+use Rattle.ranges.specs.ShowLaws.{beyond-refl}
+use Rattle.ranges.specs.Plans.{Declined, Passed, Carried}
 use Rattle.transactions.specs.ScanSteps.{scan-turned, scan-declined, scan-granted}
 use Rattle.transactions.specs.Views.{Logs, logs, withSeat}
 use Rattle.transactions.specs.Ready.{Ready, Goes}

@@ -4,6 +4,7 @@ use crate::admits;
 use crate::admits::Admit;
 use crate::begins::Done;
 use crate::begins::Plain;
+use crate::drops;
 use map::Sizes;
 use sets::workers::Worker;
 use spec::Refusal;
@@ -11,10 +12,11 @@ use spec::Stage;
 ghost use mathlib.Core.Path.{_≡_};
 ghost use Prim.Native.Nat.{_<_, _≤_};
 ghost use lib.ListN.{length};
+ghost use Rattle.lists.specs.Tests.{present};
 ghost use Rattle.lists.specs.Rows.{Rising};
 ghost use Rattle.spec.specs.Slots.{entries};
 ghost use Rattle.spec.specs.Steps as model;
-ghost use Rattle.spec.specs.Steps.{State, dropped, effect};
+ghost use Rattle.spec.specs.Steps.{State, effect};
 ghost use Rattle.laws.specs.MapLaws.{Installable};
 ghost use Rattle.sets.specs.Writes.{WritesHeld, writesIn};
 ghost use Rattle.indexlet.specs.Words.{slotsOf};
@@ -26,70 +28,9 @@ ghost use Rattle.transactions.specs.Views.{logs};
 ghost use Rattle.transactions.specs.Ready.{seat, Ready, Goes};
 ghost use Rattle.transactions.specs.Admits.{Admitted};
 ghost use Rattle.transactions.specs.Begins.{plainIn};
-ghost use Rattle.transactions.specs.WriteBlocks.{BlockOf};
 ghost use Rattle.transactions.specs.Commits.{Reaches};
 ghost use Rattle.transactions.specs.Finishes.{anyStage};
-ghost use Rattle.transactions.specs.Locks.{Tested, LocksOpen};
-
-// The write set of worker w in a block, as the map takes it.
-pub fn block_of(writes: &[u64; 384], w: usize) -> [u64; 48]
-    requires { ⌜ WritesHeld (now writes) ⌝ }
-    requires { ⌜ w < 8 ⌝ }
-    ensures { λ r. ⌜ BlockOf (now (writes .entry)) w r ⌝ }
-{
-    let mut block = [0; 48];
-    let mut i = 0;
-    while i < 48 {
-        block[i] = writes[w * 48 + i];
-        i += 1;
-    }
-    block
-}
-
-// Worker w's transaction is over without effect: its locks go, and the worker is free.
-pub fn drop_transaction(
-    outside: &mut [u64; 1025],
-    pending: &mut [u64; 1025],
-    slots: &mut [u64; 1536],
-    rows: &[u64; 3072],
-    lows: &[u64; 1025],
-    versions: &[u64; 1025],
-    writes: &[u64; 384],
-    c: Core,
-    w: usize,
-) -> Core
-    requires { ⌜ map.Held (lent (now rows) (now lows) (now versions) (now outside) (now pending) (now slots)) (c .sizes) (c .counters .version) ⌝ }
-    requires { ⌜ WritesHeld (now writes) ⌝ }
-    requires { ⌜ (w < 8) × (seat c w .writes ≤ 16) ⌝ }
-    ensures { λ r. ⌜ Reaches (λ (σ : State). dropped σ w) (lent (now (rows .entry)) (now (lows .entry)) (now (versions .entry)) (now (outside .entry)) (now (pending .entry)) (now (slots .entry))) (now (writes .entry)) c (lent (now (rows .entry)) (now (lows .entry)) (now (versions .entry)) (now (outside .exit)) (now (pending .exit)) (now (slots .exit))) r ⌝ }
-{
-    let mut seats = c.seats;
-    let sizes = c.sizes;
-    let counters = c.counters;
-    let x = seats[w];
-    let block = block_of(writes, w);
-    let own = w as u64;
-    let z = map::locks::unlock_all(
-        outside,
-        pending,
-        slots,
-        rows,
-        lows,
-        versions,
-        &block,
-        sizes,
-        counters,
-        x.writes,
-        own,
-    );
-    let free = x.free();
-    seats[w] = free;
-    Core {
-        seats,
-        sizes: z,
-        counters,
-    }
-}
+ghost use Rattle.transactions.specs.Locks.{refusalIn, Tested, LocksOpen};
 
 // The writes of worker w's transaction are pending from now on, under its commit number, and the worker is free.
 fn install_transaction(
@@ -113,7 +54,7 @@ fn install_transaction(
     let sizes = c.sizes;
     let counters = c.counters;
     let x = seats[w];
-    let block = block_of(writes, w);
+    let block = drops::block_of(writes, w);
     let z = map::locks::install_all(
         outside,
         pending,
@@ -177,7 +118,7 @@ pub fn abort(
             answer: Plain::Refused(r),
         },
         Admit::Seat(_) => {
-            let core = drop_transaction(
+            let core = drops::drop_transaction(
                 outside,
                 pending,
                 slots,
@@ -257,16 +198,28 @@ fn lock_tests(
     if map::locks::held(slots, ws, n, w) {
         return Plain::Refused(Refusal::Held);
     }
-    if 192 < map::locks::waiting_with(slots, ws, n, z.entries) {
+    let waiting = map::locks::waiting_with(slots, ws, n, z.entries);
+    let addresses = map::locks::addresses_with(rows, slots, ws, n, z);
+    if 192 < waiting {
         return Plain::Refused(Refusal::IndexletFull);
     }
-    if 1024 < map::locks::addresses_with(rows, slots, ws, n, z) {
+    if 1024 < addresses {
         return Plain::Refused(Refusal::MapFull);
     }
     Plain::Granted
 }
 
-// The lock of worker w, which is open.
+// Whether an answer is a refusal.
+fn refused(a: Plain) -> bool
+    ensures { λ r. ⌜ r ≡ present (refusalIn a) ⌝ }
+{
+    match a {
+        Plain::Granted => false,
+        Plain::Refused(_) => true,
+    }
+}
+
+// The lock of worker w, which is open: all of its addresses, or none.
 fn lock_open(
     outside: &mut [u64; 1025],
     pending: &mut [u64; 1025],
@@ -289,38 +242,37 @@ fn lock_open(
     let counters = c.counters;
     let x = seats[w];
     let n = x.writes;
-    let block = block_of(writes, w);
-    match lock_tests(rows, slots, &block, sizes, n, w as u64) {
-        Plain::Refused(r) => Done {
+    let block = drops::block_of(writes, w);
+    let tested = lock_tests(rows, slots, &block, sizes, n, w as u64);
+    if refused(tested) {
+        return Done {
             core: c,
-            answer: Plain::Refused(r),
-        },
-        Plain::Granted => {
-            let z = map::locks::lock_all(
-                outside,
-                pending,
-                slots,
-                rows,
-                lows,
-                versions,
-                &block,
-                sizes,
-                counters,
-                n,
-                w as u64,
-            );
-            let locked = x.lock();
-            seats[w] = locked;
-            let core = Core {
-                seats,
-                sizes: z,
-                counters,
-            };
-            Done {
-                core,
-                answer: Plain::Granted,
-            }
-        }
+            answer: tested,
+        };
+    }
+    let z = map::locks::lock_all(
+        outside,
+        pending,
+        slots,
+        rows,
+        lows,
+        versions,
+        &block,
+        sizes,
+        counters,
+        n,
+        w as u64,
+    );
+    let locked = x.lock();
+    seats[w] = locked;
+    let core = Core {
+        seats,
+        sizes: z,
+        counters,
+    };
+    Done {
+        core,
+        answer: tested,
     }
 }
 

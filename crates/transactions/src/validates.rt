@@ -2,7 +2,7 @@
 use crate::Core;
 use crate::admits;
 use crate::admits::Admit;
-use crate::commits;
+use crate::drops;
 use map::Counters;
 use map::Sizes;
 use map::holders;
@@ -177,7 +177,7 @@ fn judge(
     if under_lock(slots, reads, w, x.reads) {
         return Verdict::Refused(Refusal::UnderLock);
     }
-    let block = commits::block_of(writes, w);
+    let block = drops::block_of(writes, w);
     if phantoms(
         rows,
         lows,
@@ -269,7 +269,7 @@ pub fn validate(
             );
             match said {
                 Verdict::Refused(r) => {
-                    let core = commits::drop_transaction(
+                    let core = drops::drop_transaction(
                         outside,
                         pending,
                         slots,

@@ -1,11 +1,11 @@
-use borrow.Author.Needs.{needs}
 use mathlib.Core.Path.{_≡_}
 use Prim.Native.Nat.{_≤_, _<_}
 use lib.ListN.{length, take}
 use lib.Seq.{length-take-le}
-use Rattle.lists.specs.Halving.{Narrowing, narrow-start, narrow-end}
-use Rattle.index.specs.LeafPlaces.{lowPlace, place-inside, low-narrows}
 use native.Mathlib.Omega.{arith}
+use borrow.Author.Needs.{needs}
+use Rattle.index.specs.Nearing.{Took, Nearing, first-taken, near-start, near-on, near-end}
+use Rattle.index.specs.LeafPlaces.{lowPlace, place-inside, low-took}
 use Rattle.index.proofs.leaves.leaf_at.Statement.{statement}
 use Rattle.index.proofs.leaves.leaf_at.Tie as tie
 use Rattle.index.proofs.leaves.leaf_at.Reads as reads
@@ -14,48 +14,69 @@ use Rattle.index.proofs.leaves.probe.Reads as probe-reads
 use Rattle.index.proofs.shifts.all.Reads as all-reads
 
 abbrev Inv-loop : tie.InvT-loop
-Inv-loop lows m a key base₀ step₀ base step = Narrowing (lowPlace key (take m lows)) base step
+Inv-loop lows m a key last base₀ step₀ base step = Nearing (lowPlace key (take m lows)) base step
 
 abbrev μ-loop : tie.MeasureT-loop
-μ-loop lows m a key base₀ step₀ base step = step
+μ-loop lows m a key last base₀ step₀ base step = step
 
 all-requires : tie.Need-all-requires Inv-loop μ-loop
 all-requires c κs = search needs
 
-loop-holds : tie.Need-loop-holds Inv-loop μ-loop
-loop-holds c = let s = c .before in
-    let f : s .args .m ≤ length (s .args .lows .now) = rw (c .all .ensures) (s .pre .room) in
-    let e : length (take (s .args .m) (s .args .lows .now)) ≡ s .args .m = length-take-le (s .args .m) (s .args .lows .now) f in
-    let p : lowPlace (s .args .a) (take (s .args .m) (s .args .lows .now)) < length (take (s .args .m) (s .args .lows .now)) = place-inside (s .args .a) (take (s .args .m) (s .args .lows .now)) (rw e (s .pre .some)) in
-    narrow-start (lowPlace (s .args .a) (take (s .args .m) (s .args .lows .now))) (let r = s .pre .room in omega arith)
-
 probe-requires : tie.Need-probe-requires Inv-loop μ-loop
-probe-requires c κs = let s = c .before .before .before in
-    let f : s .args .m ≤ length (s .args .lows .now) = rw (c .before .before .all .ensures) (s .pre .room) in
-    let e : length (take (s .args .m) (s .args .lows .now)) ≡ s .args .m = length-take-le (s .args .m) (s .args .lows .now) f in
-    let p : lowPlace (s .args .a) (take (s .args .m) (s .args .lows .now)) < length (take (s .args .m) (s .args .lows .now)) = place-inside (s .args .a) (take (s .args .m) (s .args .lows .now)) (rw e (s .pre .some)) in
+probe-requires c κs = search needs
+
+returns : tie.Need-returns Inv-loop μ-loop
+returns c = let s = c .before .before .before in
+    let g = c .before .probe in
+    let ls = take (s .args .m) (s .args .lows .now) in
+    let e : length ls ≡ s .args .m = length-take-le (s .args .m) (s .args .lows .now) (rw (c .before .before .all .ensures) (s .pre .room)) in
+    let p : lowPlace (s .args .a) ls < length ls = place-inside (s .args .a) ls (rw e (s .pre .some)) in
     let r = s .pre .room in
-    omega arith
+    let t : Took (lowPlace (s .args .a) ls) 0 1024 (g .result) = rw (g .ensures) (low-took 0 ls (s .args .a) 0 1024 (rw e (s .pre .some)) (s .pre .rising) (omega arith)) in
+    let q : g .result ≡ lowPlace (s .args .a) ls = first-taken (omega arith) t (c .if1 .taken) in
+    record { is = q; inside = omega arith }
+
+loop-holds : tie.Need-loop-holds Inv-loop μ-loop
+loop-holds c = let s = c .before .before .before in
+    let g = c .before .probe in
+    let ls = take (s .args .m) (s .args .lows .now) in
+    let e : length ls ≡ s .args .m = length-take-le (s .args .m) (s .args .lows .now) (rw (c .before .before .all .ensures) (s .pre .room)) in
+    let t : Took (lowPlace (s .args .a) ls) 0 1024 (g .result) = rw (g .ensures) (low-took 0 ls (s .args .a) 0 1024 (rw e (s .pre .some)) (s .pre .rising) (omega arith)) in
+    near-start t (c .if1 .left)
+
+probe-requires-2 : tie.Need-probe-requires-2 Inv-loop μ-loop
+probe-requires-2 c κs = let i = c .before .loop .inv .inside in search needs
 
 loop-less : tie.Need-loop-less Inv-loop μ-loop
 loop-less c = search needs
 
 loop-again : tie.Need-loop-again Inv-loop μ-loop
-loop-again c = let s = c .before .before .before .before in
+loop-again c = let s = c .before .before .before .before .before .before in
     let l = c .before .before .loop in
-    let f : s .args .m ≤ length (s .args .lows .now) = rw (c .before .before .before .all .ensures) (s .pre .room) in
-    let e : length (take (s .args .m) (s .args .lows .now)) ≡ s .args .m = length-take-le (s .args .m) (s .args .lows .now) f in
-    rw (c .probe .ensures) (low-narrows 0 (take (s .args .m) (s .args .lows .now)) (s .args .a) (l .base) (l .step) (rw e (s .pre .some)) (s .pre .rising) (c .before .loop-test .taken) (l .inv))
+    let ls = take (s .args .m) (s .args .lows .now) in
+    let e : length ls ≡ s .args .m = length-take-le (s .args .m) (s .args .lows .now) (rw (c .before .before .before .before .before .all .ensures) (s .pre .room)) in
+    rw (c .probe2 .ensures) (near-on (c .before .loop-test .taken) (l .inv) (low-took 0 ls (s .args .a) (l .base) (l .step) (rw e (s .pre .some)) (s .pre .rising) (c .before .loop-test .taken)))
 
-returns : tie.Need-returns Inv-loop μ-loop
-returns c = let s = c .before .before .before in
-    let f : s .args .m ≤ length (s .args .lows .now) = rw (c .before .before .all .ensures) (s .pre .room) in
-    let e : length (take (s .args .m) (s .args .lows .now)) ≡ s .args .m = length-take-le (s .args .m) (s .args .lows .now) f in
-    let p : lowPlace (s .args .a) (take (s .args .m) (s .args .lows .now)) < length (take (s .args .m) (s .args .lows .now)) = place-inside (s .args .a) (take (s .args .m) (s .args .lows .now)) (rw e (s .pre .some)) in
-    let q : c .before .loop .base ≡ lowPlace (s .args .a) (take (s .args .m) (s .args .lows .now)) = narrow-end (c .before .loop .inv) (c .loop-test .left) in
+returns-2 : tie.Need-returns-2 Inv-loop μ-loop
+returns-2 c = let s = c .before .before .before .before .before in
+    let ls = take (s .args .m) (s .args .lows .now) in
+    let e : length ls ≡ s .args .m = length-take-le (s .args .m) (s .args .lows .now) (rw (c .before .before .before .before .all .ensures) (s .pre .room)) in
+    let p : lowPlace (s .args .a) ls < length ls = place-inside (s .args .a) ls (rw e (s .pre .some)) in
+    let r = s .pre .room in
+    let q : c .before .loop .base ≡ lowPlace (s .args .a) ls = near-end (c .before .loop .inv) (c .loop-test .left) in
     record { is = q; inside = omega arith }
 
 pub leaf-at-spec : {M : Type 1} → statement M
 leaf-at-spec =
     tie.close
-    (tie.spec Inv-loop μ-loop all-requires loop-holds probe-requires loop-less loop-again returns)
+    (tie.spec
+    Inv-loop
+    μ-loop
+    all-requires
+    probe-requires
+    returns
+    loop-holds
+    probe-requires-2
+    loop-less
+    loop-again
+    returns-2)

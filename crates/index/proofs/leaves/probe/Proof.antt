@@ -1,5 +1,4 @@
-use mathlib.Core.Path.{sym}
-use Prim.Native.Nat.{ℕ, _≤_}
+use Prim.Native.Nat.{_≤_}
 use lib.ListN.{length}
 use Rattle.index.specs.LeafPlaces.{leaf-step, leaf-stay, leaf-end}
 use borrow.Author.Needs.{needs}
@@ -15,28 +14,28 @@ all-requires c κs = search needs
 add-next : tie.Need-add-next
 add-next c = search needs
 
-mul-if2 : tie.Need-mul-if2
-mul-if2 c = search needs
+mul-low : tie.Need-mul-low
+mul-low c = search needs
 
-element-copy-out-if2 : tie.Need-element-copy-out-if2
-element-copy-out-if2 c = search needs
+element-copy-out-low : tie.Need-element-copy-out-low
+element-copy-out-low c = search needs
 
 returns : tie.Need-returns
 returns c = let s = c .before .before .before .before in
     let f : s .args .m ≤ length (s .args .lows .now) = rw (c .before .before .before .all .ensures) (s .pre .0) in
-    leaf-step (s .args .lows .now) (s .args .m) (s .args .key) (s .args .base) (s .args .step) f (c .before .before .if1 .taken) (c .if2 .taken)
+    leaf-step (s .args .lows .now) (s .args .m) (s .args .key) (s .args .base) (s .args .step) f (c .if2 .taken) (c .before .if1 .taken)
 
 returns-2 : tie.Need-returns-2
 returns-2 c = let s = c .before .before .before .before in
     let f : s .args .m ≤ length (s .args .lows .now) = rw (c .before .before .before .all .ensures) (s .pre .0) in
-    leaf-stay (s .args .lows .now) (s .args .m) (s .args .key) (s .args .base) (s .args .step) f (c .before .before .if1 .taken) (c .if2 .left)
+    leaf-end (s .args .lows .now) (s .args .m) (s .args .key) (s .args .base) (s .args .step) f (c .if2 .left)
 
 returns-3 : tie.Need-returns-3
-returns-3 c = let s = c .before .before in
-    let f : s .args .m ≤ length (s .args .lows .now) = rw (c .before .all .ensures) (s .pre .0) in
-    leaf-end (s .args .lows .now) (s .args .m) (s .args .key) (s .args .base) (s .args .step) f (c .if1 .left)
+returns-3 c = let s = c .before .before .before in
+    let f : s .args .m ≤ length (s .args .lows .now) = rw (c .before .before .all .ensures) (s .pre .0) in
+    leaf-stay (s .args .lows .now) (s .args .m) (s .args .key) (s .args .base) (s .args .step) f (c .if1 .left)
 
 pub probe-spec : {M : Type 1} → statement M
 probe-spec =
     tie.close
-    (tie.spec all-requires add-next mul-if2 element-copy-out-if2 returns returns-2 returns-3)
+    (tie.spec all-requires add-next mul-low element-copy-out-low returns returns-2 returns-3)

@@ -1,9 +1,9 @@
 -- `commits::lock_open` meets its contract: refused by 9, 10 or 11, or the write set is locked. Assumes nothing.
-use mathlib.Core.Path.{sym, subst}
-use borrow.Author.Needs.{needs}
+use mathlib.Core.Path.{sym, subst, _∙_}
 use Rattle.lists.specs.Rows.{Rising}
 use Rattle.map.specs.AddressCounts.{counted}
-use Rattle.transactions.specs.Locks.{Tested, tested-can, worker-fits, locks-refused, locks-granted}
+use Rattle.transactions.specs.Locks.{tested-can, worker-fits, locks-refused, locks-granted}
+use borrow.Author.Needs.{needs}
 use Rattle.transactions.proofs.commits.lock_open.Statement.{statement}
 use Rattle.transactions.proofs.commits.lock_open.Tie as tie
 
@@ -28,11 +28,15 @@ lock-tests-requires c κs =
       ),
     )
 
-enum-known-r : tie.Need-enum-known-r
-enum-known-r c = search needs
+refused-requires : tie.Need-refused-requires
+refused-requires c κs = search needs
 
-enum-told : tie.Need-enum-told
-enum-told c = search needs
+returns : tie.Need-returns
+returns c =
+    let t = c .before .before in
+    let b = t .before .before .before in
+    let s = b .before .before .before .before .before in
+    locks-refused _ _ _ _ _ _ (s .pre .1 .1 .0 .1) (b .block-of .ensures) (t .lock-tests .ensures) (sym (c .before .refused .ensures) ∙ c .if1 .taken)
 
 lock-all-requires : tie.Need-lock-all-requires
 lock-all-requires c κs =
@@ -45,7 +49,7 @@ lock-all-requires c κs =
         b .block-of .ensures .narrow _ (s .pre .1 .1 .0 .1),
         (
           worker-fits _ (s .pre .1 .1 .0 .0),
-          tested-can _ _ _ _ _ _ _ (subst (Tested _ _ _ _ _ _) (e .enum-told .given .1) (t .lock-tests .ensures)),
+          tested-can _ _ _ _ _ _ _ _ (t .lock-tests .ensures) (sym (e .before .refused .ensures) ∙ e .if1 .left),
         ),
       ),
     )
@@ -55,22 +59,14 @@ lock-requires c κs = search needs
 
 mul-seats : tie.Need-mul-seats
 mul-seats c =
-    let b = c .before .before .before .before .before .before .before .before .before .before .before in
-    let h = b .before .before .before .before .before .pre .1 .1 .0 .0 in
+    let e = c .before .before .before .before .before .before in
+    let h = e .before .before .before .before .before .before .before .before .before .before .pre .1 .1 .0 .0 in
     search needs
 
 array-set-from-seats : tie.Need-array-set-from-seats
 array-set-from-seats c =
-    let b = c .before .before .before .before .before .before .before .before .before .before .before in
-    b .before .before .before .before .before .pre .1 .1 .0 .0
-
-returns : tie.Need-returns
-returns c =
-    let t = c .before .before .before in
-    let b = t .before .before .before in
-    let s = b .before .before .before .before .before in
-    locks-refused _ _ _ _ _ _ (s .pre .1 .1 .0 .1) (b .block-of .ensures)
-    (subst (Tested _ _ _ _ _ _) (c .before .r .given .1) (t .lock-tests .ensures))
+    let e = c .before .before .before .before .before .before in
+    e .before .before .before .before .before .before .before .before .before .before .pre .1 .1 .0 .0
 
 returns-2 : tie.Need-returns-2
 returns-2 c =
@@ -78,8 +74,8 @@ returns-2 c =
     let t = e .before .before in
     let b = t .before .before .before in
     let s = b .before .before .before .before .before in
-    locks-granted _ _ _ _ _ _ _ _ (s .pre .1 .1 .0 .0) (s .pre .1 .1 .0 .1) (b .block-of .ensures)
-    (subst (Tested _ _ _ _ _ _) (e .enum-told .given .1) (t .lock-tests .ensures)) (c .lock .ensures) (c .before .lock-all .ensures)
+    locks-granted _ _ _ _ _ _ _ _ _ (s .pre .1 .1 .0 .0) (s .pre .1 .1 .0 .1) (b .block-of .ensures)
+    (t .lock-tests .ensures) (sym (e .before .refused .ensures) ∙ e .if1 .left) (c .lock .ensures) (c .before .lock-all .ensures)
 
 pub lock-open-spec : {M : Type 1} → statement M
 lock-open-spec =
@@ -89,11 +85,10 @@ lock-open-spec =
     array-copy-out-x
     block-of-requires
     lock-tests-requires
-    enum-known-r
-    enum-told
+    refused-requires
+    returns
     lock-all-requires
     lock-requires
     mul-seats
     array-set-from-seats
-    returns
     returns-2)

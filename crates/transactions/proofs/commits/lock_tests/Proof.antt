@@ -1,5 +1,6 @@
 -- `commits::lock_tests` meets its contract: the causes one after the other. Assumes nothing.
 use Rattle.transactions.specs.Locks.{tested-held, tested-full, tested-map, tested-passed}
+use borrow.Author.Needs.{needs}
 use Rattle.transactions.proofs.commits.lock_tests.Statement.{statement}
 use Rattle.transactions.proofs.commits.lock_tests.Tie as tie
 
@@ -10,29 +11,32 @@ returns : tie.Need-returns
 returns c = tested-held _ _ _ _ _ _ (c .before .held .ensures) (c .if1 .taken)
 
 waiting-with-requires : tie.Need-waiting-with-requires
-waiting-with-requires c κs = let s = c .before .before in (s .pre .0 .slots-held, s .pre .1)
+waiting-with-requires c κs = search needs
+
+addresses-with-requires : tie.Need-addresses-with-requires
+addresses-with-requires c κs = search needs
 
 returns-2 : tie.Need-returns-2
 returns-2 c =
-    let e = c .before .before in
-    tested-full _ _ _ _ _ _ (e .before .held .ensures) (e .if1 .left) (c .before .waiting-with .ensures) (c .if2 .taken)
-
-addresses-with-requires : tie.Need-addresses-with-requires
-addresses-with-requires c κs = let s = c .before .before .before .before in (s .pre .0, s .pre .1 .1)
+    let f = c .before .before in
+    let e = f .before in
+    tested-full _ _ _ _ _ _ (e .before .held .ensures) (e .if1 .left) (f .waiting-with .ensures) (c .if2 .taken)
 
 returns-3 : tie.Need-returns-3
 returns-3 c =
-    let f = c .before .before in
-    let e = f .before .before in
-    tested-map _ _ _ _ _ _ (e .before .held .ensures) (e .if1 .left) (f .before .waiting-with .ensures) (f .if2 .left)
-    (c .before .addresses-with .ensures) (c .if3 .taken)
+    let d = c .before .before in
+    let f = d .before in
+    let e = f .before in
+    tested-map _ _ _ _ _ _ (e .before .held .ensures) (e .if1 .left) (f .waiting-with .ensures) (c .before .if2 .left)
+    (d .addresses-with .ensures) (c .if3 .taken)
 
 returns-4 : tie.Need-returns-4
 returns-4 c =
-    let f = c .before .before in
-    let e = f .before .before in
-    tested-passed _ _ _ _ _ _ (e .before .held .ensures) (e .if1 .left) (f .before .waiting-with .ensures) (f .if2 .left)
-    (c .before .addresses-with .ensures) (c .if3 .left)
+    let d = c .before .before in
+    let f = d .before in
+    let e = f .before in
+    tested-passed _ _ _ _ _ _ (e .before .held .ensures) (e .if1 .left) (f .waiting-with .ensures) (c .before .if2 .left)
+    (d .addresses-with .ensures) (c .if3 .left)
 
 pub lock-tests-spec : {M : Type 1} → statement M
 lock-tests-spec =
@@ -41,7 +45,7 @@ lock-tests-spec =
     held-requires
     returns
     waiting-with-requires
-    returns-2
     addresses-with-requires
+    returns-2
     returns-3
     returns-4)

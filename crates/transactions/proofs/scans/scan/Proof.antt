@@ -4,8 +4,8 @@ use mathlib.Core.Path.{subst}
 use borrow.Author.Needs.{needs}
 use Rattle.spec.specs.Steps.{isOpen}
 use Rattle.transactions.specs.Admits.{Admitted}
-use Rattle.transactions.specs.Plans.{Plans}
-use Rattle.transactions.specs.PlanLaws.{planned}
+use Rattle.ranges.specs.Plans.{Plans}
+use Rattle.ranges.specs.PlanLaws.{planned}
 use Rattle.transactions.specs.ScanSteps.{planning}
 use Rattle.transactions.specs.Scans.{scans-turned, scans-declined, scans-granted}
 use Rattle.transactions.proofs.scans.scan.Statement.{statement}

@@ -1,0 +1,37 @@
+-- A search by halving steps whose every look stays below 1,024: the last place is tried first, then steps from 512 on.
+-- Assumes nothing.
+use Prim.Native.Nat.{ℕ, zero, suc, _+_, _/_, _<_, _≤_}
+use native.Mathlib.Nat.{le-refl}
+use native.Mathlib.Omega.{arith}
+use mathlib.Core.Path.{_≡_, refl, sym, subst}
+use mathlib.Core.Logic.{_⊎_, inl, inr, ⊎-elim}
+use Rattle.lists.specs.Halving.{Narrowing, narrow-start, narrow-on, narrow-stay, narrow-end}
+
+-- r is where a step from the base leads in the search for p: on if it does not pass p
+pub record Took (p base step r : ℕ) : Type 0 where
+  pub led : ((r ≡ base + step) × (base + step ≤ p)) ⊎ ((r ≡ base) × (p < base + step))
+
+-- the place p is found by the steps that are left, and none of them leads past 1,024
+pub record Nearing (p base step : ℕ) : Type 0 where
+  pub near : Narrowing p base step
+  pub inside : base + step + step ≤ 1024
+
+-- a first step over 1,024 places that is taken ends the search
+pub first-taken : {p r : ℕ} → p ≤ 1024 → Took p 0 1024 r → 0 < r → r ≡ p
+first-taken {p} {r} h t s = ⊎-elim (λ (b : (r ≡ 0 + 1024) × (0 + 1024 ≤ p)). let e = b .0 in let l = b .1 in omega arith) (λ (b : (r ≡ 0) × (p < 0 + 1024)). let e = b .0 in absurd (omega arith)) (t .led)
+
+pub near-start : {p r : ℕ} → Took p 0 1024 r → r ≤ 0 → Nearing p 0 512
+near-start {p} {r} t s =
+    let h : p < 1024 = ⊎-elim (λ (b : (r ≡ 0 + 1024) × (0 + 1024 ≤ p)). let e = b .0 in absurd (omega arith)) (λ (b : (r ≡ 0) × (p < 0 + 1024)). b .1) (t .led) in
+    record { near = narrow-stay (omega arith) (narrow-start p (omega arith)) h; inside = le-refl 1024 }
+
+pub near-on : {p base step r : ℕ} → 0 < step → Nearing p base step → Took p base step r → Nearing p r (step / 2)
+near-on {p} {base} {step} {r} h n t =
+    let i : base + step + step ≤ 1024 = n .inside in
+    ⊎-elim
+    (λ (b : (r ≡ base + step) × (base + step ≤ p)). subst (λ (x : ℕ). Nearing p x (step / 2)) (sym (b .0)) (record { near = narrow-on h (n .near) (b .1); inside = omega arith }))
+    (λ (b : (r ≡ base) × (p < base + step)). subst (λ (x : ℕ). Nearing p x (step / 2)) (sym (b .0)) (record { near = narrow-stay h (n .near) (b .1); inside = omega arith }))
+    (t .led)
+
+pub near-end : {p base step : ℕ} → Nearing p base step → step ≤ 0 → base ≡ p
+near-end n h = narrow-end (n .near) h

@@ -1,0 +1,58 @@
+-- `plans::carry` meets its contract. Assumes nothing.
+use mathlib.Core.Path.{refl}
+use Rattle.ranges.specs.PlanLaws.{walkable, reads-room, leaves-room, room, filled}
+use Rattle.ranges.proofs.plans.carry.Statement.{statement}
+use Rattle.ranges.proofs.plans.carry.Tie as tie
+
+fill-requires : tie.Need-fill-requires
+fill-requires c κs =
+    let s = c .before .before .before .before .before .before .before in
+    let p = s .pre .1 .0 in (
+      walkable (s .pre .0) _ _ (p .index-within) (p .own-within),
+      (record { index = p .index-ordered; own = p .own-ordered }, room _ _ p),
+    )
+
+log-rows-requires : tie.Need-log-rows-requires
+log-rows-requires c κs =
+    let s = c .before .before .before .before .before .before .before .before .before .before .before .before .before in
+    let p = s .pre .1 .0 in
+    (s .pre .1 .1 .0, reads-room (s .pre .0) _ _ (p .index-ordered) (p .index-within) (p .reads-fit))
+
+log-leaves-requires : tie.Need-log-leaves-requires
+log-leaves-requires c κs =
+    let f = c .before .before .before .before .before .before .before in
+    let s = f .before .before .before .before .before .before .before .before in
+    let p = s .pre .1 .0 in
+    (s .pre .1 .1 .1, leaves-room (s .pre .0) _ _ (p .met-ordered) (p .met-within) (p .leaves-fit))
+
+same-length : tie.Need-same-length
+same-length c =
+    let f = c .before .before .before .before .before .before .before .before in
+    f .fill .ensures .addresses .size
+
+same-length-2 : tie.Need-same-length-2
+same-length-2 c =
+    let f = c .before .before .before .before .before .before .before .before in
+    f .fill .ensures .values .size
+
+returns : tie.Need-returns
+returns c =
+    let f = c .before .before .before .before .before .before .before .before in
+    let s = f .before .before .before .before .before .before .before .before in
+    record {
+      fills = filled _ _ (s .pre .1 .0) _ _ _ (f .fill .ensures);
+      logs-rows = c .before .before .log-rows .ensures;
+      logs-marks = c .log-leaves .ensures;
+      seat = refl;
+    }
+
+pub carry-spec : {M : Type 1} → statement M
+carry-spec =
+    tie.close
+    (tie.spec
+    fill-requires
+    log-rows-requires
+    log-leaves-requires
+    same-length
+    same-length-2
+    returns)

@@ -1,0 +1,9 @@
+pub mod Overlays
+pub mod Parts
+pub mod Walks
+pub mod WalkLaws
+pub mod ShowLaws
+pub mod Scanning
+pub mod LogLaws
+pub mod Plans
+pub mod PlanLaws

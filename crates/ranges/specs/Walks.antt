@@ -1,0 +1,127 @@
+-- The walk of a scan in words: what is left of it at a place of the index and a place of the worker's writes, and what its
+-- functions promise.
+-- Assumes nothing.
+use Prim.Native.Nat.{ℕ, _+_, _-_, _<_, _≤_}
+use mathlib.Core.Path.{_≡_}
+use mathlib.Core.Bool.{true}
+use mathlib.Core.List.{List, [], _++_}
+use mathlib.Core.Option.{Option, none, some}
+use lib.ListN.{length, drop, getD}
+use lib.Dec.{eqb}
+use Rattle.lists.specs.Tests.{pick}
+use Rattle.lists.specs.Rows.{Row, row, mapItems}
+use Rattle.lists.specs.Shifts.{tab}
+use Rattle.spec.specs.Records.{Payload, Record, Write, ownView, payloadOf}
+use Rattle.sets.specs.declared.writes.Entry.{Entry}
+use Rattle.sets.specs.Writes.{WriteSet, writesIn}
+use Rattle.indexlet.specs.Held as indexlet
+use Rattle.index.specs.Views as index
+use Rattle.map.specs.declared.looks.Seen.{Seen}
+use Rattle.map.specs.LookViews.{mapWith, walk, indexedAt, Narrow}
+use Rattle.ranges.specs.declared.walks.Bounds.{Bounds}
+use Rattle.ranges.specs.declared.walks.Turn.{Turn}
+use Rattle.ranges.specs.Overlays.{shown, overlay}
+
+-- What is walked over: the words of the index, of the slots and of the write sets, and where the walk ends.
+pub record Ground : Type 0 where
+  pub rows : List ℕ
+  pub slots : List ℕ
+  pub writes : List ℕ
+  pub bounds : Bounds
+
+abbrev pub ground : List ℕ → List ℕ → List ℕ → Bounds → Ground
+ground rows slots writes b = record { rows = rows; slots = slots; writes = writes; bounds = b }
+
+-- the records from place i of the index on, each address with its current record
+unfoldable pub seenFrom : Ground → ℕ → List (Row (Option Record))
+seenFrom g i = walk (indexedAt (mapWith (g .rows) (g .bounds .records) (g .slots) [])) i (g .bounds .to - i)
+
+-- the worker's writes from place j on
+unfoldable pub ownFrom : Ground → ℕ → List (Row Write)
+ownFrom g j = drop j (writesIn (g .writes) (g .bounds .worker) (g .bounds .end))
+
+-- what the walk still shows at places i and j
+unfoldable pub rest : Ground → ℕ → ℕ → List (Row Payload)
+rest g i j = overlay (mapItems ownView (ownFrom g j)) (mapItems payloadOf (seenFrom g i))
+
+-- the invariants of the words
+pub record Walks (g : Ground) : Type 0 where
+  pub rows : index.Held (g .rows) (g .bounds .records)
+  pub narrow : Narrow (g .rows) (g .bounds .records)
+  pub slots : indexlet.Held (g .slots)
+  pub writes : WriteSet (g .writes) (g .bounds .worker) (g .bounds .end)
+  pub within : g .bounds .to ≤ g .bounds .records
+
+-- places of the walk
+pub record Inside (b : Bounds) (i j : ℕ) : Type 0 where
+  pub index : i ≤ b .to
+  pub own : j ≤ b .end
+
+-- ---- one turn
+
+abbrev pub indexTurn : Seen → ℕ → ℕ → Turn
+indexTurn s i j =
+    record { i = i; j = j; there = s .current .there; address = s .address; value = s .current .value }
+
+abbrev pub ownTurn : Entry → ℕ → ℕ → Turn
+ownTurn e i j = record { i = i; j = j; there = eqb (e .kind) 1; address = e .address; value = e .value }
+
+-- its address, and what is shown there
+unfoldable pub turnIn : Turn → Row (Option Payload)
+turnIn r = row (r .address) (pick (r .there) (some (record { value = r .value })) none)
+
+-- r comes next
+pub record Steps (g : Ground) (i j : ℕ) (r : Turn) : Type 0 where
+  pub on : i + j < r .i + r .j
+  pub inside : Inside (g .bounds) (r .i) (r .j)
+  pub rest-is : rest g i j ≡ shown (turnIn r) (rest g (r .i) (r .j))
+
+-- ---- buffers
+
+-- the first n places of two buffers, as rows
+unfoldable pub rowsIn : ℕ → List ℕ → List ℕ → List (Row Payload)
+rowsIn n ks vs = tab (λ (i : ℕ). row (getD ks i 0) (record { value = getD vs i 0 })) n
+
+-- Every place from n on is as it was, and there are as many.
+pub record Beyond (n : ℕ) (ks ls : List ℕ) : Type 0 where
+  pub size : length ls ≡ length ks
+  pub same : (p : ℕ) → n ≤ p → getD ls p 0 ≡ getD ks p 0
+
+-- there is a place for what is shown
+pub record Fits (ks vs : List ℕ) (at : ℕ) (x : Turn) : Type 0 where
+  pub addresses : x .there ≡ true → at < length ks
+  pub values : x .there ≡ true → at < length vs
+
+-- the buffers after what is shown was written behind the first `at` places, and how many are written now
+pub record Shows (ks vs : List ℕ) (at : ℕ) (x : Turn) (ls us : List ℕ) (r : ℕ) : Type 0 where
+  pub forth : at ≤ r
+  pub rows-are : rowsIn r ls us ≡ rowsIn at ks vs ++ shown (turnIn x) []
+  pub addresses : Beyond r ks ls
+  pub values : Beyond r vs us
+
+-- the buffers after the rows were written, and how many there are
+pub record Fills (ks vs : List ℕ) (rs : List (Row Payload)) (ls us : List ℕ) (r : ℕ) : Type 0 where
+  pub count : r ≡ length rs
+  pub rows-are : rowsIn r ls us ≡ rs
+  pub addresses : Beyond r ks ls
+  pub values : Beyond r vs us
+
+-- there are places for the rows
+pub record Room (ks vs : List ℕ) (rs : List (Row Payload)) : Type 0 where
+  pub addresses : length rs ≤ length ks
+  pub values : length rs ≤ length vs
+
+-- ---- loops
+
+-- those counted and those left are all
+pub record Counting (g : Ground) (from start i j count : ℕ) : Type 0 where
+  pub inside : Inside (g .bounds) i j
+  pub few : count ≤ i + j
+  pub all : count + length (rest g i j) ≡ length (rest g from start)
+
+-- those written and those left are all
+pub record Filling (g : Ground) (from start : ℕ) (ks vs ls us : List ℕ) (i j at : ℕ) : Type 0 where
+  pub inside : Inside (g .bounds) i j
+  pub all : rowsIn at ls us ++ rest g i j ≡ rest g from start
+  pub addresses : Beyond at ks ls
+  pub values : Beyond at vs us

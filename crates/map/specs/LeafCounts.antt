@@ -5,12 +5,12 @@ use Prim.Native.Nat.{ℕ, suc, _+_, _-_, _^_, _<_, _≤_, zero-le}
 use native.Mathlib.Omega.{arith}
 use mathlib.Core.Path.{_≡_, refl, sym, ap, _∙_}
 use mathlib.Core.Logic.{_⊎_, inl, inr, ⊎-elim}
-use mathlib.Core.Bool.{Bool, not}
+use mathlib.Core.Bool.{Bool, true, false, not}
 use mathlib.Core.List.{List}
 use mathlib.Core.Option.{Option, none, some}
 use lib.ListN.{length, take, drop, getD, set, length-set}
 use lib.Seq.{drop-cons, getD-set-same, getD-set-other}
-use Rattle.lists.specs.Tests.{pick, both, present, same, less, cases, same-true, same-false, less-true, less-false}
+use Rattle.lists.specs.Tests.{pick, both, present, same, less, cases, same-yes, same-no, same-true, same-false, less-true, less-false}
 use Rattle.lists.specs.Rows.{Row, look}
 use Rattle.lists.specs.Sums.{total, total-most}
 use Rattle.spec.specs.Records.{Record}
@@ -101,6 +101,37 @@ module _ (lows : List ℕ) (m from to : ℕ) (al : length lows ≡ 1025) (r : Ra
             let x : lowPlace k (take m lows) < m = low-inside lows m (r .listed) al k in
             (low-from lows m (r .listed) al from k (r .inside) l, omega arith);
       }
+
+-- The leaf at place i holds the addresses of r.
+pub record OneLeaf (lows : List ℕ) (m i : ℕ) (r : Reach) : Type 0 where
+  pub range : Range lows m r
+  pub from : r .from ≡ i
+  pub to : r .to ≡ i + 1
+
+module _ {lows : List ℕ} {m i : ℕ} {r : Reach} (h : OneLeaf lows m i r) where
+  pub leaf-below : (k : ℕ) → k < r .low → placed lows m i k ≡ false
+  unfolding placed
+  leaf-below k l =
+      let a : lowPlace k (take m lows) < r .from = h .range .below k l in
+      let b : r .from ≡ i = h .from in
+      same-no {m = lowPlace k (take m lows)} {n = i} (λ e. let z : ⊥ = omega arith in z)
+
+  pub leaf-above : (k : ℕ) → r .high ≤ k → k < 2 ^ 32 → placed lows m i k ≡ false
+  unfolding placed
+  leaf-above k l f =
+      let a : r .to ≤ lowPlace k (take m lows) = h .range .above k l f in
+      let b : r .to ≡ i + 1 = h .to in
+      same-no {m = lowPlace k (take m lows)} {n = i} (λ e. let z : ⊥ = omega arith in z)
+
+  pub leaf-inside : (k : ℕ) → r .low ≤ k → k < r .high → placed lows m i k ≡ true
+  unfolding placed
+  leaf-inside k l f =
+      let a = h .range .inside k l f in
+      let b : r .from ≤ lowPlace k (take m lows) = a .0 in
+      let d : lowPlace k (take m lows) < r .to = a .1 in
+      let x : r .from ≡ i = h .from in
+      let y : r .to ≡ i + 1 = h .to in
+      same-yes {m = lowPlace k (take m lows)} {n = i} (let z : lowPlace k (take m lows) ≡ i = omega arith in z)
 
 -- ---- one array
 

@@ -42,7 +42,7 @@ use Rattle.map.specs.Held.{Tables, Held}
 use Rattle.map.specs.LeafTests.{none-left, placed, takes, filter-same, many-same, pending-merging, lows-are, leaves-count, live-at, placed-version, at-version, placed-own}
 use Rattle.map.specs.MergeWalks.{parts, Starting, Took}
 use Rattle.map.specs.MergeCounts.{Recounting, Counting}
-use Rattle.map.specs.LeafCounts.{lacking, waiting, inLeaf}
+use Rattle.map.specs.LeafCounts.{Ranging, lacking, waiting, inLeaf}
 use Rattle.map.specs.MergeKeys.{entry-narrow, record-narrow, rows-narrow, low-at, first-low}
 use Rattle.map.specs.MergeKeeps.{Shape, settle-shape, shape-length, shape-early, shape-after, kept-test}
 use Rattle.map.specs.MergeSettles.{leafKeys, Resettling, settle-room, Narrow, settle-narrow, narrow-leaves, narrow-at, keys-narrow, lows-ascend}
@@ -140,6 +140,16 @@ module _ {l : Lent} {z : Sizes} (k : Counters) (h : Held l z (k .version)) (a i 
 
   pub starting : Starting (l .rows) (l .slots) (z .records) (z .entries)
   starting = record { rows-held = h .tables .rows; words = h .tables .words; number = h .tables .entries-are; bound = h .bounded .addresses }
+
+  -- what finding the leaf's addresses asks
+  pub ranging : Ranging (l .lows) (z .leaves) i (i + 1)
+  ranging =
+      record {
+        listed = h .tables .lows;
+        first = first-low (l .lows) (l .versions) (z .leaves) (h .tables .lows-size) (h .tables .versions-size) (h .tables .lows .some) (h .tables .lows .room) good;
+        inside = at .inside;
+        some = omega arith;
+      }
 
   -- as many as the walk takes in
   pub limit-is : getD (l .pending) i 0 ≡ length (filter (takes (placed (l .lows) (z .leaves) i)) (entries (slotsOf (l .slots))))

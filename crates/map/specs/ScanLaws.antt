@@ -1,15 +1,16 @@
 -- What a scan walks over, on words: the places of a range's records and of the leaves that meet it.
 -- Assumes nothing.
-use Prim.Native.Nat.{ℕ, suc, _+_, _-_, _^_, _<_, _≤_, zero-le, suc-le-suc}
+use Prim.Native.Nat.{ℕ, zero, suc, _+_, _-_, _^_, _<_, _≤_, zero-le, suc-le-suc}
 use native.Mathlib.Nat.{le-refl}
 use native.Mathlib.Omega.{arith}
 use mathlib.Core.Path.{_≡_, refl, sym, ap, _∙_, subst}
 use mathlib.Core.List.{List, [], _∷_, map}
-use mathlib.Core.Option.{Option, none}
+use mathlib.Core.Option.{Option, none, some}
 use lib.ListN.{length, take, drop, getD, length-map}
 use lib.Seq.{drop-cons, length-take-le, getD-take}
 use Rattle.lists.specs.Tests.{pick, present}
-use Rattle.lists.specs.Rows.{Row, row, look, between, Rising, filter}
+use Rattle.lists.specs.Rows.{Row, row, look, between, From, Rising, filter}
+use Rattle.lists.specs.RowLaws.{look-here, look-there}
 use Rattle.lists.specs.Places.{place, place-most, Absent, look-present, look-absent}
 use Rattle.spec.specs.Records.{Record}
 use Rattle.spec.specs.Leaves.{Leaf, firstLeaf, leafOf, versionAt, startsIn, meeting}
@@ -17,7 +18,8 @@ use Rattle.spec.specs.Maps.{current, indexedBetween}
 use Rattle.laws.specs.LeafParts.{LowsFrom, Covers}
 use Rattle.laws.specs.LeafVersions.{GoodLeaves}
 use Rattle.index.specs.declared.rows.RecordRow.{RecordRow}
-use Rattle.index.specs.Views.{rowOf, noRow, rowsOf, recordsOf, leavesOf, Held, AtPlace}
+use Rattle.index.specs.declared.records.Found.the-variants.{At}
+use Rattle.index.specs.Views.{foundOf, rowOf, noRow, rowsOf, recordsOf, leavesOf, Held, AtPlace}
 use Rattle.index.specs.ViewLaws.{length-records, record-read}
 use Rattle.index.specs.RecordLaws.{present-at, absent-at, absent-past}
 use Rattle.index.specs.LeafPlaces.{upTo, lowPlace, place-inside, AtLeaf}
@@ -98,6 +100,27 @@ seen-there rows n slots i r s h e f =
           ap (λ (o : Option Record). row (r .address) o) (f .record-is ls)
           ∙ ap (λ (k : ℕ). row k (current (mapWith rows n slots ls) k)) (ap (λ (x : Row Record). x .key) (e ∙ sym (record-read rows n i h)));
     }
+
+-- in a sorted list a look-up of a row's key finds the row
+look-from : {A : Type 0} (lo : ℕ) (rs : List (Row A)) (i : ℕ) (d : Row A) → From lo rs → i < length rs
+    → (lo ≤ getD rs i d .key) × (look rs (getD rs i d .key) ≡ some (getD rs i d .item))
+unfolding From
+look-from lo [] i d f h = absurd (let z : ⊥ = omega arith in z)
+look-from lo (r ∷ rs) zero d f h = (f .0, look-here r rs (r .key) refl)
+look-from lo (r ∷ rs) (suc i) d f h =
+    let t = look-from (suc (r .key)) rs i d (f .1) (let z : i < length rs = omega arith in z) in
+    let a : suc (r .key) ≤ getD rs i d .key = t .0 in
+    let b : lo ≤ r .key = f .0 in
+    (let z : lo ≤ getD rs i d .key = omega arith in z, look-there r rs (getD rs i d .key) (λ e. let z : ⊥ = omega arith in z) ∙ t .1)
+
+-- what the index has at the address of its row
+pub row-found : (rows : List ℕ) (n i : ℕ) (r : RecordRow) → Held rows n → i < n → rowOf r ≡ getD (rowsOf rows) i noRow
+    → foundOf (At (r .value) (r .commit)) ≡ look (recordsOf rows n) (r .address)
+unfolding Rising
+row-found rows n i r g h e =
+    let q : rowOf r ≡ getD (recordsOf rows n) i noRow = e ∙ sym (record-read rows n i h) in
+    let t = look-from 0 (recordsOf rows n) i noRow (g .rising) (subst (λ (x : ℕ). i < x) (sym (length-records rows n (g .room))) h) in
+    ap (λ (x : Row Record). some (x .item)) q ∙ sym (t .1) ∙ ap (λ (x : Row Record). look (recordsOf rows n) (x .key)) (sym q)
 
 -- ---- leaves
 

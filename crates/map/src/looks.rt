@@ -105,7 +105,8 @@ pub fn records_between(rows: &[u64; 3072], n: usize, lo: Address, hi: Address) -
     Range { from, to }
 }
 
-// The record at place i of the index: its address, and its current record.
+// The record at place i of the index: its address, and its current record. With nothing pending there it is the row itself,
+// so nothing is searched in the index.
 pub fn seen_at(rows: &[u64; 3072], slots: &[u64; 1536], n: usize, i: usize) -> Seen
     requires { ⌜ index.Held (now rows) n ⌝ }
     requires { ⌜ Narrow (now rows) n ⌝ }
@@ -115,7 +116,21 @@ pub fn seen_at(rows: &[u64; 3072], slots: &[u64; 1536], n: usize, i: usize) -> S
 {
     let there = rows::get(rows, i);
     let address = there.address as Address;
-    let current = current_record(rows, slots, n, address);
+    let looked = indexlet::look_up(slots, address);
+    let c = looked.content;
+    if c.kind == 0 {
+        let current = Current {
+            there: true,
+            value: there.value,
+            commit: there.commit,
+        };
+        return Seen { address, current };
+    }
+    let current = Current {
+        there: c.kind == 1,
+        value: c.value,
+        commit: c.commit,
+    };
     Seen { address, current }
 }
 

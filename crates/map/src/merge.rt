@@ -6,6 +6,7 @@ use crate::Address;
 use crate::Counters;
 use crate::Sizes;
 use crate::recount;
+use crate::recount::Reach;
 ghost use mathlib.Core.Path.{_≡_};
 ghost use mathlib.Core.Option.{some};
 ghost use Prim.Native.Nat.{_+_, _^_, _<_, _≤_};
@@ -14,11 +15,11 @@ ghost use Rattle.lists.specs.Rows.{assign, filter};
 ghost use Rattle.spec.specs.Slots.{entries};
 ghost use Rattle.indexlet.specs.Words.{slotsOf};
 ghost use Rattle.index.specs.Views as index-views;
-ghost use Rattle.index.specs.LeafPlaces.{Listed};
 ghost use Rattle.index.specs.Settles.{SettledAs};
 ghost use Rattle.map.specs.Views.{lent};
 ghost use Rattle.map.specs.Held.{Held};
 ghost use Rattle.map.specs.LeafTests.{placed, takes};
+ghost use Rattle.map.specs.LeafCounts.{OneLeaf};
 ghost use Rattle.map.specs.LeafRows.{Lows, Spans};
 ghost use Rattle.map.specs.MergeSettles.{Resettling, leafKeys};
 ghost use Rattle.map.specs.Merges.{Merges};
@@ -63,18 +64,20 @@ fn take_write(
     index::records::drop(rows, n, a)
 }
 
-// The walk at slot j: a write that is pending there, in the leaf at place i, enters the index; a lock stays.
+// The walk at slot j: a write that is pending there, in the leaf at place i, whose addresses are r, enters the index; a lock
+// stays.
 fn take_slot(
     rows: &mut [u64; 3072],
     slots: &mut [u64; 1536],
     lows: &[u64; 1025],
     w: Walk,
+    r: Reach,
     m: usize,
     i: usize,
     j: usize,
 ) -> Walk
     requires { ⌜ Underway (placed (now lows) m i) (now rows) (now slots) w j ⌝ }
-    requires { ⌜ Listed (now lows) m ⌝ }
+    requires { ⌜ OneLeaf (now lows) m i r ⌝ }
     requires { ⌜ j < 256 ⌝ }
     ensures { λ r. ⌜ Steps (placed (now (lows .entry)) m i) (now (rows .entry)) (now (slots .entry)) w j (now (rows .exit)) (now (slots .exit)) r ⌝ }
 {
@@ -83,10 +86,14 @@ fn take_slot(
     if c.kind == 0 {
         return w;
     }
-    let a = s.key as u32;
-    if index::leaves::leaf_at(lows, m, a) != i {
+    let key = s.key;
+    if key < r.low {
         return w;
     }
+    if r.high <= key {
+        return w;
+    }
+    let a = key as u32;
     let n = take_write(rows, w.records, a, c.kind, c.value, c.commit);
     let rest = indexlet::Content {
         kind: 0,
@@ -112,9 +119,10 @@ fn take_all(
     m: usize,
     i: usize,
     limit: usize,
+    r: Reach,
 ) -> Walk
     requires { ⌜ Starting (now rows) (now slots) n e ⌝ }
-    requires { ⌜ Listed (now lows) m ⌝ }
+    requires { ⌜ OneLeaf (now lows) m i r ⌝ }
     requires { ⌜ limit ≡ length (filter (takes (placed (now lows) m i)) (entries (slotsOf (now slots)))) ⌝ }
     ensures { λ r. ⌜ Took (placed (now (lows .entry)) m i) (now (rows .entry)) (now (slots .entry)) n (now (rows .exit)) (now (slots .exit)) r ⌝ }
 {
@@ -128,7 +136,7 @@ fn take_all(
         if w.count == limit {
             return w;
         }
-        w = take_slot(rows, slots, lows, w, m, i, j);
+        w = take_slot(rows, slots, lows, w, r, m, i, j);
         j += 1;
     }
     w
@@ -195,7 +203,8 @@ pub fn merge(
             count: 0,
         };
     }
-    let w = take_all(rows, slots, lows, z.records, z.entries, m, i, limit);
+    let r = recount::addresses_of(lows, m, i, i + 1);
+    let w = take_all(rows, slots, lows, z.records, z.entries, m, i, limit, r);
     let s = resettle(lows, versions, rows, w.records, m, i, k.version);
     index::shifts::all(lows);
     index::shifts::all(versions);

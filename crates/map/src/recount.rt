@@ -16,11 +16,11 @@ ghost use Rattle.map.specs.MergeCounts.{Recounting, Tallying, Numbers, C
 
 // Which leaves are counted: the places from `from` up to, not including, `to`, which hold the addresses from `low` up to,
 // not including, `high`.
-struct Reach {
-    from: usize,
-    to: usize,
-    low: u64,
-    high: u64,
+pub struct Reach {
+    pub from: usize,
+    pub to: usize,
+    pub low: u64,
+    pub high: u64,
 }
 
 // The place before, or the first.
@@ -73,7 +73,7 @@ fn make_room(xs: &mut [u64; 1025], i: usize, old: usize, from: usize, to: usize)
 }
 
 // The addresses of the leaves at these places.
-fn addresses_of(lows: &[u64; 1025], m: usize, from: usize, to: usize) -> Reach
+pub fn addresses_of(lows: &[u64; 1025], m: usize, from: usize, to: usize) -> Reach
     requires { ⌜ Ranging (now lows) m from to ⌝ }
     ensures { λ r. ⌜ (Range (now (lows .entry)) m r) × (r .from ≡ from) × (r .to ≡ to) ⌝ }
 {

@@ -10,10 +10,10 @@ use Rattle.map.proofs.merge.take_all.Statement.{statement}
 use Rattle.map.proofs.merge.take_all.Tie as tie
 
 abbrev Inv-loop : tie.InvT-loop
-Inv-loop rows₀ slots₀ lows n e m i limit w₀ j₀ rows slots w j = Walking (placed lows m i) (recordsOf rows₀ n) (slotsOf slots₀) rows slots w j
+Inv-loop rows₀ slots₀ lows n e m i limit r w₀ j₀ rows slots w j = Walking (placed lows m i) (recordsOf rows₀ n) (slotsOf slots₀) rows slots w j
 
 abbrev μ-loop : tie.MeasureT-loop
-μ-loop rows₀ slots₀ lows n e m i limit w₀ j₀ rows slots w j = 256 - j
+μ-loop rows₀ slots₀ lows n e m i limit r w₀ j₀ rows slots w j = 256 - j
 
 loop-holds : tie.Need-loop-holds Inv-loop μ-loop
 loop-holds c = walk-start (placed (c .args .lows .now) (c .args .m) (c .args .i)) (c .pre .0)

@@ -5,11 +5,11 @@ use native.Mathlib.Nat.{le-refl, le-trans, le-of-eq}
 use native.Mathlib.Omega.{arith}
 use mathlib.Core.Path.{_≡_, refl, sym, ap, _∙_, subst}
 use mathlib.Core.Logic.{⊎-elim}
-use mathlib.Core.Bool.{Bool, true, false, not}
+use mathlib.Core.Bool.{true, false}
 use mathlib.Core.List.{List, [], _∷_, _++_, append-assoc, append-nil}
 use mathlib.Core.Option.{Option, none, some}
-use lib.ListN.{length, length-append}
-use Rattle.lists.specs.Tests.{pick, either, maybe, present, less, cases, clash, less-true, less-false, less-yes, less-no}
+use lib.ListN.{length}
+use Rattle.lists.specs.Tests.{maybe, present, less, cases, clash, less-true, less-false, less-yes, less-no}
 use Rattle.lists.specs.Rows.{Row, row, keys, has, look, From, Rising}
 use Rattle.lists.specs.RowLaws.{has-keys, length-keys, rising-different}
 use Rattle.lists.specs.Counting.{has-append, different-within}

@@ -1,6 +1,6 @@
 -- What is promised of the end of the input.
 -- Assumes nothing.
-use Prim.Native.Nat.{ℕ, _+_, _*_, _<_, _≤_}
+use Prim.Native.Nat.{ℕ, _+_, _≤_}
 use native.Mathlib.Omega.{arith}
 use mathlib.Core.Path.{_≡_, refl, sym, ap, _∙_, subst}
 use mathlib.Core.Bool.{Bool, true, false, not}
@@ -10,13 +10,10 @@ use Rattle.lists.specs.Tests.{pick}
 use Rattle.lists.specs.Rows.{Row}
 use Rattle.spec.specs.Records.{Record}
 use Rattle.spec.specs.Maps.{contents}
-use Rattle.spec.specs.Steps.{State}
 use Rattle.map.specs.Views.{Lent}
-use Rattle.map.specs.NextViews.{Numbers}
 use Rattle.transactions.specs.Views.{Logs, stateOf}
 use Rattle.transactions.specs.Ready.{Ready}
 use Rattle.transactions.specs.declared.Core.{Core}
-use Rattle.script.specs.declared.Parser.{Parser}
 use Rattle.script.specs.Parsing.{filled, After}
 use Rattle.script.specs.Output.{field, endLine, malformedLine, Wrote}
 use Rattle.script.specs.OutputLaws.{wrote-join}

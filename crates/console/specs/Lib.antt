@@ -3,5 +3,8 @@ pub mod ProgramLaws
 pub mod Replies
 pub mod Sessions
 pub mod SessionLaws
+pub mod Places
+pub mod TurnLaws
 pub mod Closings
 pub mod Finishes
+pub mod Examples

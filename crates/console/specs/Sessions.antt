@@ -4,8 +4,8 @@
 use Prim.Native.Nat.{ℕ, _+_, _-_, _<_, _≤_}
 use native.Mathlib.Omega.{arith}
 use mathlib.Core.Path.{_≡_, refl, sym, ap, _∙_}
-use mathlib.Core.Bool.{Bool, true, false, not}
-use mathlib.Core.List.{List, [], _∷_, _++_, append-assoc}
+use mathlib.Core.Bool.{Bool, false, not}
+use mathlib.Core.List.{List, [], _++_, append-assoc}
 use lib.ListN.{length, drop}
 use Rattle.lists.specs.Tests.{pick, both, less, atMost}
 use Rattle.spec.specs.Steps.{State}
@@ -16,7 +16,7 @@ use Rattle.transactions.specs.Starts.{Fresh}
 use Rattle.script.specs.declared.Parser.{Parser}
 use Rattle.script.specs.Parsing.{After}
 use Rattle.script.specs.Output.{Wrote}
-use Rattle.script.specs.OutputLaws.{wrote-join, wrote-length}
+use Rattle.script.specs.OutputLaws.{wrote-join}
 use Rattle.console.specs.declared.session.Session.{Session}
 use Rattle.console.specs.Program.{writtenFrom}
 use Rattle.console.specs.Replies.{longest}

@@ -1,7 +1,9 @@
 -- `session::turn` meets its contract, event by event. Assumes nothing.
 use borrow.Author.Needs.{needs}
 use native.Mathlib.Omega.{arith}
-use Rattle.console.specs.SessionLaws.{goes-true, places-fit, turn-ended, turn-malformed, turn-line}
+use Rattle.console.specs.SessionLaws.{goes-true}
+use Rattle.console.specs.Places.{places-fit}
+use Rattle.console.specs.TurnLaws.{turn-ended, turn-malformed, turn-line}
 use Rattle.console.proofs.session.turn.Statement.{statement}
 use Rattle.console.proofs.session.turn.Tie as tie
 

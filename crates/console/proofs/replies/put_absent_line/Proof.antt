@@ -1,0 +1,28 @@
+-- `replies::put_absent_line` meets its contract: an answer, the mark of absence and a byte. Assumes nothing.
+use native.Mathlib.Omega.{arith}
+use borrow.Author.Needs.{needs}
+use Rattle.script.specs.OutputLaws.{wrote-join, field-most}
+use Rattle.console.proofs.replies.put_absent_line.Statement.{statement}
+use Rattle.console.proofs.replies.put_absent_line.Tie as tie
+
+put-answer-requires : tie.Need-put-answer-requires
+put-answer-requires c κs = search needs
+
+put-absent-requires : tie.Need-put-absent-requires
+put-absent-requires c κs = omega (arith, c .before .before .before .put-answer .ensures, field-most 0 (omega arith))
+
+put-byte-requires : tie.Need-put-byte-requires
+put-byte-requires c κs =
+    omega (arith, c .before .before .before .before .before .before .before .put-answer .ensures, c .before .before .before .put-absent .ensures, field-most 0 (omega arith))
+
+same-length : tie.Need-same-length
+same-length c = search needs
+
+returns : tie.Need-returns
+returns c =
+    wrote-join
+    (wrote-join (c .before .before .before .before .before .before .before .before .before .before .put-answer .ensures) (c .before .before .before .before .before .before .put-absent .ensures))
+    (c .before .before .put-byte .ensures)
+
+pub put-absent-line-spec : {M : Type 1} → statement M
+put-absent-line-spec = tie.close (tie.spec put-answer-requires put-absent-requires put-byte-requires same-length returns)

@@ -1,0 +1,51 @@
+-- `replies::put_listed_line` meets its contract: an answer, a field, the pairs and a byte. Assumes nothing.
+use native.Mathlib.Omega.{arith}
+use denote.Ref.{now}
+use borrow.Author.Needs.{needs}
+use Rattle.script.specs.OutputLaws.{wrote-join, field-most}
+use Rattle.console.specs.Replies.{pairs-most}
+use Rattle.console.proofs.replies.put_listed_line.Statement.{statement}
+use Rattle.console.proofs.replies.put_listed_line.Tie as tie
+
+put-answer-requires : tie.Need-put-answer-requires
+put-answer-requires c κs = search needs
+
+put-field-requires : tie.Need-put-field-requires
+put-field-requires c κs = omega (arith, c .before .before .before .put-answer .ensures, field-most 0 (omega arith))
+
+put-pairs-requires : tie.Need-put-pairs-requires
+put-pairs-requires c κs =
+    let s = c .before .before .before .before .before .before .before .before .before .before .before .before in (
+      s .pre .0,
+      omega (arith, s .pre .1, c .before .before .before .before .before .before .before .put-answer .ensures, c .before .before .before .put-field .ensures, field-most 0 (omega arith), field-most (s .args .n) (s .fits .n .fits)),
+    )
+
+put-byte-requires : tie.Need-put-byte-requires
+put-byte-requires c κs =
+    let s = c .before .before .before .before .before .before .before .before .before .before .before .before .before .before .before .before in
+    omega (
+      arith,
+      s .pre .1,
+      c .before .before .before .before .before .before .before .before .before .before .before .put-answer .ensures,
+      c .before .before .before .before .before .before .before .put-field .ensures,
+      c .before .before .before .put-pairs .ensures,
+      field-most 0 (omega arith),
+      field-most (s .args .n) (s .fits .n .fits),
+      pairs-most (s .args .n) (now (s .args .addresses)) (now (s .args .values)) (λ i. omega (arith, c .before .before .before .before .before .before .before .before .before .before .before .before .before .before .shared-slice-known .given i)) (λ i. omega (arith, c .before .before .before .before .before .before .before .before .before .before .before .before .before .shared-slice-known2 .given i)),
+    )
+
+same-length : tie.Need-same-length
+same-length c = search needs
+
+returns : tie.Need-returns
+returns c =
+    wrote-join
+    (wrote-join
+    (wrote-join (c .before .before .before .before .before .before .before .before .before .before .before .before .before .before .put-answer .ensures) (c .before .before .before .before .before .before .before .before .before .before .put-field .ensures))
+    (c .before .before .before .before .before .before .put-pairs .ensures))
+    (c .before .before .put-byte .ensures)
+
+pub put-listed-line-spec : {M : Type 1} → statement M
+put-listed-line-spec =
+    tie.close
+    (tie.spec put-answer-requires put-field-requires put-pairs-requires put-byte-requires same-length returns)

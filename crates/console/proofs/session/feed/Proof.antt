@@ -1,0 +1,53 @@
+-- `session::feed` meets its contract. The invariant: what was written and what is still due are what was due. Assumes nothing.
+use mathlib.Core.Path.{sym, _∙_}
+use Rattle.map.specs.Views.{lent}
+use Rattle.transactions.specs.Views.{logs}
+use Rattle.console.specs.Sessions.{Feeds, left, feeds-none, feeds-join}
+use Rattle.console.proofs.session.feed.Statement.{statement}
+use Rattle.console.proofs.session.feed.Tie as tie
+
+abbrev Inv-loop : tie.InvT-loop
+Inv-loop out₀ rows₀ lows₀ versions₀ outside₀ pending₀ slots₀ reads₀ leaves₀ writes₀ input addresses₀ values₀ x₀ out rows lows versions outside pending slots reads leaves writes addresses values x =
+    Feeds (lent rows₀ lows₀ versions₀ outside₀ pending₀ slots₀) (logs reads₀ leaves₀ writes₀) x₀ input out₀ (lent rows lows versions outside pending slots) (logs reads leaves writes) x out
+
+abbrev μ-loop : tie.MeasureT-loop
+μ-loop out₀ rows₀ lows₀ versions₀ outside₀ pending₀ slots₀ reads₀ leaves₀ writes₀ input addresses₀ values₀ x₀ out rows lows versions outside pending slots reads leaves writes addresses values x =
+    left input x
+
+loop-holds : tie.Need-loop-holds Inv-loop μ-loop
+loop-holds c = let s = c .before .before in feeds-none _ (s .pre .0) (s .pre .1 .0) (s .pre .1 .1)
+
+goes-on-requires : tie.Need-goes-on-requires Inv-loop μ-loop
+goes-on-requires c κs = tt
+
+turn-requires : tie.Need-turn-requires Inv-loop μ-loop
+turn-requires c κs =
+    let t = c .before .before .before .before .before .before .before .before .before .before .before .before in
+    let i = t .before .before .loop .inv in
+    (i .ready, (i .started, sym (t .before .goes-on .ensures) ∙ t .if1 .taken))
+
+loop-less : tie.Need-loop-less Inv-loop μ-loop
+loop-less c = c .before .before .turn .ensures .fewer
+
+loop-again : tie.Need-loop-again Inv-loop μ-loop
+loop-again c = feeds-join (c .before .before .before .before .before .before .before .before .before .before .before .before .before .before .before .before .before .loop .inv) (c .before .before .turn .ensures .feeds)
+
+same-length : tie.Need-same-length Inv-loop μ-loop
+same-length c = c .before .before .loop .inv .size
+
+returns : tie.Need-returns Inv-loop μ-loop
+returns c = record { feeds = c .before .before .loop .inv; ends = sym (c .before .goes-on .ensures) ∙ c .if1 .left }
+
+pub feed-spec : {M : Type 1} → statement M
+feed-spec =
+    tie.close
+    (tie.spec
+    Inv-loop
+    μ-loop
+    loop-holds
+    goes-on-requires
+    turn-requires
+    loop-less
+    loop-again
+    same-length
+    returns)

@@ -1,0 +1,10 @@
+pub mod Program
+pub mod ProgramLaws
+pub mod Replies
+pub mod Sessions
+pub mod SessionLaws
+pub mod Places
+pub mod TurnLaws
+pub mod Closings
+pub mod Finishes
+pub mod Examples

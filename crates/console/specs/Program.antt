@@ -1,0 +1,32 @@
+-- Document 01, "The script program": what the program writes, as a function of the bytes that it reads.
+-- A line feed ends a line. Each line is a step, and its answer is written. At the first malformed line, or a last line
+-- without its line feed, `?` is written and nothing more; else, at the end of the input, the present records.
+-- Assumes nothing.
+use Prim.Native.Nat.{ℕ}
+use mathlib.Core.List.{List, [], _∷_, _++_}
+use Rattle.lists.specs.Tests.{pick, maybe, same}
+use Rattle.spec.specs.Records.{standard}
+use Rattle.spec.specs.Maps.{contents}
+use Rattle.spec.specs.Steps.{State, fresh, answer, next}
+use Rattle.script.specs.declared.Line.{Line}
+use Rattle.script.specs.Grammar.{meaning}
+use Rattle.script.specs.Parsing.{filled}
+use Rattle.script.specs.Output.{stepOf, answerLine, endLine, malformedLine}
+
+-- the places of a scan's two buffers
+abbrev pub places : ℕ
+places = 64
+
+-- The bytes written from a state on, when the bytes `line` of the current line are read, and the input's other bytes are
+-- still to come.
+unfoldable pub writtenFrom : State → List ℕ → List ℕ → List ℕ
+writtenFrom σ line [] = pick (filled line) malformedLine (endLine (contents (σ .map)))
+writtenFrom σ line (b ∷ bs) =
+    pick (same b 10)
+    (maybe (meaning line) malformedLine
+    (λ (l : Line). answerLine l (answer σ (stepOf places l)) ++ writtenFrom (next σ (stepOf places l)) [] bs))
+    (writtenFrom σ (line ++ (b ∷ [])) bs)
+
+-- what the program writes for an input
+abbrev pub output : List ℕ → List ℕ
+output input = writtenFrom (fresh standard) [] input

@@ -1,0 +1,126 @@
+-- A session: the engine's arrays and core, the parser, and the places in the input and in the output. What is promised of
+-- running it on: what was written and what is still due are what was due.
+-- Assumes nothing.
+use Prim.Native.Nat.{ℕ, _+_, _-_, _<_, _≤_}
+use native.Mathlib.Omega.{arith}
+use mathlib.Core.Path.{_≡_, refl, sym, ap, _∙_}
+use mathlib.Core.Bool.{Bool, false, not}
+use mathlib.Core.List.{List, [], _++_, append-assoc}
+use lib.ListN.{length, drop}
+use Rattle.lists.specs.Tests.{pick, both, less, atMost}
+use Rattle.spec.specs.Steps.{State}
+use Rattle.map.specs.Views.{Lent}
+use Rattle.transactions.specs.Views.{Logs, stateOf}
+use Rattle.transactions.specs.Ready.{Ready}
+use Rattle.transactions.specs.Starts.{Fresh}
+use Rattle.script.specs.declared.Parser.{Parser}
+use Rattle.script.specs.Parsing.{After}
+use Rattle.script.specs.Output.{Wrote}
+use Rattle.script.specs.OutputLaws.{wrote-join}
+use Rattle.console.specs.declared.session.Session.{Session}
+use Rattle.console.specs.Program.{writtenFrom}
+use Rattle.console.specs.Replies.{longest}
+
+-- the parser has read some bytes of a line
+pub record Started (p : Parser) : Type 0 where
+  pub seen : List ℕ
+  pub after : After seen p
+
+-- What is still to be written, when the bytes `line` of the current line are read, the input from a place on comes next,
+-- and then whatever follows the input. After a malformed line, nothing.
+unfoldable pub due : State → List ℕ → Bool → List ℕ → ℕ → List ℕ → List ℕ
+due σ line stopped input next future = pick stopped [] (writtenFrom σ line (drop next input ++ future))
+
+-- From x to y: `text` was written, and it comes before all that is still due.
+pub record Continues (l : Lent) (g : Logs) (x : Session) (input old : List ℕ) (l' : Lent) (g' : Logs) (y : Session) (new seen : List ℕ) : Type 0 where
+  pub text : List ℕ
+  pub wrote : Wrote old (x .at) text new (y .at)
+  pub line : List ℕ
+  pub after : After line (y .parser)
+  pub rest : (future : List ℕ)
+      → due (stateOf l g (x .core)) seen (x .stopped) input (x .next) future
+      ≡ text ++ due (stateOf l' g' (y .core)) line (y .stopped) input (y .next) future
+
+-- the same, whatever bytes of the current line were read before
+pub record Feeds (l : Lent) (g : Logs) (x : Session) (input old : List ℕ) (l' : Lent) (g' : Logs) (y : Session) (new : List ℕ) : Type 0 where
+  pub ready : Ready l' g' (y .core)
+  pub started : Started (y .parser)
+  pub size : length new ≡ length old
+  pub room : y .at ≤ length new
+  pub continues : (seen : List ℕ) → After seen (x .parser) → Continues l g x input old l' g' y new seen
+
+-- how much there is to do
+abbrev pub left : List ℕ → Session → ℕ
+left input x = pick (x .stopped) 0 1 + (length input - x .next)
+
+-- a turn: the same, and there is less to do
+pub record Turns (l : Lent) (g : Logs) (x : Session) (input old : List ℕ) (l' : Lent) (g' : Logs) (y : Session) (new : List ℕ) : Type 0 where
+  pub feeds : Feeds l g x input old l' g' y new
+  pub fewer : left input y < left input x
+
+-- a session can go on: no malformed line was met, there is input, and there is room for the longest line
+unfoldable pub goesOn : Bool → ℕ → ℕ → ℕ → ℕ → Bool
+goesOn stopped next size at room = both (not stopped) (both (less next size) (atMost (at + longest) room))
+
+-- run on until it cannot
+pub record Runs (l : Lent) (g : Logs) (x : Session) (input old : List ℕ) (l' : Lent) (g' : Logs) (y : Session) (new : List ℕ) : Type 0 where
+  pub feeds : Feeds l g x input old l' g' y new
+  pub ends : goesOn (y .stopped) (y .next) (length input) (y .at) (length new) ≡ false
+
+-- ---- laws
+
+pub feeds-none : {l : Lent} {g : Logs} {x : Session} (input : List ℕ) {old : List ℕ}
+    → Ready l g (x .core) → Started (x .parser) → x .at ≤ length old → Feeds l g x input old l g x old
+feeds-none input r s h =
+    record {
+      ready = r;
+      started = s;
+      size = refl;
+      room = h;
+      continues = λ seen a.
+          record {
+            text = [];
+            wrote = record { written = refl; within = omega arith; place = omega arith };
+            line = seen;
+            after = a;
+            rest = λ future. refl;
+          };
+    }
+
+pub feeds-join : {l l' l'' : Lent} {g g' g'' : Logs} {x y z : Session} {input old mid new : List ℕ}
+    → Feeds l g x input old l' g' y mid → Feeds l' g' y input mid l'' g'' z new → Feeds l g x input old l'' g'' z new
+feeds-join {l} {l'} {l''} {g} {g'} {g''} {x} {y} {z} {input} {old} {mid} {new} a b =
+    record {
+      ready = b .ready;
+      started = b .started;
+      size = b .size ∙ a .size;
+      room = b .room;
+      continues = λ seen s. joined seen (a .continues seen s);
+    }
+  where
+    joined : (seen : List ℕ) → Continues l g x input old l' g' y mid seen → Continues l g x input old l'' g'' z new seen
+    joined seen p =
+        let q = b .continues (p .line) (p .after) in
+        record {
+          text = p .text ++ q .text;
+          wrote = wrote-join (p .wrote) (q .wrote);
+          line = q .line;
+          after = q .after;
+          rest = λ future.
+              p .rest future
+              ∙ ap (λ (t : List ℕ). p .text ++ t) (q .rest future)
+              ∙ sym (append-assoc (p .text) (q .text) (due (stateOf l'' g'' (z .core)) (q .line) (z .stopped) input (z .next) future));
+        }
+
+-- ---- a session begins, and its buffers are filled and emptied
+
+-- a fresh map, at the start of a line
+pub record Begins (l : Lent) (g : Logs) (x : Session) : Type 0 where
+  pub fresh : Fresh l g (x .core)
+  pub after : After [] (x .parser)
+  pub next-is : x .next ≡ 0
+  pub at-is : x .at ≡ 0
+  pub goes : x .stopped ≡ false
+
+abbrev pub withPlaces : Session → ℕ → ℕ → Session
+withPlaces x next at = record { core = x .core; parser = x .parser; next = next; at = at; stopped = x .stopped }

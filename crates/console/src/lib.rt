@@ -1,0 +1,6 @@
+// From the bytes of a script to the bytes of its answers, over the engine. What is written for an input is `output`, in
+// specs/Program.antt. Nothing here reads or writes a file.
+pub mod closing;
+pub mod lines;
+pub mod replies;
+pub mod session;

@@ -1,0 +1,62 @@
+// The line that is written for a reply. The longest has a letter, two numbers, 64 pairs and a line feed.
+use engine::steps::Reply;
+use script::text;
+ghost use mathlib.Core.List.{[], _∷_, _++_};
+ghost use Prim.Native.Nat.{_+_, _*_, _≤_};
+ghost use lib.ListN.{length, take};
+ghost use Rattle.script.specs.Output.{field, absent, pairsOf, Wrote};
+ghost use Rattle.engine.specs.Performs.{placesIn};
+ghost use Rattle.console.specs.Replies.{longest, Replies};
+
+// A read that finds nothing.
+fn put_absent_line(out: &mut [u8], at: usize, letter: u8) -> usize
+    requires { ⌜ at + 25 ≤ length (now out) ⌝ }
+    ensures { λ r. ⌜ Wrote (now (out .entry)) at ((letter ∷ field 0 ++ absent) ++ (10 ∷ [])) (now (out .exit)) r ⌝ }
+{
+    let next = text::put_answer(out, at, letter, 0);
+    let last = text::put_absent(out, next);
+    text::put_byte(out, last, b'\n')
+}
+
+// A scan: how many records, and their addresses and values.
+fn put_listed_line(
+    out: &mut [u8],
+    at: usize,
+    addresses: &[u32],
+    values: &[u64],
+    letter: u8,
+    n: usize,
+) -> usize
+    requires { ⌜ (n ≤ length (now addresses)) × (n ≤ length (now values)) ⌝ }
+    requires { ⌜ at + 44 + 42 * n ≤ length (now out) ⌝ }
+    ensures { λ r. ⌜ Wrote (now (out .entry)) at ((letter ∷ field 0 ++ field n ++ pairsOf (take n (now (addresses .entry))) (take n (now (values .entry)))) ++ (10 ∷ [])) (now (out .exit)) r ⌝ }
+{
+    let next = text::put_answer(out, at, letter, 0);
+    let first = text::put_field(out, next, n as u64);
+    let last = text::put_pairs(out, first, addresses, values, n);
+    text::put_byte(out, last, b'\n')
+}
+
+// Any reply; a scan's addresses and values stand in the first places of the buffers.
+pub fn put_reply(
+    out: &mut [u8],
+    at: usize,
+    addresses: &[u32; 64],
+    values: &[u64; 64],
+    letter: u8,
+    reply: Reply,
+) -> usize
+    requires { ⌜ at + longest ≤ length (now out) ⌝ }
+    requires { ⌜ placesIn reply ≤ 64 ⌝ }
+    ensures { λ r. ⌜ Replies letter reply (now (addresses .entry)) (now (values .entry)) (now (out .entry)) at (now (out .exit)) r ⌝ }
+{
+    match reply {
+        Reply::Granted => text::put_line(out, at, letter, 0),
+        Reply::Value(v) => text::put_granted_line(out, at, letter, v),
+        Reply::Absent => put_absent_line(out, at, letter),
+        Reply::Listed(n) => put_listed_line(out, at, addresses, values, letter, n),
+        Reply::Numbered(n) => text::put_granted_line(out, at, letter, n),
+        Reply::Counted(n) => text::put_granted_line(out, at, letter, n as u64),
+        Reply::Refused(r) => text::put_line(out, at, letter, spec::number_of(r)),
+    }
+}

@@ -1,0 +1,221 @@
+// The lines of an input, one after the other.
+use crate::lines;
+use crate::replies;
+use engine::steps;
+use script::Event;
+use script::Parser;
+use script::text;
+use transactions::Core;
+use transactions::starts;
+ghost use mathlib.Core.Path.{_≡_};
+ghost use mathlib.Core.Bool.{true};
+ghost use Prim.Native.Nat.{_≤_};
+ghost use lib.ListN.{length};
+ghost use Rattle.map.specs.Views.{lent};
+ghost use Rattle.transactions.specs.Views.{logs};
+ghost use Rattle.transactions.specs.Ready.{Ready};
+ghost use Rattle.console.specs.Sessions.{Started, goesOn, Turns, Runs, Begins, withPlaces};
+
+// The longest line that is written.
+const LONGEST: usize = 2732;
+
+// What is kept from line to line: the engine's core, the parser, the place in the input, the place in the output, and
+// whether a malformed line has ended the script.
+pub struct Session {
+    pub core: Core,
+    pub parser: Parser,
+    pub next: usize,
+    pub at: usize,
+    pub stopped: bool,
+}
+
+// A session with a fresh map, whatever the arrays held.
+pub fn fresh(
+    rows: &mut [u64; 3072],
+    lows: &mut [u64; 1025],
+    versions: &mut [u64; 1025],
+    outside: &mut [u64; 1025],
+    pending: &mut [u64; 1025],
+    slots: &mut [u64; 1536],
+    reads: &mut [u64; 2048],
+    leaves: &mut [u64; 512],
+    writes: &mut [u64; 384],
+) -> Session
+    ensures { λ r. ⌜ Begins (lent (now (rows .exit)) (now (lows .exit)) (now (versions .exit)) (now (outside .exit)) (now (pending .exit)) (now (slots .exit))) (logs (now (reads .exit)) (now (leaves .exit)) (now (writes .exit))) r ⌝ }
+{
+    let core = starts::fresh(
+        rows,
+        lows,
+        versions,
+        outside,
+        pending,
+        slots,
+        reads,
+        leaves,
+        writes,
+    );
+    let parser = script::fresh();
+    Session {
+        core,
+        parser,
+        next: 0,
+        at: 0,
+        stopped: false,
+    }
+}
+
+// The session at other places of its input and its output: with new input, or with its output taken away.
+pub fn at_places(x: Session, next: usize, at: usize) -> Session
+    ensures { λ r. ⌜ r ≡ withPlaces x next at ⌝ }
+{
+    let core = x.core;
+    let parser = x.parser;
+    Session {
+        core,
+        parser,
+        next,
+        at,
+        stopped: x.stopped,
+    }
+}
+
+// There is input to read, and room for the longest line.
+fn goes_on(stopped: bool, next: usize, size: usize, at: usize, room: usize) -> bool
+    ensures { λ r. ⌜ r ≡ goesOn stopped next size at room ⌝ }
+{
+    if stopped {
+        return false;
+    }
+    if size <= next {
+        return false;
+    }
+    if room < LONGEST {
+        return false;
+    }
+    if room - LONGEST < at {
+        return false;
+    }
+    true
+}
+
+// Reads to the end of a line, performs it and writes its answer; or reads to what makes a line malformed, or to the end
+// of the input.
+fn turn(
+    out: &mut [u8],
+    addresses: &mut [u32; 64],
+    values: &mut [u64; 64],
+    rows: &mut [u64; 3072],
+    lows: &mut [u64; 1025],
+    versions: &mut [u64; 1025],
+    outside: &mut [u64; 1025],
+    pending: &mut [u64; 1025],
+    slots: &mut [u64; 1536],
+    reads: &mut [u64; 2048],
+    leaves: &mut [u64; 512],
+    writes: &mut [u64; 384],
+    input: &[u8],
+    x: Session,
+) -> Session
+    requires { ⌜ Ready (lent (now rows) (now lows) (now versions) (now outside) (now pending) (now slots)) (logs (now reads) (now leaves) (now writes)) (x .core) ⌝ }
+    requires { ⌜ Started (x .parser) ⌝ }
+    requires { ⌜ goesOn (x .stopped) (x .next) (length (now input)) (x .at) (length (now out)) ≡ true ⌝ }
+    ensures { λ r. ⌜ Turns (lent (now (rows .entry)) (now (lows .entry)) (now (versions .entry)) (now (outside .entry)) (now (pending .entry)) (now (slots .entry))) (logs (now (reads .entry)) (now (leaves .entry)) (now (writes .entry))) x (now (input .entry)) (now (out .entry)) (lent (now (rows .exit)) (now (lows .exit)) (now (versions .exit)) (now (outside .exit)) (now (pending .exit)) (now (slots .exit))) (logs (now (reads .exit)) (now (leaves .exit)) (now (writes .exit))) r (now (out .exit)) ⌝ }
+{
+    let core = x.core;
+    let parser = x.parser;
+    let t = script::parse(input, x.next, parser);
+    let after = t.parser;
+    let next = t.next;
+    let event = t.event;
+    match event {
+        Event::Line(l) => {
+            let done = steps::perform(
+                addresses,
+                values,
+                rows,
+                lows,
+                versions,
+                outside,
+                pending,
+                slots,
+                reads,
+                leaves,
+                writes,
+                core,
+                lines::op_of(l),
+            );
+            let reply = done.reply;
+            let then = done.core;
+            let at = replies::put_reply(out, x.at, addresses, values, lines::letter_of(l), reply);
+            Session {
+                core: then,
+                parser: after,
+                next,
+                at,
+                stopped: false,
+            }
+        }
+        Event::Malformed => {
+            let at = text::put_malformed(out, x.at);
+            Session {
+                core,
+                parser: after,
+                next,
+                at,
+                stopped: true,
+            }
+        }
+        Event::Ended => Session {
+            core,
+            parser: after,
+            next,
+            at: x.at,
+            stopped: false,
+        },
+    }
+}
+
+// Runs the lines of an input from a place on, until it is used up, a malformed line was met, or the output may have no
+// room for the next answer.
+pub fn feed(
+    out: &mut [u8],
+    rows: &mut [u64; 3072],
+    lows: &mut [u64; 1025],
+    versions: &mut [u64; 1025],
+    outside: &mut [u64; 1025],
+    pending: &mut [u64; 1025],
+    slots: &mut [u64; 1536],
+    reads: &mut [u64; 2048],
+    leaves: &mut [u64; 512],
+    writes: &mut [u64; 384],
+    input: &[u8],
+    start: Session,
+) -> Session
+    requires { ⌜ Ready (lent (now rows) (now lows) (now versions) (now outside) (now pending) (now slots)) (logs (now reads) (now leaves) (now writes)) (start .core) ⌝ }
+    requires { ⌜ Started (start .parser) ⌝ }
+    requires { ⌜ start .at ≤ length (now out) ⌝ }
+    ensures { λ r. ⌜ Runs (lent (now (rows .entry)) (now (lows .entry)) (now (versions .entry)) (now (outside .entry)) (now (pending .entry)) (now (slots .entry))) (logs (now (reads .entry)) (now (leaves .entry)) (now (writes .entry))) start (now (input .entry)) (now (out .entry)) (lent (now (rows .exit)) (now (lows .exit)) (now (versions .exit)) (now (outside .exit)) (now (pending .exit)) (now (slots .exit))) (logs (now (reads .exit)) (now (leaves .exit)) (now (writes .exit))) r (now (out .exit)) ⌝ }
+{
+    let mut addresses = [0u32; 64];
+    let mut values = [0u64; 64];
+    let mut x = start;
+    while goes_on(x.stopped, x.next, input.len(), x.at, out.len()) {
+        x = turn(
+            out,
+            &mut addresses,
+            &mut values,
+            rows,
+            lows,
+            versions,
+            outside,
+            pending,
+            slots,
+            reads,
+            leaves,
+            writes,
+            input,
+            x,
+        );
+    }
+    x
+}

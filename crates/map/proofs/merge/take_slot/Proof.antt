@@ -3,7 +3,7 @@
 use borrow.Author.Needs.{needs}
 use native.Mathlib.Omega.{arith}
 use Rattle.index.specs.Views.{recordFrom}
-use Rattle.map.specs.LeafTests.{placed, placed-yes, placed-no}
+use Rattle.phantomlet.specs.LeafTests.{placed, placed-yes, placed-no}
 use Rattle.map.specs.MergeWalks.{walk-past, walk-on, takes-none, takes-other, slot-room, write-room, rest-content}
 use Rattle.map.proofs.merge.take_slot.Statement.{statement}
 use Rattle.map.proofs.merge.take_slot.Tie as tie

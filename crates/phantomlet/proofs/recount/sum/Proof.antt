@@ -2,9 +2,9 @@
 use Prim.Native.Nat.{_-_, _≤_}
 use native.Mathlib.Omega.{arith}
 use borrow.Author.Needs.{needs}
-use Rattle.map.specs.LeafNumbers.{Summing, summing-start, summing-on, summing-end, summing-small}
-use Rattle.map.proofs.recount.sum.Statement.{statement}
-use Rattle.map.proofs.recount.sum.Tie as tie
+use Rattle.phantomlet.specs.LeafNumbers.{Summing, summing-start, summing-on, summing-end, summing-small}
+use Rattle.phantomlet.proofs.recount.sum.Statement.{statement}
+use Rattle.phantomlet.proofs.recount.sum.Tie as tie
 
 abbrev Inv-loop : tie.InvT-loop
 Inv-loop xs m total₀ i₀ total i = Summing xs m total i

@@ -18,7 +18,7 @@ use Rattle.spec.specs.Records.{Record}
 use Rattle.index.specs.Views.{noRow, rowsOf, recordsOf, keysBetween, Held, AtPlace}
 use Rattle.index.specs.ViewLaws.{length-records}
 use Rattle.index.specs.LeafPlaces.{lowPlace, place-inside, leaf-below, leaf-above, Listed}
-use Rattle.map.specs.LeafTests.{placed}
+use Rattle.phantomlet.specs.LeafTests.{placed}
 
 -- elements that pass a test and stand in a row
 pub filter-run : {A : Type 0} (p : A → Bool) (xs : List A) (i j : ℕ) (d : A) → i ≤ j → j ≤ length xs

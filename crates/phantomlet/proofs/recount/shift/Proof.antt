@@ -4,10 +4,10 @@ use native.Mathlib.Omega.{arith}
 use mathlib.Core.Path.{_≡_, sym, ap, _∙_}
 use lib.ListN.{length}
 use Rattle.lists.specs.Shifts.{moved}
-use Rattle.map.specs.LeafNumbers.{moved-same}
+use Rattle.phantomlet.specs.LeafNumbers.{moved-same}
 use borrow.Author.Needs.{needs}
-use Rattle.map.proofs.recount.shift.Statement.{statement}
-use Rattle.map.proofs.recount.shift.Tie as tie
+use Rattle.phantomlet.proofs.recount.shift.Statement.{statement}
+use Rattle.phantomlet.proofs.recount.shift.Tie as tie
 
 all-requires : tie.Need-all-requires
 all-requires c κs = search needs

@@ -1,10 +1,10 @@
 -- `map::recount::recount` meets its contract: kept numbers move, the others are counted, and all are added up.
 -- Assumes nothing.
 use mathlib.Core.Path.{refl}
-use Rattle.map.specs.MergeCounts.{tally-start, numbers-small, counting}
+use Rattle.phantomlet.specs.MergeCounts.{tally-start, numbers-small, counting}
 use borrow.Author.Needs.{needs}
-use Rattle.map.proofs.recount.recount.Statement.{statement}
-use Rattle.map.proofs.recount.recount.Tie as tie
+use Rattle.phantomlet.proofs.recount.recount.Statement.{statement}
+use Rattle.phantomlet.proofs.recount.recount.Tie as tie
 
 all-requires : tie.Need-all-requires
 all-requires c κs = search needs

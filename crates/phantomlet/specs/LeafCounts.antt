@@ -17,11 +17,11 @@ use Rattle.spec.specs.Records.{Record}
 use Rattle.spec.specs.Slots.{slotCount, Content, Slot, emptySlot}
 use Rattle.laws.specs.SlotCounts.{entryAt, tally, count, count-cons}
 use Rattle.index.specs.LeafPlaces.{lowPlace, AtLeaf, Listed}
-use Rattle.map.specs.Phantoms.{weigh, howMany}
-use Rattle.map.specs.LeafRows.{low-from, low-before, low-below, low-inside}
-use Rattle.map.specs.LeafTests.{drop-past, placed}
-use Rattle.map.specs.declared.recount.Reach.{Reach}
-use Rattle.map.specs.LeafNumbers.{Prepared}
+use Rattle.phantomlet.specs.Phantoms.{weigh, howMany}
+use Rattle.phantomlet.specs.LeafRows.{low-from, low-before, low-below, low-inside}
+use Rattle.phantomlet.specs.LeafTests.{drop-past, placed}
+use Rattle.phantomlet.specs.declared.recount.Reach.{Reach}
+use Rattle.phantomlet.specs.LeafNumbers.{Prepared}
 
 -- the entry lies at an address that the records lack
 unfoldable pub lacking : List (Row Record) → Row Content → Bool

@@ -1,8 +1,8 @@
 -- `map::recount::make_room` meets its contract. Assumes nothing.
-use Rattle.map.specs.LeafNumbers.{prepared}
+use Rattle.phantomlet.specs.LeafNumbers.{prepared}
 use borrow.Author.Needs.{needs}
-use Rattle.map.proofs.recount.make_room.Statement.{statement}
-use Rattle.map.proofs.recount.make_room.Tie as tie
+use Rattle.phantomlet.proofs.recount.make_room.Statement.{statement}
+use Rattle.phantomlet.proofs.recount.make_room.Tie as tie
 
 all-requires : tie.Need-all-requires
 all-requires c κs = search needs

@@ -22,7 +22,7 @@ use Rattle.laws.specs.SlotCounts.{tally, count, count-cons, entries-some, entri
 use Rattle.index.specs.Views.{leavesOf}
 use Rattle.index.specs.LeafPlaces.{lowPlace, place-inside, AtLeaf}
 use Rattle.index.specs.LeafViews.{paired-lows, paired-length, parted, parted-leaf}
-use Rattle.map.specs.Phantoms.{weigh, howMany, pendingIn}
+use Rattle.phantomlet.specs.Phantoms.{weigh, howMany, pendingIn}
 
 -- the leaf of k stands at place i of the first m lows
 unfoldable pub placed : List ℕ → ℕ → ℕ → ℕ → Bool

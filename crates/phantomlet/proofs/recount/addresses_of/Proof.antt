@@ -1,9 +1,9 @@
 -- `map::recount::addresses_of` meets its contract: up to the next leaf's low, or up to the last address. Assumes nothing.
 use mathlib.Core.Path.{refl}
-use Rattle.map.specs.LeafCounts.{range-next, range-last}
+use Rattle.phantomlet.specs.LeafCounts.{range-next, range-last}
 use borrow.Author.Needs.{needs}
-use Rattle.map.proofs.recount.addresses_of.Statement.{statement}
-use Rattle.map.proofs.recount.addresses_of.Tie as tie
+use Rattle.phantomlet.proofs.recount.addresses_of.Statement.{statement}
+use Rattle.phantomlet.proofs.recount.addresses_of.Tie as tie
 
 all-requires : tie.Need-all-requires
 all-requires c κs = search needs

@@ -1,7 +1,7 @@
 -- `map::recount::waits` meets its contract: kind 0 is no pending write. Assumes nothing.
-use Rattle.map.specs.MergeCounts.{waits-none, waits-some}
-use Rattle.map.proofs.recount.waits.Statement.{statement}
-use Rattle.map.proofs.recount.waits.Tie as tie
+use Rattle.phantomlet.specs.MergeCounts.{waits-none, waits-some}
+use Rattle.phantomlet.proofs.recount.waits.Statement.{statement}
+use Rattle.phantomlet.proofs.recount.waits.Tie as tie
 
 returns : tie.Need-returns
 returns c = waits-none (c .before .before .args .c) (c .if1 .taken)

@@ -6,10 +6,10 @@ use Rattle.lists.specs.Tests.{present}
 use Rattle.lists.specs.Rows.{look}
 use Rattle.indexlet.specs.Words.{contentIn}
 use Rattle.index.specs.Views.{recordsOf}
-use Rattle.map.specs.MergeCounts.{tally-none, tally-below, tally-above, tally-some, outside-fits, pending-fits}
+use Rattle.phantomlet.specs.MergeCounts.{tally-none, tally-below, tally-above, tally-some, outside-fits, pending-fits}
 use borrow.Author.Needs.{needs}
-use Rattle.map.proofs.recount.tally_slot.Statement.{statement}
-use Rattle.map.proofs.recount.tally_slot.Tie as tie
+use Rattle.phantomlet.proofs.recount.tally_slot.Statement.{statement}
+use Rattle.phantomlet.proofs.recount.tally_slot.Tie as tie
 
 slot-at-requires : tie.Need-slot-at-requires
 slot-at-requires c κs = search needs

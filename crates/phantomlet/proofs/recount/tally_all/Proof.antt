@@ -1,9 +1,9 @@
 -- `map::recount::tally_all` meets its contract. Assumes nothing.
 use Prim.Native.Nat.{_-_}
 use borrow.Author.Needs.{needs}
-use Rattle.map.specs.MergeCounts.{Tallying, tally-end}
-use Rattle.map.proofs.recount.tally_all.Statement.{statement}
-use Rattle.map.proofs.recount.tally_all.Tie as tie
+use Rattle.phantomlet.specs.MergeCounts.{Tallying, tally-end}
+use Rattle.phantomlet.proofs.recount.tally_all.Statement.{statement}
+use Rattle.phantomlet.proofs.recount.tally_all.Tie as tie
 
 abbrev Inv-loop : tie.InvT-loop
 Inv-loop outside₀ pending₀ rows lows slots n m r j₀ outside pending j = Tallying rows lows slots n m r outside pending j

@@ -5,9 +5,9 @@ use native.Mathlib.Omega.{arith}
 use mathlib.Core.Path.{_≡_, refl, subst}
 use lib.ListN.{length}
 use borrow.Author.Needs.{needs}
-use Rattle.map.specs.LeafNumbers.{Clearing, clear-start, clear-on}
-use Rattle.map.proofs.recount.clear.Statement.{statement}
-use Rattle.map.proofs.recount.clear.Tie as tie
+use Rattle.phantomlet.specs.LeafNumbers.{Clearing, clear-start, clear-on}
+use Rattle.phantomlet.proofs.recount.clear.Statement.{statement}
+use Rattle.phantomlet.proofs.recount.clear.Tie as tie
 
 abbrev Inv-loop : tie.InvT-loop
 Inv-loop xs₀ from to x₀ xs x = Clearing xs₀ xs from x × (from ≤ x) × (x ≤ to)

@@ -23,7 +23,7 @@ use Rattle.spec.specs.Maps.{MapState, heldByOther, hiding, hiddenIn, hides}
 use Rattle.laws.specs.SlotCounts.{Good, tally, count, count-cons, entries-some, entries-none}
 use Rattle.laws.specs.RecordLaws.{both-left, both-right}
 use Rattle.laws.specs.SlotLaws.{keys-differ, member-content, content-member, not-idle}
-use Rattle.map.specs.Phantoms.{weigh, howMany, outsideAny, outsideIn}
+use Rattle.phantomlet.specs.Phantoms.{weigh, howMany, outsideAny, outsideIn}
 
 -- ---- counts over entries
 

@@ -7,8 +7,8 @@ use borrow.Author.Needs.{needs}
 use Rattle.lists.specs.Tests.{pick, present}
 use Rattle.spec.specs.Records.{Record}
 use Rattle.index.specs.Views.{foundOf}
-use Rattle.map.proofs.recount.lacks.Statement.{statement}
-use Rattle.map.proofs.recount.lacks.Tie as tie
+use Rattle.phantomlet.proofs.recount.lacks.Statement.{statement}
+use Rattle.phantomlet.proofs.recount.lacks.Tie as tie
 
 find-requires : tie.Need-find-requires
 find-requires c κs = search needs

@@ -1,6 +1,6 @@
 // The phantomlet after a merge. The numbers of leaves that the merge did not make move with their leaves; those of the
 // leaves that it made, and of the leaf before them, are worked out anew by one walk over the slots.
-use crate::Address;
+use index::Address;
 ghost use mathlib.Core.Path.{_≡_};
 ghost use mathlib.Core.Bool.{not};
 ghost use Prim.Native.Nat.{ℕ, _+_, _-_, _^_, _<_, _≤_};
@@ -10,9 +10,9 @@ ghost use Rattle.lists.specs.Rows.{look};
 ghost use Rattle.lists.specs.Shifts.{moved};
 ghost use Rattle.indexlet.specs.Words.{contentIn};
 ghost use Rattle.index.specs.Views.{Held, recordsOf};
-ghost use Rattle.map.specs.LeafNumbers.{Clearing, Prepared, sumTo};
-ghost use Rattle.map.specs.LeafCounts.{Range, Ranging};
-ghost use Rattle.map.specs.MergeCounts.{Recounting, Tallying, Numbers, Counting};
+ghost use Rattle.phantomlet.specs.LeafNumbers.{Clearing, Prepared, sumTo};
+ghost use Rattle.phantomlet.specs.LeafCounts.{Range, Ranging};
+ghost use Rattle.phantomlet.specs.MergeCounts.{Recounting, Tallying, Numbers, Counting};
 
 // Which leaves are counted: the places from `from` up to, not including, `to`, which hold the addresses from `low` up to,
 // not including, `high`.

@@ -22,11 +22,11 @@ use Rattle.indexlet.specs.Held as indexlet
 use Rattle.index.specs.Views.{recordsOf}
 use Rattle.index.specs.Views as index
 use Rattle.index.specs.LeafPlaces.{lowPlace, place-inside, AtLeaf, Listed}
-use Rattle.map.specs.Phantoms.{weigh, howMany}
-use Rattle.map.specs.LeafTests.{placed}
-use Rattle.map.specs.declared.recount.Reach.{Reach}
-use Rattle.map.specs.LeafNumbers.{Prepared, sumTo, sum-same, sum-add, sum-none, sum-one}
-use Rattle.map.specs.LeafCounts.{lacking, waiting, inLeaf, many-most, weigh-none, weigh-leaf, Range, Adding, Keeping, adding-start, adding-end, adding-small, adding-past, adding-some}
+use Rattle.phantomlet.specs.Phantoms.{weigh, howMany}
+use Rattle.phantomlet.specs.LeafTests.{placed}
+use Rattle.phantomlet.specs.declared.recount.Reach.{Reach}
+use Rattle.phantomlet.specs.LeafNumbers.{Prepared, sumTo, sum-same, sum-add, sum-none, sum-one}
+use Rattle.phantomlet.specs.LeafCounts.{lacking, waiting, inLeaf, many-most, weigh-none, weigh-leaf, Range, Adding, Keeping, adding-start, adding-end, adding-small, adding-past, adding-some}
 
 -- ---- the walk
 

@@ -3,8 +3,8 @@
 use borrow.Author.Needs.{needs}
 use native.Mathlib.Omega.{arith}
 use Rattle.index.specs.Views.{recordFrom}
-use Rattle.map.specs.LeafTests.{placed}
-use Rattle.map.specs.LeafCounts.{leaf-below, leaf-above, leaf-inside}
+use Rattle.phantomlet.specs.LeafTests.{placed}
+use Rattle.phantomlet.specs.LeafCounts.{leaf-below, leaf-above, leaf-inside}
 use Rattle.map.specs.MergeWalks.{walk-past, walk-on, takes-none, takes-other, slot-room, write-room, rest-content}
 use Rattle.map.proofs.merge.take_slot.Statement.{statement}
 use Rattle.map.proofs.merge.take_slot.Tie as tie

@@ -82,15 +82,12 @@ fn take_slot(
     ensures { λ r. ⌜ Steps (placed (now (lows .entry)) m i) (now (rows .entry)) (now (slots .entry)) w j (now (rows .exit)) (now (slots .exit)) r ⌝ }
 {
     let s = indexlet::slot_at(slots, j);
+    let key = s.key;
+    if !recount::reaches(r, key) {
+        return w;
+    }
     let c = s.content;
     if c.kind == 0 {
-        return w;
-    }
-    let key = s.key;
-    if key < r.low {
-        return w;
-    }
-    if r.high <= key {
         return w;
     }
     let a = key as u32;

@@ -1,16 +1,17 @@
 -- Counts of entries leaf by leaf, in an array with a number for each leaf: a walk over the slots adds each entry's number
 -- at the place of its leaf. What a place has, and what the slots from the walk's place on still add there, is the whole.
 -- Assumes nothing.
-use Prim.Native.Nat.{ℕ, suc, _+_, _-_, _^_, _<_, _≤_, zero-le}
+use Prim.Native.Nat.{ℕ, suc, _+_, _-_, _%_, _^_, _<_, _≤_, zero-le}
 use native.Mathlib.Omega.{arith}
 use mathlib.Core.Path.{_≡_, refl, sym, ap, _∙_}
 use mathlib.Core.Logic.{_⊎_, inl, inr, ⊎-elim}
 use mathlib.Core.Bool.{Bool, true, false, not}
 use mathlib.Core.List.{List}
 use mathlib.Core.Option.{Option, none, some}
+use lib.Dec.{ltb}
 use lib.ListN.{length, take, drop, getD, set, length-set}
 use lib.Seq.{drop-cons, getD-set-same, getD-set-other}
-use Rattle.lists.specs.Tests.{pick, both, present, same, less, cases, same-yes, same-no, same-true, same-false, less-true, less-false}
+use Rattle.lists.specs.Tests.{pick, both, present, same, less, atMost, cases, clash, same-yes, same-no, same-true, same-false, less-yes, less-no, less-true, less-false, atMost-true, atMost-false}
 use Rattle.lists.specs.Rows.{Row, look}
 use Rattle.lists.specs.Sums.{total, total-most}
 use Rattle.spec.specs.Records.{Record}
@@ -71,6 +72,53 @@ pub record Range (lows : List ℕ) (m : ℕ) (r : Reach) : Type 0 where
   pub below : (k : ℕ) → k < r .low → lowPlace k (take m lows) < r .from
   pub above : (k : ℕ) → r .high ≤ k → k < 2 ^ 32 → r .to ≤ lowPlace k (take m lows)
   pub inside : (k : ℕ) → r .low ≤ k → k < r .high → (r .from ≤ lowPlace k (take m lows)) × (lowPlace k (take m lows) < r .to)
+  pub span : r .span ≡ r .high - r .low
+
+-- an address lies between low and high
+unfoldable pub reached : Reach → ℕ → Bool
+reached r k = both (atMost (r .low) k) (less k (r .high))
+
+pub reached-yes : (r : Reach) (k : ℕ) → reached r k ≡ true → (r .low ≤ k) × (k < r .high)
+unfolding reached
+reached-yes r k e =
+    ⊎-elim
+    (λ a. (atMost-true (r .low) k a, less-true k (r .high) (ap (λ (b : Bool). both b (less k (r .high))) (sym a) ∙ e)))
+    (λ a. clash e (ap (λ (b : Bool). both b (less k (r .high))) a))
+    (cases (atMost (r .low) k))
+
+pub reached-no : (r : Reach) (k : ℕ) → reached r k ≡ false → (k < r .low) ⊎ (r .high ≤ k)
+unfolding reached
+reached-no r k e =
+    ⊎-elim
+    (λ a. inr (less-false k (r .high) (ap (λ (b : Bool). both b (less k (r .high))) (sym a) ∙ e)))
+    (λ a. inl (atMost-false (r .low) k a))
+    (cases (atMost (r .low) k))
+
+-- as the code has it
+pub reaches-yes : (b : Bool) (r : Reach) (k : ℕ) → b ≡ reached r k → not b ≡ false → (r .low ≤ k) × (k < r .high)
+reaches-yes true r k e t = reached-yes r k (sym e)
+reaches-yes false r k e t = clash refl t
+
+pub reaches-no : (b : Bool) (r : Reach) (k : ℕ) → b ≡ reached r k → not b ≡ true → reached r k ≡ false
+reaches-no true r k e t = clash t refl
+reaches-no false r k e t = sym e
+
+-- by one comparison: the number that low added to wraps back to the address
+pub one-comparison : (r : Reach) (k d : ℕ) → r .span ≡ r .high - r .low → (d + r .low) % 2 ^ 64 ≡ k → d < 2 ^ 64 → r .low < 2 ^ 64 → r .high < 2 ^ 64 → ltb d (r .span) ≡ reached r k
+unfolding reached less
+one-comparison r k d s e f l h =
+    ⊎-elim
+    (λ a. let q : r .low ≤ k = atMost-true (r .low) k a in
+    let z : d ≡ k - r .low = omega arith in
+    ⊎-elim
+    (λ b. let t : k < r .high = less-true k (r .high) b in
+    less-yes {m = d} {n = r .span} (omega arith) ∙ sym (ap (λ (x : Bool). both x (ltb k (r .high))) a ∙ b))
+    (λ b. let t : r .high ≤ k = less-false k (r .high) b in
+    less-no {m = d} {n = r .span} (omega arith) ∙ sym (ap (λ (x : Bool). both x (ltb k (r .high))) a ∙ b))
+    (cases (less k (r .high))))
+    (λ a. let q : k < r .low = atMost-false (r .low) k a in
+    less-no {m = d} {n = r .span} (omega arith) ∙ sym (ap (λ (x : Bool). both x (ltb k (r .high))) a))
+    (cases (atMost (r .low) k))
 
 -- what finding them asks
 pub record Ranging (lows : List ℕ) (m from to : ℕ) : Type 0 where
@@ -81,18 +129,19 @@ pub record Ranging (lows : List ℕ) (m from to : ℕ) : Type 0 where
 
 module _ (lows : List ℕ) (m from to : ℕ) (al : length lows ≡ 1025) (r : Ranging lows m from to) where
   -- up to the next leaf
-  pub range-next : to < m → Range lows m (record { from = from; to = to; low = getD lows from 0; high = getD lows to 0 })
-  range-next n =
+  pub range-next : (s : ℕ) → s ≡ getD lows to 0 - getD lows from 0 → to < m → Range lows m (record { from = from; to = to; low = getD lows from 0; high = getD lows to 0; span = s })
+  range-next s e n =
       let g : from < to = r .some in
       record {
         below = λ k l. low-below lows m (r .listed) al from k (r .first) (r .inside) l;
         above = λ k l b. low-from lows m (r .listed) al to k n l;
         inside = λ k l b. (low-from lows m (r .listed) al from k (r .inside) l, low-before lows m (r .listed) al to k (omega arith) n b);
+        span = e;
       }
 
   -- up to the last address
-  pub range-last : m ≤ to → Range lows m (record { from = from; to = to; low = getD lows from 0; high = 4294967296 })
-  range-last n =
+  pub range-last : (s : ℕ) → s ≡ 4294967296 - getD lows from 0 → m ≤ to → Range lows m (record { from = from; to = to; low = getD lows from 0; high = 4294967296; span = s })
+  range-last s e n =
       record {
         below = λ k l. low-below lows m (r .listed) al from k (r .first) (r .inside) l;
         above = λ k l b. absurd (let q : ⊥ = omega arith in q);
@@ -100,6 +149,7 @@ module _ (lows : List ℕ) (m from to : ℕ) (al : length lows ≡ 1025) (r : Ra
             λ k l b.
             let x : lowPlace k (take m lows) < m = low-inside lows m (r .listed) al k in
             (low-from lows m (r .listed) al from k (r .inside) l, omega arith);
+        span = e;
       }
 
 -- The leaf at place i holds the addresses of r.
@@ -122,6 +172,9 @@ module _ {lows : List ℕ} {m i : ℕ} {r : Reach} (h : OneLeaf lows m i r) wher
       let a : r .to ≤ lowPlace k (take m lows) = h .range .above k l f in
       let b : r .to ≡ i + 1 = h .to in
       same-no {m = lowPlace k (take m lows)} {n = i} (λ e. let z : ⊥ = omega arith in z)
+
+  pub leaf-outside : (k : ℕ) → k < 2 ^ 32 → reached r k ≡ false → placed lows m i k ≡ false
+  leaf-outside k f e = ⊎-elim (λ l. leaf-below k l) (λ l. leaf-above k l f) (reached-no r k e)
 
   pub leaf-inside : (k : ℕ) → r .low ≤ k → k < r .high → placed lows m i k ≡ true
   unfolding placed

@@ -9,7 +9,8 @@ use mathlib.Core.List.{List, [], _∷_}
 use mathlib.Core.Option.{Option, none, some}
 use lib.ListN.{length, take, getD, set}
 use lib.Seq.{length-take-le}
-use Rattle.lists.specs.Tests.{pick, present, same, same-no}
+use mathlib.Core.Logic.{⊎-elim}
+use Rattle.lists.specs.Tests.{pick, present, same, cases, same-no}
 use Rattle.lists.specs.Rows.{Row, row, look}
 use Rattle.lists.specs.Sums.{total}
 use Rattle.spec.specs.Slots.{slotCount, Content, isIdle, Slot}
@@ -26,7 +27,7 @@ use Rattle.phantomlet.specs.Phantoms.{weigh, howMany}
 use Rattle.phantomlet.specs.LeafTests.{placed}
 use Rattle.phantomlet.specs.declared.recount.Reach.{Reach}
 use Rattle.phantomlet.specs.LeafNumbers.{Prepared, sumTo, sum-same, sum-add, sum-none, sum-one}
-use Rattle.phantomlet.specs.LeafCounts.{lacking, waiting, inLeaf, many-most, weigh-none, weigh-leaf, Range, Adding, Keeping, adding-start, adding-end, adding-small, adding-past, adding-some}
+use Rattle.phantomlet.specs.LeafCounts.{lacking, waiting, inLeaf, many-most, weigh-none, weigh-leaf, Range, reached, reached-no, Adding, Keeping, adding-start, adding-end, adding-small, adding-past, adding-some}
 
 -- ---- the walk
 
@@ -143,6 +144,13 @@ module _ {rows lows slots : List ℕ} {n m : ℕ} {z : Reach} {outside pending :
 
     pub tally-above : isIdle (contentIn (r .content)) ≡ false → z .high ≤ r .key → Tallying rows lows slots n m z outside pending (j + 1)
     tally-above t l = let w : z .to ≤ lowPlace (r .key) (take m lows) = g .range .above (r .key) l (reads .narrow) in out-of (λ i a b e. let q : ⊥ = omega arith in q) t
+
+    -- an address in none of these leaves, with an entry or without
+    pub tally-outside : reached z (r .key) ≡ false → Tallying rows lows slots n m z outside pending (j + 1)
+    tally-outside e =
+        ⊎-elim (λ t. tally-none t)
+        (λ t. ⊎-elim (λ l. tally-below t l) (λ l. tally-above t l) (reached-no z (r .key) e))
+        (cases (isIdle (contentIn (r .content))))
 
     -- an entry in one of them
     pub tally-some : (at x w : ℕ) (outside' pending' : List ℕ) → isIdle (contentIn (r .content)) ≡ false → z .low ≤ r .key → r .key < z .high → AtLeaf lows m (r .key) at

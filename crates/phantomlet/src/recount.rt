@@ -11,16 +11,17 @@ ghost use Rattle.lists.specs.Shifts.{moved};
 ghost use Rattle.indexlet.specs.Words.{contentIn};
 ghost use Rattle.index.specs.Views.{Held, recordsOf};
 ghost use Rattle.phantomlet.specs.LeafNumbers.{Clearing, Prepared, sumTo};
-ghost use Rattle.phantomlet.specs.LeafCounts.{Range, Ranging};
+ghost use Rattle.phantomlet.specs.LeafCounts.{Range, Ranging, reached};
 ghost use Rattle.phantomlet.specs.MergeCounts.{Recounting, Tallying, Numbers, Counting};
 
 // Which leaves are counted: the places from `from` up to, not including, `to`, which hold the addresses from `low` up to,
-// not including, `high`.
+// not including, `high`: `span` of them.
 pub struct Reach {
     pub from: usize,
     pub to: usize,
     pub low: u64,
     pub high: u64,
+    pub span: u64,
 }
 
 // The place before, or the first.
@@ -72,6 +73,16 @@ fn make_room(xs: &mut [u64; 1025], i: usize, old: usize, from: usize, to: usize)
     clear(xs, from, to);
 }
 
+// How many numbers there are from one up to, not including, another.
+fn between(low: u64, high: u64) -> u64
+    ensures { λ r. ⌜ r ≡ high - low ⌝ }
+{
+    if high < low {
+        return 0;
+    }
+    high - low
+}
+
 // The addresses of the leaves at these places.
 pub fn addresses_of(lows: &[u64; 1025], m: usize, from: usize, to: usize) -> Reach
     requires { ⌜ Ranging (now lows) m from to ⌝ }
@@ -86,6 +97,7 @@ pub fn addresses_of(lows: &[u64; 1025], m: usize, from: usize, to: usize) -> Rea
             to,
             low,
             high,
+            span: between(low, high),
         };
     }
     Reach {
@@ -93,7 +105,16 @@ pub fn addresses_of(lows: &[u64; 1025], m: usize, from: usize, to: usize) -> Rea
         to,
         low,
         high: 4294967296,
+        span: between(low, 4294967296),
     }
+}
+
+// The address lies in those leaves. One comparison, since in a walk over the slots two are guessed wrong every other time.
+pub fn reaches(r: Reach, key: u64) -> bool
+    requires { ⌜ r .span ≡ r .high - r .low ⌝ }
+    ensures { λ b. ⌜ b ≡ reached r key ⌝ }
+{
+    std::num::wrapping_sub_u64(key, r.low) < r.span
 }
 
 // 1 if a write is pending.
@@ -146,15 +167,12 @@ fn tally_slot(
     ensures { λ _. ⌜ Tallying (now (rows .entry)) (now (lows .entry)) (now (slots .entry)) n m r (now (outside .exit)) (now (pending .exit)) (j + 1) ⌝ }
 {
     let s = indexlet::slot_at(slots, j);
+    let key = s.key;
+    if !reaches(r, key) {
+        return;
+    }
     let c = s.content;
     if indexlet::idle(c) {
-        return;
-    }
-    let key = s.key;
-    if key < r.low {
-        return;
-    }
-    if r.high <= key {
         return;
     }
     let a = key as u32;

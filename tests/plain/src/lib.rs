@@ -3,6 +3,7 @@
 
 pub mod choose;
 pub mod claim;
+pub mod compare;
 pub mod damage;
 pub mod engine;
 pub mod generate;

@@ -1,7 +1,10 @@
 //! Commands over standard input and output; see `USAGE`.
 
+use plain::compare::suite::{Programs, Size};
+use plain::compare::{self, Check};
 use plain::{claim, damage, generate, profiles, script};
 use std::io::{self, Read, Write};
+use std::path::Path;
 use std::process::ExitCode;
 
 const USAGE: &str = "\
@@ -10,7 +13,10 @@ usage: plain answer                     answers to the script on standard input
        plain script SEED STEPS PROFILE  a random script; PROFILE may be `any`
        plain profiles                   the names of the profiles
        plain damaged SEED STEPS         a random script with one malformed line
-       plain damage-kinds               the kinds of damage";
+       plain damage-kinds               the kinds of damage
+       plain compare PROGRAM            holds a program to these answers, as the gate does
+       plain compare PROGRAM SEED COUNT STEPS [PROFILE]
+                                        the same on COUNT scripts of each profile, from SEED on";
 
 fn main() -> ExitCode {
     let arguments: Vec<String> = std::env::args().skip(1).collect();
@@ -38,6 +44,14 @@ fn command(words: &[&str]) -> io::Result<ExitCode> {
             print(&damage::damaged(number(seed)?, number(steps)? as usize).text)?;
         }
         ["damage-kinds"] => damage::KINDS.iter().for_each(|kind| println!("{}", kind.name)),
+        ["compare", program] => return Ok(report(&Programs::new(Path::new(program)).gate())),
+        ["compare", program, seed, count, steps, profile @ ..] if profile.len() < 2 => {
+            let (first, count) = (number(seed)?, number(count)?);
+            let size = Size { seeds: first..first + count, steps: number(steps)? as usize };
+            let only = profile.first().map(|name| profiles::find(name, first).ok_or_else(usage));
+            let programs = Programs::new(Path::new(program));
+            return Ok(report(&programs.longer(&size, only.transpose()?)));
+        }
         _ => return Err(usage()),
     }
     Ok(ExitCode::SUCCESS)
@@ -59,6 +73,16 @@ fn input() -> io::Result<Vec<u8>> {
 
 fn print(text: &[u8]) -> io::Result<()> {
     io::stdout().lock().write_all(text)
+}
+
+fn report(checks: &[Check]) -> ExitCode {
+    let tally = compare::run(checks);
+    println!("{} passed, {} failed", tally.passed, tally.failed);
+    if tally.failed == 0 && tally.passed != 0 {
+        ExitCode::SUCCESS
+    } else {
+        ExitCode::FAILURE
+    }
 }
 
 /// A malformed line ends the run, as it does for the answers.

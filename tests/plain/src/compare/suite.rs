@@ -1,0 +1,102 @@
+//! Which scripts are compared.
+
+use super::program::{Feed, Program};
+use super::{runs, Check, Script, Subject};
+use crate::damage;
+use crate::profiles::{Profile, PROFILES};
+use std::ops::Range;
+use std::path::Path;
+
+/// How many scripts of each kind, and how long.
+pub struct Size {
+    pub seeds: Range<u64>,
+    pub steps: usize,
+}
+
+/// Those of the gate: 2 million steps, and one script that is long enough to
+/// spend all serial numbers.
+pub const GATE: Size = Size { seeds: 1..5, steps: 45_000 };
+
+/// Whether the profile's scripts are as short as asked.
+fn short(profile: &Profile) -> bool {
+    profile.least == 0
+}
+
+pub fn random(size: &Size, only: Option<&'static Profile>) -> Vec<Script> {
+    let mut scripts = Vec::new();
+    // The long ones come first, so that no processor waits for one at the end.
+    let (short, long): (Vec<_>, Vec<_>) = PROFILES.iter().partition(|profile| short(profile));
+    for profile in long.into_iter().chain(short) {
+        if only.is_some_and(|only| only.name != profile.name) {
+            continue;
+        }
+        let most = if profile.least == 0 { u64::MAX } else { 1 };
+        for seed in size.seeds.clone().take(most as usize) {
+            scripts.push(Script::Random { profile, seed, steps: size.steps.max(profile.least) });
+        }
+    }
+    scripts
+}
+
+/// Every kind of damage, so many times, at the start and deep in a script.
+pub fn damaged(seeds: Range<u64>) -> Vec<Script> {
+    let kinds = damage::KINDS.len() as u64;
+    let seeds = seeds.start * kinds..seeds.end * kinds;
+    seeds.map(|seed| Script::Damaged { seed, steps: 1 + (seed % 7 * seed) as usize }).collect()
+}
+
+const FEEDS: [&[usize]; 4] = [&[1], &[1, 2, 3, 5, 7, 11, 13], &[4096, 1, 4095], &[65536, 1, 65535]];
+
+/// Short scripts of all kinds, to be fed in odd pieces.
+fn pieces() -> Vec<Script> {
+    let size = Size { seeds: 1..2, steps: 1_500 };
+    let mut scripts: Vec<Script> = random(&size, None);
+    scripts.retain(|script| matches!(script, Script::Random { profile, .. } if short(profile)));
+    scripts.extend(damaged(0..1));
+    scripts.extend(runs::all());
+    scripts
+}
+
+/// What `mapscript` is held to.
+pub struct Programs {
+    piped: Program,
+    fed: Vec<Program>,
+}
+
+impl Programs {
+    pub fn new(path: &Path) -> Self {
+        let program = |feed| Program { path: path.into(), feed };
+        Programs {
+            piped: program(Feed::Pipe),
+            fed: FEEDS.map(|sizes| program(Feed::Packets(sizes))).into(),
+        }
+    }
+
+    /// The gate's comparison.
+    pub fn gate(&self) -> Vec<Check<'_>> {
+        let mut scripts = random(&GATE, None);
+        scripts.extend(damaged(0..12));
+        scripts.extend(runs::all());
+        let mut checks = by_script(&self.piped, scripts);
+        for fed in &self.fed {
+            let check = |script| Check { group: fed.name(), script, subject: fed };
+            checks.extend(pieces().into_iter().map(check));
+        }
+        checks
+    }
+
+    /// Random scripts of any seeds, and as many of each kind of damage.
+    pub fn longer(&self, size: &Size, only: Option<&'static Profile>) -> Vec<Check<'_>> {
+        let mut scripts = random(size, only);
+        if only.is_none() {
+            scripts.extend(damaged(size.seeds.clone()));
+        }
+        by_script(&self.piped, scripts)
+    }
+}
+
+/// Scripts through a subject, reported by their kind.
+pub fn by_script(subject: &dyn Subject, scripts: Vec<Script>) -> Vec<Check<'_>> {
+    let check = |script: Script| Check { group: script.group().into(), script, subject };
+    scripts.into_iter().map(check).collect()
+}

@@ -4,10 +4,10 @@ ghost use mathlib.Core.Path.{_≡_};
 ghost use Rattle.sets.specs.Workers.{begun, atLock, atCheck, freed};
 
 // The stage, the commit number once checked, and how many rows of the three sets are in use. Narrow, since all eight go by
-// value from step to step.
+// value from step to step, and the number first, since fields are laid out as written: 8 bytes, where 12 else.
 pub struct Worker {
-    pub stage: Stage,
     pub number: u32,
+    pub stage: Stage,
     pub reads: u8,
     pub leaves: u8,
     pub writes: u8,

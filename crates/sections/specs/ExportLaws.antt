@@ -2,10 +2,10 @@
 -- Assumes nothing.
 use Prim.Native.Nat.{ℕ}
 use mathlib.Core.Path.{_≡_, refl, sym, ap, _∙_, subst}
-use mathlib.Core.Bool.{Bool, true, false}
+use mathlib.Core.Bool.{true, false}
 use mathlib.Core.List.{List, [], _∷_}
 use mathlib.Core.Option.{Option, none, some}
-use lib.ListN.{length, getD}
+use lib.ListN.{length}
 use Rattle.lists.specs.Tests.{same, maybe, present}
 use Rattle.lists.specs.Rows.{Row, row}
 use Rattle.spec.specs.Records.{Record}
@@ -19,9 +19,7 @@ use Rattle.transactions.specs.declared.Core.{Core}
 use Rattle.transactions.specs.Views.{Logs}
 use Rattle.transactions.specs.Ready.{Ready}
 use Rattle.transactions.specs.Starts.{Fresh}
-use Rattle.engine.specs.declared.steps.Op.{Op}
 use Rattle.replay.specs.declared.codes.Code.{Code}
-use Rattle.replay.specs.declared.codes.Coded.{Coded}
 use Rattle.replay.specs.declared.codes.Decoded.{Decoded}
 use Rattle.replay.specs.declared.codes.Decoded.the-variants.{Meant, Meaningless}
 use Rattle.replay.specs.declared.codes.Stepped.{Stepped}

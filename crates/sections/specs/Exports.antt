@@ -4,7 +4,6 @@ use Prim.Native.Nat.{ℕ}
 use mathlib.Core.Path.{_≡_}
 use mathlib.Core.Bool.{Bool}
 use mathlib.Core.List.{List, [], _∷_}
-use mathlib.Core.Option.{Option, none, some}
 use lib.ListN.{getD}
 use Rattle.lists.specs.Tests.{pick, same, maybe, present}
 use Rattle.lists.specs.Rows.{Row}
@@ -21,7 +20,7 @@ use Rattle.replay.specs.declared.runs.Stop.{Stop}
 use Rattle.replay.specs.declared.runs.Stop.the-variants.{Complete, Meaningless, Full}
 use Rattle.replay.specs.declared.runs.Replayed.{Replayed}
 use Rattle.replay.specs.Codes.{codedAs, Steps}
-use Rattle.sections.specs.Saved.{coreIn, sizesIn}
+use Rattle.sections.specs.Saved.{coreIn}
 
 -- ---- a step
 

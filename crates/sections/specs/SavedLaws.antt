@@ -1,11 +1,11 @@
 -- The core is read from its words, and put into them.
 -- Assumes nothing.
-use Prim.Native.Nat.{ℕ, zero, suc, _+_, _*_}
+use Prim.Native.Nat.{ℕ, _+_, _*_}
 use native.Mathlib.Omega.{arith}
-use mathlib.Core.Path.{_≡_, refl, sym, ap, _∙_}
+use mathlib.Core.Path.{_≡_, refl, ap, _∙_}
 use mathlib.Core.List.{List, [], _∷_}
 use lib.ListN.{length, getD}
-use Rattle.lists.specs.Tests.{same, same-refl, same-no}
+use Rattle.lists.specs.Tests.{same, same-no}
 use Rattle.spec.specs.declared.Stage.{Stage}
 use Rattle.spec.specs.declared.Stage.the-variants.{Free, Open, Locked, Checked}
 use Rattle.sets.specs.declared.workers.Worker.{Worker}

@@ -98,7 +98,7 @@ pub fn answer(script: &[u8], out: &mut impl Write) -> io::Result<()> {
             text.clear();
         }
     }
-    write_contents(&mut text, &engine.map().contents());
+    write_contents(&mut text, &pairs(&engine.map().contents()));
     out.write_all(&text)
 }
 
@@ -122,10 +122,14 @@ pub fn write_answer(text: &mut Vec<u8>, step: Step, answer: Answer, buffers: &Bu
     text.push(b'\n');
 }
 
-fn write_contents(text: &mut Vec<u8>, contents: &[Record]) {
+fn pairs(contents: &[Record]) -> Vec<(u32, u64)> {
+    contents.iter().map(|record| (record.address, record.stored.value)).collect()
+}
+
+pub fn write_contents(text: &mut Vec<u8>, contents: &[(u32, u64)]) {
     text.push(b'E');
     field(text, contents.len() as u64);
-    contents.iter().for_each(|record| write_pair(text, (record.address, record.stored.value)));
+    contents.iter().for_each(|&pair| write_pair(text, pair));
     text.push(b'\n');
 }
 

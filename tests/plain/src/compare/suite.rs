@@ -38,11 +38,11 @@ pub fn random(size: &Size, only: Option<&'static Profile>) -> Vec<Script> {
     scripts
 }
 
-/// Every kind of damage, so many times, at the start and deep in a script.
+/// Every kind of damage, so many times, in scripts of one line and of hundreds.
 pub fn damaged(seeds: Range<u64>) -> Vec<Script> {
     let kinds = damage::KINDS.len() as u64;
     let seeds = seeds.start * kinds..seeds.end * kinds;
-    seeds.map(|seed| Script::Damaged { seed, steps: 1 + (seed % 7 * seed) as usize }).collect()
+    seeds.map(|seed| Script::Damaged { seed, steps: 1 + (seed % 7 * 90) as usize }).collect()
 }
 
 const FEEDS: [&[usize]; 4] = [&[1], &[1, 2, 3, 5, 7, 11, 13], &[4096, 1, 4095], &[65536, 1, 65535]];

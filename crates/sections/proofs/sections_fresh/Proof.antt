@@ -1,0 +1,17 @@
+-- `sections_fresh` meets its contract: the fresh core, in the words. Assumes nothing.
+use Rattle.sections.specs.ExportLaws.{fresh-saved}
+use borrow.Author.Needs.{needs}
+use Rattle.sections.proofs.sections_fresh.Statement.{statement}
+use Rattle.sections.proofs.sections_fresh.Tie as tie
+
+fresh-requires : tie.Need-fresh-requires
+fresh-requires c κs = search needs
+
+store-requires : tie.Need-store-requires
+store-requires c κs = search needs
+
+returns : tie.Need-returns
+returns c = fresh-saved _ (c .before .before .fresh .ensures) (c .store .ensures)
+
+pub sections-fresh-spec : {M : Type 1} → statement M
+sections-fresh-spec = tie.close (tie.spec fresh-requires store-requires returns)

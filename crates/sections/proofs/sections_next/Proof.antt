@@ -1,0 +1,40 @@
+-- `sections_next` meets its contract: the first record, or none. Assumes nothing.
+use Rattle.sections.specs.ExportLaws.{ready-loaded, gives-one, gives-none}
+use borrow.Author.Needs.{needs}
+use Rattle.sections.proofs.sections_next.Statement.{statement}
+use Rattle.sections.proofs.sections_next.Tie as tie
+
+load-requires : tie.Need-load-requires
+load-requires c κs = search needs
+
+next-record-requires : tie.Need-next-record-requires
+next-record-requires c κs =
+    let t = ready-loaded _ (c .before .load .ensures) (c .before .before .pre) .stored .map .tables in
+    (t .rows, (t .rows-narrow, t .words))
+
+enum-known-next : tie.Need-enum-known-next
+enum-known-next c = search needs
+
+cast-t21 : tie.Need-cast-t21
+cast-t21 c = search needs
+
+enum-told : tie.Need-enum-told
+enum-told c = search needs
+
+returns : tie.Need-returns
+returns c = gives-one _ _ (c .before .before .before .before .before .load .ensures) (c .before .before .before .next-record .ensures) (c .before .next .given .1)
+
+returns-2 : tie.Need-returns-2
+returns-2 c = gives-none _ _ (c .before .before .before .before .load .ensures) (c .before .before .next-record .ensures) (c .enum-told .given .1)
+
+pub sections-next-spec : {M : Type 1} → statement M
+sections-next-spec =
+    tie.close
+    (tie.spec
+    load-requires
+    next-record-requires
+    enum-known-next
+    cast-t21
+    enum-told
+    returns
+    returns-2)

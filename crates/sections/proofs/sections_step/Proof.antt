@@ -1,0 +1,38 @@
+-- `sections_step` meets its contract: `codes::step` between a core loaded and a core stored. Assumes nothing.
+use Rattle.sections.specs.ExportLaws.{ready-loaded, steps-eight, takes}
+use borrow.Author.Needs.{needs}
+use Rattle.sections.proofs.sections_step.Statement.{statement}
+use Rattle.sections.proofs.sections_step.Tie as tie
+
+load-requires : tie.Need-load-requires
+load-requires c κs = search needs
+
+step-requires : tie.Need-step-requires
+step-requires c κs = ready-loaded _ (c .before .before .before .before .before .before .before .before .before .before .before .load .ensures) (c .before .before .before .before .before .before .before .before .before .before .before .before .before .before .before .pre)
+
+store-requires : tie.Need-store-requires
+store-requires c κs = steps-eight (ready-loaded _ (c .before .before .before .before .before .before .before .before .before .before .before .before .before .before .before .before .before .before .before .load .ensures) (c .before .before .before .before .before .before .before .before .before .before .before .before .before .before .before .before .before .before .before .before .before .before .before .pre)) (c .before .before .before .before .before .before .before .step .ensures)
+
+put-answer-requires : tie.Need-put-answer-requires
+put-answer-requires c κs = search needs
+
+same-length : tie.Need-same-length
+same-length c = search needs
+
+same-length-2 : tie.Need-same-length-2
+same-length-2 c = search needs
+
+returns : tie.Need-returns
+returns c = takes (c .before .before .before .before .before .before .before .before .before .before .step .result) (c .before .before .before .before .before .before .before .before .before .before .before .before .before .before .before .before .before .before .before .before .before .before .load .ensures) (c .before .before .before .before .before .before .before .before .before .before .before .before .before .before .before .before .before .before .before .before .before .before .before .before .before .before .pre) (c .before .before .before .before .before .before .before .before .before .before .step .ensures) (c .before .before .store .ensures) (c .put-answer .ensures)
+
+pub sections-step-spec : {M : Type 1} → statement M
+sections-step-spec =
+    tie.close
+    (tie.spec
+    load-requires
+    step-requires
+    store-requires
+    put-answer-requires
+    same-length
+    same-length-2
+    returns)

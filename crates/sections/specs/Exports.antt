@@ -1,0 +1,66 @@
+-- What the exported functions promise: the same as the Rattle functions below them, with the outcome read off the words.
+-- Assumes nothing.
+use Prim.Native.Nat.{ℕ}
+use mathlib.Core.Path.{_≡_}
+use mathlib.Core.Bool.{Bool}
+use mathlib.Core.List.{List, [], _∷_}
+use lib.ListN.{getD}
+use Rattle.lists.specs.Tests.{pick, same, maybe, present}
+use Rattle.lists.specs.Rows.{Row}
+use Rattle.spec.specs.Records.{Record}
+use Rattle.spec.specs.Maps.{contents}
+use Rattle.map.specs.Views.{Lent, mapOf}
+use Rattle.map.specs.NextViews.{firstFrom}
+use Rattle.transactions.specs.Views.{Logs}
+use Rattle.transactions.specs.Ready.{Ready}
+use Rattle.replay.specs.declared.codes.Code.{Code}
+use Rattle.replay.specs.declared.codes.Coded.{Coded}
+use Rattle.replay.specs.declared.codes.Stepped.{Stepped}
+use Rattle.replay.specs.declared.runs.Stop.{Stop}
+use Rattle.replay.specs.declared.runs.Stop.the-variants.{Complete, Meaningless, Full}
+use Rattle.replay.specs.declared.runs.Replayed.{Replayed}
+use Rattle.replay.specs.Codes.{codedAs, Steps}
+use Rattle.sections.specs.Saved.{coreIn}
+
+-- ---- a step
+
+-- an answer in three words
+abbrev pub codedIn : List ℕ → Coded
+codedIn ws = codedAs (getD ws 0 0) (getD ws 1 0) (getD ws 2 0)
+
+abbrev pub steppedIn : List ℕ → List ℕ → Stepped
+steppedIn core answer = record { core = coreIn core; answer = codedIn answer }
+
+-- a coded step, from the core in the words to the core in the words
+pub record Takes (l : Lent) (g : Logs) (core : List ℕ) (k : Code) (ks vs : List ℕ) (l' : Lent) (g' : Logs) (core' ks' vs' answer : List ℕ) : Type 0 where
+  pub ready : Ready l' g' (coreIn core')
+  pub steps : Steps l g (coreIn core) k ks vs l' g' ks' vs' (steppedIn core' answer)
+
+-- ---- a list of steps
+
+abbrev pub stopNumber : Stop → ℕ
+stopNumber Complete = 0
+stopNumber Meaningless = 1
+stopNumber Full = 2
+
+unfoldable pub stopOf : ℕ → Stop
+stopOf n = pick (same n 0) Complete (pick (same n 1) Meaningless Full)
+
+pub record Counts (ws : List ℕ) (taken written : ℕ) : Type 0 where
+  pub taken-is : getD ws 0 0 ≡ taken
+  pub written-is : getD ws 1 0 ≡ written
+
+abbrev pub replayedIn : List ℕ → List ℕ → ℕ → Replayed
+replayedIn core counts n =
+    record { core = coreIn core; taken = getD counts 0 0; written = getD counts 1 0; stop = stopOf n }
+
+-- ---- the contents, one after the other
+
+-- a record in three words: address, value, serial number
+abbrev pub rowWords : Row Record → List ℕ
+rowWords r = r .key ∷ r .item .payload .value ∷ r .item .commit ∷ []
+
+-- the first record of the contents from an address on, in words that it leaves if there is none
+pub record Gives (l : Lent) (core : List ℕ) (from : ℕ) (old new : List ℕ) (r : Bool) : Type 0 where
+  pub there : r ≡ present (firstFrom from (contents (mapOf l (coreIn core .sizes))))
+  pub words : new ≡ maybe (firstFrom from (contents (mapOf l (coreIn core .sizes)))) old rowWords

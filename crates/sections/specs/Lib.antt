@@ -1,0 +1,4 @@
+pub mod Saved
+pub mod SavedLaws
+pub mod Exports
+pub mod ExportLaws

@@ -1,7 +1,8 @@
 -- The core in 46 words: for each of the eight seats its stage (0 free, 1 open, 2 locked, 3 checked), its number and the
--- counts of its three sets; then the four sizes and the two counters.
+-- counts of its three sets; then the four sizes and the two counters. A seat's number is the low 32 bits of its word, a
+-- count the low 8.
 -- Assumes nothing.
-use Prim.Native.Nat.{ℕ, _+_, _*_}
+use Prim.Native.Nat.{ℕ, _+_, _*_, _%_, _^_}
 use mathlib.Core.Path.{_≡_}
 use mathlib.Core.List.{List, [], _∷_}
 use lib.ListN.{getD}
@@ -27,10 +28,10 @@ unfoldable pub seatIn : List ℕ → ℕ → Worker
 seatIn ws w =
     record {
       stage = stageOf (getD ws (5 * w) 0);
-      number = getD ws (5 * w + 1) 0;
-      reads = getD ws (5 * w + 2) 0;
-      leaves = getD ws (5 * w + 3) 0;
-      writes = getD ws (5 * w + 4) 0;
+      number = getD ws (5 * w + 1) 0 % 2 ^ 32;
+      reads = getD ws (5 * w + 2) 0 % 2 ^ 8;
+      leaves = getD ws (5 * w + 3) 0 % 2 ^ 8;
+      writes = getD ws (5 * w + 4) 0 % 2 ^ 8;
     }
 
 abbrev pub sizesIn : List ℕ → Sizes
@@ -47,10 +48,10 @@ coreIn ws =
       counters = countersIn ws;
     }
 
--- the numbers of a seat
+-- the numbers of a seat, as they are read
 pub record SeatIs (x : Worker) (r : SeatWords) : Type 0 where
   pub stage : r .stage ≡ stageNumber (x .stage)
-  pub number : r .number ≡ x .number
-  pub reads : r .reads ≡ x .reads
-  pub leaves : r .leaves ≡ x .leaves
-  pub writes : r .writes ≡ x .writes
+  pub number : r .number % 2 ^ 32 ≡ x .number
+  pub reads : r .reads % 2 ^ 8 ≡ x .reads
+  pub leaves : r .leaves % 2 ^ 8 ≡ x .leaves
+  pub writes : r .writes % 2 ^ 8 ≡ x .writes

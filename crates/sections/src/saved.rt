@@ -5,7 +5,7 @@ use sets::workers::Worker;
 use spec::Stage;
 use transactions::Core;
 ghost use mathlib.Core.Path.{_≡_};
-ghost use Prim.Native.Nat.{_<_};
+ghost use Prim.Native.Nat.{_%_, _^_, _<_};
 ghost use lib.ListN.{length};
 ghost use Rattle.sections.specs.Saved.{stageOf, stageNumber, seatIn, sizesIn, countersIn, coreIn, SeatIs};
 
@@ -46,17 +46,30 @@ fn size(n: u64) -> usize
     n as usize
 }
 
+fn low_word(n: u64) -> u32
+    ensures { λ r. ⌜ r ≡ n % 2 ^ 32 ⌝ }
+{
+    (n % 4294967296) as u32
+}
+
+fn low_byte(n: u64) -> u8
+    ensures { λ r. ⌜ r ≡ n % 2 ^ 8 ⌝ }
+{
+    (n % 256) as u8
+}
+
 fn seat_in(words: &[u64; 46], w: usize) -> Worker
     requires { ⌜ w < 8 ⌝ }
     ensures { λ r. ⌜ r ≡ seatIn (now (words .entry)) w ⌝ }
 {
     let stage = stage_of(words[5 * w]);
-    let reads = size(words[5 * w + 2]);
-    let leaves = size(words[5 * w + 3]);
-    let writes = size(words[5 * w + 4]);
+    let number = low_word(words[5 * w + 1]);
+    let reads = low_byte(words[5 * w + 2]);
+    let leaves = low_byte(words[5 * w + 3]);
+    let writes = low_byte(words[5 * w + 4]);
     Worker {
+        number,
         stage,
-        number: words[5 * w + 1],
         reads,
         leaves,
         writes,
@@ -116,7 +129,7 @@ fn seat_words(x: Worker) -> SeatWords
     let stage = stage_number(s);
     SeatWords {
         stage,
-        number: x.number,
+        number: x.number as u64,
         reads: x.reads as u64,
         leaves: x.leaves as u64,
         writes: x.writes as u64,

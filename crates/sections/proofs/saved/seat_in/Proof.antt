@@ -16,65 +16,68 @@ element-copy-out-stage-of c = search needs
 stage-of-requires : tie.Need-stage-of-requires
 stage-of-requires c κs = search needs
 
-mul-size : tie.Need-mul-size
-mul-size c = search needs
+mul-low-word : tie.Need-mul-low-word
+mul-low-word c = search needs
 
-add-size : tie.Need-add-size
-add-size c = search needs
+add-low-word : tie.Need-add-low-word
+add-low-word c = search needs
 
-mul-size-2 : tie.Need-mul-size-2
-mul-size-2 c = search needs
+mul-low-word-2 : tie.Need-mul-low-word-2
+mul-low-word-2 c = search needs
 
-element-copy-out-size : tie.Need-element-copy-out-size
-element-copy-out-size c = search needs
+element-copy-out-low-word : tie.Need-element-copy-out-low-word
+element-copy-out-low-word c = search needs
 
-size-requires : tie.Need-size-requires
-size-requires c κs = search needs
+low-word-requires : tie.Need-low-word-requires
+low-word-requires c κs = search needs
 
-mul-size-3 : tie.Need-mul-size-3
-mul-size-3 c = search needs
+mul-low-byte : tie.Need-mul-low-byte
+mul-low-byte c = search needs
 
-add-size-2 : tie.Need-add-size-2
-add-size-2 c = search needs
+add-low-byte : tie.Need-add-low-byte
+add-low-byte c = search needs
 
-mul-size-4 : tie.Need-mul-size-4
-mul-size-4 c = search needs
+mul-low-byte-2 : tie.Need-mul-low-byte-2
+mul-low-byte-2 c = search needs
 
-element-copy-out-size-2 : tie.Need-element-copy-out-size-2
-element-copy-out-size-2 c = search needs
+element-copy-out-low-byte : tie.Need-element-copy-out-low-byte
+element-copy-out-low-byte c = search needs
 
-size-requires-2 : tie.Need-size-requires-2
-size-requires-2 c κs = search needs
+low-byte-requires : tie.Need-low-byte-requires
+low-byte-requires c κs = search needs
 
-mul-size-5 : tie.Need-mul-size-5
-mul-size-5 c = search needs
+mul-low-byte-3 : tie.Need-mul-low-byte-3
+mul-low-byte-3 c = search needs
 
-add-size-3 : tie.Need-add-size-3
-add-size-3 c = search needs
+add-low-byte-2 : tie.Need-add-low-byte-2
+add-low-byte-2 c = search needs
 
-mul-size-6 : tie.Need-mul-size-6
-mul-size-6 c = search needs
+mul-low-byte-4 : tie.Need-mul-low-byte-4
+mul-low-byte-4 c = search needs
 
-element-copy-out-size-3 : tie.Need-element-copy-out-size-3
-element-copy-out-size-3 c = search needs
+element-copy-out-low-byte-2 : tie.Need-element-copy-out-low-byte-2
+element-copy-out-low-byte-2 c = search needs
 
-size-requires-3 : tie.Need-size-requires-3
-size-requires-3 c κs = search needs
+low-byte-requires-2 : tie.Need-low-byte-requires-2
+low-byte-requires-2 c κs = search needs
 
-mul-t7 : tie.Need-mul-t7
-mul-t7 c = search needs
+mul-low-byte-5 : tie.Need-mul-low-byte-5
+mul-low-byte-5 c = search needs
 
-add-t8 : tie.Need-add-t8
-add-t8 c = search needs
+add-low-byte-3 : tie.Need-add-low-byte-3
+add-low-byte-3 c = search needs
 
-mul-t12 : tie.Need-mul-t12
-mul-t12 c = search needs
+mul-low-byte-6 : tie.Need-mul-low-byte-6
+mul-low-byte-6 c = search needs
 
-element-copy-out-t11 : tie.Need-element-copy-out-t11
-element-copy-out-t11 c = search needs
+element-copy-out-low-byte-3 : tie.Need-element-copy-out-low-byte-3
+element-copy-out-low-byte-3 c = search needs
+
+low-byte-requires-3 : tie.Need-low-byte-requires-3
+low-byte-requires-3 c κs = search needs
 
 returns : tie.Need-returns
-returns c = seat-read _ _ (c .before .before .before .before .before .before .before .stage-of .ensures) (c .before .before .before .before .before .size .ensures) (c .before .before .before .size2 .ensures) (c .before .size3 .ensures)
+returns c = seat-read _ _ (c .before .before .before .before .before .before .before .before .stage-of .ensures) (c .before .before .before .before .before .before .low-word .ensures) (c .before .before .before .before .low-byte .ensures) (c .before .before .low-byte2 .ensures) (c .low-byte3 .ensures)
 
 pub seat-in-spec : {M : Type 1} → statement M
 seat-in-spec =
@@ -84,23 +87,24 @@ seat-in-spec =
     mul-stage-of-2
     element-copy-out-stage-of
     stage-of-requires
-    mul-size
-    add-size
-    mul-size-2
-    element-copy-out-size
-    size-requires
-    mul-size-3
-    add-size-2
-    mul-size-4
-    element-copy-out-size-2
-    size-requires-2
-    mul-size-5
-    add-size-3
-    mul-size-6
-    element-copy-out-size-3
-    size-requires-3
-    mul-t7
-    add-t8
-    mul-t12
-    element-copy-out-t11
+    mul-low-word
+    add-low-word
+    mul-low-word-2
+    element-copy-out-low-word
+    low-word-requires
+    mul-low-byte
+    add-low-byte
+    mul-low-byte-2
+    element-copy-out-low-byte
+    low-byte-requires
+    mul-low-byte-3
+    add-low-byte-2
+    mul-low-byte-4
+    element-copy-out-low-byte-2
+    low-byte-requires-2
+    mul-low-byte-5
+    add-low-byte-3
+    mul-low-byte-6
+    element-copy-out-low-byte-3
+    low-byte-requires-3
     returns)

@@ -31,7 +31,7 @@ use Rattle.index.specs.Views.{recordsOf}
 use Rattle.index.specs.ViewLaws.{length-records}
 use Rattle.map.specs.declared.Sizes.{Sizes}
 use Rattle.map.specs.Views.{Lent, blockFrom, block}
-use Rattle.map.specs.Phantoms.{weigh, howMany, outsideAny}
+use Rattle.phantomlet.specs.Phantoms.{weigh, howMany, outsideAny}
 use Rattle.map.specs.Held.{Tables}
 use Rattle.map.specs.SayLaws.{many-most}
 use Rattle.map.specs.Blocks.{blockAt, restKeys, keys-all, keys-none, keys-cons}

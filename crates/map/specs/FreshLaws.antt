@@ -23,7 +23,7 @@ use Rattle.indexlet.specs.Held as indexlet
 use Rattle.index.specs.Views.{paired, recordsOf, leavesOf}
 use Rattle.map.specs.declared.Sizes.{Sizes}
 use Rattle.map.specs.Views.{lent, mapOf}
-use Rattle.map.specs.Phantoms.{weigh, howMany, outsideAny}
+use Rattle.phantomlet.specs.Phantoms.{weigh, howMany, outsideAny}
 use Rattle.map.specs.Held.{Tables}
 use Rattle.map.specs.Says.{Becomes, Emptied}
 

@@ -14,7 +14,7 @@ use Rattle.indexlet.specs.Held as indexlet
 use Rattle.index.specs.Views as index
 use Rattle.index.specs.LeafPlaces.{Listed}
 use Rattle.map.specs.declared.Sizes.{Sizes}
-use Rattle.map.specs.Phantoms.{howMany, outsideAny, Phantomlet}
+use Rattle.phantomlet.specs.Phantoms.{howMany, outsideAny, Phantomlet}
 use Rattle.map.specs.Views.{Lent, mapOf}
 
 -- an array with a word for each leaf

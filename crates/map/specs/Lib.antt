@@ -1,4 +1,3 @@
-pub mod Phantoms
 pub mod Views
 pub mod Held
 pub mod Says
@@ -11,17 +10,11 @@ pub mod LookViews
 pub mod CurrentLaws
 pub mod RangeLaws
 pub mod ScanLaws
-pub mod HidingLaws
 pub mod PhantomViews
 pub mod PhantomLaws
 pub mod NextViews
 pub mod NextLaws
-pub mod LeafTests
-pub mod LeafRows
-pub mod LeafNumbers
-pub mod LeafCounts
 pub mod MergeWalks
-pub mod MergeCounts
 pub mod MergeSettles
 pub mod MergeKeeps
 pub mod MergeKeys

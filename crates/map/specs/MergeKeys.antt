@@ -27,7 +27,7 @@ use Rattle.index.specs.Views as index
 use Rattle.index.specs.ViewLaws.{length-records, record-read}
 use Rattle.index.specs.LeafViews.{paired-getD}
 use Rattle.map.specs.Held.{Held}
-use Rattle.map.specs.LeafTests.{lows-are}
+use Rattle.phantomlet.specs.LeafTests.{lows-are}
 
 -- where a member stands
 mem-place : {A : Type 0} {x : A} (xs : List A) (d : A) → List·Memᴰ x xs → (i : ℕ) × (i < length xs) × (getD xs i d ≡ x)

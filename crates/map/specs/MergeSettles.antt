@@ -21,8 +21,8 @@ use Rattle.laws.specs.SettleLaws.{around-parts}
 use Rattle.index.specs.Views.{recordsOf, keysBetween}
 use Rattle.index.specs.Views as index
 use Rattle.index.specs.Settles.{Settling, SettledAs}
-use Rattle.map.specs.LeafTests.{placed}
-use Rattle.map.specs.LeafRows.{Lows, Spans}
+use Rattle.phantomlet.specs.LeafTests.{placed}
+use Rattle.phantomlet.specs.LeafRows.{Lows, Spans}
 
 -- the addresses of the records of the leaf at place i
 unfoldable pub leafKeys : List ℕ → List ℕ → ℕ → ℕ → ℕ → List ℕ

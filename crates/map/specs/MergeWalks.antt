@@ -35,8 +35,8 @@ use Rattle.indexlet.specs.Held as indexlet
 use Rattle.index.specs.Views as index
 use Rattle.index.specs.Views.{recordFrom, recordsOf}
 use Rattle.map.specs.declared.merge.Walk.{Walk}
-use Rattle.map.specs.Phantoms.{weigh, howMany, many-change, weigh-kept}
-use Rattle.map.specs.LeafTests.{none-left, drop-past, takes}
+use Rattle.phantomlet.specs.Phantoms.{weigh, howMany, many-change, weigh-kept}
+use Rattle.phantomlet.specs.LeafTests.{none-left, drop-past, takes}
 
 -- a map of its three parts
 abbrev pub parts : List (Row Record) → List Leaf → List Slot → MapState

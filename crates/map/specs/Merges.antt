@@ -36,13 +36,13 @@ use Rattle.map.specs.declared.Sizes.{Sizes}
 use Rattle.map.specs.declared.Counters.{Counters}
 use Rattle.map.specs.declared.merge.Walk.{Walk}
 use Rattle.map.specs.declared.merge.Merged.{Merged}
-use Rattle.map.specs.Phantoms.{howMany, outsideAny, outsideIn, pendingIn, versionOf, Phantomlet}
+use Rattle.phantomlet.specs.Phantoms.{howMany, outsideAny, outsideIn, pendingIn, versionOf, Phantomlet}
 use Rattle.map.specs.Views.{Lent, lent, mapOf}
 use Rattle.map.specs.Held.{Tables, Held}
-use Rattle.map.specs.LeafTests.{none-left, placed, takes, filter-same, many-same, pending-merging, lows-are, leaves-count, live-at, placed-version, at-version, placed-own}
+use Rattle.phantomlet.specs.LeafTests.{none-left, placed, takes, filter-same, many-same, pending-merging, lows-are, leaves-count, live-at, placed-version, at-version, placed-own}
 use Rattle.map.specs.MergeWalks.{parts, Starting, Took}
-use Rattle.map.specs.MergeCounts.{Recounting, Counting}
-use Rattle.map.specs.LeafCounts.{Ranging, lacking, waiting, inLeaf}
+use Rattle.phantomlet.specs.MergeCounts.{Recounting, Counting}
+use Rattle.phantomlet.specs.LeafCounts.{Ranging, lacking, waiting, inLeaf}
 use Rattle.map.specs.MergeKeys.{entry-narrow, record-narrow, rows-narrow, low-at, first-low}
 use Rattle.map.specs.MergeKeeps.{Shape, settle-shape, shape-length, shape-early, shape-after, kept-test}
 use Rattle.map.specs.MergeSettles.{leafKeys, Resettling, settle-room, Narrow, settle-narrow, narrow-leaves, narrow-at, keys-narrow, lows-ascend}

@@ -28,12 +28,12 @@ use Rattle.index.specs.declared.records.Found.the-variants.{At, Nothing}
 use Rattle.index.specs.Views.{foundOf, recordsOf, leavesOf}
 use Rattle.index.specs.LeafPlaces.{lowPlace, place-inside, AtLeaf}
 use Rattle.map.specs.declared.Sizes.{Sizes}
-use Rattle.map.specs.Phantoms.{howMany, outsideIn}
+use Rattle.phantomlet.specs.Phantoms.{howMany, outsideIn}
 use Rattle.map.specs.Views.{Lent, lent, block, blockFrom}
 use Rattle.map.specs.Held.{Tables, Held}
 use Rattle.map.specs.LookViews.{LeafAt}
 use Rattle.map.specs.ScanLaws.{length-leaves, leaf-read, leaf-found}
-use Rattle.map.specs.HidingLaws.{length-filter, silentAt, Locking, hides-count, hides-none}
+use Rattle.phantomlet.specs.HidingLaws.{length-filter, silentAt, Locking, hides-count, hides-none}
 use Rattle.map.specs.PhantomViews.{mapIn, HeldBut, phantomAt, Owns, Logged, silentIn, silentOf, Counting}
 
 -- ---- one address

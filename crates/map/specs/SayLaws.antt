@@ -32,7 +32,7 @@ use Rattle.index.specs.LeafViews.{paired-length, paired-lows, parted, parted-le
 use Rattle.map.specs.declared.Sizes.{Sizes}
 use Rattle.map.specs.declared.say.Change.{Change}
 use Rattle.map.specs.Views.{Lent, lent, mapOf}
-use Rattle.map.specs.Phantoms.{weigh, howMany, outsideAny, outsideIn, pendingIn, versionOf, Phantomlet, many-change, weigh-kept}
+use Rattle.phantomlet.specs.Phantoms.{weigh, howMany, outsideAny, outsideIn, pendingIn, versionOf, Phantomlet, many-change, weigh-kept}
 use Rattle.map.specs.Held.{perLeaf, Tables}
 use Rattle.map.specs.Says.{Said, Adjustable, adjusted, pendingTerm, outsideTerm, Terms}
 

@@ -8,7 +8,6 @@ pub mod holders;
 pub mod locks;
 pub mod looks;
 pub mod merge;
-mod recount;
 pub mod say;
 
 // An address of the map.

@@ -5,8 +5,8 @@
 use crate::Address;
 use crate::Counters;
 use crate::Sizes;
-use crate::recount;
-use crate::recount::Reach;
+use phantomlet::recount;
+use phantomlet::recount::Reach;
 ghost use mathlib.Core.Path.{_≡_};
 ghost use mathlib.Core.Option.{some};
 ghost use Prim.Native.Nat.{_+_, _^_, _<_, _≤_};
@@ -18,9 +18,9 @@ ghost use Rattle.index.specs.Views as index-views;
 ghost use Rattle.index.specs.Settles.{SettledAs};
 ghost use Rattle.map.specs.Views.{lent};
 ghost use Rattle.map.specs.Held.{Held};
-ghost use Rattle.map.specs.LeafTests.{placed, takes};
-ghost use Rattle.map.specs.LeafCounts.{OneLeaf};
-ghost use Rattle.map.specs.LeafRows.{Lows, Spans};
+ghost use Rattle.phantomlet.specs.LeafTests.{placed, takes};
+ghost use Rattle.phantomlet.specs.LeafCounts.{OneLeaf};
+ghost use Rattle.phantomlet.specs.LeafRows.{Lows, Spans};
 ghost use Rattle.map.specs.MergeSettles.{Resettling, leafKeys};
 ghost use Rattle.map.specs.Merges.{Merges};
 ghost use Rattle.map.specs.MergeWalks.{leaving, Underway, Steps, Starting, Took};
@@ -82,15 +82,12 @@ fn take_slot(
     ensures { λ r. ⌜ Steps (placed (now (lows .entry)) m i) (now (rows .entry)) (now (slots .entry)) w j (now (rows .exit)) (now (slots .exit)) r ⌝ }
 {
     let s = indexlet::slot_at(slots, j);
+    let key = s.key;
+    if !recount::reaches(r, key) {
+        return w;
+    }
     let c = s.content;
     if c.kind == 0 {
-        return w;
-    }
-    let key = s.key;
-    if key < r.low {
-        return w;
-    }
-    if r.high <= key {
         return w;
     }
     let a = key as u32;

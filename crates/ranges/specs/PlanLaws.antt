@@ -2,19 +2,23 @@
 -- Assumes nothing.
 use Prim.Native.Nat.{ℕ, _+_, _-_, _≤_}
 use native.Mathlib.Nat.{le-trans, le-of-lt}
+use native.Mathlib.Omega.{arith}
 use mathlib.Core.Path.{sym, _∙_, subst}
 use mathlib.Core.List.{List}
+use mathlib.Core.Option.{Option}
 use lib.ListN.{length}
 use lib.Seq.{take-take}
-use Rattle.lists.specs.Rows.{Rising}
-use Rattle.spec.specs.Records.{Write}
+use Rattle.lists.specs.Rows.{Row, Rising}
+use Rattle.spec.specs.Records.{Record, Write}
 use Rattle.sets.specs.declared.workers.Worker.{Worker}
 use Rattle.sets.specs.Writes.{WriteSet, writesOf, writesIn}
 use Rattle.map.specs.declared.Sizes.{Sizes}
+use Rattle.map.specs.LookViews.{walk}
 use Rattle.ranges.specs.declared.plans.Task.{Task}
+use Rattle.ranges.specs.Parts.{length-walk}
 use Rattle.ranges.specs.Overlays.{rising-first}
 use Rattle.ranges.specs.Walks.{ground, rest, Walks, Room, Fills}
-use Rattle.ranges.specs.Scanning.{ReadsRoom, LeavesRoom}
+use Rattle.ranges.specs.Scanning.{ReadsRoom, LogsRows, LeavesRoom, LogsMarks}
 use Rattle.ranges.specs.Plans.{Planning, field, Measured, Roomy, Planned}
 
 -- the first rows of a write set are one
@@ -61,6 +65,14 @@ module _ {rows lows slots ws : List ℕ} {z : Sizes} {x : Worker} {w : ℕ} (giv
         within = le-trans h (given .listed .room);
         room = r;
       }
+
+-- so the sets stay within their room
+pub reads-most : (f : ℕ → Row (Option Record)) (from to : ℕ) {rs us : List ℕ} {w m r : ℕ} → m + (to - from) ≤ 64
+    → LogsRows rs w m (walk f from (to - from)) us r → r ≤ 64
+reads-most f from to h l = omega (arith, h, l .count, length-walk f from (to - from))
+
+pub leaves-most : {ls us lows versions : List ℕ} {w m from to r : ℕ} → m + (to - from) ≤ 32 → LogsMarks ls w m lows versions from to us r → r ≤ 32
+leaves-most h l = omega (arith, h, l .count)
 
 -- what the tests have measured, whatever the range was
 pub planned : {rows lows slots ws : List ℕ} {z : Sizes} {x : Worker} {w lo hi : ℕ} {t : Task} {m n : ℕ} → Measured rows lows slots ws z x w lo hi t → Roomy t m n

@@ -71,13 +71,13 @@ pub fn measure(
     }
     let index = looks::records_between(rows, z.records, lo, hi);
     let met = looks::leaves_meeting(lows, z.leaves, lo, hi);
-    if 64 < x.reads + (index.to - index.from) {
+    if 64 < x.reads as usize + (index.to - index.from) {
         return Plan::Refused(Refusal::LogFull);
     }
-    if 32 < x.leaves + (met.to - met.from) {
+    if 32 < x.leaves as usize + (met.to - met.from) {
         return Plan::Refused(Refusal::LogFull);
     }
-    let own = writes_between(writes, w, x.writes, lo, hi);
+    let own = writes_between(writes, w, x.writes as usize, lo, hi);
     let b = Bounds {
         records: z.records,
         worker: w,
@@ -147,16 +147,24 @@ pub fn carry(
         slots,
         z.records,
         w,
-        x.reads,
+        x.reads as usize,
         index.from,
         index.to,
     );
-    let marked = logs::log_leaves(leaves, lows, versions, w, x.leaves, met.from, met.to);
+    let marked = logs::log_leaves(
+        leaves,
+        lows,
+        versions,
+        w,
+        x.leaves as usize,
+        met.from,
+        met.to,
+    );
     Worker {
         stage,
         number: x.number,
-        reads: logged,
-        leaves: marked,
+        reads: logged as u8,
+        leaves: marked as u8,
         writes: x.writes,
     }
 }

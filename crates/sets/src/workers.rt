@@ -3,13 +3,14 @@ use spec::Stage;
 ghost use mathlib.Core.Path.{_≡_};
 ghost use Rattle.sets.specs.Workers.{begun, atLock, atCheck, freed};
 
-// The stage, the commit number once checked, and how many rows of the three sets are in use.
+// The stage, the commit number once checked, and how many rows of the three sets are in use. Narrow, since all eight go by
+// value from step to step, and the number first, since fields are laid out as written: 8 bytes, where 12 else.
 pub struct Worker {
+    pub number: u32,
     pub stage: Stage,
-    pub number: u64,
-    pub reads: usize,
-    pub leaves: usize,
-    pub writes: usize,
+    pub reads: u8,
+    pub leaves: u8,
+    pub writes: u8,
 }
 
 impl Worker {
@@ -43,7 +44,7 @@ impl Worker {
     }
 
     // The sets are valid, and the commit number is given.
-    pub fn check(mut self, n: u64) -> Worker
+    pub fn check(mut self, n: u32) -> Worker
         ensures { λ r. ⌜ r ≡ atCheck self n ⌝ }
     {
         let before = self;

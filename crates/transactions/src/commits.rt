@@ -65,8 +65,8 @@ fn install_transaction(
         &block,
         sizes,
         counters,
-        x.writes,
-        x.number,
+        x.writes as usize,
+        x.number as u64,
     );
     let free = x.free();
     seats[w] = free;
@@ -241,7 +241,7 @@ fn lock_open(
     let sizes = c.sizes;
     let counters = c.counters;
     let x = seats[w];
-    let n = x.writes;
+    let n = x.writes as usize;
     let block = drops::block_of(writes, w);
     let tested = lock_tests(rows, slots, &block, sizes, n, w as u64);
     if refused(tested) {

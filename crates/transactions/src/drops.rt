@@ -57,7 +57,7 @@ pub fn drop_transaction(
         &block,
         sizes,
         counters,
-        x.writes,
+        x.writes as usize,
         own,
     );
     let free = x.free();

@@ -48,20 +48,20 @@ fn edit(writes: &mut [u64; 384], c: Core, w: u32, a: Address, kind: u64, value: 
             answer: Plain::Refused(r),
         },
         Admit::Seat(x) => {
-            if full(writes, w as usize, x.writes, a) {
+            if full(writes, w as usize, x.writes as usize, a) {
                 return Done {
                     core: c,
                     answer: Plain::Refused(Refusal::WritesFull),
                 };
             }
-            let n = writes::put_write(writes, w as usize, x.writes, a, kind, value);
+            let n = writes::put_write(writes, w as usize, x.writes as usize, a, kind, value);
             let stage = x.stage;
             let y = Worker {
                 stage,
                 number: x.number,
                 reads: x.reads,
                 leaves: x.leaves,
-                writes: n,
+                writes: n as u8,
             };
             seats[w as usize] = y;
             let core = Core {

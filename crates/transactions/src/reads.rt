@@ -101,12 +101,20 @@ fn read_current(
             answer: ReadAnswer::Refused(Refusal::LogFull),
         };
     }
-    let taken = take(reads, rows, slots, sizes.records, w as usize, x.reads, a);
+    let taken = take(
+        reads,
+        rows,
+        slots,
+        sizes.records,
+        w as usize,
+        x.reads as usize,
+        a,
+    );
     let stage = x.stage;
     let y = Worker {
         stage,
         number: x.number,
-        reads: taken.count,
+        reads: taken.count as u8,
         leaves: x.leaves,
         writes: x.writes,
     };
@@ -141,7 +149,7 @@ fn tell(
             answer: ReadAnswer::Refused(r),
         },
         Admit::Seat(x) => {
-            let own = writes::find_write(writes, w as usize, x.writes, a);
+            let own = writes::find_write(writes, w as usize, x.writes as usize, a);
             match own {
                 Found::Put(v) => ReadDone {
                     core: c,

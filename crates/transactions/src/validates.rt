@@ -171,10 +171,10 @@ fn judge(
     requires { ⌜ Examinable (now rows) (now lows) (now versions) (now outside) (now slots) (now reads) (now leaves) (now writes) z x w ⌝ }
     ensures { λ r. ⌜ verdictIn r ≡ judged (now (rows .entry)) (now (lows .entry)) (now (versions .entry)) (now (slots .entry)) (now (reads .entry)) (now (leaves .entry)) z x w ⌝ }
 {
-    if changed(rows, slots, reads, z.records, w, x.reads) {
+    if changed(rows, slots, reads, z.records, w, x.reads as usize) {
         return Verdict::Refused(Refusal::Changed);
     }
-    if under_lock(slots, reads, w, x.reads) {
+    if under_lock(slots, reads, w, x.reads as usize) {
         return Verdict::Refused(Refusal::UnderLock);
     }
     let block = drops::block_of(writes, w);
@@ -187,9 +187,9 @@ fn judge(
         leaves,
         &block,
         z,
-        x.writes,
+        x.writes as usize,
         w,
-        x.leaves,
+        x.leaves as usize,
     ) {
         return Verdict::Refused(Refusal::Phantom);
     }
@@ -211,7 +211,7 @@ fn take_number(c: Core, w: usize, x: Worker) -> ValidateDone
         };
     }
     let n = last.number + 1;
-    let checked = x.check(n);
+    let checked = x.check(n as u32);
     seats[w] = checked;
     let counters = Counters {
         number: n,

@@ -1,6 +1,6 @@
 -- `closing::finish` meets its contract, case by case. Assumes nothing.
-use borrow.Author.Needs.{needs}
 use native.Mathlib.Omega.{arith}
+use Rattle.script.specs.OutputLaws.{wrote-length}
 use Rattle.console.specs.Finishes.{records-fit, finish-stopped, finish-whole, finish-inside}
 use Rattle.console.proofs.closing.finish.Statement.{statement}
 use Rattle.console.proofs.closing.finish.Tie as tie
@@ -9,7 +9,7 @@ returns : tie.Need-returns
 returns c = finish-stopped _ _ _ _ (c .if1 .taken) (omega (arith, c .before .before .pre .1))
 
 at-line-start-requires : tie.Need-at-line-start-requires
-at-line-start-requires c κs = search needs
+at-line-start-requires c κs = tt
 
 put-contents-requires : tie.Need-put-contents-requires
 put-contents-requires c κs =
@@ -18,16 +18,16 @@ put-contents-requires c κs =
     (t .rows, (t .rows-narrow, (t .words, (records-fit (s .pre .0), s .pre .1))))
 
 same-length : tie.Need-same-length
-same-length c = search needs
+same-length c = wrote-length (c .before .before .put-contents .ensures)
 
 returns-2 : tie.Need-returns-2
 returns-2 c = finish-whole _ _ _ _ _ _ _ (c .before .before .before .before .before .before .before .before .if1 .left) (c .before .before .before .before .before .before .before .at-line-start .ensures) (c .before .before .before .before .before .before .if2 .taken) (c .before .before .put-contents .ensures)
 
 put-malformed-requires : tie.Need-put-malformed-requires
-put-malformed-requires c κs = search needs
+put-malformed-requires c κs = omega (arith, c .before .before .before .before .before .pre .1)
 
 same-length-2 : tie.Need-same-length-2
-same-length-2 c = search needs
+same-length-2 c = wrote-length (c .before .before .put-malformed .ensures)
 
 returns-3 : tie.Need-returns-3
 returns-3 c = finish-inside _ _ _ _ _ _ _ (c .before .before .before .before .before .before .if1 .left) (c .before .before .before .before .before .at-line-start .ensures) (c .before .before .before .before .if2 .left) (c .before .before .put-malformed .ensures)

@@ -7,6 +7,7 @@ use lib.ListN.{length}
 use denote.Ref.{now}
 use Rattle.engine.specs.declared.steps.Reply.{Reply}
 use Rattle.engine.specs.Performs.{placesIn}
+use Rattle.script.specs.OutputLaws.{wrote-length}
 use Rattle.console.specs.Replies.{wrote-granted, wrote-value, wrote-absent, wrote-listed, wrote-numbered, wrote-counted, wrote-refused}
 use Rattle.console.proofs.replies.put_reply.Statement.{statement}
 use Rattle.console.proofs.replies.put_reply.Tie as tie
@@ -63,25 +64,25 @@ put-line-requires-2 : tie.Need-put-line-requires-2
 put-line-requires-2 c κs = search needs
 
 same-length : tie.Need-same-length
-same-length c = search needs
+same-length c = wrote-length (c .before .before .put-line .ensures)
 
 returns : tie.Need-returns
 returns c = wrote-granted (c .before .before .before .before .enum-told .given .1) (c .before .before .put-line .ensures)
 
 same-length-2 : tie.Need-same-length-2
-same-length-2 c = search needs
+same-length-2 c = wrote-length (c .before .before .put-granted-line .ensures)
 
 returns-2 : tie.Need-returns-2
 returns-2 c = wrote-value _ (c .before .before .before .before .before .reply .given .1) (c .before .before .put-granted-line .ensures)
 
 same-length-3 : tie.Need-same-length-3
-same-length-3 c = search needs
+same-length-3 c = wrote-length (c .before .before .put-absent-line .ensures)
 
 returns-3 : tie.Need-returns-3
 returns-3 c = wrote-absent (c .before .before .before .before .enum-told2 .given .1) (c .before .before .put-absent-line .ensures)
 
 same-length-4 : tie.Need-same-length-4
-same-length-4 c = search needs
+same-length-4 c = wrote-length (c .before .before .put-listed-line .ensures)
 
 returns-4 : tie.Need-returns-4
 returns-4 c =
@@ -93,19 +94,19 @@ returns-4 c =
     wrote-listed _ (r .1) (omega arith) (omega arith) (c .before .before .put-listed-line .ensures)
 
 same-length-5 : tie.Need-same-length-5
-same-length-5 c = search needs
+same-length-5 c = wrote-length (c .before .before .put-granted-line2 .ensures)
 
 returns-5 : tie.Need-returns-5
 returns-5 c = wrote-numbered _ (c .before .before .before .before .before .reply3 .given .1) (c .before .before .put-granted-line2 .ensures)
 
 same-length-6 : tie.Need-same-length-6
-same-length-6 c = search needs
+same-length-6 c = wrote-length (c .before .before .put-granted-line3 .ensures)
 
 returns-6 : tie.Need-returns-6
 returns-6 c = wrote-counted _ (c .before .before .before .before .before .reply4 .given .1) (c .before .before .put-granted-line3 .ensures)
 
 same-length-7 : tie.Need-same-length-7
-same-length-7 c = search needs
+same-length-7 c = wrote-length (c .before .before .put-line2 .ensures)
 
 returns-7 : tie.Need-returns-7
 returns-7 c = wrote-refused _ _ (c .before .before .before .before .before .before .reply5 .given .1) (c .before .before .before .number-of .ensures) (c .before .before .put-line2 .ensures)

@@ -1,6 +1,7 @@
 -- `session::turn` meets its contract, event by event. Assumes nothing.
 use borrow.Author.Needs.{needs}
 use native.Mathlib.Omega.{arith}
+use Rattle.script.specs.OutputLaws.{wrote-length}
 use Rattle.console.specs.SessionLaws.{goes-true}
 use Rattle.console.specs.Places.{places-fit}
 use Rattle.console.specs.TurnLaws.{turn-ended, turn-malformed, turn-line}
@@ -8,19 +9,19 @@ use Rattle.console.proofs.session.turn.Statement.{statement}
 use Rattle.console.proofs.session.turn.Tie as tie
 
 parse-requires : tie.Need-parse-requires
-parse-requires c κs = search needs
+parse-requires c κs = tt
 
 enum-known-event : tie.Need-enum-known-event
 enum-known-event c = search needs
 
 op-of-requires : tie.Need-op-of-requires
-op-of-requires c κs = search needs
+op-of-requires c κs = tt
 
 perform-requires : tie.Need-perform-requires
-perform-requires c κs = search needs
+perform-requires c κs = c .before .before .before .before .before .before .before .before .before .before .before .before .before .before .before .before .before .before .before .pre .0
 
 letter-of-requires : tie.Need-letter-of-requires
-letter-of-requires c κs = search needs
+letter-of-requires c κs = tt
 
 put-reply-requires : tie.Need-put-reply-requires
 put-reply-requires c κs =
@@ -43,7 +44,7 @@ enum-told-2 : tie.Need-enum-told-2
 enum-told-2 c = search needs
 
 same-length : tie.Need-same-length
-same-length c = search needs
+same-length c = wrote-length (c .before .before .put-reply .ensures .wrote)
 
 returns : tie.Need-returns
 returns c =
@@ -54,7 +55,7 @@ returns c =
     (c .before .before .before .letter-of .ensures) (c .before .before .put-reply .ensures)
 
 same-length-2 : tie.Need-same-length-2
-same-length-2 c = search needs
+same-length-2 c = wrote-length (c .before .before .put-malformed .ensures)
 
 returns-2 : tie.Need-returns-2
 returns-2 c =

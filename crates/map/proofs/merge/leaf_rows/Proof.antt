@@ -1,7 +1,7 @@
 -- `map::merge::leaf_rows` meets its contract: the rows from the place of the leaf's low to that of the next low.
 -- Assumes nothing.
 use Prim.Native.Nat.{_+_}
-use Rattle.map.specs.LeafRows.{spans-next, spans-last}
+use Rattle.phantomlet.specs.LeafRows.{spans-next, spans-last}
 use borrow.Author.Needs.{needs}
 use Rattle.map.proofs.merge.leaf_rows.Statement.{statement}
 use Rattle.map.proofs.merge.leaf_rows.Tie as tie

@@ -4,7 +4,7 @@ use Prim.Native.Nat.{_-_}
 use borrow.Author.Needs.{needs}
 use Rattle.indexlet.specs.Words.{slotsOf}
 use Rattle.index.specs.Views.{recordsOf}
-use Rattle.map.specs.LeafTests.{placed}
+use Rattle.phantomlet.specs.LeafTests.{placed}
 use Rattle.map.specs.MergeWalks.{Walking, walk-start, walk-end, walk-stop}
 use Rattle.map.proofs.merge.take_all.Statement.{statement}
 use Rattle.map.proofs.merge.take_all.Tie as tie

@@ -1,79 +1,73 @@
--- `map::merge::take_slot` meets its contract: nothing is pending, or it lies in another leaf, or it is taken in.
+-- `map::merge::take_slot` meets its contract: the address lies in another leaf, or nothing is pending, or it is taken in.
 -- Assumes nothing.
-use borrow.Author.Needs.{needs}
-use native.Mathlib.Omega.{arith}
 use Rattle.index.specs.Views.{recordFrom}
-use Rattle.map.specs.LeafTests.{placed}
-use Rattle.map.specs.LeafCounts.{leaf-below, leaf-above, leaf-inside}
+use Rattle.phantomlet.specs.LeafTests.{placed}
+use Rattle.phantomlet.specs.LeafCounts.{leaf-outside, leaf-inside, reaches-yes, reaches-no}
 use Rattle.map.specs.MergeWalks.{walk-past, walk-on, takes-none, takes-other, slot-room, write-room, rest-content}
+use borrow.Author.Needs.{needs}
 use Rattle.map.proofs.merge.take_slot.Statement.{statement}
 use Rattle.map.proofs.merge.take_slot.Tie as tie
 
 slot-at-requires : tie.Need-slot-at-requires
 slot-at-requires c κs = search needs
 
+reaches-requires : tie.Need-reaches-requires
+reaches-requires c κs = search needs
+
 returns : tie.Need-returns
-returns c = let s = c .before .before .before .before .before in
-    let r = c .before .before .before .slot-at in
-    walk-past (r .result) (r .ensures) (s .pre .1 .1) (takes-none (placed (s .args .lows .now) (s .args .m) (s .args .i)) (r .result .key) (r .result .content) (c .if1 .taken))
+returns c = let s = c .before .before .before .before in
+    let r = c .before .before .slot-at in
+    walk-past (r .result) (r .ensures) (s .pre .1 .1)
+    (takes-other (placed (s .args .lows .now) (s .args .m) (s .args .i)) (r .result .key) (r .result .content)
+    (leaf-outside (s .pre .1 .0) (r .result .key) (r .ensures .narrow) (reaches-no _ (s .args .r) (r .result .key) (c .before .reaches .ensures) (c .if1 .taken))))
 
 returns-2 : tie.Need-returns-2
 returns-2 c = let s = c .before .before .before .before .before .before .before in
     let r = c .before .before .before .before .before .slot-at in
-    walk-past (r .result) (r .ensures) (s .pre .1 .1)
-    (takes-other (placed (s .args .lows .now) (s .args .m) (s .args .i)) (r .result .key) (r .result .content) (leaf-below (s .pre .1 .0) (r .result .key) (c .if2 .taken)))
-
-returns-3 : tie.Need-returns-3
-returns-3 c = let s = c .before .before .before .before .before .before .before .before .before in
-    let r = c .before .before .before .before .before .before .before .slot-at in
-    walk-past (r .result) (r .ensures) (s .pre .1 .1)
-    (takes-other (placed (s .args .lows .now) (s .args .m) (s .args .i)) (r .result .key) (r .result .content) (leaf-above (s .pre .1 .0) (r .result .key) (c .if3 .taken) (r .ensures .narrow)))
+    walk-past (r .result) (r .ensures) (s .pre .1 .1) (takes-none (placed (s .args .lows .now) (s .args .m) (s .args .i)) (r .result .key) (r .result .content) (c .if2 .taken))
 
 cast-a : tie.Need-cast-a
 cast-a c = search needs
 
 take-write-requires : tie.Need-take-write-requires
-take-write-requires c κs = let s = c .before .before .before .before .before .before .before .before .before .before in
-    let r = c .before .before .before .before .before .before .before .before .slot-at in
-    let k = c .before .before .before .before .before .if1 .left in (
+take-write-requires c κs = let s = c .before .before .before .before .before .before .before .before in
+    let r = c .before .before .before .before .before .before .slot-at in
+    let k = c .before .if2 .left in (
       s .pre .0 .walking .rows-held,
       write-room (r .result) (s .pre .0 .walking .words) (r .ensures) k (s .pre .0) (s .pre .1 .1) (recordFrom (r .result .content .value) (r .result .content .commit)),
     )
 
 enter-requires : tie.Need-enter-requires
-enter-requires c κs = let s = c .before .before .before .before .before .before .before .before .before .before .before .before in
-    let r = c .before .before .before .before .before .before .before .before .before .before .slot-at in
-    let k = c .before .before .before .before .before .before .before .if1 .left in (
+enter-requires c κs = let s = c .before .before .before .before .before .before .before .before .before .before in
+    let r = c .before .before .before .before .before .before .before .before .slot-at in
+    let k = c .before .before .before .if2 .left in (
       s .pre .0 .walking .words,
       (s .pre .0 .walking .number, slot-room (r .result) (s .pre .0 .walking .words) (r .ensures) k _),
     )
 
-add-t20 : tie.Need-add-t20
-add-t20 c = let s = c .before .before .before .before .before .before .before .before .before .before .before .before .before .before in
-    let f = s .pre .0 .walking .few in
-    let j = s .pre .1 .1 in
-    omega arith
+add-t21 : tie.Need-add-t21
+add-t21 c = search needs
 
-returns-4 : tie.Need-returns-4
-returns-4 c = let s = c .before .before .before .before .before .before .before .before .before .before .before .before .before .before in
-    let r = c .before .before .before .before .before .before .before .before .before .before .before .before .slot-at in
-    let k = c .before .before .before .before .before .before .before .before .before .if1 .left in
+returns-3 : tie.Need-returns-3
+returns-3 c = let s = c .before .before .before .before .before .before .before .before .before .before .before .before in
+    let r = c .before .before .before .before .before .before .before .before .before .before .slot-at in
+    let k = c .before .before .before .before .before .if2 .left in
+    let y = reaches-yes _ (s .args .r) (r .result .key) (c .before .before .before .before .before .before .before .before .before .reaches .ensures) (c .before .before .before .before .before .before .before .before .if1 .left) in
     let w = c .before .before .before .take-write in
     let e = c .before .enter in
     walk-on (r .result) (s .pre .0 .walking .words) (r .ensures) k (w .last .0) (e .last .0) (w .result) (e .result) _ (s .pre .1 .1)
-    (leaf-inside (s .pre .1 .0) (r .result .key) (c .before .before .before .before .before .before .before .if2 .left) (c .before .before .before .before .before .if3 .left))
-    (w .ensures) (rest-content (r .result .content)) (e .ensures)
+    (leaf-inside (s .pre .1 .0) (r .result .key) (y .0) (y .1)) (w .ensures) (rest-content (r .result .content)) (e .ensures)
 
 pub take-slot-spec : {M : Type 1} → statement M
 take-slot-spec =
     tie.close
     (tie.spec
     slot-at-requires
+    reaches-requires
     returns
     returns-2
-    returns-3
     cast-a
     take-write-requires
     enter-requires
-    add-t20
-    returns-4)
+    add-t21
+    returns-3)

@@ -1,6 +1,8 @@
 -- `plans::carry` meets its contract. Assumes nothing.
+use native.Mathlib.Omega.{arith}
 use mathlib.Core.Path.{refl}
-use Rattle.ranges.specs.PlanLaws.{walkable, reads-room, leaves-room, room, filled}
+use borrow.Author.Needs.{needs}
+use Rattle.ranges.specs.PlanLaws.{walkable, reads-room, leaves-room, reads-most, leaves-most, room, filled}
 use Rattle.ranges.proofs.plans.carry.Statement.{statement}
 use Rattle.ranges.proofs.plans.carry.Tie as tie
 
@@ -12,36 +14,54 @@ fill-requires c κs =
       (record { index = p .index-ordered; own = p .own-ordered }, room _ _ p),
     )
 
+cast-log-rows : tie.Need-cast-log-rows
+cast-log-rows c = search needs
+
 log-rows-requires : tie.Need-log-rows-requires
 log-rows-requires c κs =
-    let s = c .before .before .before .before .before .before .before .before .before .before .before .before .before in
+    let s = c .before .before .before .before .before .before .before .before .before .before .before .before .before .before in
     let p = s .pre .1 .0 in
     (s .pre .1 .1 .0, reads-room (s .pre .0) _ _ (p .index-ordered) (p .index-within) (p .reads-fit))
 
+cast-log-leaves : tie.Need-cast-log-leaves
+cast-log-leaves c = search needs
+
 log-leaves-requires : tie.Need-log-leaves-requires
 log-leaves-requires c κs =
-    let f = c .before .before .before .before .before .before .before in
+    let f = c .before .before .before .before .before .before .before .before .before in
     let s = f .before .before .before .before .before .before .before .before in
     let p = s .pre .1 .0 in
     (s .pre .1 .1 .1, leaves-room (s .pre .0) _ _ (p .met-ordered) (p .met-within) (p .leaves-fit))
 
+cast-t28 : tie.Need-cast-t28
+cast-t28 c =
+    let f = c .before .before .before .before .before .before .before .before .before .before in
+    let s = f .before .before .before .before .before .before .before .before in
+    omega (arith, reads-most _ _ _ (s .pre .1 .0 .reads-fit) (c .before .before .before .log-rows .ensures))
+
+cast-t29 : tie.Need-cast-t29
+cast-t29 c =
+    let f = c .before .before .before .before .before .before .before .before .before .before in
+    let s = f .before .before .before .before .before .before .before .before in
+    omega (arith, leaves-most (s .pre .1 .0 .leaves-fit) (c .log-leaves .ensures))
+
 same-length : tie.Need-same-length
 same-length c =
-    let f = c .before .before .before .before .before .before .before .before in
+    let f = c .before .before .before .before .before .before .before .before .before .before in
     f .fill .ensures .addresses .size
 
 same-length-2 : tie.Need-same-length-2
 same-length-2 c =
-    let f = c .before .before .before .before .before .before .before .before in
+    let f = c .before .before .before .before .before .before .before .before .before .before in
     f .fill .ensures .values .size
 
 returns : tie.Need-returns
 returns c =
-    let f = c .before .before .before .before .before .before .before .before in
+    let f = c .before .before .before .before .before .before .before .before .before .before in
     let s = f .before .before .before .before .before .before .before .before in
     record {
       fills = filled _ _ (s .pre .1 .0) _ _ _ (f .fill .ensures);
-      logs-rows = c .before .before .log-rows .ensures;
+      logs-rows = c .before .before .before .log-rows .ensures;
       logs-marks = c .log-leaves .ensures;
       seat = refl;
     }
@@ -51,8 +71,12 @@ carry-spec =
     tie.close
     (tie.spec
     fill-requires
+    cast-log-rows
     log-rows-requires
+    cast-log-leaves
     log-leaves-requires
+    cast-t28
+    cast-t29
     same-length
     same-length-2
     returns)

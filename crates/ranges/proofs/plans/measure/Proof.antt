@@ -2,6 +2,7 @@
 use native.Mathlib.Omega.{arith}
 use mathlib.Core.Path.{refl}
 use mathlib.Core.Logic.{inl, inr}
+use borrow.Author.Needs.{needs}
 use Rattle.ranges.specs.Plans.{backward, many-reads, many-leaves, short}
 use Rattle.ranges.specs.PlanLaws.{walkable}
 use Rattle.ranges.proofs.plans.measure.Statement.{statement}
@@ -16,8 +17,11 @@ records-between-requires c κs = (c .before .pre .rows-held, c .if1 .left)
 leaves-meeting-requires : tie.Need-leaves-meeting-requires
 leaves-meeting-requires c κs = (c .before .before .pre .listed, c .before .if1 .left)
 
+cast-if2 : tie.Need-cast-if2
+cast-if2 c = search needs
+
 sub-if2 : tie.Need-sub-if2
-sub-if2 c = omega (arith, c .before .before .records-between .ensures .ordered)
+sub-if2 c = omega (arith, c .before .before .before .records-between .ensures .ordered)
 
 add-if2 : tie.Need-add-if2
 add-if2 c =
@@ -30,8 +34,11 @@ returns-2 c =
     let r = c .before .before .before .before in
     many-reads refl _ (r .before .if1 .left) (r .records-between .ensures) (c .if2 .taken)
 
+cast-if3 : tie.Need-cast-if3
+cast-if3 c = search needs
+
 sub-if3 : tie.Need-sub-if3
-sub-if3 c = omega (arith, c .before .before .before .before .leaves-meeting .ensures .ordered)
+sub-if3 c = omega (arith, c .before .before .before .before .before .leaves-meeting .ensures .ordered)
 
 add-if3 : tie.Need-add-if3
 add-if3 c =
@@ -46,15 +53,18 @@ returns-3 c =
     let r = l .before in
     many-leaves refl _ _ (r .before .if1 .left) (r .records-between .ensures) (l .leaves-meeting .ensures) (e .if2 .left) (c .if3 .taken)
 
+cast-writes-between : tie.Need-cast-writes-between
+cast-writes-between c = search needs
+
 writes-between-requires : tie.Need-writes-between-requires
 writes-between-requires c κs =
-    let r = c .before .before .before .before .before .before .before in
+    let r = c .before .before .before .before .before .before .before .before in
     (r .before .before .pre .set, r .before .if1 .left)
 
 count-shown-requires : tie.Need-count-shown-requires
 count-shown-requires c κs =
     let o = c .writes-between .ensures in
-    let r = c .before .before .before .before .before .before .before .before in
+    let r = c .before .before .before .before .before .before .before .before .before in
     let i = r .records-between .ensures in
     (walkable (r .before .before .pre) _ _ (i .within) (o .within), record { index = i .ordered; own = o .ordered })
 
@@ -62,7 +72,7 @@ returns-4 : tie.Need-returns-4
 returns-4 c =
     let k = c .before in
     let o = k .before in
-    let e3 = o .before in
+    let e3 = o .before .before in
     let e2 = e3 .before .before .before in
     let l = e2 .before .before .before in
     let r = l .before in
@@ -82,7 +92,7 @@ returns-5 : tie.Need-returns-5
 returns-5 c =
     let k = c .before .before in
     let o = k .before in
-    let e3 = o .before in
+    let e3 = o .before .before in
     let e2 = e3 .before .before .before in
     let l = e2 .before .before .before in
     let r = l .before in
@@ -102,7 +112,7 @@ returns-6 : tie.Need-returns-6
 returns-6 c =
     let k = c .before .before in
     let o = k .before in
-    let e3 = o .before in
+    let e3 = o .before .before in
     let e2 = e3 .before .before .before in
     let l = e2 .before .before .before in
     let r = l .before in
@@ -127,12 +137,15 @@ measure-spec =
     returns
     records-between-requires
     leaves-meeting-requires
+    cast-if2
     sub-if2
     add-if2
     returns-2
+    cast-if3
     sub-if3
     add-if3
     returns-3
+    cast-writes-between
     writes-between-requires
     count-shown-requires
     returns-4

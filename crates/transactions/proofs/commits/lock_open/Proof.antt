@@ -13,13 +13,16 @@ mul-x c = search needs
 array-copy-out-x : tie.Need-array-copy-out-x
 array-copy-out-x c = search needs
 
+cast-n : tie.Need-cast-n
+cast-n c = search needs
+
 block-of-requires : tie.Need-block-of-requires
-block-of-requires c κs = let s = c .before .before .before .before in (s .pre .1 .0, s .pre .1 .1 .0 .0)
+block-of-requires c κs = let s = c .before .before .before .before .before in (s .pre .1 .0, s .pre .1 .1 .0 .0)
 
 lock-tests-requires : tie.Need-lock-tests-requires
 lock-tests-requires c κs =
     let b = c .before .before in
-    let s = b .before .before .before .before .before in
+    let s = b .before .before .before .before .before .before in
     let few = s .pre .1 .1 .0 .1 in (
       counted (s .pre .0 .tables),
       (
@@ -35,7 +38,7 @@ returns : tie.Need-returns
 returns c =
     let t = c .before .before in
     let b = t .before .before .before in
-    let s = b .before .before .before .before .before in
+    let s = b .before .before .before .before .before .before in
     locks-refused _ _ _ _ _ _ (s .pre .1 .1 .0 .1) (b .block-of .ensures) (t .lock-tests .ensures) (sym (c .before .refused .ensures) ∙ c .if1 .taken)
 
 lock-all-requires : tie.Need-lock-all-requires
@@ -43,7 +46,7 @@ lock-all-requires c κs =
     let e = c .before .before .before .before in
     let t = e .before .before in
     let b = t .before .before .before in
-    let s = b .before .before .before .before .before in (
+    let s = b .before .before .before .before .before .before in (
       s .pre .0,
       (
         b .block-of .ensures .narrow _ (s .pre .1 .1 .0 .1),
@@ -60,20 +63,20 @@ lock-requires c κs = search needs
 mul-seats : tie.Need-mul-seats
 mul-seats c =
     let e = c .before .before .before .before .before .before in
-    let h = e .before .before .before .before .before .before .before .before .before .before .pre .1 .1 .0 .0 in
+    let h = e .before .before .before .before .before .before .before .before .before .before .before .pre .1 .1 .0 .0 in
     search needs
 
 array-set-from-seats : tie.Need-array-set-from-seats
 array-set-from-seats c =
     let e = c .before .before .before .before .before .before in
-    e .before .before .before .before .before .before .before .before .before .before .pre .1 .1 .0 .0
+    e .before .before .before .before .before .before .before .before .before .before .before .pre .1 .1 .0 .0
 
 returns-2 : tie.Need-returns-2
 returns-2 c =
     let e = c .before .before .before .before .before .before in
     let t = e .before .before in
     let b = t .before .before .before in
-    let s = b .before .before .before .before .before in
+    let s = b .before .before .before .before .before .before in
     locks-granted _ _ _ _ _ _ _ _ _ (s .pre .1 .1 .0 .0) (s .pre .1 .1 .0 .1) (b .block-of .ensures)
     (t .lock-tests .ensures) (sym (e .before .refused .ensures) ∙ e .if1 .left) (c .lock .ensures) (c .before .lock-all .ensures)
 
@@ -83,6 +86,7 @@ lock-open-spec =
     (tie.spec
     mul-x
     array-copy-out-x
+    cast-n
     block-of-requires
     lock-tests-requires
     refused-requires

@@ -13,9 +13,12 @@ array-copy-out-x c = search needs
 block-of-requires : tie.Need-block-of-requires
 block-of-requires c κs = search needs
 
+cast-unlock-all : tie.Need-cast-unlock-all
+cast-unlock-all c = search needs
+
 unlock-all-requires : tie.Need-unlock-all-requires
 unlock-all-requires c κs =
-    let b = c .before .before .before .before in
+    let b = c .before .before .before .before .before in
     let s = b .before .before .before .before .before in
     (s .pre .0, b .block-of .ensures .narrow _ (s .pre .1 .1 .1))
 
@@ -24,18 +27,18 @@ free-requires c κs = search needs
 
 mul-seats : tie.Need-mul-seats
 mul-seats c =
-    let s = c .before .before .before .before .before .before .before .before .before .before .before in
+    let s = c .before .before .before .before .before .before .before .before .before .before .before .before in
     let h = s .pre .1 .1 .0 in
     search needs
 
 array-set-from-seats : tie.Need-array-set-from-seats
 array-set-from-seats c =
-    let s = c .before .before .before .before .before .before .before .before .before .before .before in
+    let s = c .before .before .before .before .before .before .before .before .before .before .before .before in
     s .pre .1 .1 .0
 
 returns : tie.Need-returns
 returns c =
-    let b = c .before .before .before .before .before .before in
+    let b = c .before .before .before .before .before .before .before in
     let s = b .before .before .before .before .before in
     drops _ _ _ _ _ _ _ _ (s .pre .1 .1 .0) (s .pre .1 .1 .1) (b .block-of .ensures) (c .free .ensures) (c .before .unlock-all .ensures)
 
@@ -46,6 +49,7 @@ drop-transaction-spec =
     mul-x
     array-copy-out-x
     block-of-requires
+    cast-unlock-all
     unlock-all-requires
     free-requires
     mul-seats

@@ -17,25 +17,34 @@ enum-known-r c = search needs
 enum-known-x : tie.Need-enum-known-x
 enum-known-x c = search needs
 
+cast-full : tie.Need-cast-full
+cast-full c = search needs
+
 full-requires : tie.Need-full-requires
 full-requires c κs =
-    let x = c .before .before in
+    let x = c .before .before .before in
     let o = x .before .before in
     seat-writable (o .before .before .before .before .pre) (subst (Admitted isOpen _ _) (x .x .given .1) (o .«open» .ensures))
 
 returns : tie.Need-returns
 returns c =
-    let x = c .before .before .before .before in
+    let x = c .before .before .before .before .before in
     let o = x .before .before in
     edit-full _ _ _ _ _ _ _ (subst (Admitted isOpen _ _) (x .x .given .1) (o .«open» .ensures)) (c .before .full .ensures) (c .if1 .taken)
 
+cast-put-write : tie.Need-cast-put-write
+cast-put-write c = search needs
+
 put-write-requires : tie.Need-put-write-requires
 put-write-requires c κs =
-    let x = c .before .before .before .before .before in
+    let x = c .before .before .before .before .before .before .before in
     let o = x .before .before in (
       seat-writable (o .before .before .before .before .pre) (subst (Admitted isOpen _ _) (x .x .given .1) (o .«open» .ensures)),
-      room-here _ _ _ _ _ (c .before .before .full .ensures) (c .before .if1 .left),
+      room-here _ _ _ _ _ (c .before .before .before .full .ensures) (c .before .before .if1 .left),
     )
+
+cast-t27 : tie.Need-cast-t27
+cast-t27 c = search needs
 
 mul-seats : tie.Need-mul-seats
 mul-seats c = search needs
@@ -50,10 +59,10 @@ returns-2 c =
 
 returns-3 : tie.Need-returns-3
 returns-3 c =
-    let x = c .before .before .before .before .before .before in
+    let x = c .before .before .before .before .before .before .before .before in
     let o = x .before .before in
     edit-granted _ _ _ _ _ _ _ _ _ _ (subst (Admitted isOpen _ _) (x .x .given .1) (o .«open» .ensures))
-    (c .before .before .before .full .ensures) (c .before .before .if1 .left) (c .put-write .ensures)
+    (c .before .before .before .before .full .ensures) (c .before .before .before .if1 .left) (c .put-write .ensures)
 
 pub edit-spec : {M : Type 1} → statement M
 edit-spec =
@@ -62,9 +71,12 @@ edit-spec =
     open-requires
     enum-known-r
     enum-known-x
+    cast-full
     full-requires
     returns
+    cast-put-write
     put-write-requires
+    cast-t27
     mul-seats
     array-set-from-seats
     returns-2

@@ -7,10 +7,16 @@ use Rattle.transactions.proofs.reads.read_current.Tie as tie
 returns : tie.Need-returns
 returns c = let s = c .before .before .before .before .before in read-full _ _ _ _ _ _ _ (s .pre .1) (c .if1 .taken)
 
+cast-take : tie.Need-cast-take
+cast-take c = search needs
+
 take-requires : tie.Need-take-requires
 take-requires c κs =
-    let s = c .before .before .before .before .before .before in
-    (s .pre .0 .reads, (s .pre .0 .records, (s .pre .0 .entries, (s .pre .1 .inside, c .before .if1 .left))))
+    let s = c .before .before .before .before .before .before .before in
+    (s .pre .0 .reads, (s .pre .0 .records, (s .pre .0 .entries, (s .pre .1 .inside, c .before .before .if1 .left))))
+
+cast-t23 : tie.Need-cast-t23
+cast-t23 c = search needs
 
 mul-seats : tie.Need-mul-seats
 mul-seats c = search needs
@@ -23,12 +29,12 @@ shown-requires c κs = search needs
 
 returns-2 : tie.Need-returns-2
 returns-2 c =
-    let t = c .before .before in
-    let e = t .before .before in
+    let t = c .before .before .before in
+    let e = t .before .before .before in
     let s = e .before .before .before .before .before in
     read-logged _ _ _ _ _ _ _ _ _ _ (s .pre .1) (e .if1 .left) (t .take .ensures) (c .shown .ensures)
 
 pub read-current-spec : {M : Type 1} → statement M
 read-current-spec =
     tie.close
-    (tie.spec returns take-requires mul-seats array-set-from-seats shown-requires returns-2)
+    (tie.spec returns cast-take take-requires cast-t23 mul-seats array-set-from-seats shown-requires returns-2)

@@ -17,9 +17,12 @@ enum-known-r c = search needs
 enum-known-x : tie.Need-enum-known-x
 enum-known-x c = search needs
 
+cast-find-write : tie.Need-cast-find-write
+cast-find-write c = search needs
+
 find-write-requires : tie.Need-find-write-requires
 find-write-requires c κs =
-    let x = c .before in
+    let x = c .before .before in
     let o = x .before .before in
     seat-writable (o .before .before .pre .writable) (subst (Admitted isOpen _ _) (x .x .given .1) (o .«open» .ensures))
 
@@ -34,7 +37,7 @@ enum-told-2 c = search needs
 
 read-current-requires : tie.Need-read-current-requires
 read-current-requires c κs =
-    let x = c .before .before .before .before .before in
+    let x = c .before .before .before .before .before .before in
     let o = x .before .before in
     (o .before .before .pre .loggable, subst (Admitted isOpen _ _) (x .x .given .1) (o .«open» .ensures))
 
@@ -44,14 +47,14 @@ returns c = read-refused _ _ _ _ _ _ _ _ (subst (Admitted isOpen _ _) (c .before
 returns-2 : tie.Need-returns-2
 returns-2 c =
     let f = c .before .before .before in
-    let x = f .before .before in
+    let x = f .before .before .before in
     let o = x .before .before in
     read-put _ _ _ _ _ _ _ _ _ _ (subst (Admitted isOpen _ _) (x .x .given .1) (o .«open» .ensures)) (c .before .own .given .1) (f .find-write .ensures)
 
 returns-3 : tie.Need-returns-3
 returns-3 c =
     let f = c .before .before in
-    let x = f .before .before in
+    let x = f .before .before .before in
     let o = x .before .before in
     read-deletion _ _ _ _ _ _ _ _ _ (subst (Admitted isOpen _ _) (x .x .given .1) (o .«open» .ensures)) (c .enum-told .given .1) (f .find-write .ensures)
 
@@ -67,6 +70,7 @@ tell-spec =
     open-requires
     enum-known-r
     enum-known-x
+    cast-find-write
     find-write-requires
     enum-known-own
     enum-told

@@ -10,6 +10,9 @@ returns c = number-spent _ _ _ (c .if1 .taken)
 add-n : tie.Need-add-n
 add-n c = search needs
 
+cast-check : tie.Need-cast-check
+cast-check c = search needs
+
 check-requires : tie.Need-check-requires
 check-requires c κs = search needs
 
@@ -24,4 +27,4 @@ returns-2 c = number-left _ _ _ _ (c .before .before .if1 .left) (c .check .ensu
 
 pub take-number-spec : {M : Type 1} → statement M
 take-number-spec =
-    tie.close (tie.spec returns add-n check-requires mul-seats array-set-from-seats returns-2)
+    tie.close (tie.spec returns add-n cast-check check-requires mul-seats array-set-from-seats returns-2)

@@ -1,0 +1,261 @@
+-- The phantomlet after a merge: the numbers of leaves that the merge did not make stay; those of the others are worked out
+-- anew by a walk over the slots, and all are added up.
+-- Assumes nothing.
+use Prim.Native.Nat.{ℕ, zero, suc, _+_, _-_, _^_, _<_, _≤_, zero-le}
+use native.Mathlib.Omega.{arith}
+use mathlib.Core.Path.{_≡_, refl, sym, ap, _∙_, subst}
+use mathlib.Core.Bool.{Bool, true, false, not}
+use mathlib.Core.List.{List, [], _∷_}
+use mathlib.Core.Option.{Option, none, some}
+use lib.ListN.{length, take, getD, set}
+use lib.Seq.{length-take-le}
+use mathlib.Core.Logic.{⊎-elim}
+use Rattle.lists.specs.Tests.{pick, present, same, cases, same-no}
+use Rattle.lists.specs.Rows.{Row, row, look}
+use Rattle.lists.specs.Sums.{total}
+use Rattle.spec.specs.Slots.{slotCount, Content, isIdle, Slot}
+use Rattle.laws.specs.SlotCounts.{entryAt, tally, count-cons}
+use Rattle.laws.specs.SlotChanges.{kept}
+use Rattle.indexlet.specs.Words.{pendingIn, contentIn, slotIn, slotsOf}
+use Rattle.indexlet.specs.declared.Content.{Content as ContentWords}
+use Rattle.indexlet.specs.declared.Slot.{Slot as SlotWords}
+use Rattle.indexlet.specs.Held as indexlet
+use Rattle.index.specs.Views.{recordsOf}
+use Rattle.index.specs.Views as index
+use Rattle.index.specs.LeafPlaces.{lowPlace, place-inside, AtLeaf, Listed}
+use Rattle.phantomlet.specs.Phantoms.{weigh, howMany}
+use Rattle.phantomlet.specs.LeafTests.{placed}
+use Rattle.phantomlet.specs.declared.recount.Reach.{Reach}
+use Rattle.phantomlet.specs.LeafNumbers.{Prepared, sumTo, sum-same, sum-add, sum-none, sum-one}
+use Rattle.phantomlet.specs.LeafCounts.{lacking, waiting, inLeaf, many-most, weigh-none, weigh-leaf, Range, reached, reached-no, Adding, Keeping, adding-start, adding-end, adding-small, adding-past, adding-some}
+
+-- ---- the walk
+
+-- What a merge at place i of `old` leaves, now m, asks of the arrays and of the phantomlet's kept numbers.
+pub record Recounting (rows lows slots : List ℕ) (n m : ℕ) (outside pending : List ℕ) (i old : ℕ) : Type 0 where
+  pub rows-held : index.Held rows n
+  pub listed : Listed lows m
+  pub first : getD lows 0 0 ≡ 0
+  pub words : indexlet.Held slots
+  pub leaf-in : i < old
+  pub old-in : old ≤ 1025
+  pub some-made : old ≤ i + m
+  pub one-less : old ≤ m + 1
+  pub outside-kept : Keeping lows m (lacking (recordsOf rows n)) (slotsOf slots) outside i old (i + 1 + m - old)
+  pub pending-kept : Keeping lows m waiting (slotsOf slots) pending i old (i + 1 + m - old)
+
+-- The walk stands before slot j.
+pub record Tallying (rows lows slots : List ℕ) (n m : ℕ) (r : Reach) (outside pending : List ℕ) (j : ℕ) : Type 0 where
+  pub rows-held : index.Held rows n
+  pub listed : Listed lows m
+  pub words : indexlet.Held slots
+  pub range : Range lows m r
+  pub there : j ≤ slotCount
+  pub outside-adds : Adding lows m (lacking (recordsOf rows n)) (slotsOf slots) (r .from) (r .to) outside j
+  pub pending-adds : Adding lows m waiting (slotsOf slots) (r .from) (r .to) pending j
+
+-- the numbers of all leaves
+pub record Numbers (rows lows slots : List ℕ) (n m : ℕ) (outside pending : List ℕ) : Type 0 where
+  pub outside-size : length outside ≡ 1025
+  pub pending-size : length pending ≡ 1025
+  pub outside-is : (i : ℕ) → i < m → getD outside i 0 ≡ howMany (inLeaf lows m (lacking (recordsOf rows n)) i) (slotsOf slots)
+  pub pending-is : (i : ℕ) → i < m → getD pending i 0 ≡ howMany (inLeaf lows m waiting i) (slotsOf slots)
+
+pub record Counting (rows lows slots : List ℕ) (n m : ℕ) (outside pending : List ℕ) (total : ℕ) : Type 0 where
+  pub numbers : Numbers rows lows slots n m outside pending
+  pub total-is : total ≡ howMany (lacking (recordsOf rows n)) (slotsOf slots)
+
+pub tally-start : {rows lows slots : List ℕ} {n m : ℕ} {outside pending outside' pending' : List ℕ} {i old from to : ℕ} (r : Reach)
+    → Recounting rows lows slots n m outside pending i old → Range lows m r → r .from ≡ from → from ≡ i - 1 → r .to ≡ to → to ≡ i + 1 + m - old
+    → Prepared outside outside' i old from to → Prepared pending pending' i old from to → Tallying rows lows slots n m r outside' pending' 0
+tally-start {rows} {lows} {slots} {n} {m} {outside} {pending} {outside'} {pending'} {i} {old} {from} {to} r c g a f b t p q =
+    let l : i < old = c .leaf-in in
+    let o : old ≤ m + 1 = c .one-less in
+    let s : to + old ≡ i + 1 + m = omega arith in
+    record {
+      rows-held = c .rows-held;
+      listed = c .listed;
+      words = c .words;
+      range = g;
+      there = zero-le;
+      outside-adds =
+          subst (λ (x : ℕ). Adding lows m (lacking (recordsOf rows n)) (slotsOf slots) x (r .to) outside' 0) (sym a)
+          (subst (λ (x : ℕ). Adding lows m (lacking (recordsOf rows n)) (slotsOf slots) from x outside' 0) (sym b)
+          (adding-start (c .words .good .size) f s l
+          (subst (λ (x : ℕ). Keeping lows m (lacking (recordsOf rows n)) (slotsOf slots) outside i old x) (sym t) (c .outside-kept)) p));
+      pending-adds =
+          subst (λ (x : ℕ). Adding lows m waiting (slotsOf slots) x (r .to) pending' 0) (sym a)
+          (subst (λ (x : ℕ). Adding lows m waiting (slotsOf slots) from x pending' 0) (sym b)
+          (adding-start (c .words .good .size) f s l
+          (subst (λ (x : ℕ). Keeping lows m waiting (slotsOf slots) pending i old x) (sym t) (c .pending-kept)) q));
+    }
+
+pub tally-end : {rows lows slots : List ℕ} {n m : ℕ} {r : Reach} {outside pending : List ℕ} {j : ℕ} → Tallying rows lows slots n m r outside pending j → 256 ≤ j
+    → Numbers rows lows slots n m outside pending
+tally-end {rows} {lows} {slots} {n} {m} {r} {outside} {pending} {j} g h =
+    let f : length (slotsOf slots) ≡ slotCount = g .words .good .size in
+    record {
+      outside-size = g .outside-adds .size;
+      pending-size = g .pending-adds .size;
+      outside-is = adding-end f (g .outside-adds) h;
+      pending-is = adding-end f (g .pending-adds) h;
+    }
+
+module _ {rows lows slots : List ℕ} {n m : ℕ} {z : Reach} {outside pending : List ℕ} {j : ℕ} (g : Tallying rows lows slots n m z outside pending j) (h : j < 256) where
+  full : length (slotsOf slots) ≡ slotCount
+  full = g .words .good .size
+
+  module _ (r : SlotWords) (reads : indexlet.Reads slots j r) where
+    entry-in : entryAt (slotsOf slots) j ≡ kept (r .key) (contentIn (r .content))
+    unfolding slotIn
+    entry-in = sym (ap (λ (s : Slot). s .entry) (reads .slot))
+
+    past : ((t : Row Content → Bool) (i : ℕ) → z .from ≤ i → i < z .to → weigh (inLeaf lows m t i) (entryAt (slotsOf slots) j) ≡ 0)
+        → Tallying rows lows slots n m z outside pending (j + 1)
+    past e =
+        record {
+          rows-held = g .rows-held;
+          listed = g .listed;
+          words = g .words;
+          range = g .range;
+          there = omega arith;
+          outside-adds = adding-past full (g .outside-adds) h (e (lacking (recordsOf rows n)));
+          pending-adds = adding-past full (g .pending-adds) h (e waiting);
+        }
+
+    -- a slot with no entry
+    pub tally-none : isIdle (contentIn (r .content)) ≡ true → Tallying rows lows slots n m z outside pending (j + 1)
+    tally-none t =
+        past (λ q i a b.
+        ap (weigh (inLeaf lows m q i)) (entry-in ∙ ap (λ (b : Bool). pick b none (some (row (r .key) (contentIn (r .content))))) t) ∙ weigh-none (inLeaf lows m q i))
+
+    -- an entry in none of these leaves
+    out-of : ((i : ℕ) → z .from ≤ i → i < z .to → lowPlace (r .key) (take m lows) ≡ i → ⊥) → isIdle (contentIn (r .content)) ≡ false
+        → Tallying rows lows slots n m z outside pending (j + 1)
+    unfolding placed
+    out-of f t =
+        past (λ q i a b.
+        ap (weigh (inLeaf lows m q i)) (entry-in ∙ ap (λ (b : Bool). pick b none (some (row (r .key) (contentIn (r .content))))) t)
+        ∙ weigh-leaf lows m q i (row (r .key) (contentIn (r .content)))
+        ∙ ap (λ (b : Bool). pick b (weigh q (some (row (r .key) (contentIn (r .content))))) 0) (same-no {m = lowPlace (r .key) (take m lows)} {n = i} (f i a b)))
+
+    pub tally-below : isIdle (contentIn (r .content)) ≡ false → r .key < z .low → Tallying rows lows slots n m z outside pending (j + 1)
+    tally-below t l = let w : lowPlace (r .key) (take m lows) < z .from = g .range .below (r .key) l in out-of (λ i a b e. let q : ⊥ = omega arith in q) t
+
+    pub tally-above : isIdle (contentIn (r .content)) ≡ false → z .high ≤ r .key → Tallying rows lows slots n m z outside pending (j + 1)
+    tally-above t l = let w : z .to ≤ lowPlace (r .key) (take m lows) = g .range .above (r .key) l (reads .narrow) in out-of (λ i a b e. let q : ⊥ = omega arith in q) t
+
+    -- an address in none of these leaves, with an entry or without
+    pub tally-outside : reached z (r .key) ≡ false → Tallying rows lows slots n m z outside pending (j + 1)
+    tally-outside e =
+        ⊎-elim (λ t. tally-none t)
+        (λ t. ⊎-elim (λ l. tally-below t l) (λ l. tally-above t l) (reached-no z (r .key) e))
+        (cases (isIdle (contentIn (r .content))))
+
+    -- an entry in one of them
+    pub tally-some : (at x w : ℕ) (outside' pending' : List ℕ) → isIdle (contentIn (r .content)) ≡ false → z .low ≤ r .key → r .key < z .high → AtLeaf lows m (r .key) at
+        → x ≡ pick (not (present (look (recordsOf rows n) (r .key)))) 1 0 → w ≡ pick (present (contentIn (r .content) .pending)) 1 0
+        → outside' ≡ set outside at (getD outside at 0 + x) → pending' ≡ set pending at (getD pending at 0 + w)
+        → Tallying rows lows slots n m z outside' pending' (j + 1)
+    unfolding weigh lacking waiting
+    tally-some at x w outside' pending' t u v l a b p q =
+        let e : entryAt (slotsOf slots) j ≡ some (row (r .key) (contentIn (r .content))) = entry-in ∙ ap (λ (b : Bool). pick b none (some (row (r .key) (contentIn (r .content))))) t in
+        let i = g .range .inside (r .key) u v in
+        let y : at ≡ lowPlace (r .key) (take m lows) = l .is in
+        record {
+          rows-held = g .rows-held;
+          listed = g .listed;
+          words = g .words;
+          range = g .range;
+          there = omega arith;
+          outside-adds = adding-some full (row (r .key) (contentIn (r .content))) at x outside' (g .outside-adds) h e (g .listed .room) l (omega arith) (omega arith) a p;
+          pending-adds = adding-some full (row (r .key) (contentIn (r .content))) at w pending' (g .pending-adds) h e (g .listed .room) l (omega arith) (omega arith) b q;
+        }
+
+-- ---- numbers that fit
+
+pick-most : (b : Bool) → pick b 1 0 ≤ 1
+pick-most true = omega arith
+pick-most false = omega arith
+
+module _ {rows lows slots : List ℕ} {n m : ℕ} {z : Reach} {outside pending : List ℕ} {j : ℕ} (g : Tallying rows lows slots n m z outside pending j) (h : j < 256)
+    {k at : ℕ} (l : AtLeaf lows m k at) (u : z .low ≤ k) (v : k < z .high) (x : ℕ) (b : Bool) (e : x ≡ pick b 1 0) where
+  pub outside-fits : (at < 1025) × (getD outside at 0 + x < 2 ^ 64)
+  outside-fits =
+      let i : at < m = l .inside in
+      let y : at ≡ lowPlace k (take m lows) = l .is in
+      let w = g .range .inside k u v in
+      let r : m ≤ 1025 = g .listed .room in
+      let s : getD outside at 0 ≤ 256 = adding-small (g .words .good .size) (g .outside-adds) at (omega arith) (omega arith) in
+      let p : pick b 1 0 ≤ 1 = pick-most b in
+      (omega arith, omega arith)
+
+  pub pending-fits : (at < 1025) × (getD pending at 0 + x < 2 ^ 64)
+  pending-fits =
+      let i : at < m = l .inside in
+      let y : at ≡ lowPlace k (take m lows) = l .is in
+      let w = g .range .inside k u v in
+      let r : m ≤ 1025 = g .listed .room in
+      let s : getD pending at 0 ≤ 256 = adding-small (g .words .good .size) (g .pending-adds) at (omega arith) (omega arith) in
+      let p : pick b 1 0 ≤ 1 = pick-most b in
+      (omega arith, omega arith)
+
+-- ---- the sum over all leaves
+
+-- each entry lies in one leaf
+weigh-sum : (lows : List ℕ) (m : ℕ) (t : Row Content → Bool) (o : Option (Row Content)) → 1 ≤ m → length (take m lows) ≡ m → sumTo (λ (i : ℕ). weigh (inLeaf lows m t i) o) m ≡ weigh t o
+unfolding placed
+weigh-sum lows m t none s f = sum-none (λ (i : ℕ). weigh (inLeaf lows m t i) none) m (λ i h. weigh-none (inLeaf lows m t i)) ∙ sym (weigh-none t)
+weigh-sum lows m t (some e) s f =
+    let p : lowPlace (e .key) (take m lows) < length (take m lows) = place-inside (e .key) (take m lows) (rw f s) in
+    sum-same (λ (i : ℕ). weigh (inLeaf lows m t i) (some e)) (λ (i : ℕ). pick (same (lowPlace (e .key) (take m lows)) i) (weigh t (some e)) 0) m (λ i h. weigh-leaf lows m t i e)
+    ∙ sum-one (lowPlace (e .key) (take m lows)) (weigh t (some e)) m (omega arith)
+
+many-none : (p : Row Content → Bool) → howMany p [] ≡ 0
+unfolding howMany tally total
+many-none p = refl
+
+many-cons : (p : Row Content → Bool) (s : Slot) (ss : List Slot) → howMany p (s ∷ ss) ≡ weigh p (s .entry) + howMany p ss
+unfolding howMany
+many-cons p s ss = count-cons (weigh p) s ss
+
+many-sum : (lows : List ℕ) (m : ℕ) (t : Row Content → Bool) (ss : List Slot) → 1 ≤ m → length (take m lows) ≡ m → sumTo (λ (i : ℕ). howMany (inLeaf lows m t i) ss) m ≡ howMany t ss
+many-sum lows m t [] s f = sum-none (λ (i : ℕ). howMany (inLeaf lows m t i) []) m (λ i h. many-none (inLeaf lows m t i)) ∙ sym (many-none t)
+many-sum lows m t (x ∷ ss) s f =
+    sum-same (λ (i : ℕ). howMany (inLeaf lows m t i) (x ∷ ss)) (λ (i : ℕ). weigh (inLeaf lows m t i) (x .entry) + howMany (inLeaf lows m t i) ss) m (λ i h. many-cons (inLeaf lows m t i) x ss)
+    ∙ sum-add (λ (i : ℕ). weigh (inLeaf lows m t i) (x .entry)) (λ (i : ℕ). howMany (inLeaf lows m t i) ss) m
+    ∙ ap (λ (n : ℕ). n + sumTo (λ (i : ℕ). howMany (inLeaf lows m t i) ss) m) (weigh-sum lows m t (x .entry) s f)
+    ∙ ap (λ (n : ℕ). weigh t (x .entry) + n) (many-sum lows m t ss s f)
+    ∙ sym (many-cons t x ss)
+
+pub counting : {rows lows slots : List ℕ} {n m : ℕ} {outside pending : List ℕ} {total : ℕ} → Listed lows m → length lows ≡ 1025
+    → Numbers rows lows slots n m outside pending → total ≡ sumTo (λ (i : ℕ). getD outside i 0) m → Counting rows lows slots n m outside pending total
+counting {rows} {lows} {slots} {n} {m} {outside} {pending} {total} l al c e =
+    record {
+      numbers = c;
+      total-is =
+          e
+          ∙ sum-same (λ (i : ℕ). getD outside i 0) (λ (i : ℕ). howMany (inLeaf lows m (lacking (recordsOf rows n)) i) (slotsOf slots)) m (c .outside-is)
+          ∙ many-sum lows m (lacking (recordsOf rows n)) (slotsOf slots) (l .some) (length-take-le m lows (let r : m ≤ 1025 = l .room in omega arith));
+    }
+
+-- each number is at most the number of slots
+pub numbers-small : {rows lows slots : List ℕ} {n m : ℕ} {outside pending : List ℕ} → indexlet.Held slots → Numbers rows lows slots n m outside pending → (i : ℕ) → i < m → getD outside i 0 ≤ 256
+numbers-small {rows} {lows} {slots} {n} {m} {outside} {pending} w c i h =
+    let e : getD outside i 0 ≡ howMany (inLeaf lows m (lacking (recordsOf rows n)) i) (slotsOf slots) = c .outside-is i h in
+    let f : length (slotsOf slots) ≡ slotCount = w .good .size in
+    let x : howMany (inLeaf lows m (lacking (recordsOf rows n)) i) (slotsOf slots) ≤ length (slotsOf slots) = many-most (inLeaf lows m (lacking (recordsOf rows n)) i) (slotsOf slots) in
+    omega arith
+
+pub waits-none : (c : ContentWords) → c .kind ≡ 0 → _≡_ {A = ℕ} 0 (pick (present (contentIn c .pending)) 1 0)
+unfolding contentIn pendingIn
+waits-none c e = sym (ap (λ (n : ℕ). pick {A = ℕ} (present (pendingIn n (c .value) (c .commit))) 1 0) e)
+
+pub waits-some : (c : ContentWords) → (c .kind ≡ 0 → ⊥) → _≡_ {A = ℕ} 1 (pick (present (contentIn c .pending)) 1 0)
+unfolding contentIn pendingIn
+waits-some c n = go (c .kind) n
+  where
+    go : (k : ℕ) → (k ≡ 0 → ⊥) → _≡_ {A = ℕ} 1 (pick (present (pendingIn k (c .value) (c .commit))) 1 0)
+    go zero n = absurd (n refl)
+    go (suc zero) n = refl
+    go (suc (suc k)) n = refl

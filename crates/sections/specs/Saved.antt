@@ -1,7 +1,7 @@
 -- The core in 46 words: for each of the eight seats its stage (0 free, 1 open, 2 locked, 3 checked), its number and the
 -- counts of its three sets; then the four sizes and the two counters.
 -- Assumes nothing.
-use Prim.Native.Nat.{ℕ, _+_, _*_}
+use Prim.Native.Nat.{ℕ, _+_, _*_, _%_, _<_}
 use mathlib.Core.Path.{_≡_}
 use mathlib.Core.List.{List, [], _∷_}
 use lib.ListN.{getD}
@@ -23,14 +23,15 @@ stageNumber Open = 1
 stageNumber Locked = 2
 stageNumber Checked = 3
 
+-- a number has 32 bits, a count 8: what a wider word has beyond them is not looked at
 unfoldable pub seatIn : List ℕ → ℕ → Worker
 seatIn ws w =
     record {
       stage = stageOf (getD ws (5 * w) 0);
-      number = getD ws (5 * w + 1) 0;
-      reads = getD ws (5 * w + 2) 0;
-      leaves = getD ws (5 * w + 3) 0;
-      writes = getD ws (5 * w + 4) 0;
+      number = getD ws (5 * w + 1) 0 % 4294967296;
+      reads = getD ws (5 * w + 2) 0 % 256;
+      leaves = getD ws (5 * w + 3) 0 % 256;
+      writes = getD ws (5 * w + 4) 0 % 256;
     }
 
 abbrev pub sizesIn : List ℕ → Sizes
@@ -47,10 +48,10 @@ coreIn ws =
       counters = countersIn ws;
     }
 
--- the numbers of a seat
+-- the numbers of a seat, which fit their widths
 pub record SeatIs (x : Worker) (r : SeatWords) : Type 0 where
   pub stage : r .stage ≡ stageNumber (x .stage)
-  pub number : r .number ≡ x .number
-  pub reads : r .reads ≡ x .reads
-  pub leaves : r .leaves ≡ x .leaves
-  pub writes : r .writes ≡ x .writes
+  pub number : (r .number ≡ x .number) × (x .number < 4294967296)
+  pub reads : (r .reads ≡ x .reads) × (x .reads < 256)
+  pub leaves : (r .leaves ≡ x .leaves) × (x .leaves < 256)
+  pub writes : (r .writes ≡ x .writes) × (x .writes < 256)

@@ -1,6 +1,6 @@
 -- The core is read from its words, and put into them.
 -- Assumes nothing.
-use Prim.Native.Nat.{ℕ, _+_, _*_}
+use Prim.Native.Nat.{ℕ, _+_, _*_, _%_, _<_}
 use native.Mathlib.Omega.{arith}
 use mathlib.Core.Path.{_≡_, refl, ap, _∙_}
 use mathlib.Core.List.{List, [], _∷_}
@@ -22,11 +22,11 @@ pub stage-other : (n : ℕ) → (n ≡ 0 → ⊥) → (n ≡ 1 → ⊥) → (n �
 unfolding stageOf
 stage-other n x y z = rw (same-no x, same-no y, same-no z)
 
-pub seat-read : (ws : List ℕ) (w : ℕ) {s : Stage} {r l e : ℕ} → s ≡ stageOf (getD ws (5 * w) 0) → r ≡ getD ws (5 * w + 2) 0
-    → l ≡ getD ws (5 * w + 3) 0 → e ≡ getD ws (5 * w + 4) 0
-    → record { stage = s; number = getD ws (5 * w + 1) 0; reads = r; leaves = l; writes = e } ≡ seatIn ws w
+pub seat-read : (ws : List ℕ) (w : ℕ) {s : Stage} {n r l e : ℕ} → s ≡ stageOf (getD ws (5 * w) 0)
+    → n ≡ getD ws (5 * w + 1) 0 % 4294967296 → r ≡ getD ws (5 * w + 2) 0 % 256 → l ≡ getD ws (5 * w + 3) 0 % 256
+    → e ≡ getD ws (5 * w + 4) 0 % 256 → record { number = n; stage = s; reads = r; leaves = l; writes = e } ≡ seatIn ws w
 unfolding seatIn
-seat-read ws w a b c d = λ i. record { stage = a i; number = getD ws (5 * w + 1) 0; reads = b i; leaves = c i; writes = d i }
+seat-read ws w a n b c d = λ i. record { number = n i; stage = a i; reads = b i; leaves = c i; writes = d i }
 
 pub sizes-read : (ws : List ℕ) {r l e o : ℕ} → r ≡ getD ws 40 0 → l ≡ getD ws 41 0 → e ≡ getD ws 42 0 → o ≡ getD ws 43 0
     → record { records = r; leaves = l; entries = e; outside = o } ≡ sizesIn ws
@@ -50,16 +50,29 @@ stage-back Checked = refl
 
 -- the seat that the numbers of a seat stand for
 abbrev backOf : SeatWords → Worker
-backOf r = record { stage = stageOf (r .stage); number = r .number; reads = r .reads; leaves = r .leaves; writes = r .writes }
+backOf r =
+    record {
+      number = r .number % 4294967296;
+      stage = stageOf (r .stage);
+      reads = r .reads % 256;
+      leaves = r .leaves % 256;
+      writes = r .writes % 256;
+    }
+
+count-back : {a b : ℕ} → (a ≡ b) × (b < 256) → a % 256 ≡ b
+count-back {a} {b} p = let e = p .0 in let h = p .1 in omega arith
+
+number-back : {a b : ℕ} → (a ≡ b) × (b < 4294967296) → a % 4294967296 ≡ b
+number-back {a} {b} p = let e = p .0 in let h = p .1 in omega arith
 
 back : {x : Worker} {r : SeatWords} → SeatIs x r → backOf r ≡ x
 back {x} p =
     λ i. record {
+      number = number-back (p .number) i;
       stage = (ap stageOf (p .stage) ∙ stage-back (x .stage)) i;
-      number = p .number i;
-      reads = p .reads i;
-      leaves = p .leaves i;
-      writes = p .writes i;
+      reads = count-back (p .reads) i;
+      leaves = count-back (p .leaves) i;
+      writes = count-back (p .writes) i;
     }
 
 -- a list of eight, one by one

@@ -5,7 +5,7 @@ use sets::workers::Worker;
 use spec::Stage;
 use transactions::Core;
 ghost use mathlib.Core.Path.{_≡_};
-ghost use Prim.Native.Nat.{_<_};
+ghost use Prim.Native.Nat.{_%_, _<_};
 ghost use lib.ListN.{length};
 ghost use Rattle.sections.specs.Saved.{stageOf, stageNumber, seatIn, sizesIn, countersIn, coreIn, SeatIs};
 
@@ -46,17 +46,31 @@ fn size(n: u64) -> usize
     n as usize
 }
 
+// A word that a seat's number, or a count of one of its sets, was put into holds no more than that.
+fn number_of(n: u64) -> u32
+    ensures { λ r. ⌜ r ≡ n % 4294967296 ⌝ }
+{
+    (n % 4294967296) as u32
+}
+
+fn count_of(n: u64) -> u8
+    ensures { λ r. ⌜ r ≡ n % 256 ⌝ }
+{
+    (n % 256) as u8
+}
+
 fn seat_in(words: &[u64; 46], w: usize) -> Worker
     requires { ⌜ w < 8 ⌝ }
     ensures { λ r. ⌜ r ≡ seatIn (now (words .entry)) w ⌝ }
 {
     let stage = stage_of(words[5 * w]);
-    let reads = size(words[5 * w + 2]);
-    let leaves = size(words[5 * w + 3]);
-    let writes = size(words[5 * w + 4]);
+    let number = number_of(words[5 * w + 1]);
+    let reads = count_of(words[5 * w + 2]);
+    let leaves = count_of(words[5 * w + 3]);
+    let writes = count_of(words[5 * w + 4]);
     Worker {
+        number,
         stage,
-        number: words[5 * w + 1],
         reads,
         leaves,
         writes,
@@ -109,17 +123,33 @@ pub fn load(words: &[u64; 46]) -> Core
     }
 }
 
+fn number_word(n: u32) -> u64
+    ensures { λ r. ⌜ (r ≡ n) × (n < 4294967296) ⌝ }
+{
+    n as u64
+}
+
+fn count_word(n: u8) -> u64
+    ensures { λ r. ⌜ (r ≡ n) × (n < 256) ⌝ }
+{
+    n as u64
+}
+
 fn seat_words(x: Worker) -> SeatWords
     ensures { λ r. ⌜ SeatIs x r ⌝ }
 {
     let s = x.stage;
     let stage = stage_number(s);
+    let number = number_word(x.number);
+    let reads = count_word(x.reads);
+    let leaves = count_word(x.leaves);
+    let writes = count_word(x.writes);
     SeatWords {
         stage,
-        number: x.number,
-        reads: x.reads as u64,
-        leaves: x.leaves as u64,
-        writes: x.writes as u64,
+        number,
+        reads,
+        leaves,
+        writes,
     }
 }
 

@@ -16,65 +16,68 @@ element-copy-out-stage-of c = search needs
 stage-of-requires : tie.Need-stage-of-requires
 stage-of-requires c κs = search needs
 
-mul-size : tie.Need-mul-size
-mul-size c = search needs
+mul-number-of : tie.Need-mul-number-of
+mul-number-of c = search needs
 
-add-size : tie.Need-add-size
-add-size c = search needs
+add-number-of : tie.Need-add-number-of
+add-number-of c = search needs
 
-mul-size-2 : tie.Need-mul-size-2
-mul-size-2 c = search needs
+mul-number-of-2 : tie.Need-mul-number-of-2
+mul-number-of-2 c = search needs
 
-element-copy-out-size : tie.Need-element-copy-out-size
-element-copy-out-size c = search needs
+element-copy-out-number-of : tie.Need-element-copy-out-number-of
+element-copy-out-number-of c = search needs
 
-size-requires : tie.Need-size-requires
-size-requires c κs = search needs
+number-of-requires : tie.Need-number-of-requires
+number-of-requires c κs = search needs
 
-mul-size-3 : tie.Need-mul-size-3
-mul-size-3 c = search needs
+mul-count-of : tie.Need-mul-count-of
+mul-count-of c = search needs
 
-add-size-2 : tie.Need-add-size-2
-add-size-2 c = search needs
+add-count-of : tie.Need-add-count-of
+add-count-of c = search needs
 
-mul-size-4 : tie.Need-mul-size-4
-mul-size-4 c = search needs
+mul-count-of-2 : tie.Need-mul-count-of-2
+mul-count-of-2 c = search needs
 
-element-copy-out-size-2 : tie.Need-element-copy-out-size-2
-element-copy-out-size-2 c = search needs
+element-copy-out-count-of : tie.Need-element-copy-out-count-of
+element-copy-out-count-of c = search needs
 
-size-requires-2 : tie.Need-size-requires-2
-size-requires-2 c κs = search needs
+count-of-requires : tie.Need-count-of-requires
+count-of-requires c κs = search needs
 
-mul-size-5 : tie.Need-mul-size-5
-mul-size-5 c = search needs
+mul-count-of-3 : tie.Need-mul-count-of-3
+mul-count-of-3 c = search needs
 
-add-size-3 : tie.Need-add-size-3
-add-size-3 c = search needs
+add-count-of-2 : tie.Need-add-count-of-2
+add-count-of-2 c = search needs
 
-mul-size-6 : tie.Need-mul-size-6
-mul-size-6 c = search needs
+mul-count-of-4 : tie.Need-mul-count-of-4
+mul-count-of-4 c = search needs
 
-element-copy-out-size-3 : tie.Need-element-copy-out-size-3
-element-copy-out-size-3 c = search needs
+element-copy-out-count-of-2 : tie.Need-element-copy-out-count-of-2
+element-copy-out-count-of-2 c = search needs
 
-size-requires-3 : tie.Need-size-requires-3
-size-requires-3 c κs = search needs
+count-of-requires-2 : tie.Need-count-of-requires-2
+count-of-requires-2 c κs = search needs
 
-mul-t7 : tie.Need-mul-t7
-mul-t7 c = search needs
+mul-count-of-5 : tie.Need-mul-count-of-5
+mul-count-of-5 c = search needs
 
-add-t8 : tie.Need-add-t8
-add-t8 c = search needs
+add-count-of-3 : tie.Need-add-count-of-3
+add-count-of-3 c = search needs
 
-mul-t12 : tie.Need-mul-t12
-mul-t12 c = search needs
+mul-count-of-6 : tie.Need-mul-count-of-6
+mul-count-of-6 c = search needs
 
-element-copy-out-t11 : tie.Need-element-copy-out-t11
-element-copy-out-t11 c = search needs
+element-copy-out-count-of-3 : tie.Need-element-copy-out-count-of-3
+element-copy-out-count-of-3 c = search needs
+
+count-of-requires-3 : tie.Need-count-of-requires-3
+count-of-requires-3 c κs = search needs
 
 returns : tie.Need-returns
-returns c = seat-read _ _ (c .before .before .before .before .before .before .before .stage-of .ensures) (c .before .before .before .before .before .size .ensures) (c .before .before .before .size2 .ensures) (c .before .size3 .ensures)
+returns c = seat-read _ _ (c .before .before .before .before .before .before .before .before .stage-of .ensures) (c .before .before .before .before .before .before .number-of .ensures) (c .before .before .before .before .count-of .ensures) (c .before .before .count-of2 .ensures) (c .count-of3 .ensures)
 
 pub seat-in-spec : {M : Type 1} → statement M
 seat-in-spec =
@@ -84,23 +87,24 @@ seat-in-spec =
     mul-stage-of-2
     element-copy-out-stage-of
     stage-of-requires
-    mul-size
-    add-size
-    mul-size-2
-    element-copy-out-size
-    size-requires
-    mul-size-3
-    add-size-2
-    mul-size-4
-    element-copy-out-size-2
-    size-requires-2
-    mul-size-5
-    add-size-3
-    mul-size-6
-    element-copy-out-size-3
-    size-requires-3
-    mul-t7
-    add-t8
-    mul-t12
-    element-copy-out-t11
+    mul-number-of
+    add-number-of
+    mul-number-of-2
+    element-copy-out-number-of
+    number-of-requires
+    mul-count-of
+    add-count-of
+    mul-count-of-2
+    element-copy-out-count-of
+    count-of-requires
+    mul-count-of-3
+    add-count-of-2
+    mul-count-of-4
+    element-copy-out-count-of-2
+    count-of-requires-2
+    mul-count-of-5
+    add-count-of-3
+    mul-count-of-6
+    element-copy-out-count-of-3
+    count-of-requires-3
     returns)

@@ -73,14 +73,6 @@ pub fn find(rows: &[u64; 3072], n: usize, a: Address) -> Found
     Found::Nothing
 }
 
-// The record at place i, by rising address.
-pub fn record_at(rows: &[u64; 3072], n: usize, i: usize) -> RecordRow
-    requires { ⌜ (i < n) × (n ≤ 1024) ⌝ }
-    ensures { λ r. ⌜ rowOf r ≡ getD (recordsOf (now (rows .entry)) n) i noRow ⌝ }
-{
-    rows::get(rows, i)
-}
-
 // Puts a row in at place p, before the records that stand there and after it. Answers how many records there are now.
 fn insert(rows: &mut [u64; 3072], n: usize, p: usize, r: RecordRow) -> usize
     requires { ⌜ (p ≤ n) × (n < 1024) ⌝ }

@@ -147,7 +147,7 @@ pub fn leaves_meeting(lows: &[u64; 1025], m: usize, lo: Address, hi: Address) ->
 }
 
 // The place of the leaf that holds an address.
-pub fn place_of(lows: &[u64; 1025], m: usize, a: Address) -> usize
+fn place_of(lows: &[u64; 1025], m: usize, a: Address) -> usize
     requires { ⌜ Listed (now lows) m ⌝ }
     ensures { λ r. ⌜ LeafAt (now (lows .entry)) m a r ⌝ }
 {

@@ -1,4 +1,4 @@
--- `map::recount::clear` meets its contract: the places passed are 0. Assumes nothing.
+-- `phantomlet::recount::clear` meets its contract: the places passed are 0. Assumes nothing.
 use Prim.Native.Nat.{ℕ, _-_, _≤_}
 use native.Mathlib.Nat.{le-refl}
 use native.Mathlib.Omega.{arith}

@@ -1,4 +1,4 @@
--- `map::recount::lacks` meets its contract: the search found a record, or nothing. Assumes nothing.
+-- `phantomlet::recount::lacks` meets its contract: the search found a record, or nothing. Assumes nothing.
 use Prim.Native.Nat.{ℕ}
 use mathlib.Core.Path.{sym, ap, _∙_}
 use mathlib.Core.Bool.{not}

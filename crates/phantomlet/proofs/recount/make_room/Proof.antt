@@ -1,4 +1,4 @@
--- `map::recount::make_room` meets its contract. Assumes nothing.
+-- `phantomlet::recount::make_room` meets its contract. Assumes nothing.
 use Rattle.phantomlet.specs.LeafNumbers.{prepared}
 use borrow.Author.Needs.{needs}
 use Rattle.phantomlet.proofs.recount.make_room.Statement.{statement}

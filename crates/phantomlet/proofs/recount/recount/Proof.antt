@@ -1,4 +1,4 @@
--- `map::recount::recount` meets its contract: kept numbers move, the others are counted, and all are added up.
+-- `phantomlet::recount::recount` meets its contract: kept numbers move, the others are counted, and all are added up.
 -- Assumes nothing.
 use mathlib.Core.Path.{refl}
 use Rattle.phantomlet.specs.MergeCounts.{tally-start, numbers-small, counting}

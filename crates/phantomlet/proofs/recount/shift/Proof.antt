@@ -1,4 +1,4 @@
--- `map::recount::shift` meets its contract: to the same place, to a lower one, to a higher one. Assumes nothing.
+-- `phantomlet::recount::shift` meets its contract: to the same place, to a lower one, to a higher one. Assumes nothing.
 use Prim.Native.Nat.{ℕ, _+_, _≤_}
 use native.Mathlib.Omega.{arith}
 use mathlib.Core.Path.{_≡_, sym, ap, _∙_}

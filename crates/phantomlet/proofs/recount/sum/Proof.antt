@@ -1,4 +1,4 @@
--- `map::recount::sum` meets its contract. Assumes nothing.
+-- `phantomlet::recount::sum` meets its contract. Assumes nothing.
 use Prim.Native.Nat.{_-_, _≤_}
 use native.Mathlib.Omega.{arith}
 use borrow.Author.Needs.{needs}

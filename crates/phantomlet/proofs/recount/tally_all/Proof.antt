@@ -1,4 +1,4 @@
--- `map::recount::tally_all` meets its contract. Assumes nothing.
+-- `phantomlet::recount::tally_all` meets its contract. Assumes nothing.
 use Prim.Native.Nat.{_-_}
 use borrow.Author.Needs.{needs}
 use Rattle.phantomlet.specs.MergeCounts.{Tallying, tally-end}

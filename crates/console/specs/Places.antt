@@ -18,6 +18,7 @@ use Rattle.spec.specs.Steps.{State, begin, read, scan, remove, lock, validate, 
 use Rattle.map.specs.Views.{Lent}
 use Rattle.transactions.specs.Views.{Logs, stateOf}
 use Rattle.transactions.specs.Walks.{rowsIn}
+use Rattle.transactions.specs.ShowLaws.{length-rows}
 use Rattle.engine.specs.declared.steps.Op.{Op}
 use Rattle.engine.specs.declared.steps.Reply.{Reply}
 use Rattle.engine.specs.declared.steps.Reply.the-variants as reply
@@ -27,7 +28,7 @@ use Rattle.script.specs.declared.Line.{Line}
 use Rattle.script.specs.declared.Line.the-variants as line
 use Rattle.script.specs.Output.{stepOf}
 use Rattle.console.specs.Program.{places}
-use Rattle.console.specs.Replies.{Asks, rows-length}
+use Rattle.console.specs.Replies.{Asks}
 
 abbrev lists : Answer → Bool
 lists (refused r) = false
@@ -86,7 +87,7 @@ places-fit {l} {l'} {g} {g'} {x} {u} {o} {ks} {vs} {ks'} {vs'} {d} a e f p = go 
     go (reply.Value v) h = omega arith
     go reply.Absent h = omega arith
     go (reply.Listed n) h =
-        subst (λ (m : ℕ). m ≤ places) (rows-length n ks' vs') (listed-fits (stateOf l g x) u (rowsIn n ks' vs') (sym h))
+        subst (λ (m : ℕ). m ≤ places) (length-rows n ks' vs') (listed-fits (stateOf l g x) u (rowsIn n ks' vs') (sym h))
     go (reply.Numbered n) h = omega arith
     go (reply.Counted n) h = omega arith
     go (reply.Refused r) h = omega arith

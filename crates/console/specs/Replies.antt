@@ -7,7 +7,7 @@ use mathlib.Core.Path.{_≡_, refl, sym, ap, _∙_, subst}
 use mathlib.Core.List.{List, [], _∷_, _++_}
 use lib.ListN.{length, take, getD, length-append}
 use Rattle.lists.specs.Rows.{row}
-use Rattle.lists.specs.Shifts.{tabFrom, tab, tab-cons, length-tab}
+use Rattle.lists.specs.Shifts.{tabFrom, tab, tab-cons}
 use Rattle.spec.specs.declared.Refusal.{Refusal}
 use Rattle.spec.specs.Refusals.{numberOf}
 use Rattle.spec.specs.Records.{Payload}
@@ -15,6 +15,7 @@ use Rattle.script.specs.declared.Line.{Line}
 use Rattle.script.specs.Output.{field, absent, pair, pairs, pairsOf, stepOf, answerText, Wrote}
 use Rattle.script.specs.OutputLaws.{pair-most}
 use Rattle.transactions.specs.Walks.{rowsIn}
+use Rattle.transactions.specs.ShowLaws.{length-rows}
 use Rattle.script.specs.declared.Line.the-variants as line
 use Rattle.engine.specs.declared.steps.Access.the-variants as access
 use Rattle.engine.specs.declared.steps.Ending.the-variants as ending
@@ -91,10 +92,6 @@ rows-pairs (suc n) (k ∷ ks) (v ∷ vs) h g =
     ap (pairs (λ (p : Payload). p .value)) (rows-cons n k v ks vs)
     ∙ ap (λ (x : List ℕ). pair k v ++ x) (rows-pairs n ks vs (le-of-suc-le-suc h) (le-of-suc-le-suc g))
 
-pub rows-length : (n : ℕ) (ks vs : List ℕ) → length (rowsIn n ks vs) ≡ n
-unfolding rowsIn
-rows-length n ks vs = length-tab (λ (i : ℕ). row (getD ks i 0) (record { value = getD vs i 0 })) n
-
 -- ---- the line of each reply, as the functions write it
 
 module _ {c at j : ℕ} {p : Reply} {ks vs l m : List ℕ} where
@@ -133,7 +130,7 @@ module _ {c at j : ℕ} {p : Reply} {ks vs l m : List ℕ} where
   unfolding replyText answerText
   wrote-listed n e h g w =
       named (reply.Listed n) _ e
-      (ap (λ (x : ℕ). c ∷ (field 0 ++ field x ++ pairs (λ (q : Payload). q .value) (rowsIn n ks vs)) ++ (10 ∷ [])) (rows-length n ks vs)
+      (ap (λ (x : ℕ). c ∷ (field 0 ++ field x ++ pairs (λ (q : Payload). q .value) (rowsIn n ks vs)) ++ (10 ∷ [])) (length-rows n ks vs)
       ∙ ap (λ (x : List ℕ). c ∷ (field 0 ++ field n ++ x) ++ (10 ∷ [])) (rows-pairs n ks vs h g)) w
 
 -- ---- how long pairs are

@@ -145,7 +145,7 @@ module _ (ks vs : List ℕ) (at : ℕ) (x : Turn) where
 
 -- ---- filling
 
-length-rows : (n : ℕ) (ks vs : List ℕ) → length (rowsIn n ks vs) ≡ n
+pub length-rows : (n : ℕ) (ks vs : List ℕ) → length (rowsIn n ks vs) ≡ n
 unfolding rowsIn
 length-rows n ks vs = length-tab (λ (i : ℕ). row (getD ks i 0) (record { value = getD vs i 0 })) n
 

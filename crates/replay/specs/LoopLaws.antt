@@ -120,7 +120,7 @@ words-append (e ∷ es) fs =
 
 -- ---- the promise, once the run is known
 
-map-in : (l : Lent) (g : Logs) (c : Core) → stateOf l g c .map ≡ mapOf l (c .sizes)
+pub map-in : (l : Lent) (g : Logs) (c : Core) → stateOf l g c .map ≡ mapOf l (c .sizes)
 unfolding stateOf
 map-in l g c = refl
 

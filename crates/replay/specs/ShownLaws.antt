@@ -12,12 +12,13 @@ use Rattle.lists.specs.Rows.{Row, row}
 use Rattle.spec.specs.Records.{Payload}
 use Rattle.spec.specs.Steps.{State, answer}
 use Rattle.transactions.specs.Walks.{rowsIn, Beyond}
+use Rattle.transactions.specs.ShowLaws.{length-rows}
 use Rattle.engine.specs.declared.steps.Op.{Op}
 use Rattle.engine.specs.declared.steps.Reply.{Reply}
 use Rattle.engine.specs.declared.steps.Reply.the-variants as reply
 use Rattle.engine.specs.Performs.{stepIn, replyIn, placesIn}
 use Rattle.replay.specs.Replays.{listedIn, addressOf, valueOf, longest}
-use Rattle.replay.specs.Words.{length-rowsIn, Roomy}
+use Rattle.replay.specs.Words.{Roomy}
 use Rattle.replay.specs.FitLaws.{countIn, listed-fits}
 
 -- ---- how many places
@@ -26,7 +27,7 @@ pub places-count : (p : Reply) (ks vs : List ℕ) → placesIn p ≡ countIn (re
 places-count reply.Granted ks vs = refl
 places-count (reply.Value v) ks vs = refl
 places-count reply.Absent ks vs = refl
-places-count (reply.Listed n) ks vs = sym (length-rowsIn n ks vs)
+places-count (reply.Listed n) ks vs = sym (length-rows n ks vs)
 places-count (reply.Numbered n) ks vs = refl
 places-count (reply.Counted n) ks vs = refl
 places-count (reply.Refused r) ks vs = refl

@@ -20,7 +20,7 @@ use Rattle.replay.specs.declared.runs.Stop.the-variants as stop
 use Rattle.replay.specs.declared.runs.Replayed.{Replayed}
 use Rattle.replay.specs.Codes.{accessOf, decodedAccess, oneNumber, decoded, pairWords, wordsOf}
 use Rattle.replay.specs.Replays.{Ran, ran, allWords, Replays}
-use Rattle.replay.specs.LoopLaws.{ran-model}
+use Rattle.replay.specs.LoopLaws.{ran-model, map-in}
 
 -- a step in coded form; the places of a scan's buffers are those lent
 abbrev pub codeFor : Step → List ℕ
@@ -62,10 +62,6 @@ AllHoldOf (r ∷ rs) = HoldsOf r × AllHoldOf rs
 abbrev Runs : List Event → Type 0
 Runs h = (ran 64 64 (fresh standard) 4096 (codesFor h) .events ≡ h) × (ran 64 64 (fresh standard) 4096 (codesFor h) .stop ≡ stop.Complete)
 
-map-in : (l : Lent) (g : Logs) (r : Replayed) → stateOf l g (r .core) .map ≡ mapOf l (r .core .sizes)
-unfolding stateOf
-map-in l g r = refl
-
 shows : (h : List Event) (rs : List (Row Record)) → Runs h → Holds (script h rs) → HoldsOf (script h rs)
 shows h rs e k ks vs out l g ks' vs' out' r a b c p =
     let run = ran 64 64 (fresh standard) 4096 (codesFor h) in
@@ -81,7 +77,7 @@ shows h rs e k ks vs out l g ks' vs' out' r a b c p =
     record {
       complete = p .stop ∙ ap (λ (x : Ran). x .stop) same ∙ e .1;
       answers = subst (λ (es : List Event). Wrote out 0 (allWords es) out' (r .written)) (ap (λ (x : Ran). x .events) same ∙ e .0) (p .answers);
-      same-contents = ap contents (sym (map-in l g r) ∙ ap (λ (σ : State). σ .map) state) ∙ k .1;
+      same-contents = ap contents (sym (map-in l g (r .core)) ∙ ap (λ (σ : State). σ .map) state) ∙ k .1;
     }
 
 pub starred-replay : AllHoldOf starred

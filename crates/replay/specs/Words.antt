@@ -8,10 +8,11 @@ use mathlib.Core.Path.{_≡_, refl, sym, ap, _∙_, subst}
 use mathlib.Core.List.{List, [], _∷_, _++_, append-nil}
 use lib.ListN.{length, getD, set}
 use lib.Seq.{sets}
-use Rattle.lists.specs.Shifts.{tab, tabFrom, length-tab, tab-snoc}
+use Rattle.lists.specs.Shifts.{tab, tabFrom, tab-snoc}
 use Rattle.lists.specs.Rows.{Row, row}
 use Rattle.spec.specs.Records.{Payload}
 use Rattle.transactions.specs.Walks.{rowsIn}
+use Rattle.transactions.specs.ShowLaws.{length-rows}
 use Rattle.engine.specs.declared.steps.Reply.{Reply}
 use Rattle.engine.specs.declared.steps.Reply.the-variants as reply
 use Rattle.engine.specs.Performs.{replyIn, placesIn}
@@ -50,10 +51,6 @@ wrote-two l at x y h =
     (wrote-join first (wrote-byte (set l at x) (at + 1) y (let k : at + 1 < length (set l at x) = omega arith in k)))
 
 -- ---- records
-
-pub length-rowsIn : (n : ℕ) (ks vs : List ℕ) → length (rowsIn n ks vs) ≡ n
-unfolding rowsIn
-length-rowsIn n ks vs = length-tab (λ (i : ℕ). row (getD ks i 0) (record { value = getD vs i 0 })) n
 
 pairs-append : (xs ys : List (Row Payload)) → pairWords (xs ++ ys) ≡ pairWords xs ++ pairWords ys
 unfolding pairWords
@@ -109,7 +106,7 @@ unfolding wordsOf
 reply-words reply.Granted ks vs = refl
 reply-words (reply.Value v) ks vs = refl
 reply-words reply.Absent ks vs = refl
-reply-words (reply.Listed n) ks vs = ap (λ (m : ℕ). 0 ∷ 3 ∷ m ∷ pairWords (rowsIn n ks vs)) (length-rowsIn n ks vs)
+reply-words (reply.Listed n) ks vs = ap (λ (m : ℕ). 0 ∷ 3 ∷ m ∷ pairWords (rowsIn n ks vs)) (length-rows n ks vs)
 reply-words (reply.Numbered n) ks vs = refl
 reply-words (reply.Counted n) ks vs = refl
 reply-words (reply.Refused r) ks vs = refl

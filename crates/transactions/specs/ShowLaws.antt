@@ -1,3 +1,3 @@
--- A law of a scan's buffers, from crate `ranges`, for the crate above.
+-- Laws of a scan's buffers, from crate `ranges`, for the crate above.
 -- Assumes nothing.
-pub use Rattle.ranges.specs.ShowLaws.{beyond-refl}
+pub use Rattle.ranges.specs.ShowLaws.{beyond-refl, length-rows}

@@ -223,17 +223,16 @@ module _ (old : List ℕ) (a m h : ℕ) (ws : List ℕ) (d : ℕ) (z : Held old)
 
   -- all were passed, and the entry goes
   pub release-ends : d ≡ m → (c : ContentWords) → isIdle (contentIn c) ≡ true → (us : List ℕ)
-      → us ≡ store ws ((h + d) % slotCount) (record { key = s .key; content = c; overflow = s .overflow })
+      → us ≡ store ws ((h + d) % slotCount) (record { key = 0; content = c; overflow = s .overflow })
       → Becomes us (release 4 (slotsOf old) a)
   release-ends q c t us u =
       subst (Becomes us)
       (ap (λ (o : Option (Row Content)). withEntry (countPassed pred (slotsOf old) h d) (h + d) o)
-      (ap (λ (t : Bool). pick t none (some (row (s .key) (contentIn c)))) t)
+      (ap (λ (t : Bool). pick t none (some (row 0 (contentIn c)))) t)
       ∙ ap (λ (n : ℕ). withEntry (countPassed pred (slotsOf old) n d) (n + d) none) (g .home)
       ∙ sym (release-at 4 (slotsOf old) a d
       (distance-first (holds a) (slotsOf old) (homeSlot 4 a) slotCount 0 d
       (subst (First (holds a) (slotsOf old) (homeSlot 4 a) 0) (r .far ∙ sym q)
       (distance-place (slotsOf old) a (homeSlot 4 a) (length-slots old) (home-less 4 a) (z .good .once a) (r .place)))
       (let y : d < slotCount = low in omega arith))))
-      (going-ends pred old h ws d (g .going) home-low s e (s .key) c
-      (own-key pred old h ws d (g .going) home-low s e) us u)
+      (going-ends pred old h ws d (g .going) home-low s e 0 c (omega arith) us u)

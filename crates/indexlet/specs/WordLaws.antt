@@ -13,7 +13,7 @@ use lib.Dec.{eqb}
 use lib.ListN.{length, getD, set, length-set}
 use lib.Seq.{getD-set-same, getD-set-other, ext-getD, length-sets}
 use borrow.Author.Tests.{ne-eqb}
-use Rattle.lists.specs.Tests.{pick, both, present, same, cases, same-true, same-false}
+use Rattle.lists.specs.Tests.{pick, both, maybe, present, same, cases, same-true, same-false, same-yes, same-no}
 use Rattle.lists.specs.Rows.{Row, row}
 use Rattle.lists.specs.Stores.{sets-away, sets-at}
 use Rattle.lists.specs.Tabs.{length-tab, getD-tab}
@@ -139,13 +139,22 @@ vacant-idle s = go (isIdle (contentIn (s .content)))
     go true = refl
     go false = refl
 
-pub holds-idle : (a : ℕ) (s : SlotWords) → isIdle (contentIn (s .content)) ≡ true → holds a (slotIn s) ≡ false
+-- a row with another key has not the entry of a; one with this key has, if it says anything
+pub holds-other : (a : ℕ) (s : SlotWords) → (s .key ≡ a → ⊥) → holds a (slotIn s) ≡ false
 unfolding holds slotIn
-holds-idle a s t = rw t
+holds-other a s n = go (isIdle (contentIn (s .content)))
+  where
+    go : (t : Bool) → maybe (pick t none (some (row (s .key) (contentIn (s .content))))) false (λ (e : Row Content). same (e .key) a) ≡ false
+    go true = refl
+    go false = same-no {m = s .key} {n = a} n
 
-pub holds-busy : (a : ℕ) (s : SlotWords) → isIdle (contentIn (s .content)) ≡ false → holds a (slotIn s) ≡ eqb (s .key) a
-unfolding holds slotIn same
-holds-busy a s t = rw t
+pub holds-same : (a : ℕ) (s : SlotWords) → s .key ≡ a → holds a (slotIn s) ≡ not (isIdle (contentIn (s .content)))
+unfolding holds slotIn
+holds-same a s e = go (isIdle (contentIn (s .content)))
+  where
+    go : (t : Bool) → maybe (pick t none (some (row (s .key) (contentIn (s .content))))) false (λ (e : Row Content). same (e .key) a) ≡ not t
+    go true = refl
+    go false = same-yes {m = s .key} {n = a} e
 
 pub idle-zero : isIdle (contentIn (record { kind = 0; value = 0; commit = 0; lock = 0 })) ≡ true
 unfolding isIdle contentIn pendingIn holderIn

@@ -333,15 +333,15 @@ pub fn idle(c: Content) -> bool
     c.lock == 0
 }
 
-// The slot has the entry of the address.
+// The slot has the entry of the address. The key is compared first: nearly always that decides, so it is guessed right.
 fn holds_key(s: Slot, a: Address) -> bool
     ensures { λ r. ⌜ r ≡ holds a (slotIn s) ⌝ }
 {
-    let c = s.content;
-    if idle(c) {
+    if s.key != a as u64 {
         return false;
     }
-    s.key == a as u64
+    let c = s.content;
+    !idle(c)
 }
 
 // The row of slot i. Only this function and the next touch words.
@@ -485,7 +485,7 @@ fn take(t: &mut [u64; 1536], a: Address, h: usize, c: Content)
 }
 
 // The entry of an address, which stands `passed` slots after the home slot h, is taken out, and each slot passed subtracts
-// one.
+// one. Its key goes too, so that a later search for it is not led to look further here.
 fn release(t: &mut [u64; 1536], a: Address, h: usize, passed: usize)
     requires { ⌜ Held (now t) ⌝ }
     requires { ⌜ h ≡ homeSlot 4 a ⌝ }
@@ -514,7 +514,7 @@ fn release(t: &mut [u64; 1536], a: Address, h: usize, passed: usize)
         lock: 0,
     };
     let none = Slot {
-        key: s.key,
+        key: 0,
         content: nothing,
         overflow: s.overflow,
     };

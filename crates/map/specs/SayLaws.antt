@@ -2,11 +2,11 @@
 -- nowhere else.
 -- Assumes nothing.
 use Prim.Native.Nat.{ℕ, zero, suc, _+_, _-_, _^_, _<_, _≤_, zero-le}
-use native.Mathlib.Nat.{le-refl, le-trans, not-suc-le-zero, le-of-suc-le-suc}
+use native.Mathlib.Nat.{le-refl, le-trans, le-of-eq, not-suc-le-zero, le-of-suc-le-suc}
 use native.Mathlib.Omega.{arith}
 use mathlib.Core.Path.{_≡_, refl, sym, ap, _∙_, subst}
 use mathlib.Core.Logic.{⊎-elim}
-use mathlib.Core.Bool.{Bool, true, false, not}
+use mathlib.Core.Bool.{Bool, true, false, not, Bool·beq}
 use mathlib.Core.List.{List, [], _∷_, map}
 use mathlib.Core.Option.{Option, none, some}
 use lib.ListN.{length, take, getD, length-set}
@@ -138,6 +138,25 @@ outside-any : (m : MapState) (a : ℕ) (x : Content) → weigh (outsideAny m) (k
 unfolding outsideAny outsideTerm
 outside-any m a x = weigh-kept (outsideAny m) a x
 
+pub same-truth : (a b : Bool) → Bool·beq a b ≡ true → a ≡ b
+same-truth true true e = refl
+same-truth true false e = sym e
+same-truth false true e = e
+same-truth false false e = refl
+
+-- an entry that neither comes nor goes, and one that does
+pub balance-still : (b : Bool) (old c : Content) → isIdle old ≡ isIdle c → 0 + outsideTerm b old ≡ 0 + outsideTerm b c
+balance-still b old c e = ap (λ (n : ℕ). 0 + n) (unfold outsideTerm in ap (λ (i : Bool). pick i 0 (pick b 1 0)) e)
+
+pub balance-moved : (b : Bool) (old c : Content) (join leave : ℕ) → join ≡ outsideTerm b c → leave ≡ outsideTerm b old → join + outsideTerm b old ≡ leave + outsideTerm b c
+balance-moved b old c join leave e f = omega arith
+
+pub term-most : (b : Bool) (c : Content) (join : ℕ) → join ≡ outsideTerm b c → join ≤ 1
+unfolding outsideTerm
+term-most b c join e =
+    le-trans (le-of-eq e)
+    (⊎-elim (λ i. rw i (omega arith)) (λ i. rw i (⊎-elim (λ l. rw l (omega arith)) (λ l. rw l (omega arith)) (cases b))) (cases (isIdle c)))
+
 -- ---- an array of counts
 
 module _ (xs : List ℕ) (i up down : ℕ) where
@@ -186,22 +205,30 @@ module _ (l : Lent) (z : Sizes) (v : ℕ) (t : Tables l z v) (a : ℕ) (c : Cont
   after : List Slot
   after = enter 4 (slotsOf (l .slots)) a c
 
-  -- a count changes by what the address adds to it and took
-  moves : (p : Row Content → Bool) (up down : ℕ) → weigh p (kept a c) ≡ up → weigh p (kept a (contentOf (slotsOf (l .slots)) a)) ≡ down
-      → howMany p after + down ≡ howMany p (slotsOf (l .slots)) + up
-  unfolding after
-  moves p up down e d =
+  -- what comes and goes by the change has the balance of what the address adds to the count and took
+  Balanced : (Row Content → Bool) → ℕ → ℕ → Type 0
+  Balanced p up down = up + weigh p (kept a (contentOf (slotsOf (l .slots)) a)) ≡ down + weigh p (kept a c)
+
+  moves : (p : Row Content → Bool) (up down : ℕ) → Balanced p up down → howMany p after + down ≡ howMany p (slotsOf (l .slots)) + up
+  unfolding after Balanced
+  moves p up down b =
       let m : howMany p (enter 4 (slotsOf (l .slots)) a c) + weigh p (kept a (contentOf (slotsOf (l .slots)) a)) ≡ howMany p (slotsOf (l .slots)) + weigh p (kept a c)
       = many-change (t .words .good) room p in
       omega arith
 
-  -- what it adds is at most one, and the count, with it, is no less than what it took
-  movable : (p : Row Content → Bool) (x up down : ℕ) → x ≡ howMany p (slotsOf (l .slots)) → weigh p (kept a c) ≡ up
-      → weigh p (kept a (contentOf (slotsOf (l .slots)) a)) ≡ down → (x + up < 2 ^ 64) × (down ≤ x + up)
-  movable p x up down s e d =
-      let m : howMany p after + down ≡ howMany p (slotsOf (l .slots)) + up = moves p up down e d in
+  -- what comes is at most one, and the count, with it, is no less than what goes
+  movable : (p : Row Content → Bool) (x up down : ℕ) → x ≡ howMany p (slotsOf (l .slots)) → up ≤ 1 → Balanced p up down → (x + up < 2 ^ 64) × (down ≤ x + up)
+  movable p x up down s u d =
+      let m : howMany p after + down ≡ howMany p (slotsOf (l .slots)) + up = moves p up down d in
       let b : howMany p (slotsOf (l .slots)) ≤ slotCount = many-most (t .words .good) p in
-      let w : weigh p (kept a c) ≤ 1 = weigh-most p (kept a c) in
+      omega arith
+
+  -- a count to which the address adds nothing
+  still : (p : Row Content → Bool) → ((x : Content) → weigh p (kept a x) ≡ 0) → Balanced p 0 0
+  unfolding Balanced
+  still p e =
+      let d : weigh p (kept a (contentOf (slotsOf (l .slots)) a)) ≡ 0 = e (contentOf (slotsOf (l .slots)) a) in
+      let u : weigh p (kept a c) ≡ 0 = e c in
       omega arith
 
   pendingHere : Row Content → Bool
@@ -210,47 +237,56 @@ module _ (l : Lent) (z : Sizes) (v : ℕ) (t : Tables l z v) (a : ℕ) (c : Cont
   outsideHere : Row Content → Bool
   outsideHere = outsideIn (mapOf l z) (versionOf (mapOf l z) (r .at))
 
-  pend-is : weigh pendingHere (kept a c) ≡ r .pend
+  pend-balance : Balanced pendingHere (r .pend) (r .unpend)
+  unfolding pendingHere Balanced
+  pend-balance =
+      let u : weigh (pendingIn (mapOf l z) (versionOf (mapOf l z) (r .at))) (kept a c) ≡ r .pend = pending-own (mapOf l z) a (versionOf (mapOf l z) (r .at)) c own ∙ sym (q .pend) in
+      let d : weigh (pendingIn (mapOf l z) (versionOf (mapOf l z) (r .at))) (kept a (contentOf (slotsOf (l .slots)) a)) ≡ r .unpend
+      = pending-own (mapOf l z) a (versionOf (mapOf l z) (r .at)) (contentOf (slotsOf (l .slots)) a) own ∙ sym (q .unpend) in
+      omega arith
+
+  pend-most : r .pend ≤ 1
   unfolding pendingHere
-  pend-is = pending-own (mapOf l z) a (versionOf (mapOf l z) (r .at)) c own ∙ sym (q .pend)
+  pend-most =
+      let u : weigh pendingHere (kept a c) ≡ r .pend = pending-own (mapOf l z) a (versionOf (mapOf l z) (r .at)) c own ∙ sym (q .pend) in
+      let w : weigh pendingHere (kept a c) ≤ 1 = weigh-most pendingHere (kept a c) in
+      omega arith
 
-  unpend-is : weigh pendingHere (kept a (contentOf (slotsOf (l .slots)) a)) ≡ r .unpend
-  unfolding pendingHere
-  unpend-is = pending-own (mapOf l z) a (versionOf (mapOf l z) (r .at)) (contentOf (slotsOf (l .slots)) a) own ∙ sym (q .unpend)
+  -- a count of entries outside of the index, to which the address adds its own term
+  outside-balance : (p : Row Content → Bool) → ((x : Content) → weigh p (kept a x) ≡ outsideTerm (not (present (look (mapOf l z .records) a))) x) → Balanced p (r .join) (r .leave)
+  unfolding Balanced
+  outside-balance p e =
+      let u : weigh p (kept a c) ≡ outsideTerm (not (present (look (mapOf l z .records) a))) c = e c in
+      let d : weigh p (kept a (contentOf (slotsOf (l .slots)) a)) ≡ outsideTerm (not (present (look (mapOf l z .records) a))) (contentOf (slotsOf (l .slots)) a) = e (contentOf (slotsOf (l .slots)) a) in
+      let b : r .join + outsideTerm (not (present (look (mapOf l z .records) a))) (contentOf (slotsOf (l .slots)) a) ≡ r .leave + outsideTerm (not (present (look (mapOf l z .records) a))) c = q .balance in
+      omega arith
 
-  join-is : weigh outsideHere (kept a c) ≡ r .join
+  here-balance : Balanced outsideHere (r .join) (r .leave)
   unfolding outsideHere
-  join-is = outside-own (mapOf l z) a (versionOf (mapOf l z) (r .at)) c own ∙ sym (q .join)
+  here-balance = outside-balance outsideHere (λ x. outside-own (mapOf l z) a (versionOf (mapOf l z) (r .at)) x own)
 
-  leave-is : weigh outsideHere (kept a (contentOf (slotsOf (l .slots)) a)) ≡ r .leave
-  unfolding outsideHere
-  leave-is = outside-own (mapOf l z) a (versionOf (mapOf l z) (r .at)) (contentOf (slotsOf (l .slots)) a) own ∙ sym (q .leave)
+  any-balance : Balanced (outsideAny (mapOf l z)) (r .join) (r .leave)
+  any-balance = outside-balance (outsideAny (mapOf l z)) (outside-any (mapOf l z) a)
 
   pub pending-adjusts : Adjustable (l .pending) (r .at) (r .pend) (r .unpend)
   unfolding pendingHere
   pending-adjusts =
-      let m = movable pendingHere (getD (l .pending) (r .at) 0) (r .pend) (r .unpend) (t .phantoms .pending-is (r .at) inside) pend-is unpend-is in
+      let m = movable pendingHere (getD (l .pending) (r .at) 0) (r .pend) (r .unpend) (t .phantoms .pending-is (r .at) inside) pend-most pend-balance in
       record { inside = inside-words; size = t .pending-size; fits = m .0; enough = m .1 }
 
   pub outside-adjusts : Adjustable (l .outside) (r .at) (r .join) (r .leave)
   unfolding outsideHere
   outside-adjusts =
-      let m = movable outsideHere (getD (l .outside) (r .at) 0) (r .join) (r .leave) (t .phantoms .outside-is (r .at) inside) join-is leave-is in
+      let m = movable outsideHere (getD (l .outside) (r .at) 0) (r .join) (r .leave) (t .phantoms .outside-is (r .at) inside) (q .join-most) here-balance in
       record { inside = inside-words; size = t .outside-size; fits = m .0; enough = m .1 }
 
-  any-up : weigh (outsideAny (mapOf l z)) (kept a c) ≡ r .join
-  any-up = outside-any (mapOf l z) a c ∙ sym (q .join)
-
-  any-down : weigh (outsideAny (mapOf l z)) (kept a (contentOf (slotsOf (l .slots)) a)) ≡ r .leave
-  any-down = outside-any (mapOf l z) a (contentOf (slotsOf (l .slots)) a) ∙ sym (q .leave)
-
   pub outside-moves : (z .outside + r .join < 2 ^ 64) × (r .leave ≤ z .outside + r .join)
-  outside-moves = movable (outsideAny (mapOf l z)) (z .outside) (r .join) (r .leave) (t .outside-are) any-up any-down
+  outside-moves = movable (outsideAny (mapOf l z)) (z .outside) (r .join) (r .leave) (t .outside-are) (q .join-most) any-balance
 
   outside-now : z .outside + r .join - r .leave ≡ howMany (outsideAny (mapOf l z)) after
   outside-now =
       let m : howMany (outsideAny (mapOf l z)) after + r .leave ≡ howMany (outsideAny (mapOf l z)) (slotsOf (l .slots)) + r .join
-      = moves (outsideAny (mapOf l z)) (r .join) (r .leave) any-up any-down in
+      = moves (outsideAny (mapOf l z)) (r .join) (r .leave) any-balance in
       let e = t .outside-are in
       omega arith
 
@@ -262,11 +298,11 @@ module _ (l : Lent) (z : Sizes) (v : ℕ) (t : Tables l z v) (a : ℕ) (c : Cont
       (λ (j : ℕ). howMany (pendingIn (mapOf l z) (versionOf (mapOf l z) j)) (slotsOf (l .slots)))
       (λ (j : ℕ). howMany (pendingIn (mapOf l z) (versionOf (mapOf l z) j)) after)
       (let e = t .pending-size in let h = inside-words in omega arith) inside (t .phantoms .pending-is)
-      (moves pendingHere (r .pend) (r .unpend) pend-is unpend-is)
+      (moves pendingHere (r .pend) (r .unpend) pend-balance)
       (λ j h n.
       let o : same (versionAt (mapOf l z .leaves) a) (versionOf (mapOf l z) j) ≡ false = other-version l z v t a (r .at) j (q .place) h n in
       let e : howMany (pendingIn (mapOf l z) (versionOf (mapOf l z) j)) after + 0 ≡ howMany (pendingIn (mapOf l z) (versionOf (mapOf l z) j)) (slotsOf (l .slots)) + 0
-      = moves (pendingIn (mapOf l z) (versionOf (mapOf l z) j)) 0 0 (pending-other (mapOf l z) a (versionOf (mapOf l z) j) c o) (pending-other (mapOf l z) a (versionOf (mapOf l z) j) (contentOf (slotsOf (l .slots)) a) o) in
+      = moves (pendingIn (mapOf l z) (versionOf (mapOf l z) j)) 0 0 (still (pendingIn (mapOf l z) (versionOf (mapOf l z) j)) (λ x. pending-other (mapOf l z) a (versionOf (mapOf l z) j) x o)) in
       omega arith)
 
   outside-in-now : (j : ℕ) → j < length (mapOf l z .leaves)
@@ -277,11 +313,11 @@ module _ (l : Lent) (z : Sizes) (v : ℕ) (t : Tables l z v) (a : ℕ) (c : Cont
       (λ (j : ℕ). howMany (outsideIn (mapOf l z) (versionOf (mapOf l z) j)) (slotsOf (l .slots)))
       (λ (j : ℕ). howMany (outsideIn (mapOf l z) (versionOf (mapOf l z) j)) after)
       (let e = t .outside-size in let h = inside-words in omega arith) inside (t .phantoms .outside-is)
-      (moves outsideHere (r .join) (r .leave) join-is leave-is)
+      (moves outsideHere (r .join) (r .leave) here-balance)
       (λ j h n.
       let o : same (versionAt (mapOf l z .leaves) a) (versionOf (mapOf l z) j) ≡ false = other-version l z v t a (r .at) j (q .place) h n in
       let e : howMany (outsideIn (mapOf l z) (versionOf (mapOf l z) j)) after + 0 ≡ howMany (outsideIn (mapOf l z) (versionOf (mapOf l z) j)) (slotsOf (l .slots)) + 0
-      = moves (outsideIn (mapOf l z) (versionOf (mapOf l z) j)) 0 0 (outside-other (mapOf l z) a (versionOf (mapOf l z) j) c o) (outside-other (mapOf l z) a (versionOf (mapOf l z) j) (contentOf (slotsOf (l .slots)) a) o) in
+      = moves (outsideIn (mapOf l z) (versionOf (mapOf l z) j)) 0 0 (still (outsideIn (mapOf l z) (versionOf (mapOf l z) j)) (λ x. outside-other (mapOf l z) a (versionOf (mapOf l z) j) x o)) in
       omega arith)
 
   -- the map with these slots

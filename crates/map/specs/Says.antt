@@ -55,10 +55,13 @@ pendingTerm c = pick (present (c .pending)) 1 0
 unfoldable pub outsideTerm : Bool → Content → ℕ
 outsideTerm lacks c = pick (isIdle c) 0 (pick lacks 1 0)
 
--- The place of the address's leaf; what the address adds to the two numbers there by c, and what it took till now.
+-- The place of the address's leaf; what the address adds to the number of pending writes there by c, and what it took
+-- till now; and of the entries outside of the index what comes and what goes, of which only the balance counts.
 pub record Terms (slots rows lows : List ℕ) (z : Sizes) (a : ℕ) (c : Content) (r : Change) : Type 0 where
   pub place : AtLeaf lows (z .leaves) a (r .at)
   pub pend : r .pend ≡ pendingTerm c
   pub unpend : r .unpend ≡ pendingTerm (contentOf (slotsOf slots) a)
-  pub join : r .join ≡ outsideTerm (not (present (look (recordsOf rows (z .records)) a))) c
-  pub leave : r .leave ≡ outsideTerm (not (present (look (recordsOf rows (z .records)) a))) (contentOf (slotsOf slots) a)
+  pub join-most : r .join ≤ 1
+  pub balance :
+      r .join + outsideTerm (not (present (look (recordsOf rows (z .records)) a))) (contentOf (slotsOf slots) a)
+      ≡ r .leave + outsideTerm (not (present (look (recordsOf rows (z .records)) a))) c

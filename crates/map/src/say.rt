@@ -104,6 +104,7 @@ struct Change {
     leave: u64,
 }
 
+// Where an entry neither comes nor goes, none joins or leaves those outside of the index, which is not searched then.
 fn terms(
     slots: &[u64; 1536],
     rows: &[u64; 3072],
@@ -119,11 +120,23 @@ fn terms(
 {
     let found = indexlet::look_up(slots, a);
     let old = found.content;
+    let at = index::leaves::leaf_at(lows, z.leaves, a);
+    let pend = pending_term(c);
+    let unpend = pending_term(old);
+    if indexlet::idle(old) == indexlet::idle(c) {
+        return Change {
+            at,
+            pend,
+            unpend,
+            join: 0,
+            leave: 0,
+        };
+    }
     let absent = lacks(rows, z.records, a);
     Change {
-        at: index::leaves::leaf_at(lows, z.leaves, a),
-        pend: pending_term(c),
-        unpend: pending_term(old),
+        at,
+        pend,
+        unpend,
         join: outside_term(absent, c),
         leave: outside_term(absent, old),
     }

@@ -9,6 +9,10 @@ use std::path::PathBuf;
 use std::process::{Command, Stdio};
 use std::thread;
 
+/// Seconds after which a program that has not ended is taken to hang: it is
+/// stopped, and its run has failed.
+const LIMIT: &str = "60";
+
 pub struct Program {
     pub path: PathBuf,
     pub feed: Feed,
@@ -49,7 +53,8 @@ impl Program {
     /// Feeds the program on a thread of its own, since it writes as it reads. It
     /// may stop reading early: what it then leaves is no error.
     fn run(&self, input: OwnedFd, feed: impl FnOnce() + Send) -> io::Result<Vec<u8>> {
-        let mut command = Command::new(&self.path);
+        let mut command = Command::new("timeout");
+        command.arg(LIMIT).arg(&self.path);
         let mut child = command.stdin(input).stdout(Stdio::piped()).spawn()?;
         // The parent's copy of the input's other end goes, so that a write to it fails.
         drop(command);

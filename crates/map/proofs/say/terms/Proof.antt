@@ -1,17 +1,16 @@
 -- `map::say::terms` meets its contract: what the callees answer, of what the indexlet says and of c. Assumes nothing.
 use mathlib.Core.Path.{ap, sym, _∙_}
 use mathlib.Core.Bool.{Bool}
+use Rattle.spec.specs.Slots.{isIdle}
 use Rattle.indexlet.specs.Words.{contentIn}
 use borrow.Author.Needs.{needs}
 use Rattle.map.specs.Says.{pendingTerm, outsideTerm}
+use Rattle.map.specs.SayLaws.{same-truth, balance-still, balance-moved, term-most}
 use Rattle.map.proofs.say.terms.Statement.{statement}
 use Rattle.map.proofs.say.terms.Tie as tie
 
 look-up-requires : tie.Need-look-up-requires
 look-up-requires c κs = search needs
-
-lacks-requires : tie.Need-lacks-requires
-lacks-requires c κs = search needs
 
 leaf-at-requires : tie.Need-leaf-at-requires
 leaf-at-requires c κs = search needs
@@ -22,24 +21,59 @@ pending-term-requires c κs = search needs
 pending-term-requires-2 : tie.Need-pending-term-requires-2
 pending-term-requires-2 c κs = search needs
 
+idle-requires : tie.Need-idle-requires
+idle-requires c κs = search needs
+
+idle-requires-2 : tie.Need-idle-requires-2
+idle-requires-2 c κs = search needs
+
+returns : tie.Need-returns
+returns c =
+    let e = c .before .before .before .before .before .before .before .look-up .ensures .content in
+    record {
+      place = c .before .before .before .before .before .leaf-at .ensures;
+      pend = c .before .before .before .before .pending-term .ensures;
+      unpend = c .before .before .before .pending-term2 .ensures ∙ ap pendingTerm (sym e);
+      join-most = search needs;
+      balance = balance-still _ _ _ (ap isIdle e ∙ sym (c .before .before .idle .ensures) ∙ same-truth _ _ (c .if1 .taken) ∙ c .before .idle2 .ensures);
+    }
+
+lacks-requires : tie.Need-lacks-requires
+lacks-requires c κs = search needs
+
 outside-term-requires : tie.Need-outside-term-requires
 outside-term-requires c κs = search needs
 
 outside-term-requires-2 : tie.Need-outside-term-requires-2
 outside-term-requires-2 c κs = search needs
 
-returns : tie.Need-returns
-returns c = let s = c .before .before .before .before .before .before .before .before in let e = c .before .before .before .before .before .before .before .look-up .ensures .content in let n = c .before .before .before .before .before .lacks .ensures in record { place = c .before .before .before .before .leaf-at .ensures; pend = c .before .before .before .pending-term .ensures; unpend = c .before .before .pending-term2 .ensures ∙ ap pendingTerm (sym e); join = c .before .outside-term .ensures ∙ ap (λ (b : Bool). outsideTerm b (contentIn (s .args .c))) n; leave = c .outside-term2 .ensures ∙ ap (λ (b : Bool). outsideTerm b (contentIn (c .before .before .before .before .before .before .before .look-up .result .content))) n ∙ ap (outsideTerm _) (sym e) }
+returns-2 : tie.Need-returns-2
+returns-2 c =
+    let s = c .before .before .before .before .before .before .before .before .before .before .before in
+    let found = c .before .before .before .before .before .before .before .before .before .before .look-up in
+    let n = c .before .before .lacks .ensures in
+    let join = c .before .outside-term .ensures ∙ ap (λ (b : Bool). outsideTerm b (contentIn (s .args .c))) n in
+    let leave = c .outside-term2 .ensures ∙ ap (λ (b : Bool). outsideTerm b (contentIn (found .result .content))) n ∙ ap (outsideTerm _) (sym (found .ensures .content)) in
+    record {
+      place = c .before .before .before .before .before .before .before .before .leaf-at .ensures;
+      pend = c .before .before .before .before .before .before .before .pending-term .ensures;
+      unpend = c .before .before .before .before .before .before .pending-term2 .ensures ∙ ap pendingTerm (sym (found .ensures .content));
+      join-most = term-most _ _ _ join;
+      balance = balance-moved _ _ _ _ _ join leave;
+    }
 
 pub terms-spec : {M : Type 1} → statement M
 terms-spec =
     tie.close
     (tie.spec
     look-up-requires
-    lacks-requires
     leaf-at-requires
     pending-term-requires
     pending-term-requires-2
+    idle-requires
+    idle-requires-2
+    returns
+    lacks-requires
     outside-term-requires
     outside-term-requires-2
-    returns)
+    returns-2)

@@ -21,10 +21,10 @@ use Rattle.laws.specs.SlotLaws.{content-none}
 use Rattle.laws.specs.MapBounds.{Bounded}
 use Rattle.laws.specs.ContentLaws.{look-contents, rising-contents}
 use Rattle.index.specs.Views.{recordFrom, Held}
-use Rattle.map.specs.declared.looks.Next.{Next}
-use Rattle.map.specs.declared.looks.Next.the-variants.{At, Done}
-use Rattle.map.specs.LookViews.{mapWith}
-use Rattle.map.specs.NextViews.{firstFrom, rowsFrom, nextIn, Follows}
+use Rattle.looks.specs.declared.Next.{Next}
+use Rattle.looks.specs.declared.Next.the-variants.{At, Done}
+use Rattle.looks.specs.LookViews.{mapWith}
+use Rattle.looks.specs.NextViews.{firstFrom, rowsFrom, nextIn, Follows}
 use Rattle.script.specs.Output.{pair, pairs, Wrote}
 use Rattle.script.specs.OutputLaws.{pair-most, wrote-join}
 

@@ -17,8 +17,8 @@ use Rattle.transactions.specs.declared.Core.{Core}
 use Rattle.spec.specs.Steps.{State, begin, read, scan, remove, lock, validate, install, abort, merge, cause, causes, refusal, granted, answer, Answer, refused, done, found, listed, numbered, counted, scanned, noWorker, workerFree, wrongStage, isOpen, scanLogFull}
 use Rattle.map.specs.Views.{Lent}
 use Rattle.transactions.specs.Views.{Logs, stateOf}
-use Rattle.transactions.specs.Walks.{rowsIn}
-use Rattle.transactions.specs.ShowLaws.{length-rows}
+use Rattle.ranges.specs.Walks.{rowsIn}
+use Rattle.ranges.specs.ShowLaws.{length-rows}
 use Rattle.engine.specs.declared.steps.Op.{Op}
 use Rattle.engine.specs.declared.steps.Reply.{Reply}
 use Rattle.engine.specs.declared.steps.Reply.the-variants as reply

@@ -14,8 +14,8 @@ use Rattle.spec.specs.Records.{Payload}
 use Rattle.script.specs.declared.Line.{Line}
 use Rattle.script.specs.Output.{field, absent, pair, pairs, pairsOf, stepOf, answerText, Wrote}
 use Rattle.script.specs.OutputLaws.{pair-most}
-use Rattle.transactions.specs.Walks.{rowsIn}
-use Rattle.transactions.specs.ShowLaws.{length-rows}
+use Rattle.ranges.specs.Walks.{rowsIn}
+use Rattle.ranges.specs.ShowLaws.{length-rows}
 use Rattle.script.specs.declared.Line.the-variants as line
 use Rattle.engine.specs.declared.steps.Access.the-variants as access
 use Rattle.engine.specs.declared.steps.Ending.the-variants as ending

@@ -1,14 +1,13 @@
 // The end of the input: all records, or the mark of a line without its line feed.
 use crate::session::Session;
-use map::looks;
-use map::looks::Next;
+use looks::Next;
 use script::text;
 ghost use mathlib.Core.Path.{_≡_};
 ghost use Prim.Native.Nat.{_+_, _*_, _≤_};
 ghost use lib.ListN.{length};
 ghost use Rattle.indexlet.specs.Held as indexlet;
 ghost use Rattle.index.specs.Views as index;
-ghost use Rattle.map.specs.LookViews.{Narrow};
+ghost use Rattle.looks.specs.LookViews.{Narrow};
 ghost use Rattle.map.specs.Views.{lent};
 ghost use Rattle.transactions.specs.Views.{logs};
 ghost use Rattle.transactions.specs.Ready.{Ready};

@@ -12,15 +12,15 @@ use Rattle.transactions.specs.declared.Core.{Core}
 use Rattle.transactions.specs.declared.begins.Done.{Done}
 use Rattle.transactions.specs.declared.begins.Plain.{Plain}
 use Rattle.transactions.specs.declared.begins.Plain.the-variants as plain
-use Rattle.transactions.specs.declared.reads.ReadDone.{ReadDone}
-use Rattle.transactions.specs.declared.reads.ReadAnswer.{ReadAnswer}
-use Rattle.transactions.specs.declared.reads.ReadAnswer.the-variants as reading
-use Rattle.transactions.specs.declared.scans.ScanDone.{ScanDone}
-use Rattle.transactions.specs.declared.scans.ScanAnswer.{ScanAnswer}
-use Rattle.transactions.specs.declared.scans.ScanAnswer.the-variants as scanning
-use Rattle.transactions.specs.declared.validates.ValidateDone.{ValidateDone}
-use Rattle.transactions.specs.declared.validates.ValidateAnswer.{ValidateAnswer}
-use Rattle.transactions.specs.declared.validates.ValidateAnswer.the-variants as validating
+use Rattle.accesses.specs.declared.reads.ReadDone.{ReadDone}
+use Rattle.accesses.specs.declared.reads.ReadAnswer.{ReadAnswer}
+use Rattle.accesses.specs.declared.reads.ReadAnswer.the-variants as reading
+use Rattle.accesses.specs.declared.scans.ScanDone.{ScanDone}
+use Rattle.accesses.specs.declared.scans.ScanAnswer.{ScanAnswer}
+use Rattle.accesses.specs.declared.scans.ScanAnswer.the-variants as scanning
+use Rattle.endings.specs.declared.validates.ValidateDone.{ValidateDone}
+use Rattle.endings.specs.declared.validates.ValidateAnswer.{ValidateAnswer}
+use Rattle.endings.specs.declared.validates.ValidateAnswer.the-variants as validating
 use Rattle.transactions.specs.declared.merges.MergeDone.{MergeDone}
 use Rattle.engine.specs.declared.steps.Access.{Access}
 use Rattle.engine.specs.declared.steps.Access.the-variants as access
@@ -32,11 +32,11 @@ use Rattle.engine.specs.declared.steps.Reply.{Reply}
 use Rattle.engine.specs.declared.steps.Reply.the-variants as reply
 use Rattle.engine.specs.declared.steps.Performed.{Performed}
 use Rattle.transactions.specs.Begins.{plainIn}
-use Rattle.transactions.specs.ReadSteps.{readIn}
-use Rattle.transactions.specs.Walks.{rowsIn, Beyond}
-use Rattle.transactions.specs.ShowLaws.{beyond-refl}
-use Rattle.transactions.specs.Scans.{scanIn, places, Scans}
-use Rattle.transactions.specs.Validates.{validateIn}
+use Rattle.accesses.specs.ReadSteps.{readIn}
+use Rattle.ranges.specs.Walks.{rowsIn, Beyond}
+use Rattle.ranges.specs.ShowLaws.{beyond-refl}
+use Rattle.accesses.specs.Scans.{scanIn, places, Scans}
+use Rattle.endings.specs.Validates.{validateIn}
 use Rattle.transactions.specs.Views.{Logs}
 use Rattle.transactions.specs.Ready.{Ready, Goes}
 

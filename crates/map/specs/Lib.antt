@@ -6,14 +6,6 @@ pub mod FreshLaws
 pub mod Blocks
 pub mod LockLaws
 pub mod AddressCounts
-pub mod LookViews
-pub mod CurrentLaws
-pub mod RangeLaws
-pub mod ScanLaws
-pub mod PhantomViews
-pub mod PhantomLaws
-pub mod NextViews
-pub mod NextLaws
 pub mod MergeWalks
 pub mod MergeSettles
 pub mod MergeKeeps

@@ -1,12 +1,11 @@
 // The map: index, indexlet and phantomlet, in arrays that the caller lends. Document 01's lower crate.
 //
 // `say` changes what the indexlet says of one address, and keeps the phantomlet; `locks` locks, unlocks and installs a
-// write set; `holders` tells who has a lock; `merge` takes a leaf's pending writes into the index; `looks` reads: current
-// records, hidden keys, what a scan walks over, and the contents.
+// write set; `holders` tells who has a lock; `merge` takes a leaf's pending writes into the index. What only reads, current
+// records and the like, is in crate `looks`.
 
 pub mod holders;
 pub mod locks;
-pub mod looks;
 pub mod merge;
 pub mod say;
 

@@ -19,10 +19,10 @@ use Rattle.sets.specs.Leaves.{versionsIn, lowsIn, LeavesHeld, LogsLeaf}
 use Rattle.sets.specs.Writes.{WriteSet, noWrite, writesOf, writesIn, PlaceOf, GivesWrite}
 use Rattle.sets.specs.WriteRows.{length-writes}
 use Rattle.index.specs.Views.{leavesOf}
-use Rattle.map.specs.declared.looks.Seen.{Seen}
-use Rattle.map.specs.declared.looks.Mark.{Mark}
-use Rattle.map.specs.LookViews.{mapWith, recordIn, walk, indexedAt, seenIn, SeenAt, versionIn, markIn, Marks}
-use Rattle.map.specs.RangeLaws.{place-mono, place-next, between-places}
+use Rattle.looks.specs.declared.Seen.{Seen}
+use Rattle.looks.specs.declared.Mark.{Mark}
+use Rattle.looks.specs.LookViews.{mapWith, recordIn, walk, indexedAt, seenIn, SeenAt, versionIn, markIn, Marks}
+use Rattle.looks.specs.RangeLaws.{place-mono, place-next, between-places}
 use Rattle.ranges.specs.Parts.{walk-on, walk-past, length-walk, done-one, drop-take}
 use Rattle.ranges.specs.Scanning.{OwnSpans, seenRows, LogsRows, LoggingRows, lowIn, LogsMarks, LoggingMarks}
 

@@ -7,7 +7,7 @@ use mathlib.Core.Path.{_≡_, refl, sym, ap, _∙_}
 use mathlib.Core.List.{List, [], _∷_, _++_, append-assoc}
 use lib.ListN.{length, take, drop, getD}
 use lib.Seq.{take-nil}
-use Rattle.map.specs.LookViews.{walk}
+use Rattle.looks.specs.LookViews.{walk}
 
 module _ {A : Type 0} where
   -- ---- walks from place i up to, not including, place n

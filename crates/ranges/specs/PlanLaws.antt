@@ -13,7 +13,7 @@ use Rattle.spec.specs.Records.{Record, Write}
 use Rattle.sets.specs.declared.workers.Worker.{Worker}
 use Rattle.sets.specs.Writes.{WriteSet, writesOf, writesIn}
 use Rattle.map.specs.declared.Sizes.{Sizes}
-use Rattle.map.specs.LookViews.{walk}
+use Rattle.looks.specs.LookViews.{walk}
 use Rattle.ranges.specs.declared.plans.Task.{Task}
 use Rattle.ranges.specs.Parts.{length-walk}
 use Rattle.ranges.specs.Overlays.{rising-first}

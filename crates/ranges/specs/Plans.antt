@@ -13,8 +13,8 @@ use Rattle.indexlet.specs.Held as indexlet
 use Rattle.index.specs.Views as index
 use Rattle.index.specs.LeafPlaces.{Listed}
 use Rattle.map.specs.declared.Sizes.{Sizes}
-use Rattle.map.specs.declared.looks.Range.{Range}
-use Rattle.map.specs.LookViews.{Narrow, Spans, Meets}
+use Rattle.looks.specs.declared.Range.{Range}
+use Rattle.looks.specs.LookViews.{Narrow, Spans, Meets}
 use Rattle.ranges.specs.declared.plans.Task.{Task}
 use Rattle.ranges.specs.declared.plans.Plan.{Plan}
 use Rattle.ranges.specs.declared.plans.Plan.the-variants.{Refused, Go}

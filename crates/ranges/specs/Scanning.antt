@@ -14,8 +14,8 @@ use Rattle.sets.specs.Writes.{writesIn}
 use Rattle.indexlet.specs.Held as indexlet
 use Rattle.index.specs.Views as index
 use Rattle.index.specs.Views.{leavesOf}
-use Rattle.map.specs.declared.looks.Range.{Range}
-use Rattle.map.specs.LookViews.{mapWith, walk, indexedAt, versionIn, Narrow}
+use Rattle.looks.specs.declared.Range.{Range}
+use Rattle.looks.specs.LookViews.{mapWith, walk, indexedAt, versionIn, Narrow}
 
 -- worker w's writes from lo to hi stand at these places
 pub record OwnSpans (ws : List ℕ) (w n lo hi : ℕ) (r : Range) : Type 0 where

@@ -19,9 +19,9 @@ use Rattle.sets.specs.Writes.{writeOf, entryIn, noWrite, writesIn, GivesWrite}
 use Rattle.sets.specs.WriteRows.{length-writes}
 use Rattle.index.specs.Views.{noRow, recordsOf}
 use Rattle.index.specs.ViewLaws.{length-records}
-use Rattle.map.specs.declared.looks.Seen.{Seen}
-use Rattle.map.specs.LookViews.{mapWith, recordIn, walk, indexedAt, seenIn, SeenAt}
-use Rattle.map.specs.RangeLaws.{walk-map}
+use Rattle.looks.specs.declared.Seen.{Seen}
+use Rattle.looks.specs.LookViews.{mapWith, recordIn, walk, indexedAt, seenIn, SeenAt}
+use Rattle.looks.specs.RangeLaws.{walk-map}
 use Rattle.ranges.specs.Parts.{walk-on, walk-past, drop-all}
 use Rattle.ranges.specs.Overlays.{from-drop, shown, overlay, overlay-none, overlay-upper, overlay-lower, overlay-both, rising-part, rising-tail, rising-map}
 use Rattle.ranges.specs.Walks.{Ground, seenFrom, ownFrom, rest, Walks, Inside, indexTurn, ownTurn, turnIn, Steps}

@@ -16,8 +16,8 @@ use Rattle.sets.specs.declared.writes.Entry.{Entry}
 use Rattle.sets.specs.Writes.{WriteSet, writesIn}
 use Rattle.indexlet.specs.Held as indexlet
 use Rattle.index.specs.Views as index
-use Rattle.map.specs.declared.looks.Seen.{Seen}
-use Rattle.map.specs.LookViews.{mapWith, walk, indexedAt, Narrow}
+use Rattle.looks.specs.declared.Seen.{Seen}
+use Rattle.looks.specs.LookViews.{mapWith, walk, indexedAt, Narrow}
 use Rattle.ranges.specs.declared.walks.Bounds.{Bounds}
 use Rattle.ranges.specs.declared.walks.Turn.{Turn}
 use Rattle.ranges.specs.Overlays.{shown, overlay}

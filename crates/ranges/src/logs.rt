@@ -1,5 +1,4 @@
 // What a scan logs: the records that it passed, and the leaves that meet its range.
-use map::looks;
 use sets::leaves;
 use sets::reads;
 use sets::reads::Seen;

@@ -2,10 +2,9 @@
 use crate::logs;
 use crate::walks;
 use crate::walks::Bounds;
+use looks::Range;
 use map::Address;
 use map::Sizes;
-use map::looks;
-use map::looks::Range;
 use sets::workers::Worker;
 use sets::writes;
 use spec::Refusal;

@@ -1,8 +1,7 @@
 // The walk of a scan: the records of the index and the worker's own writes together, by rising address. At one address
 // the write decides.
+use looks::Seen;
 use map::Address;
-use map::looks;
-use map::looks::Seen;
 use sets::writes;
 use sets::writes::Entry;
 ghost use mathlib.Core.Path.{_≡_};

@@ -11,8 +11,8 @@ use Rattle.lists.specs.Shifts.{tab, tabFrom, length-tab}
 use Rattle.lists.specs.Rows.{Row, row}
 use Rattle.spec.specs.Records.{Payload}
 use Rattle.spec.specs.Steps.{State, answer}
-use Rattle.transactions.specs.Walks.{rowsIn, Beyond}
-use Rattle.transactions.specs.ShowLaws.{length-rows}
+use Rattle.ranges.specs.Walks.{rowsIn, Beyond}
+use Rattle.ranges.specs.ShowLaws.{length-rows}
 use Rattle.engine.specs.declared.steps.Op.{Op}
 use Rattle.engine.specs.declared.steps.Reply.{Reply}
 use Rattle.engine.specs.declared.steps.Reply.the-variants as reply

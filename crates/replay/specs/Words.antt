@@ -11,8 +11,8 @@ use lib.Seq.{sets}
 use Rattle.lists.specs.Shifts.{tab, tabFrom, tab-snoc}
 use Rattle.lists.specs.Rows.{Row, row}
 use Rattle.spec.specs.Records.{Payload}
-use Rattle.transactions.specs.Walks.{rowsIn}
-use Rattle.transactions.specs.ShowLaws.{length-rows}
+use Rattle.ranges.specs.Walks.{rowsIn}
+use Rattle.ranges.specs.ShowLaws.{length-rows}
 use Rattle.engine.specs.declared.steps.Reply.{Reply}
 use Rattle.engine.specs.declared.steps.Reply.the-variants as reply
 use Rattle.engine.specs.Performs.{replyIn, placesIn}

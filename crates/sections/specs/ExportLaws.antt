@@ -11,10 +11,10 @@ use Rattle.lists.specs.Rows.{Row, row}
 use Rattle.spec.specs.Records.{Record}
 use Rattle.spec.specs.Maps.{contents}
 use Rattle.index.specs.Views.{recordFrom}
-use Rattle.map.specs.declared.looks.Next.{Next}
-use Rattle.map.specs.declared.looks.Next.the-variants.{At, Done}
+use Rattle.looks.specs.declared.Next.{Next}
+use Rattle.looks.specs.declared.Next.the-variants.{At, Done}
 use Rattle.map.specs.Views.{Lent, mapOf}
-use Rattle.map.specs.NextViews.{firstFrom, nextIn, Follows}
+use Rattle.looks.specs.NextViews.{firstFrom, nextIn, Follows}
 use Rattle.transactions.specs.declared.Core.{Core}
 use Rattle.transactions.specs.Views.{Logs}
 use Rattle.transactions.specs.Ready.{Ready}

@@ -10,7 +10,7 @@ use Rattle.lists.specs.Rows.{Row}
 use Rattle.spec.specs.Records.{Record}
 use Rattle.spec.specs.Maps.{contents}
 use Rattle.map.specs.Views.{Lent, mapOf}
-use Rattle.map.specs.NextViews.{firstFrom}
+use Rattle.looks.specs.NextViews.{firstFrom}
 use Rattle.transactions.specs.Views.{Logs}
 use Rattle.transactions.specs.Ready.{Ready}
 use Rattle.replay.specs.declared.codes.Code.{Code}

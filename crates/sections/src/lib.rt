@@ -2,8 +2,7 @@
 // the engine, and the core in 46 words. The caller keeps them as the last call left them, and begins with `sections_fresh`.
 mod saved;
 
-use map::looks;
-use map::looks::Next;
+use looks::Next;
 use replay::codes;
 use replay::codes::Code;
 use replay::codes::Coded;

@@ -6,17 +6,4 @@ pub mod Admits
 pub mod Begins
 pub mod Starts
 pub mod SeatLaws
-pub mod Edits
-pub mod ReadSteps
-pub mod WriteBlocks
-pub mod Commits
-pub mod Finishes
-pub mod Locks
-pub mod Walks
-pub mod ShowLaws
-pub mod ScanSteps
-pub mod Scans
 pub mod MergeSteps
-pub mod Searching
-pub mod Validates
-pub mod Verdicts

@@ -1,15 +1,9 @@
 // The transactions: eight workers over one map, the ten steps of document 01 and their refusals. Its upper crate: it
 // knows the map only by its promises.
-mod admits;
+pub mod admits;
 pub mod begins;
-pub mod commits;
-mod drops;
-pub mod edits;
 pub mod merges;
-pub mod reads;
-pub mod scans;
 pub mod starts;
-pub mod validates;
 
 use map::Counters;
 use map::Sizes;

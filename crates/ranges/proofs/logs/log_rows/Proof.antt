@@ -2,7 +2,7 @@
 use Prim.Native.Nat.{_-_}
 use mathlib.Core.List.{[]}
 use native.Mathlib.Omega.{arith}
-use Rattle.map.specs.LookViews.{mapWith, indexedAt}
+use Rattle.looks.specs.LookViews.{mapWith, indexedAt}
 use Rattle.ranges.specs.Scanning.{LoggingRows}
 use Rattle.ranges.specs.LogLaws.{rows-start, rows-room, rows-on, rows-end}
 use Rattle.ranges.proofs.logs.log_rows.Statement.{statement}

@@ -1,0 +1,13 @@
+-- `reads::shown` meets its contract. Assumes nothing.
+use Rattle.accesses.specs.ReadSteps.{shown-there, shown-none}
+use Rattle.accesses.proofs.reads.shown.Statement.{statement}
+use Rattle.accesses.proofs.reads.shown.Tie as tie
+
+returns : tie.Need-returns
+returns c = shown-there _ (c .if1 .taken)
+
+returns-2 : tie.Need-returns-2
+returns-2 c = shown-none _ (c .if1 .left)
+
+pub shown-spec : {M : Type 1} → statement M
+shown-spec = tie.close (tie.spec returns returns-2)

@@ -1,0 +1,82 @@
+-- `reads::tell` meets its contract: by the tests, and by the worker's own write. Assumes nothing.
+use mathlib.Core.Path.{subst}
+use Rattle.spec.specs.Steps.{isOpen}
+use Rattle.transactions.specs.Admits.{Admitted}
+use Rattle.transactions.specs.SeatLaws.{seat-writable}
+use Rattle.accesses.specs.ReadSteps.{read-refused, read-put, read-deletion, read-nothing}
+use borrow.Author.Needs.{needs}
+use Rattle.accesses.proofs.reads.tell.Statement.{statement}
+use Rattle.accesses.proofs.reads.tell.Tie as tie
+
+open-requires : tie.Need-open-requires
+open-requires c κs = search needs
+
+enum-known-r : tie.Need-enum-known-r
+enum-known-r c = search needs
+
+enum-known-x : tie.Need-enum-known-x
+enum-known-x c = search needs
+
+cast-find-write : tie.Need-cast-find-write
+cast-find-write c = search needs
+
+find-write-requires : tie.Need-find-write-requires
+find-write-requires c κs =
+    let x = c .before .before in
+    let o = x .before .before in
+    seat-writable (o .before .before .pre .writable) (subst (Admitted isOpen _ _) (x .x .given .1) (o .«open» .ensures))
+
+enum-known-own : tie.Need-enum-known-own
+enum-known-own c = search needs
+
+enum-told : tie.Need-enum-told
+enum-told c = search needs
+
+enum-told-2 : tie.Need-enum-told-2
+enum-told-2 c = search needs
+
+read-current-requires : tie.Need-read-current-requires
+read-current-requires c κs =
+    let x = c .before .before .before .before .before .before in
+    let o = x .before .before in
+    (o .before .before .pre .loggable, subst (Admitted isOpen _ _) (x .x .given .1) (o .«open» .ensures))
+
+returns : tie.Need-returns
+returns c = read-refused _ _ _ _ _ _ _ _ (subst (Admitted isOpen _ _) (c .before .r .given .1) (c .before .before .before .«open» .ensures))
+
+returns-2 : tie.Need-returns-2
+returns-2 c =
+    let f = c .before .before .before in
+    let x = f .before .before .before in
+    let o = x .before .before in
+    read-put _ _ _ _ _ _ _ _ _ _ (subst (Admitted isOpen _ _) (x .x .given .1) (o .«open» .ensures)) (c .before .own .given .1) (f .find-write .ensures)
+
+returns-3 : tie.Need-returns-3
+returns-3 c =
+    let f = c .before .before in
+    let x = f .before .before .before in
+    let o = x .before .before in
+    read-deletion _ _ _ _ _ _ _ _ _ (subst (Admitted isOpen _ _) (x .x .given .1) (o .«open» .ensures)) (c .enum-told .given .1) (f .find-write .ensures)
+
+returns-4 : tie.Need-returns-4
+returns-4 c =
+    let e = c .before .before in
+    read-nothing _ _ _ _ _ _ _ _ _ _ _ (e .enum-told2 .given .1) (e .before .before .find-write .ensures) (c .read-current .ensures)
+
+pub tell-spec : {M : Type 1} → statement M
+tell-spec =
+    tie.close
+    (tie.spec
+    open-requires
+    enum-known-r
+    enum-known-x
+    cast-find-write
+    find-write-requires
+    enum-known-own
+    enum-told
+    enum-told-2
+    read-current-requires
+    returns
+    returns-2
+    returns-3
+    returns-4)

@@ -1,0 +1,111 @@
+-- `scans::scan` meets its contract: refused for the worker, refused by the tests, or carried out. Assumes nothing.
+use native.Mathlib.Omega.{arith}
+use mathlib.Core.Path.{subst}
+use borrow.Author.Needs.{needs}
+use Rattle.spec.specs.Steps.{isOpen}
+use Rattle.transactions.specs.Admits.{Admitted}
+use Rattle.ranges.specs.Plans.{Plans}
+use Rattle.ranges.specs.PlanLaws.{planned}
+use Rattle.accesses.specs.ScanSteps.{planning}
+use Rattle.accesses.specs.Scans.{scans-turned, scans-declined, scans-granted}
+use Rattle.accesses.proofs.scans.scan.Statement.{statement}
+use Rattle.accesses.proofs.scans.scan.Tie as tie
+
+open-requires : tie.Need-open-requires
+open-requires c κs = tt
+
+enum-known-r : tie.Need-enum-known-r
+enum-known-r c = search needs
+
+enum-known-x : tie.Need-enum-known-x
+enum-known-x c = search needs
+
+measure-requires : tie.Need-measure-requires
+measure-requires c κs =
+    let o = c .before .before .before in
+    let s = o .before .before .before .before .before .before in
+    planning (s .pre) (subst (Admitted isOpen _ _) (c .before .x .given .1) (o .«open» .ensures))
+
+enum-known-r-2 : tie.Need-enum-known-r-2
+enum-known-r-2 c = search needs
+
+enum-known-t : tie.Need-enum-known-t
+enum-known-t c = search needs
+
+carry-requires : tie.Need-carry-requires
+carry-requires c κs =
+    let a = c .before .before .before .before .before in
+    let m = a .before .before in
+    let x = m .before .before in
+    let o = x .before .before in
+    let s = o .before .before .before .before .before .before in
+    let e = subst (Admitted isOpen _ _) (x .x .given .1) (o .«open» .ensures) in
+    let p = subst (Plans _ _ _ _ _ _ _ _ _ _ _) (a .t .given .1) (m .measure .ensures) in
+    (planning (s .pre) e, (planned (p .measured) (p .roomy), (s .pre .stored .reads, s .pre .stored .leaves)))
+
+mul-seats : tie.Need-mul-seats
+mul-seats c =
+    let a = c .before .before .before .before .before .before .before .before .before .before in
+    let x = a .before .before .before .before in
+    let o = x .before .before in
+    let e = subst (Admitted isOpen _ _) (x .x .given .1) (o .«open» .ensures) in
+    omega (arith, e .inside)
+
+array-set-from-seats : tie.Need-array-set-from-seats
+array-set-from-seats c =
+    let a = c .before .before .before .before .before .before .before .before .before .before in
+    let x = a .before .before .before .before in
+    let o = x .before .before in
+    let e = subst (Admitted isOpen _ _) (x .x .given .1) (o .«open» .ensures) in
+    e .inside
+
+returns : tie.Need-returns
+returns c =
+    let o = c .before .before .before in
+    let s = o .before .before .before .before .before .before in
+    scans-turned _ _ _ _ (s .pre) (subst (Admitted isOpen _ _) (c .before .r .given .1) (o .«open» .ensures))
+
+returns-2 : tie.Need-returns-2
+returns-2 c =
+    let m = c .before .before .before in
+    let x = m .before .before in
+    let o = x .before .before in
+    let s = o .before .before .before .before .before .before in
+    scans-declined _ _ _ _ (s .pre) (subst (Admitted isOpen _ _) (x .x .given .1) (o .«open» .ensures))
+    (subst (Plans _ _ _ _ _ _ _ _ _ _ _) (c .before .r2 .given .1) (m .measure .ensures))
+
+same-length : tie.Need-same-length
+same-length c = c .before .before .before .before .carry .ensures .fills .addresses .size
+
+same-length-2 : tie.Need-same-length-2
+same-length-2 c = c .before .before .before .before .carry .ensures .fills .values .size
+
+returns-3 : tie.Need-returns-3
+returns-3 c =
+    let f = c .before .before .before .before in
+    let a = f .before .before .before .before .before .before in
+    let m = a .before .before in
+    let x = m .before .before in
+    let o = x .before .before in
+    let s = o .before .before .before .before .before .before in
+    scans-granted _ _ _ _ _ _ _ _ _ _ (s .pre) (subst (Admitted isOpen _ _) (x .x .given .1) (o .«open» .ensures))
+    (subst (Plans _ _ _ _ _ _ _ _ _ _ _) (a .t .given .1) (m .measure .ensures)) (f .carry .ensures)
+
+pub scan-spec : {M : Type 1} → statement M
+scan-spec =
+    tie.close
+    (tie.spec
+    open-requires
+    enum-known-r
+    enum-known-x
+    measure-requires
+    enum-known-r-2
+    enum-known-t
+    carry-requires
+    mul-seats
+    array-set-from-seats
+    returns
+    returns-2
+    same-length
+    same-length-2
+    returns-3)

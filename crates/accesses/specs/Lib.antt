@@ -1,0 +1,4 @@
+pub mod Edits
+pub mod ReadSteps
+pub mod ScanSteps
+pub mod Scans

@@ -1,0 +1,7 @@
+pub mod WriteBlocks
+pub mod Commits
+pub mod Finishes
+pub mod Locks
+pub mod Searching
+pub mod Validates
+pub mod Verdicts

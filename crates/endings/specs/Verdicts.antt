@@ -1,0 +1,340 @@
+-- Validate, as it goes: refused by 1, 2 or 4; ended by 12, 13 or 14; refused by 15; or the worker has its commit number.
+-- Assumes nothing.
+use Prim.Native.Nat.{ℕ, suc, _+_, _<_, _≤_}
+use native.Mathlib.Numerals.{add-one}
+use mathlib.Core.Path.{_≡_, refl, sym, ap, _∙_, subst}
+use mathlib.Core.Logic.{⊎-elim}
+use mathlib.Core.Bool.{Bool, true, false, not}
+use mathlib.Core.List.{List, [], _∷_}
+use mathlib.Core.Option.{Option, none, some}
+use lib.ListN.{length}
+use Rattle.lists.specs.Tests.{pick, maybe, less, cases, less-true, less-false}
+use Rattle.lists.specs.Rows.{Row, keys, has, any, Rising}
+use Rattle.spec.specs.declared.Refusal.{Refusal}
+use Rattle.spec.specs.declared.Refusal.the-variants.{Changed, UnderLock, Phantom, Spent}
+use Rattle.spec.specs.declared.Stage.{Stage}
+use Rattle.spec.specs.Refusals.{ends}
+use Rattle.spec.specs.Records.{Record, Write}
+use Rattle.spec.specs.Slots.{contentOf}
+use Rattle.spec.specs.Maps.{current}
+use Rattle.spec.specs.Steps as model
+use Rattle.spec.specs.Steps.{State, Answer, validate, refused, numbered, isLocked, workerOf, writeKeys, changedSince, lockedByOther, phantomIn, Cause, cause, noWorker, workerFree, wrongStage, causes, firstCause, refusal, granted, effect, withWorker, withCounters, checkedAs, dropped, afterRefusal, answer, next}
+use Rattle.laws.specs.WorkerLaws.{mild-cause, hasLocks, locked-locks}
+use Rattle.sets.specs.declared.workers.Worker.{Worker}
+use Rattle.sets.specs.Workers.{workerIn, atCheck}
+use Rattle.sets.specs.WorkerLaws.{check-in}
+use Rattle.sets.specs.Reads.{readsIn}
+use Rattle.sets.specs.Leaves.{versionsIn}
+use Rattle.sets.specs.Writes.{writesIn}
+use Rattle.indexlet.specs.Words.{slotsOf}
+use Rattle.map.specs.declared.Sizes.{Sizes}
+use Rattle.map.specs.Views.{Lent, block}
+use Rattle.looks.specs.PhantomViews.{mapIn, phantomAt, Owns}
+use Rattle.transactions.specs.declared.Core.{Core}
+use Rattle.endings.specs.declared.validates.Verdict.{Verdict}
+use Rattle.endings.specs.declared.validates.Verdict.the-variants as verdict
+use Rattle.endings.specs.declared.validates.Verdict.the-variants.{Passed}
+use Rattle.endings.specs.declared.validates.ValidateAnswer.the-variants.{Number, Refused}
+use Rattle.endings.specs.declared.validates.ValidateDone.{ValidateDone}
+use Rattle.transactions.specs.Answering.{Comes, comes-granted, cause-holds, cause-fails, front, front-first}
+use Rattle.transactions.specs.Admits.{Turned, Entered}
+use Rattle.transactions.specs.Views.{logs, seatIn, stateOf, worker-at, state-with}
+use Rattle.transactions.specs.Ready.{Within, Stored, Ready, Goes, goes, goes-refused}
+use Rattle.transactions.specs.SeatLaws.{stored-seat}
+use Rattle.endings.specs.WriteBlocks.{BlockOf}
+use Rattle.endings.specs.Commits.{Reaches}
+use Rattle.endings.specs.Validates.{changedIn, lockedIn, LoggedAll, Examinable, firstOf, judged, verdictIn, validateIn, withNumber, numbering, number-spent, number-left}
+
+-- ---- the tests, in their order
+
+module _ (a b c : Bool) where
+  pub first-changed : a ≡ true → some Changed ≡ firstOf a b c
+  unfolding firstOf
+  first-changed e = sym (cause-holds a Changed _ e)
+
+  pub first-locked : a ≡ false → b ≡ true → some UnderLock ≡ firstOf a b c
+  unfolding firstOf
+  first-locked e f = sym (cause-fails a Changed _ e ∙ cause-holds b UnderLock _ f)
+
+  pub first-phantom : a ≡ false → b ≡ false → c ≡ true → some Phantom ≡ firstOf a b c
+  unfolding firstOf
+  first-phantom e f g = sym (cause-fails a Changed _ e ∙ cause-fails b UnderLock _ f ∙ cause-holds c Phantom [] g)
+
+  pub first-none : a ≡ false → b ≡ false → c ≡ false → none ≡ firstOf a b c
+  unfolding firstOf
+  first-none e f g = sym (cause-fails a Changed _ e ∙ cause-fails b UnderLock _ f ∙ cause-fails c Phantom [] g ∙ (unfold firstCause in refl))
+
+-- what they refuse ends the transaction
+first-ends : (a b c : Bool) (r : Refusal) → firstOf a b c ≡ some r → ends r ≡ true
+first-ends a b c r e = sym (ap (λ (o : Option Refusal). maybe o true ends) e) ∙ by a b c
+  where
+    by : (p q s : Bool) → maybe (firstOf p q s) true ends ≡ true
+    by true q s = unfold firstOf firstCause in refl
+    by false true s = unfold firstOf firstCause in refl
+    by false false true = unfold firstOf firstCause in refl
+    by false false false = unfold firstOf firstCause in refl
+
+first-then : (a b c : Bool) (cs : List Cause)
+    → firstCause (cause a Changed ∷ cause b UnderLock ∷ cause c Phantom ∷ cs) ≡ maybe (firstOf a b c) (firstCause cs) some
+unfolding firstOf firstCause
+first-then true b c cs = refl
+first-then false true c cs = refl
+first-then false false true cs = refl
+first-then false false false cs = refl
+
+-- ---- the model's refusal
+
+-- what the model's tests say
+abbrev tested : State → ℕ → Option Refusal
+tested σ w =
+    firstOf (any (changedSince σ) (workerOf σ w .reads)) (any (lockedByOther σ w) (keys (workerOf σ w .reads))) (any (phantomIn σ w) (workerOf σ w .versions))
+
+abbrev spent : State → Option Refusal
+spent σ = firstCause (cause (not (less (σ .counters .number) (σ .settings .lastNumber))) Spent ∷ [])
+
+refusal-is : (σ : State) (w : ℕ) → refusal σ (validate w) ≡ maybe (front isLocked σ w) (maybe (tested σ w) (spent σ) some) some
+unfolding refusal causes
+refusal-is σ w =
+    front-first isLocked σ w _
+    ∙ ap (λ (o : Option Refusal). maybe (front isLocked σ w) o some)
+    (first-then (any (changedSince σ) (workerOf σ w .reads)) (any (lockedByOther σ w) (keys (workerOf σ w .reads))) (any (phantomIn σ w) (workerOf σ w .versions)) _)
+
+-- the causes that most steps share do not end a transaction
+front-mild : (right : Stage → Bool) (σ : State) (w : ℕ) (r : Refusal) → front right σ w ≡ some r → ends r ≡ false
+unfolding front noWorker workerFree wrongStage any
+front-mild right σ w r e = mild-cause (noWorker σ w ∷ workerFree σ w ∷ wrongStage right σ w ∷ []) r refl e
+
+-- an ended transaction
+comes-ended : (σ : State) (w : ℕ) (r : Refusal) → refusal σ (validate w) ≡ some r → ends r ≡ true → Comes σ (validate w) (refused r) (dropped σ w)
+comes-ended σ w r e t =
+    record {
+      answers = unfold answer in ap (λ (o : Option Refusal). maybe o (granted σ (validate w)) refused) e;
+      leaves =
+          unfold next afterRefusal model.workerIn in
+          (ap (λ (o : Option Refusal). maybe o (effect σ (validate w)) (afterRefusal σ (validate w))) e
+          ∙ ap (λ (b : Bool). pick b (dropped σ w) σ) t);
+    }
+
+-- ---- what the tests over the arrays say
+
+module _ (rows lows versions slots reads leaves : List ℕ) (z : Sizes) (x : Worker) (w : ℕ) where
+  abbrev changedNow : Bool
+  changedNow = any (changedIn rows (z .records) slots) (readsIn reads w (x .reads))
+
+  abbrev lockedNow : Bool
+  lockedNow = any (lockedIn slots w) (keys (readsIn reads w (x .reads)))
+
+  abbrev phantomNow : Bool
+  phantomNow = any (phantomAt (mapIn rows lows versions slots z) w) (versionsIn leaves w (x .leaves))
+
+  pub judge-changed : (a : Bool) → a ≡ changedNow → a ≡ true → some Changed ≡ judged rows lows versions slots reads leaves z x w
+  unfolding judged
+  judge-changed a e t = first-changed changedNow lockedNow phantomNow (sym e ∙ t)
+
+  pub judge-locked : (a b : Bool) → a ≡ changedNow → a ≡ false → b ≡ lockedNow → b ≡ true
+      → some UnderLock ≡ judged rows lows versions slots reads leaves z x w
+  unfolding judged
+  judge-locked a b e t f u = first-locked changedNow lockedNow phantomNow (sym e ∙ t) (sym f ∙ u)
+
+  pub judge-phantom : (a b c : Bool) → a ≡ changedNow → a ≡ false → b ≡ lockedNow → b ≡ false → c ≡ phantomNow → c ≡ true
+      → some Phantom ≡ judged rows lows versions slots reads leaves z x w
+  unfolding judged
+  judge-phantom a b c e t f u g v = first-phantom changedNow lockedNow phantomNow (sym e ∙ t) (sym f ∙ u) (sym g ∙ v)
+
+  pub judge-passed : (a b c : Bool) → a ≡ changedNow → a ≡ false → b ≡ lockedNow → b ≡ false → c ≡ phantomNow → c ≡ false
+      → none ≡ judged rows lows versions slots reads leaves z x w
+  unfolding judged
+  judge-passed a b c e t f u g v = first-none changedNow lockedNow phantomNow (sym e ∙ t) (sym f ∙ u) (sym g ∙ v)
+
+-- the write set in a block: the worker's locks are its addresses
+pub examined-owns : {rows lows versions outside slots reads leaves writes us : List ℕ} {z : Sizes} {x : Worker} {w : ℕ}
+    → Examinable rows lows versions outside slots reads leaves writes z x w → BlockOf writes w us → Owns slots us (x .writes) w
+examined-owns {rows} {lows} {versions} {outside} {slots} {reads} {leaves} {writes} {us} {z} {x} {w} e b =
+    let few : x .writes ≤ 16 = e .counts .writes in
+    let v : block us (x .writes) ≡ writesIn writes w (x .writes) = b .view (x .writes) few in
+    let n = b .narrow (x .writes) few in
+    record {
+      fitting = record { few = few; narrow = n .narrow };
+      rising = subst Rising (sym v) (e .rising);
+      mine = λ k h. e .mine k (subst (λ (rs : List (Row Write)). has k (keys rs) ≡ true) v h);
+      only = λ k h. subst (λ (rs : List (Row Write)). has k (keys rs) ≡ true) (sym v) (e .only k h);
+    }
+
+-- ---- the worker in the locked stage
+
+module _ {l : Lent} {rs ls ws : List ℕ} {c : Core} (w : ℕ) (k : Ready l (logs rs ls ws) c) where
+  abbrev now : State
+  now = stateOf l (logs rs ls ws) c
+
+  pub validate-refused : (r : Refusal) → Turned isLocked (c .seats) w r
+      → Goes l (logs rs ls ws) c (validate w) l (logs rs ls ws) c (validateIn (Refused r))
+  validate-refused r t =
+      let f : front isLocked now w ≡ some r = t .front-is l (logs rs ls ws) c refl in
+      goes-refused k
+      (refusal-is now w ∙ ap (λ (o : Option Refusal). maybe o (maybe (tested now w) (spent now) some) some) f)
+      (front-mild isLocked now w r f)
+
+  module _ (x : Worker) (t : Entered isLocked (c .seats) w x) where
+    inside : w < length (c .seats)
+    inside = subst (λ (n : ℕ). w < n) (sym (k .stored .seats)) (t .inside)
+
+    seated : workerOf now w ≡ seatIn (logs rs ls ws) x w
+    seated = worker-at l (logs rs ls ws) c w inside ∙ ap (λ (y : Worker). seatIn (logs rs ls ws) y w) (sym (t .is))
+
+    within : Within x
+    within = subst Within (sym (t .is)) (k .stored .counts w (t .inside))
+
+    locks : hasLocks (workerOf now w .stage) ≡ true
+    locks = ap (λ (y : model.Worker). hasLocks (y .stage)) seated ∙ stage-locks
+      where
+        stage-locks : hasLocks (seatIn (logs rs ls ws) x w .stage) ≡ true
+        stage-locks = unfold workerIn in locked-locks (x .stage) (t .stage)
+
+    writes-of : workerOf now w .writes ≡ writesIn ws w (x .writes)
+    writes-of = ap (λ (y : model.Worker). y .writes) seated ∙ (unfold workerIn in refl)
+
+    pub examinable : Examinable (l .rows) (l .lows) (l .versions) (l .outside) (l .slots) rs ls ws (c .sizes) x w
+    unfolding writeKeys
+    examinable =
+        record {
+          worker = t .inside;
+          counts = within;
+          held = record { pending = l .pending; version = c .counters .version; held = k .stored .map };
+          reads-held = k .stored .reads;
+          leaves-held = k .stored .leaves;
+          writes-held = k .stored .writes;
+          logged-all =
+              subst (λ (y : Worker). LoggedAll (l .lows) (l .versions) ls (c .sizes) w (y .leaves)) (sym (t .is))
+              (record { at = λ i h. record { stays = k .stored .lows w (t .inside) i h } });
+          rising = subst Rising writes-of (k .kept .worker w .rising);
+          mine = λ a h. slots-are a (k .kept .holds w a locks (subst (λ (us : List (Row Write)). has a (keys us) ≡ true) (sym writes-of) h));
+          only = λ a h. subst (λ (us : List (Row Write)). has a (keys us) ≡ true) writes-of (k .kept .held-by w a (slots-from a h) .1);
+        }
+      where
+        slots-are : (a : ℕ) → contentOf (now .map .slots) a .holder ≡ some w → contentOf (slotsOf (l .slots)) a .holder ≡ some w
+        slots-are a h = unfold stateOf in h
+
+        slots-from : (a : ℕ) → contentOf (slotsOf (l .slots)) a .holder ≡ some w → contentOf (now .map .slots) a .holder ≡ some w
+        slots-from a h = unfold stateOf in h
+
+    -- the arrays say what the model's tests say
+    changed-same : (us : List (Row (Option Record))) → any (changedIn (l .rows) (c .sizes .records) (l .slots)) us ≡ any (changedSince now) us
+    unfolding changedIn changedSince stateOf current
+    changed-same us = refl
+
+    locked-same : (us : List ℕ) → any (lockedIn (l .slots) w) us ≡ any (lockedByOther now w) us
+    unfolding lockedIn lockedByOther stateOf
+    locked-same us = refl
+
+    phantom-same : (us : List ℕ)
+        → any (phantomAt (mapIn (l .rows) (l .lows) (l .versions) (l .slots) (c .sizes)) w) us ≡ any (phantomIn now w) us
+    unfolding phantomAt phantomIn stateOf
+    phantom-same us = refl
+
+    reads-of : readsIn rs w (x .reads) ≡ workerOf now w .reads
+    reads-of = sym (ap (λ (y : model.Worker). y .reads) seated ∙ (unfold workerIn in refl))
+
+    versions-of : versionsIn ls w (x .leaves) ≡ workerOf now w .versions
+    versions-of = sym (ap (λ (y : model.Worker). y .versions) seated ∙ (unfold workerIn in refl))
+
+    judged-is : judged (l .rows) (l .lows) (l .versions) (l .slots) rs ls (c .sizes) x w ≡ tested now w
+    unfolding judged
+    judged-is =
+        λ i.
+        firstOf
+        ((changed-same (readsIn rs w (x .reads)) ∙ ap (any (changedSince now)) reads-of) i)
+        ((locked-same (keys (readsIn rs w (x .reads))) ∙ ap (λ (us : List (Row (Option Record))). any (lockedByOther now w) (keys us)) reads-of) i)
+        ((phantom-same (versionsIn ls w (x .leaves)) ∙ ap (any (phantomIn now w)) versions-of) i)
+
+    refusal-by : (o : Option Refusal) → o ≡ judged (l .rows) (l .lows) (l .versions) (l .slots) rs ls (c .sizes) x w
+        → refusal now (validate w) ≡ maybe o (spent now) some
+    refusal-by o q =
+        refusal-is now w
+        ∙ ap (λ (p : Option Refusal). maybe p (maybe (tested now w) (spent now) some) some) (t .front-is l (logs rs ls ws) c refl)
+        ∙ ap (λ (p : Option Refusal). maybe p (spent now) some) (sym (q ∙ judged-is))
+
+    pub validate-ended : {l' : Lent} {c' : Core} (v : Verdict) (r : Refusal) → v ≡ verdict.Refused r
+        → verdictIn v ≡ judged (l .rows) (l .lows) (l .versions) (l .slots) rs ls (c .sizes) x w
+        → Reaches (λ (σ : State). dropped σ w) l ws c l' c'
+        → Goes l (logs rs ls ws) c (validate w) l' (logs rs ls ws) c' (validateIn (Refused r))
+    validate-ended v r e j d =
+        let q = sym (ap verdictIn e) ∙ j in
+        goes k
+        (comes-ended now w r (refusal-by (some r) q) (first-ends _ _ _ r (sym (q ∙ judged-is))))
+        (d .state rs ls (k .stored)) (d .stored rs ls (k .stored))
+
+    -- ---- the next commit number
+
+    spent-is : (b : Bool) → less (c .counters .number) 1000000 ≡ b → spent now ≡ firstCause (cause (not b) Spent ∷ [])
+    unfolding stateOf
+    spent-is b e = ap (λ (u : Bool). firstCause (cause (not u) Spent ∷ [])) e
+
+    -- the core with the counters of a granted validation
+    abbrev counted : ℕ → Core
+    counted n = record { seats = c .seats; sizes = c .sizes; counters = record { number = n; version = c .counters .version } }
+
+    counted-state : (n : ℕ) → stateOf l (logs rs ls ws) (counted n) ≡ withCounters now n (c .counters .version)
+    unfolding stateOf withCounters
+    counted-state n = refl
+
+    counted-stored : (n : ℕ) → Stored l (logs rs ls ws) (counted n)
+    counted-stored n =
+        record {
+          map = k .stored .map;
+          reads = k .stored .reads;
+          leaves = k .stored .leaves;
+          writes = k .stored .writes;
+          seats = k .stored .seats;
+          counts = k .stored .counts;
+          lows = k .stored .lows;
+        }
+
+    granted-is : granted now (validate w) ≡ numbered (suc (c .counters .number))
+    unfolding granted stateOf
+    granted-is = refl
+
+    effect-is : withWorker (withCounters now (suc (c .counters .number)) (c .counters .version)) w (checkedAs (suc (c .counters .number)) (workerOf now w))
+        ≡ effect now (validate w)
+    unfolding effect stateOf
+    effect-is = refl
+
+    checked-state : (n : ℕ) → stateOf l (logs rs ls ws) (withNumber c w (atCheck x n) n)
+        ≡ withWorker (withCounters now n (c .counters .version)) w (checkedAs n (workerOf now w))
+    checked-state n =
+        state-with l (logs rs ls ws) (logs rs ls ws) (counted n) w (atCheck x n)
+        (record { reads = λ v m d. refl; leaves = λ v m d. refl; writes = λ v m d. refl })
+        ∙ ap (λ (σ : State). withWorker σ w (seatIn (logs rs ls ws) (atCheck x n) w)) (counted-state n)
+        ∙ ap (withWorker (withCounters now n (c .counters .version)) w)
+        (check-in rs ls ws w x n ∙ ap (checkedAs n) (sym seated))
+
+    checked-stored : (n : ℕ) → Stored l (logs rs ls ws) (withNumber c w (atCheck x n) n)
+    checked-stored n =
+        stored-seat l rs ls ws rs ws (counted n) w (atCheck x n) (t .inside) (counted-stored n) (k .stored .reads) (k .stored .writes)
+        (record { reads = within .reads; leaves = within .leaves; writes = within .writes })
+        (ap (λ (y : Worker). y .leaves) (t .is))
+
+    numbered-goes : (n : ℕ) → n ≡ suc (c .counters .number) → refusal now (validate w) ≡ none
+        → Goes l (logs rs ls ws) c (validate w) l (logs rs ls ws) (withNumber c w (atCheck x n) n) (validateIn (Number n))
+    numbered-goes n e q =
+        subst
+        (λ (m : ℕ). Goes l (logs rs ls ws) c (validate w) l (logs rs ls ws) (withNumber c w (atCheck x m) m) (validateIn (Number m))) (sym e)
+        (goes k
+        (subst (λ (a : Answer). Comes now (validate w) a (effect now (validate w))) granted-is (comes-granted now (validate w) q))
+        (checked-state (suc (c .counters .number)) ∙ effect-is)
+        (checked-stored (suc (c .counters .number))))
+
+    pub validate-passed : (v : Verdict) (y : ValidateDone) → v ≡ Passed
+        → verdictIn v ≡ judged (l .rows) (l .lows) (l .versions) (l .slots) rs ls (c .sizes) x w → y ≡ numbering c w x
+        → Goes l (logs rs ls ws) c (validate w) l (logs rs ls ws) (y .core) (validateIn (y .answer))
+    validate-passed v y p j e =
+        let q = sym (ap verdictIn p) ∙ j in
+        ⊎-elim
+        (λ b. subst Taken (number-left c w x _ (less-true (c .counters .number) 1000000 b) refl ∙ sym e)
+        (numbered-goes (c .counters .number + 1) (add-one (c .counters .number))
+        (refusal-by none q ∙ spent-is true b ∙ cause-fails false Spent [] refl ∙ (unfold firstCause in refl))))
+        (λ b. subst Taken (number-spent c w x (less-false (c .counters .number) 1000000 b) ∙ sym e)
+        (goes-refused k (refusal-by none q ∙ spent-is false b ∙ cause-holds true Spent [] refl) refl))
+        (cases (less (c .counters .number) 1000000))
+      where
+        Taken : ValidateDone → Type 0
+        Taken r = Goes l (logs rs ls ws) c (validate w) l (logs rs ls ws) (r .core) (validateIn (r .answer))

@@ -1,0 +1,304 @@
+-- The test for phantoms on words: counting the worker's own addresses in a leaf, and what the count says.
+-- Assumes nothing.
+use Prim.Native.Nat.{ℕ, zero, suc, _+_, _*_, _-_, _<_, _≤_, zero-le}
+use native.Mathlib.Nat.{le-refl, not-suc-le-zero}
+use native.Mathlib.Omega.{arith}
+use native.Mathlib.Numerals.{add-one}
+use mathlib.Core.Path.{_≡_, refl, sym, ap, _∙_, subst}
+use mathlib.Core.Logic.{⊎-elim}
+use mathlib.Core.Bool.{Bool, true, false, not}
+use mathlib.Core.List.{List, [], _∷_, _++_, List·Memᴰ, List·Memᴰ·head, List·Memᴰ·tail}
+use mathlib.Core.Option.{some}
+use lib.Dec.{ltb}
+use lib.ListN.{length, take, getD}
+use lib.Seq.{length-take-le}
+use Rattle.lists.specs.Tests.{pick, both, either, present, same, less, cases, clash, same-true, same-false, same-yes, same-no}
+use Rattle.lists.specs.Rows.{look, keys, filter}
+use Rattle.lists.specs.RowLaws.{rising-different}
+use Rattle.spec.specs.Leaves.{Leaf, firstLeaf, leafOf, versionAt, live}
+use Rattle.spec.specs.Slots.{Content, contentOf}
+use Rattle.spec.specs.Maps.{hides}
+use Rattle.spec.specs.Steps.{State, phantomIn}
+use Rattle.laws.specs.LeafParts.{LowsFrom, Apart, live-head, live-later}
+use Rattle.laws.specs.LeafVersions.{GoodLeaves, version-live, Standing, standing, leaf-of-low}
+use Rattle.indexlet.specs.declared.Content.{Content as ContentWords}
+use Rattle.indexlet.specs.Words.{pendingIn, contentIn, slotsOf}
+use Rattle.index.specs.declared.records.Found.{Found}
+use Rattle.index.specs.declared.records.Found.the-variants.{At, Nothing}
+use Rattle.index.specs.Views.{foundOf, recordsOf, leavesOf}
+use Rattle.index.specs.LeafPlaces.{lowPlace, place-inside, AtLeaf}
+use Rattle.map.specs.declared.Sizes.{Sizes}
+use Rattle.phantomlet.specs.Phantoms.{howMany, outsideIn}
+use Rattle.map.specs.Views.{Lent, lent, block, blockFrom}
+use Rattle.map.specs.Held.{Tables, Held}
+use Rattle.looks.specs.LookViews.{LeafAt}
+use Rattle.looks.specs.ScanLaws.{length-leaves, leaf-read, leaf-found}
+use Rattle.phantomlet.specs.HidingLaws.{length-filter, silentAt, Locking, hides-count, hides-none}
+use Rattle.looks.specs.PhantomViews.{mapIn, HeldBut, phantomAt, Owns, Logged, silentIn, silentOf, Counting}
+
+-- ---- one address
+
+module _ (rows lows slots : List ℕ) (n m i a : ℕ) where
+  place-other : (p : ℕ) → AtLeaf lows m a p → (p ≡ i → ⊥) → silentIn rows lows slots n m i a ≡ false
+  unfolding silentIn
+  place-other p at d = rw (same-no {m = lowPlace a (take m lows)} {n = i} (λ e. d (at .is ∙ e)))
+
+  pending-kind : (c : ContentWords) → contentOf (slotsOf slots) a ≡ contentIn c → present (contentOf (slotsOf slots) a .pending) ≡ present (pendingIn (c .kind) (c .value) (c .commit))
+  unfolding contentIn
+  pending-kind c e = ap (λ (x : Content). present (x .pending)) e
+
+  pending-some : (k v u : ℕ) → (k ≡ 0 → ⊥) → present (pendingIn k v u) ≡ true
+  unfolding pendingIn
+  pending-some zero v u h = absurd (h refl)
+  pending-some (suc zero) v u h = refl
+  pending-some (suc (suc k)) v u h = refl
+
+  pending-none : (k v u : ℕ) → k ≡ 0 → present (pendingIn k v u) ≡ false
+  unfolding pendingIn
+  pending-none k v u e = ap (λ (x : ℕ). present (pendingIn x v u)) e
+
+  -- what the test says, by its parts
+  by-parts : (p q : Bool) → present (contentOf (slotsOf slots) a .pending) ≡ p → present (look (recordsOf rows n) a) ≡ q
+      → silentIn rows lows slots n m i a ≡ both (same (lowPlace a (take m lows)) i) (both (not p) (not q))
+  unfolding silentIn
+  by-parts p q e f =
+      ap (λ (x : Bool). both (same (lowPlace a (take m lows)) i) (both (not x) (not (present (look (recordsOf rows n) a))))) e
+      ∙ ap (λ (x : Bool). both (same (lowPlace a (take m lows)) i) (both (not p) (not x))) f
+
+  none-of : (b : Bool) → both b false ≡ false
+  none-of true = refl
+  none-of false = refl
+
+  number : (b : Bool) (r : ℕ) → silentIn rows lows slots n m i a ≡ b → r ≡ pick b 1 0 → r ≡ pick (silentIn rows lows slots n m i a) 1 0
+  number b r e f = f ∙ sym (ap (λ (x : Bool). pick x 1 0) e)
+
+  pub silent-elsewhere : (p : ℕ) → AtLeaf lows m a p → (p ≡ i → ⊥) → _≡_ {A = ℕ} 0 (pick (silentIn rows lows slots n m i a) 1 0)
+  silent-elsewhere p at d = number false 0 (place-other p at d) refl
+
+  pub silent-pending : (c : ContentWords) → contentOf (slotsOf slots) a ≡ contentIn c → (c .kind ≡ 0 → ⊥) → _≡_ {A = ℕ} 0 (pick (silentIn rows lows slots n m i a) 1 0)
+  silent-pending c e h =
+      number false 0
+      (by-parts true _ (pending-kind c e ∙ pending-some (c .kind) (c .value) (c .commit) h) refl ∙ none-of (same (lowPlace a (take m lows)) i)) refl
+
+  pub silent-found : (f : Found) (v u : ℕ) → f ≡ At v u → foundOf f ≡ look (recordsOf rows n) a → _≡_ {A = ℕ} 0 (pick (silentIn rows lows slots n m i a) 1 0)
+  silent-found f v u e g =
+      number false 0
+      (by-parts _ true refl (ap present (sym g ∙ ap foundOf e)) ∙ ends (present (contentOf (slotsOf slots) a .pending))) refl
+    where
+      ends : (b : Bool) → both (same (lowPlace a (take m lows)) i) (both (not b) false) ≡ false
+      ends true = none-of (same (lowPlace a (take m lows)) i)
+      ends false = none-of (same (lowPlace a (take m lows)) i)
+
+  pub silent-yes : (p : ℕ) (c : ContentWords) (f : Found) → AtLeaf lows m a p → p ≡ i → contentOf (slotsOf slots) a ≡ contentIn c → c .kind ≡ 0
+      → f ≡ Nothing → foundOf f ≡ look (recordsOf rows n) a → _≡_ {A = ℕ} 1 (pick (silentIn rows lows slots n m i a) 1 0)
+  silent-yes p c f at q e k d g =
+      number true 1
+      (by-parts false false (pending-kind c e ∙ pending-none (c .kind) (c .value) (c .commit) k) (ap present (sym g ∙ ap foundOf d))
+      ∙ ap (λ (b : Bool). both b true) (same-yes {m = lowPlace a (take m lows)} {n = i} (sym (at .is) ∙ q))) refl
+
+-- ---- the write set's addresses
+
+pick-most : (b : Bool) → pick b 1 0 ≤ 1
+pick-most true = le-refl 1
+pick-most false = zero-le
+
+module _ (rows lows slots : List ℕ) (n m i : ℕ) (ws : List ℕ) (count : ℕ) where
+  pub counting-start : Counting rows lows slots n m i ws count 0 0
+  unfolding silentOf block
+  counting-start =
+      record {
+        within = zero-le;
+        small = zero-le;
+        rest =
+            ap (λ (k : ℕ). 0 + length (filter (silentIn rows lows slots n m i) (keys (blockFrom ws 0 k)))) (let z : count - 0 ≡ count = omega arith in z)
+            ∙ (let z : 0 + length (filter (silentIn rows lows slots n m i) (keys (blockFrom ws 0 count))) ≡ length (filter (silentIn rows lows slots n m i) (keys (blockFrom ws 0 count))) = omega arith in z);
+      }
+
+  block-step : (x : ℕ) → x < count → length (filter (silentIn rows lows slots n m i) (keys (blockFrom ws x (count - x))))
+      ≡ pick (silentIn rows lows slots n m i (getD ws (x * 3) 0)) 1 0 + length (filter (silentIn rows lows slots n m i) (keys (blockFrom ws (x + 1) (count - (x + 1)))))
+  unfolding blockFrom keys
+  block-step x h =
+      ap (λ (k : ℕ). length (filter (silentIn rows lows slots n m i) (keys (blockFrom ws x k)))) (let z : count - x ≡ suc (count - (x + 1)) = omega arith in z)
+      ∙ length-filter (silentIn rows lows slots n m i) (getD ws (x * 3) 0) (keys (blockFrom ws (suc x) (count - (x + 1))))
+      ∙ ap (λ (j : ℕ). pick (silentIn rows lows slots n m i (getD ws (x * 3) 0)) 1 0 + length (filter (silentIn rows lows slots n m i) (keys (blockFrom ws j (count - (x + 1)))))) (sym (add-one x))
+
+  pub counting-on : (x own r : ℕ) → Counting rows lows slots n m i ws count x own → x < count → r ≡ pick (silentIn rows lows slots n m i (getD ws (x * 3) 0)) 1 0
+      → Counting rows lows slots n m i ws count (x + 1) (own + r)
+  counting-on x own r c h e =
+      let b : pick (silentIn rows lows slots n m i (getD ws (x * 3) 0)) 1 0 ≤ 1 = pick-most (silentIn rows lows slots n m i (getD ws (x * 3) 0)) in
+      let s : own ≤ x = c .small in
+      let f : own + length (filter (silentIn rows lows slots n m i) (keys (blockFrom ws x (count - x)))) ≡ silentOf rows lows slots n m i ws count = c .rest in
+      let g : length (filter (silentIn rows lows slots n m i) (keys (blockFrom ws x (count - x))))
+      ≡ pick (silentIn rows lows slots n m i (getD ws (x * 3) 0)) 1 0 + length (filter (silentIn rows lows slots n m i) (keys (blockFrom ws (x + 1) (count - (x + 1))))) = block-step x h in
+      record { within = omega arith; small = omega arith; rest = omega arith }
+
+  pub counting-end : (x own : ℕ) → Counting rows lows slots n m i ws count x own → count ≤ x → own ≡ silentOf rows lows slots n m i ws count
+  unfolding blockFrom keys filter
+  counting-end x own c h =
+      let f : own + length (filter (silentIn rows lows slots n m i) (keys (blockFrom ws x (count - x)))) ≡ silentOf rows lows slots n m i ws count = c .rest in
+      let g : length (filter (silentIn rows lows slots n m i) (keys (blockFrom ws x (count - x)))) ≡ 0
+      = ap (λ (k : ℕ). length (filter (silentIn rows lows slots n m i) (keys (blockFrom ws x k)))) (let z : count - x ≡ 0 = omega arith in z) in
+      omega arith
+
+-- ---- places and versions
+
+-- the version at a place is live
+place-live : (ls : List Leaf) (q v : ℕ) → q < length ls → getD ls q firstLeaf .version ≡ v → live ls v ≡ true
+place-live [] q v h e = absurd (not-suc-le-zero h)
+place-live (l ∷ ls) zero v h e = live-head l ls v e
+place-live (l ∷ ls) (suc q) v h e = live-later l ls v (place-live ls q v (omega arith) e)
+
+-- no two places have the same version
+apart-places : (ls : List Leaf) (p q : ℕ) → Apart ls → p < length ls → q < length ls
+    → getD ls p firstLeaf .version ≡ getD ls q firstLeaf .version → p ≡ q
+unfolding Apart
+apart-places [] p q f h g e = absurd (not-suc-le-zero h)
+apart-places (l ∷ ls) zero zero f h g e = refl
+apart-places (l ∷ ls) zero (suc q) f h g e = clash (place-live ls q (l .version) (omega arith) (sym e)) (f .0)
+apart-places (l ∷ ls) (suc p) zero f h g e = clash (place-live ls p (l .version) (omega arith) e) (f .0)
+apart-places (l ∷ ls) (suc p) (suc q) f h g e = ap suc (apart-places ls p q (f .1) (omega arith) (omega arith) e)
+
+filter-same : {A : Type 0} (p q : A → Bool) (xs : List A) → ((x : A) → p x ≡ q x) → filter p xs ≡ filter q xs
+unfolding filter
+filter-same p q [] h = refl
+filter-same {A} p q (x ∷ xs) h =
+    ap (λ (b : Bool). pick b (x ∷ filter p xs) (filter p xs)) (h x)
+    ∙ ap (λ (zs : List A). pick (q x) (x ∷ zs) zs) (filter-same p q xs h)
+
+-- ---- the test
+
+module _ (rows lows versions outside slots : List ℕ) (z : Sizes) (b : HeldBut rows lows versions outside slots z) where
+  tables : Tables (lent rows lows versions outside (b .pending) slots) z (b .version)
+  tables = b .held .tables
+
+  abbrev leaves : List Leaf
+  leaves = leavesOf lows versions (z .leaves)
+
+  leaves-here : length leaves ≡ z .leaves
+  leaves-here = length-leaves lows versions (z .leaves) (tables .lows .room) (tables .lows-size) (tables .versions-size)
+
+  version-here : (a i : ℕ) → LeafAt lows (z .leaves) a i → getD versions i 0 ≡ versionAt leaves a
+  unfolding versionAt
+  version-here a i at =
+      ap (λ (l : Leaf). l .version)
+      (sym (leaf-read lows versions (z .leaves) (tables .lows .room) (tables .lows-size) (tables .versions-size) i (at .inside))
+      ∙ at .leaf-is versions (tables .versions-size))
+
+  -- the place of the leaf of an address
+  placed : (a : ℕ) → AtLeaf lows (z .leaves) a (lowPlace a (take (z .leaves) lows))
+  placed a =
+      let l : length (take (z .leaves) lows) ≡ z .leaves = length-take-le (z .leaves) lows (rw (tables .lows-size) (tables .lows .room)) in
+      let p : lowPlace a (take (z .leaves) lows) < length (take (z .leaves) lows) = place-inside a (take (z .leaves) lows) (rw l (tables .lows .some)) in
+      record { is = refl; inside = omega arith }
+
+  own-leaf : (a : ℕ) → getD leaves (lowPlace a (take (z .leaves) lows)) firstLeaf .version ≡ versionAt leaves a
+  unfolding versionAt
+  own-leaf a =
+      ap (λ (l : Leaf). l .version)
+      (leaf-found lows versions (z .leaves) (tables .lows .room) (tables .lows-size) (tables .versions-size) a (lowPlace a (take (z .leaves) lows)) (placed a))
+
+  -- to stand at a place is to have its version
+  same-place : (a i v : ℕ) → i < z .leaves → getD leaves i firstLeaf .version ≡ v → same (lowPlace a (take (z .leaves) lows)) i ≡ same (versionAt leaves a) v
+  same-place a i v h e =
+      ⊎-elim
+      (λ t. t ∙ sym (same-yes {m = versionAt leaves a} {n = v}
+      (sym (own-leaf a) ∙ ap (λ (j : ℕ). getD leaves j firstLeaf .version) (same-true (lowPlace a (take (z .leaves) lows)) i t) ∙ e)))
+      (λ t. t ∙ sym (same-no {m = versionAt leaves a} {n = v}
+      (λ q. same-false (lowPlace a (take (z .leaves) lows)) i t
+      (apart-places leaves (lowPlace a (take (z .leaves) lows)) i (tables .leaves .apart)
+      (rw leaves-here (placed a .inside)) (rw leaves-here h) (own-leaf a ∙ q ∙ sym e)))))
+      (cases (same (lowPlace a (take (z .leaves) lows)) i))
+
+  swap : (x p q : Bool) → both x (both p q) ≡ both x (both q p)
+  swap true true true = refl
+  swap true true false = refl
+  swap true false true = refl
+  swap true false false = refl
+  swap false p q = refl
+
+  silent-same : (i v a : ℕ) → i < z .leaves → getD leaves i firstLeaf .version ≡ v
+      → silentIn rows lows slots (z .records) (z .leaves) i a ≡ silentAt (mapIn rows lows versions slots z) v a
+  unfolding silentIn silentAt
+  silent-same i v a h e =
+      ap (λ (x : Bool). both x (both (not (present (contentOf (slotsOf slots) a .pending))) (not (present (look (recordsOf rows (z .records)) a))))) (same-place a i v h e)
+      ∙ swap (same (versionAt leaves a) v) (not (present (contentOf (slotsOf slots) a .pending))) (not (present (look (recordsOf rows (z .records)) a)))
+
+  -- the leaf that was logged is gone
+  pub phantom-gone : (w v low i : ℕ) → LeafAt lows (z .leaves) low i → Logged leaves v low → (getD versions i 0 ≡ v → ⊥)
+      → true ≡ phantomAt (mapIn rows lows versions slots z) w v
+  unfolding phantomAt
+  phantom-gone w v low i at g d =
+      ⊎-elim
+      (λ t. absurd (d (version-here low i at ∙ g .stays t)))
+      (λ t. sym (ap (λ (x : Bool). either (not x) (hides (mapIn rows lows versions slots z) w v)) t))
+      (cases (live leaves v))
+
+  -- it is there
+  stays : (w v low i : ℕ) → LeafAt lows (z .leaves) low i → getD versions i 0 ≡ v
+      → phantomAt (mapIn rows lows versions slots z) w v ≡ hides (mapIn rows lows versions slots z) w v
+  unfolding phantomAt
+  stays w v low i at e =
+      ap (λ (x : Bool). either (not x) (hides (mapIn rows lows versions slots z) w v))
+      (ap (live leaves) (sym (sym (version-here low i at) ∙ e)) ∙ version-live (tables .leaves) low)
+
+  version-there : (low i v : ℕ) → LeafAt lows (z .leaves) low i → getD versions i 0 ≡ v → getD leaves i firstLeaf .version ≡ v
+  version-there low i v at e =
+      ap (λ (l : Leaf). l .version) (leaf-read lows versions (z .leaves) (tables .lows .room) (tables .lows-size) (tables .versions-size) i (at .inside)) ∙ e
+
+  outside-there : (low i v : ℕ) → LeafAt lows (z .leaves) low i → getD versions i 0 ≡ v
+      → getD outside i 0 ≡ howMany (outsideIn (mapIn rows lows versions slots z) v) (slotsOf slots)
+  outside-there low i v at e =
+      tables .phantoms .outside-is i (rw leaves-here (at .inside))
+      ∙ ap (λ (x : ℕ). howMany (outsideIn (mapIn rows lows versions slots z) x) (slotsOf slots)) (version-there low i v at e)
+
+  module _ (ws : List ℕ) (n w : ℕ) (own : Owns slots ws n w) where
+    locking : Locking (slotsOf slots) w (keys (block ws n))
+    locking = record { once = rising-different (block ws n) (own .rising); mine = own .mine; only = own .only }
+
+    pub phantom-none : (v low i : ℕ) → LeafAt lows (z .leaves) low i → getD versions i 0 ≡ v → getD outside i 0 ≡ 0
+        → false ≡ phantomAt (mapIn rows lows versions slots z) w v
+    phantom-none v low i at e o =
+        sym
+        (stays w v low i at e
+        ∙ hides-none (mapIn rows lows versions slots z) w v (keys (block ws n)) (tables .words .good) locking (sym o ∙ outside-there low i v at e))
+
+    pub phantom-count : (v low i mine : ℕ) → LeafAt lows (z .leaves) low i → getD versions i 0 ≡ v
+        → mine ≡ silentOf rows lows slots (z .records) (z .leaves) i ws n
+        → ltb mine (getD outside i 0) ≡ phantomAt (mapIn rows lows versions slots z) w v
+    unfolding silentOf less
+    phantom-count v low i mine at e c =
+        sym
+        (stays w v low i at e
+        ∙ hides-count (mapIn rows lows versions slots z) w v (keys (block ws n)) (tables .words .good) locking (getD outside i 0) mine (outside-there low i v at e)
+        (c ∙ ap (λ (ks : List ℕ). length ks) (filter-same (silentIn rows lows slots (z .records) (z .leaves) i) (silentAt (mapIn rows lows versions slots z) v) (keys (block ws n)) (λ a. silent-same i v a (at .inside) (version-there low i v at e)))))
+
+-- all arrays hold a map
+pub held-but : {l : Lent} {z : Sizes} {v : ℕ} → Held l z v → HeldBut (l .rows) (l .lows) (l .versions) (l .outside) (l .slots) z
+held-but {l} {z} {v} h = record { pending = l .pending; version = v; held = h }
+
+-- ---- the model's test
+
+pub phantom-model : (σ : State) (w v : ℕ) → phantomIn σ w v ≡ phantomAt (σ .map) w v
+unfolding phantomIn phantomAt
+phantom-model σ w v = refl
+
+-- ---- a logged leaf
+
+member-part : (pre : List Leaf) (l : Leaf) (post : List Leaf) → List·Memᴰ l (pre ++ (l ∷ post))
+member-part [] l post = List·Memᴰ·head refl
+member-part (x ∷ pre) l post = List·Memᴰ·tail (member-part pre l post)
+
+-- a version whose leaf, if it is live, has the low that was logged
+pub logged-low : {u : ℕ} {ls : List Leaf} (version low : ℕ) → GoodLeaves u ls → ((l : Leaf) → List·Memᴰ l ls → l .version ≡ version → l .low ≡ low) → Logged ls version low
+unfolding versionAt
+logged-low {u} {ls} version low good h =
+    record {
+      stays = λ e.
+          let s : Standing version ls = standing version ls e in
+          let f : LowsFrom 0 (s .before ++ (s .leaf ∷ s .after)) = subst (LowsFrom 0) (s .parts) (good .rising) in
+          let m : List·Memᴰ (s .leaf) ls = subst (List·Memᴰ (s .leaf)) (sym (s .parts)) (member-part (s .before) (s .leaf) (s .after)) in
+          ap (λ (k : ℕ). leafOf ls k .version) (sym (h (s .leaf) m (s .version)))
+          ∙ ap (λ (zs : List Leaf). leafOf zs (s .leaf .low) .version) (s .parts)
+          ∙ ap (λ (l : Leaf). l .version) (leaf-of-low (s .before) (s .leaf) (s .after) f)
+          ∙ s .version;
+    }

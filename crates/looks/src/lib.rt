@@ -1,0 +1,380 @@
+// Looking: current records, what a scan walks over, hidden keys, and the contents. Nothing here changes an array.
+use index::leaves;
+use index::records;
+use index::records::Found;
+use index::rows;
+use index::shifts;
+use map::Address;
+use map::Sizes;
+ghost use mathlib.Core.Path.{_≡_};
+ghost use Prim.Native.Nat.{_^_, _<_, _≤_, min};
+ghost use lib.ListN.{getD};
+ghost use Rattle.lists.specs.Tests.{pick};
+ghost use Rattle.index.specs.Views.{leavesOf};
+ghost use Rattle.indexlet.specs.Held as indexlet;
+ghost use Rattle.index.specs.Views as index;
+ghost use Rattle.index.specs.LeafPlaces.{Listed};
+ghost use Rattle.looks.specs.LookViews.{Sees, Narrow, Spans, SeenAt, Meets, LeafAt, Marks};
+ghost use Rattle.looks.specs.NextViews.{IndexFrom, Nearer, SlotFrom, Follows, Numbers};
+ghost use Rattle.looks.specs.PhantomViews.{mapIn, HeldBut, phantomAt, Fitting, Owns, Logged, silentIn, silentOf};
+
+// A current record, or none there.
+pub struct Current {
+    pub there: bool,
+    pub value: u64,
+    pub commit: u64,
+}
+
+// Places from one up to, not including, another.
+pub struct Range {
+    pub from: usize,
+    pub to: usize,
+}
+
+// An address of the index, with its current record.
+pub struct Seen {
+    pub address: Address,
+    pub current: Current,
+}
+
+// A leaf, as a log keeps it.
+pub struct Mark {
+    pub version: u64,
+    pub low: Address,
+}
+
+// The next record of the contents.
+pub enum Next {
+    At {
+        address: Address,
+        value: u64,
+        commit: u64,
+    },
+    Done,
+}
+
+// The current record of an address: what a pending write leaves there, else what the index has.
+pub fn current_record(rows: &[u64; 3072], slots: &[u64; 1536], n: usize, a: Address) -> Current
+    requires { ⌜ index.Held (now rows) n ⌝ }
+    requires { ⌜ indexlet.Held (now slots) ⌝ }
+    ensures { λ r. ⌜ Sees (now (rows .entry)) n (now (slots .entry)) a r ⌝ }
+{
+    let looked = indexlet::look_up(slots, a);
+    let c = looked.content;
+    if c.kind == 0 {
+        let found = records::find(rows, n, a);
+        match found {
+            Found::At { value, commit } => {
+                return Current {
+                    there: true,
+                    value,
+                    commit,
+                };
+            }
+            Found::Nothing => {
+                return Current {
+                    there: false,
+                    value: 0,
+                    commit: 0,
+                };
+            }
+        }
+    }
+    Current {
+        there: c.kind == 1,
+        value: c.value,
+        commit: c.commit,
+    }
+}
+
+// The places of the records from lo to hi.
+pub fn records_between(rows: &[u64; 3072], n: usize, lo: Address, hi: Address) -> Range
+    requires { ⌜ index.Held (now rows) n ⌝ }
+    requires { ⌜ lo ≤ hi ⌝ }
+    ensures { λ r. ⌜ Spans (now (rows .entry)) n lo hi r ⌝ }
+{
+    let from = records::locate(rows, n, lo);
+    let to = records::locate(rows, n, hi);
+    if n <= to {
+        return Range { from, to };
+    }
+    let last = rows::get(rows, to);
+    if last.address == hi as u64 {
+        return Range { from, to: to + 1 };
+    }
+    Range { from, to }
+}
+
+// The record at place i of the index: its address, and its current record. With nothing pending there it is the row itself,
+// so nothing is searched in the index.
+pub fn seen_at(rows: &[u64; 3072], slots: &[u64; 1536], n: usize, i: usize) -> Seen
+    requires { ⌜ index.Held (now rows) n ⌝ }
+    requires { ⌜ Narrow (now rows) n ⌝ }
+    requires { ⌜ indexlet.Held (now slots) ⌝ }
+    requires { ⌜ i < n ⌝ }
+    ensures { λ r. ⌜ SeenAt (now (rows .entry)) n (now (slots .entry)) i r ⌝ }
+{
+    let there = rows::get(rows, i);
+    let address = there.address as Address;
+    let looked = indexlet::look_up(slots, address);
+    let c = looked.content;
+    if c.kind == 0 {
+        let current = Current {
+            there: true,
+            value: there.value,
+            commit: there.commit,
+        };
+        return Seen { address, current };
+    }
+    let current = Current {
+        there: c.kind == 1,
+        value: c.value,
+        commit: c.commit,
+    };
+    Seen { address, current }
+}
+
+// The places of the leaves that meet lo to hi.
+pub fn leaves_meeting(lows: &[u64; 1025], m: usize, lo: Address, hi: Address) -> Range
+    requires { ⌜ Listed (now lows) m ⌝ }
+    requires { ⌜ lo ≤ hi ⌝ }
+    ensures { λ r. ⌜ Meets (now (lows .entry)) m lo hi r ⌝ }
+{
+    shifts::all(lows);
+    let from = leaves::leaf_at(lows, m, lo);
+    let last = leaves::leaf_at(lows, m, hi);
+    Range { from, to: last + 1 }
+}
+
+// The place of the leaf that holds an address.
+fn place_of(lows: &[u64; 1025], m: usize, a: Address) -> usize
+    requires { ⌜ Listed (now lows) m ⌝ }
+    ensures { λ r. ⌜ LeafAt (now (lows .entry)) m a r ⌝ }
+{
+    shifts::all(lows);
+    leaves::leaf_at(lows, m, a)
+}
+
+// The leaf at place i.
+pub fn leaf(lows: &[u64; 1025], versions: &[u64; 1025], i: usize) -> Mark
+    requires { ⌜ i < 1025 ⌝ }
+    requires { ⌜ getD (now lows) i 0 < 2 ^ 32 ⌝ }
+    ensures { λ r. ⌜ Marks (now (lows .entry)) (now (versions .entry)) i r ⌝ }
+{
+    shifts::all(lows);
+    shifts::all(versions);
+    let low = lows[i];
+    Mark {
+        version: versions[i],
+        low: low as Address,
+    }
+}
+
+// 1 if the address lies in the leaf at place i, the index lacks it, and no write is pending there; else 0.
+fn silent_at(
+    rows: &[u64; 3072],
+    lows: &[u64; 1025],
+    slots: &[u64; 1536],
+    n: usize,
+    m: usize,
+    i: usize,
+    a: Address,
+) -> usize
+    requires { ⌜ index.Held (now rows) n ⌝ }
+    requires { ⌜ Listed (now lows) m ⌝ }
+    requires { ⌜ indexlet.Held (now slots) ⌝ }
+    ensures { λ r. ⌜ r ≡ pick (silentIn (now (rows .entry)) (now (lows .entry)) (now (slots .entry)) n m i a) 1 0 ⌝ }
+{
+    let p = leaves::leaf_at(lows, m, a);
+    if p != i {
+        return 0;
+    }
+    let looked = indexlet::look_up(slots, a);
+    let c = looked.content;
+    if c.kind != 0 {
+        return 0;
+    }
+    let found = records::find(rows, n, a);
+    match found {
+        Found::At {
+            value: _,
+            commit: _,
+        } => 0,
+        Found::Nothing => 1,
+    }
+}
+
+// How many of a write set's addresses are so.
+fn silent_of(
+    rows: &[u64; 3072],
+    lows: &[u64; 1025],
+    slots: &[u64; 1536],
+    ws: &[u64; 48],
+    n: usize,
+    m: usize,
+    i: usize,
+    count: usize,
+) -> usize
+    requires { ⌜ index.Held (now rows) n ⌝ }
+    requires { ⌜ Listed (now lows) m ⌝ }
+    requires { ⌜ indexlet.Held (now slots) ⌝ }
+    requires { ⌜ Fitting (now ws) count ⌝ }
+    ensures { λ r. ⌜ r ≡ silentOf (now (rows .entry)) (now (lows .entry)) (now (slots .entry)) n m i (now (ws .entry)) count ⌝ }
+{
+    let mut x = 0;
+    let mut own = 0;
+    while x < count {
+        let key = ws[x * 3];
+        let one = silent_at(rows, lows, slots, n, m, i, key as Address);
+        own = own + one;
+        x += 1;
+    }
+    own
+}
+
+// A logged leaf is gone, or hides a key from worker w, whose locks are the addresses of the write set. The leaf is the
+// one of the low that was logged with it, or it is gone. Entries outside the index hide nothing if they are the
+// worker's own locks.
+pub fn phantom(
+    rows: &[u64; 3072],
+    lows: &[u64; 1025],
+    versions: &[u64; 1025],
+    outside: &[u64; 1025],
+    slots: &[u64; 1536],
+    ws: &[u64; 48],
+    z: Sizes,
+    n: usize,
+    w: u64,
+    version: u64,
+    low: Address,
+) -> bool
+    requires { ⌜ HeldBut (now rows) (now lows) (now versions) (now outside) (now slots) z ⌝ }
+    requires { ⌜ Owns (now slots) (now ws) n w ⌝ }
+    requires { ⌜ Logged (leavesOf (now lows) (now versions) (z .leaves)) version low ⌝ }
+    ensures { λ r. ⌜ r ≡ phantomAt (mapIn (now (rows .entry)) (now (lows .entry)) (now (versions .entry)) (now (slots .entry)) z) w version ⌝ }
+{
+    let i = place_of(lows, z.leaves, low);
+    if versions[i] != version {
+        return true;
+    }
+    let out = outside[i];
+    if out == 0 {
+        return false;
+    }
+    let own = silent_of(rows, lows, slots, ws, z.records, z.leaves, i, n);
+    (own as u64) < out
+}
+
+// The first address of the index from an address on, or 2 to the 32 if there is none.
+fn index_from(rows: &[u64; 3072], n: usize, from: Address) -> u64
+    requires { ⌜ index.Held (now rows) n ⌝ }
+    ensures { λ r. ⌜ IndexFrom (now (rows .entry)) n from r ⌝ }
+{
+    let p = records::locate(rows, n, from);
+    if n <= p {
+        return 4294967296;
+    }
+    let r = rows::get(rows, p);
+    r.address
+}
+
+// The key of a slot with an entry, if it lies from `from` on and below `best`; else `best`.
+fn nearer(s: indexlet::Slot, from: u64, best: u64) -> u64
+    ensures { λ r. ⌜ Nearer s from best r ⌝ }
+{
+    let c = s.content;
+    if indexlet::idle(c) {
+        return best;
+    }
+    if s.key < from {
+        return best;
+    }
+    if best <= s.key {
+        return best;
+    }
+    s.key
+}
+
+// The first address from an address on of which the indexlet says something, or 2 to the 32 if there is none.
+fn slot_from(slots: &[u64; 1536], from: Address) -> u64
+    requires { ⌜ indexlet.Held (now slots) ⌝ }
+    ensures { λ r. ⌜ SlotFrom (now (slots .entry)) from r ⌝ }
+{
+    let low = from as u64;
+    let mut best = 4294967296;
+    let mut i = 0;
+    while i < 256 {
+        let s = indexlet::slot_at(slots, i);
+        best = nearer(s, low, best);
+        i += 1;
+    }
+    best
+}
+
+fn least(a: u64, b: u64) -> u64
+    ensures { λ r. ⌜ r ≡ min a b ⌝ }
+{
+    if a < b {
+        return a;
+    }
+    b
+}
+
+// The first record of the contents from an address on. Candidates are the addresses of the index and of the indexlet;
+// one that has no current record is passed over.
+pub fn next_record(rows: &[u64; 3072], slots: &[u64; 1536], n: usize, from: u64) -> Next
+    requires { ⌜ index.Held (now rows) n ⌝ }
+    requires { ⌜ Narrow (now rows) n ⌝ }
+    requires { ⌜ indexlet.Held (now slots) ⌝ }
+    ensures { λ r. ⌜ Follows (now (rows .entry)) n (now (slots .entry)) from r ⌝ }
+{
+    let mut at = from;
+    while at < 4294967296 {
+        let here = at as Address;
+        let a = index_from(rows, n, here);
+        let b = slot_from(slots, here);
+        let c = least(a, b);
+        if 4294967296 <= c {
+            return Next::Done;
+        }
+        let address = c as Address;
+        let r = current_record(rows, slots, n, address);
+        if r.there {
+            return Next::At {
+                address,
+                value: r.value,
+                commit: r.commit,
+            };
+        }
+        at = c + 1;
+    }
+    Next::Done
+}
+
+// How many records the contents have.
+pub fn count_records(rows: &[u64; 3072], slots: &[u64; 1536], n: usize) -> usize
+    requires { ⌜ index.Held (now rows) n ⌝ }
+    requires { ⌜ Narrow (now rows) n ⌝ }
+    requires { ⌜ indexlet.Held (now slots) ⌝ }
+    ensures { λ r. ⌜ Numbers (now (rows .entry)) n (now (slots .entry)) r ⌝ }
+{
+    let mut at: u64 = 0;
+    let mut count = 0;
+    while at < 4294967296 {
+        let next = next_record(rows, slots, n, at);
+        match next {
+            Next::At {
+                address,
+                value: _,
+                commit: _,
+            } => {
+                count += 1;
+                at = address as u64 + 1;
+            }
+            Next::Done => {
+                return count;
+            }
+        }
+    }
+    count
+}

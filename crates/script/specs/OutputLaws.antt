@@ -213,6 +213,10 @@ wrote-number {l} {m} {at} n k e h r w =
       place = ap (λ (x : ℕ). at + x) e;
     }
 
+-- a number of one digit
+pub wrote-digit : {l m : List ℕ} {at j : ℕ} (n : ℕ) → n < 10 → Wrote l at ((48 + n) ∷ []) m j → Wrote l at (decimal n) m j
+wrote-digit n h w = rw (decimal-one n h) w
+
 -- a byte
 pub wrote-byte : (l : List ℕ) (at b : ℕ) → at < length l → Wrote l at (b ∷ []) (set l at b) (at + 1)
 wrote-byte l at b h = record { written = refl; within = omega arith; place = refl }

@@ -14,7 +14,7 @@ use Rattle.script.specs.declared.Line.{Line}
 use Rattle.script.specs.declared.Fields.{Fields}
 use Rattle.script.specs.declared.Fields.the-variants.{None, One, Two}
 use Rattle.script.specs.declared.Parser.{Parser}
-use Rattle.script.specs.declared.Parser.the-variants.{Start, Letter, Field}
+use Rattle.script.specs.declared.Parser.the-variants.{Start, Letter, First, Second, Third}
 use Rattle.script.specs.declared.Event.{Event}
 use Rattle.script.specs.declared.Event.the-variants as event
 use Rattle.script.specs.declared.Parsed.{Parsed}
@@ -27,6 +27,12 @@ abbrev pub values : Fields → List ℕ
 values None = []
 values (One a) = a ∷ []
 values (Two a b) = a ∷ b ∷ []
+
+-- the parser within a number: the letter, the numbers before, whether the current one has a digit yet, and its value so far
+unfoldable pub inNumber : ℕ → Fields → Bool → ℕ → Parser
+inNumber c None d n = First c d n
+inNumber c (One a) d n = Second c d a n
+inNumber c (Two a b) d n = Third c d a b n
 
 -- a number begun: n so far, and whether it has a digit yet
 unfoldable pub numberOn : Bool → ℕ → List ℕ → Option ℕ
@@ -49,7 +55,9 @@ letterOn c (b ∷ l) = pick (same b 32) (fieldsOn c [] false 0 l) none
 unfoldable pub continued : Parser → List ℕ → Option Line
 continued Start l = meaning l
 continued (Letter c) l = letterOn c l
-continued (Field c ns d n) l = fieldsOn c (values ns) d n l
+continued (First c d n) l = fieldsOn c [] d n l
+continued (Second c d a n) l = fieldsOn c (a ∷ []) d n l
+continued (Third c d a b n) l = fieldsOn c (a ∷ b ∷ []) d n l
 
 -- ---- what is promised
 
@@ -57,7 +65,9 @@ continued (Field c ns d n) l = fieldsOn c (values ns) d n l
 abbrev pub started : Parser → Bool
 started Start = false
 started (Letter c) = true
-started (Field c ns d n) = true
+started (First c d n) = true
+started (Second c d a n) = true
+started (Third c d a b n) = true
 
 -- the list is not empty
 abbrev pub filled : List ℕ → Bool

@@ -9,7 +9,7 @@ ghost use Prim.Native.Nat.{ℕ, _+_, _*_, _^_, _<_};
 ghost use lib.ListN.{length};
 ghost use Rattle.lists.specs.Tests.{less};
 ghost use Rattle.script.specs.Grammar.{lineOf};
-ghost use Rattle.script.specs.Parsing.{values, filled, After, Reads};
+ghost use Rattle.script.specs.Parsing.{values, inNumber, filled, After, Reads};
 ghost use Rattle.script.specs.Turns.{Tells, Turns, Digits, told};
 
 // A line of a script, with its numbers.
@@ -27,21 +27,35 @@ pub enum Line {
 }
 
 // The numbers of a line before the current one.
-pub enum Fields {
+enum Fields {
     None,
     One(u64),
     Two(u64, u64),
 }
 
-// What is kept of the current line: nothing is read; or the letter; or also a space, and of the current number whether it
-// has a digit yet, and its value so far.
+// What is kept of the current line: nothing is read; or the letter; or also a space, the numbers before the current one,
+// and of that whether it has a digit yet, and its value so far. It is copied at every turn, and so is its padding; seven
+// bytes of that go as two moves that overlap, which the next read of them waits for. Hence the small fields come first,
+// and there is no enum within.
 pub enum Parser {
     Start,
     Letter(u8),
-    Field {
+    First {
         letter: u8,
-        before: Fields,
         digit: bool,
+        value: u64,
+    },
+    Second {
+        letter: u8,
+        digit: bool,
+        a: u64,
+        value: u64,
+    },
+    Third {
+        letter: u8,
+        digit: bool,
+        a: u64,
+        b: u64,
         value: u64,
     },
 }
@@ -91,10 +105,22 @@ pub fn at_line_start(p: Parser) -> bool
     match p {
         Parser::Start => true,
         Parser::Letter(_) => false,
-        Parser::Field {
+        Parser::First {
             letter: _,
-            before: _,
             digit: _,
+            value: _,
+        } => false,
+        Parser::Second {
+            letter: _,
+            digit: _,
+            a: _,
+            value: _,
+        } => false,
+        Parser::Third {
+            letter: _,
+            digit: _,
+            a: _,
+            b: _,
             value: _,
         } => false,
     }
@@ -233,27 +259,54 @@ fn digits(s: &[u8], from: usize, digit: bool, value: u64) -> Run
     }
 }
 
+// The parser within a number.
+fn in_number(letter: u8, before: Fields, digit: bool, value: u64) -> Parser
+    ensures { λ r. ⌜ r ≡ inNumber letter before digit value ⌝ }
+{
+    match before {
+        Fields::None => Parser::First {
+            letter,
+            digit,
+            value,
+        },
+        Fields::One(a) => Parser::Second {
+            letter,
+            digit,
+            a,
+            value,
+        },
+        Fields::Two(a, b) => Parser::Third {
+            letter,
+            digit,
+            a,
+            b,
+            value,
+        },
+    }
+}
+
 // The space after a number: one more number is read, and there are three at most.
 fn spaced(letter: u8, before: Fields, value: u64, next: usize) -> Parsed
-    ensures { λ r. ⌜ Tells (Parser.Field letter before true value) (r .event) (r .parser) (32 ∷ []) ⌝ }
+    ensures { λ r. ⌜ Tells (inNumber letter before true value) (r .event) (r .parser) (32 ∷ []) ⌝ }
     ensures { λ r. ⌜ r .next ≡ next ⌝ }
 {
     match before {
         Fields::None => Parsed {
-            parser: Parser::Field {
+            parser: Parser::Second {
                 letter,
-                before: Fields::One(value),
                 digit: false,
+                a: value,
                 value: 0,
             },
             next,
             event: Event::Ended,
         },
         Fields::One(a) => Parsed {
-            parser: Parser::Field {
+            parser: Parser::Third {
                 letter,
-                before: Fields::Two(a, value),
                 digit: false,
+                a,
+                b: value,
                 value: 0,
             },
             next,
@@ -270,19 +323,14 @@ fn spaced(letter: u8, before: Fields, value: u64, next: usize) -> Parsed
 // From a place in or before a number on: to the slice's end, or past the byte that ends the number.
 fn field(s: &[u8], i: usize, letter: u8, before: Fields, digit: bool, value: u64) -> Parsed
     requires { ⌜ i < length (now s) ⌝ }
-    ensures { λ r. ⌜ Turns (now (s .entry)) i (Parser.Field letter before digit value) r ⌝ }
+    ensures { λ r. ⌜ Turns (now (s .entry)) i (inNumber letter before digit value) r ⌝ }
     ensures { λ r. ⌜ i < r .next ⌝ }
 {
     let run = digits(s, i, digit, value);
     let next = run.next;
     if next >= s.len() {
         return Parsed {
-            parser: Parser::Field {
-                letter,
-                before,
-                digit: run.digit,
-                value: run.value,
-            },
+            parser: in_number(letter, before, run.digit, run.value),
             next,
             event: Event::Ended,
         };
@@ -344,9 +392,8 @@ fn after_letter(s: &[u8], i: usize, letter: u8) -> Parsed
     let b = s[i];
     if b == SPACE {
         return Parsed {
-            parser: Parser::Field {
+            parser: Parser::First {
                 letter,
-                before: Fields::None,
                 digit: false,
                 value: 0,
             },
@@ -370,12 +417,24 @@ fn turn(s: &[u8], i: usize, p: Parser) -> Parsed
     match p {
         Parser::Start => start(s, i),
         Parser::Letter(c) => after_letter(s, i, c),
-        Parser::Field {
+        Parser::First {
             letter,
-            before,
             digit,
             value,
-        } => field(s, i, letter, before, digit, value),
+        } => field(s, i, letter, Fields::None, digit, value),
+        Parser::Second {
+            letter,
+            digit,
+            a,
+            value,
+        } => field(s, i, letter, Fields::One(a), digit, value),
+        Parser::Third {
+            letter,
+            digit,
+            a,
+            b,
+            value,
+        } => field(s, i, letter, Fields::Two(a, b), digit, value),
     }
 }
 

@@ -44,11 +44,14 @@ pub fn put_byte(out: &mut [u8], at: usize, b: u8) -> usize
     at + 1
 }
 
-// A number in decimal.
+// A number in decimal. Most have one digit, which needs no division.
 pub fn put_number(out: &mut [u8], at: usize, n: u64) -> usize
     requires { ⌜ at + 20 ≤ length (now out) ⌝ }
     ensures { λ r. ⌜ Wrote (now (out .entry)) at (decimal n) (now (out .exit)) r ⌝ }
 {
+    if n < 10 {
+        return put_byte(out, at, 48 + n as u8);
+    }
     let k = width(n);
     spell(out, at, k, n);
     at + k

@@ -15,6 +15,12 @@ enum-told-2 c = search needs
 enum-told-3 : tie.Need-enum-told-3
 enum-told-3 c = search needs
 
+enum-told-4 : tie.Need-enum-told-4
+enum-told-4 c = search needs
+
+enum-told-5 : tie.Need-enum-told-5
+enum-told-5 c = search needs
+
 returns : tie.Need-returns
 returns c seen a = at-start _ seen (c .enum-told .given .1) a
 
@@ -24,6 +30,23 @@ returns-2 c seen a = past-start _ seen (ap started (c .enum-told2 .given .1)) a
 returns-3 : tie.Need-returns-3
 returns-3 c seen a = past-start _ seen (ap started (c .enum-told3 .given .1)) a
 
+returns-4 : tie.Need-returns-4
+returns-4 c seen a = past-start _ seen (ap started (c .enum-told4 .given .1)) a
+
+returns-5 : tie.Need-returns-5
+returns-5 c seen a = past-start _ seen (ap started (c .enum-told5 .given .1)) a
+
 pub at-line-start-spec : {M : Type 1} → statement M
 at-line-start-spec =
-    tie.close (tie.spec enum-told enum-told-2 enum-told-3 returns returns-2 returns-3)
+    tie.close
+    (tie.spec
+    enum-told
+    enum-told-2
+    enum-told-3
+    enum-told-4
+    enum-told-5
+    returns
+    returns-2
+    returns-3
+    returns-4
+    returns-5)

@@ -10,10 +10,13 @@ use Rattle.script.proofs.field.Tie as tie
 digits-requires : tie.Need-digits-requires
 digits-requires c κs = search needs
 
+in-number-requires : tie.Need-in-number-requires
+in-number-requires c κs = search needs
+
 returns : tie.Need-returns
 returns c =
-    let d = c .before .digits .ensures in
-    (field-ended _ _ d, omega arith)
+    let d = c .before .before .digits .ensures in
+    (field-ended _ _ d (c .in-number .ensures), omega arith)
 
 shared-slice-read-b : tie.Need-shared-slice-read-b
 shared-slice-read-b c = search needs
@@ -56,6 +59,7 @@ field-spec =
     tie.close
     (tie.spec
     digits-requires
+    in-number-requires
     returns
     shared-slice-read-b
     add-spaced

@@ -19,13 +19,14 @@ use Rattle.index.specs.LeafViews.{Parted}
 use Rattle.map.specs.MergeSettles.{length-fresh}
 
 -- The leaves after place i stand at the end; before them stands what became of the others, of which all but the last two
--- at most are as they were.
+-- at most are as they were. If there are no fewer leaves than before, none was joined, and all before place i are.
 pub record Shape (ls ms : List Leaf) (i : ℕ) : Type 0 where
   pub front : List Leaf
   pub is : ms ≡ front ++ drop (suc i) ls
   pub long : i ≤ length front
   pub some : 1 ≤ length front
   pub early : (j : ℕ) → j + 1 < i → getD front j firstLeaf ≡ getD ls j firstLeaf
+  pub unjoined : length ls ≤ length ms → (j : ℕ) → j < i → getD front j firstLeaf ≡ getD ls j firstLeaf
 
 widened-length : (v : ℕ) (l : Leaf) (ls : List Leaf) → length (widened v l ls) ≡ suc (length ls)
 unfolding widened
@@ -55,6 +56,14 @@ settled-early s v [] own ks j h = absurd (not-suc-le-zero h)
 settled-early s v (l ∷ ls) own [] j h = widened-early v l ls j (omega arith)
 settled-early s v (l ∷ ls) own (k ∷ ks) j h = List·getD-append (l ∷ ls) (freshLeaves v (newLows s (own .low) (k ∷ ks))) firstLeaf j (omega arith)
 
+-- a leaf that was not joined to the one before leaves that one as it was
+settled-unjoined : (s : Settings) (v : ℕ) (before : List Leaf) (own : Leaf) (ks : List ℕ) → length before < length (settled s v before own ks)
+    → (j : ℕ) → j < length before → getD (settled s v before own ks) j firstLeaf ≡ getD before j firstLeaf
+unfolding settled
+settled-unjoined s v [] own ks l j h = absurd (not-suc-le-zero h)
+settled-unjoined s v (x ∷ xs) own [] l j h = absurd (let e : length (widened v x xs) ≡ suc (length xs) = widened-length v x xs in let q : ⊥ = omega arith in q)
+settled-unjoined s v (x ∷ xs) own (k ∷ ks) l j h = List·getD-append (x ∷ xs) (freshLeaves v (newLows s (own .low) (k ∷ ks))) firstLeaf j h
+
 pub settle-shape : (s : Settings) (v : ℕ) (ls : List Leaf) (a i : ℕ) (ks : List ℕ) → Parted a ls i → i < length ls → Shape ls (settle s v ls a ks) i
 unfolding settle
 settle-shape s v ls a i ks p h =
@@ -69,6 +78,14 @@ settle-shape s v ls a i ks p h =
           λ j l.
           settled-early s v (around a ls .before) (around a ls .own) ks j (omega arith)
           ∙ ap (λ (zs : List Leaf). getD zs j firstLeaf) (p .before) ∙ getD-take i ls j firstLeaf (omega arith);
+      unjoined =
+          λ g j l.
+          let d : length (settled s v (around a ls .before) (around a ls .own) ks ++ around a ls .after)
+          ≡ length (settled s v (around a ls .before) (around a ls .own) ks) + length (around a ls .after)
+          = length-append (settled s v (around a ls .before) (around a ls .own) ks) (around a ls .after) in
+          let f : length (around a ls .after) ≡ length ls - suc i = ap length (p .after) ∙ lib.ListN.length-drop (suc i) ls in
+          settled-unjoined s v (around a ls .before) (around a ls .own) ks (omega arith) j (omega arith)
+          ∙ ap (λ (zs : List Leaf). getD zs j firstLeaf) (p .before) ∙ getD-take i ls j firstLeaf l;
     }
 
 module _ {ls ms : List Leaf} {i : ℕ} (r : Shape ls ms i) where
@@ -79,6 +96,11 @@ module _ {ls ms : List Leaf} {i : ℕ} (r : Shape ls ms i) where
   shape-early j h =
       let l : i ≤ length (r .front) = r .long in
       ap (λ (zs : List Leaf). getD zs j firstLeaf) (r .is) ∙ List·getD-append (r .front) (drop (suc i) ls) firstLeaf j (omega arith) ∙ r .early j h
+
+  pub shape-unjoined : length ls ≤ length ms → (j : ℕ) → j < i → getD ms j firstLeaf ≡ getD ls j firstLeaf
+  shape-unjoined g j h =
+      let l : i ≤ length (r .front) = r .long in
+      ap (λ (zs : List Leaf). getD zs j firstLeaf) (r .is) ∙ List·getD-append (r .front) (drop (suc i) ls) firstLeaf j (omega arith) ∙ r .unjoined g j h
 
   pub shape-after : (y : ℕ) → getD ms (length (r .front) + y) firstLeaf ≡ getD ls (i + 1 + y) firstLeaf
   shape-after y =

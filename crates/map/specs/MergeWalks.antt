@@ -1,8 +1,9 @@
 -- The first part of a merge: a walk over the slots that takes the pending writes of a leaf into the index. What is left
--- to take in is always what the slots had to begin with, from the walk's place on.
+-- to take in is always what the slots had to begin with, from the walk's place on; and if no lock was counted, the slots
+-- behind the walk have no entry of the leaf.
 -- Assumes nothing.
-use Prim.Native.Nat.{ℕ, zero, suc, _+_, _<_, _≤_, zero-le}
-use native.Mathlib.Nat.{le-trans, le-of-eq, le-refl}
+use Prim.Native.Nat.{ℕ, zero, suc, _+_, _^_, _<_, _≤_, zero-le}
+use native.Mathlib.Nat.{not-suc-le-zero, le-trans, le-of-eq, le-refl}
 use native.Mathlib.Omega.{arith}
 use mathlib.Core.Path.{_≡_, refl, sym, ap, _∙_, subst}
 use mathlib.Core.Logic.{_⊎_, ⊎-elim}
@@ -24,11 +25,11 @@ use Rattle.spec.specs.Slots.{slotCount, Pending, Content, isIdle, Slot, emptySl
 use Rattle.spec.specs.Maps.{MapState, outcomeOf, current, each, mergeEntry}
 use Rattle.laws.specs.SlotCounts.{Good, entryAt, tally, count, keyed, keyed-here, keyed-holds, holds-yes, only-here, entries-some, entries-none, slot-member}
 use Rattle.laws.specs.SlotChanges.{kept}
-use Rattle.laws.specs.Entering.{Entering, entering}
+use Rattle.laws.specs.Entering.{Entering, entering, kept-entry}
 use Rattle.laws.specs.SlotLaws.{Room, stands, member-content}
 use Rattle.laws.specs.MapLaws.{has-entry}
 use Rattle.laws.specs.MergeLaws.{withoutPending}
-use Rattle.indexlet.specs.Words.{pendingIn, contentIn, slotIn, slotsOf}
+use Rattle.indexlet.specs.Words.{pendingIn, holderIn, contentIn, slotIn, slotsOf}
 use Rattle.indexlet.specs.declared.Content.{Content as ContentWords}
 use Rattle.indexlet.specs.declared.Slot.{Slot as SlotWords}
 use Rattle.indexlet.specs.Held as indexlet
@@ -36,7 +37,8 @@ use Rattle.index.specs.Views as index
 use Rattle.index.specs.Views.{recordFrom, recordsOf}
 use Rattle.map.specs.declared.merge.Walk.{Walk}
 use Rattle.phantomlet.specs.Phantoms.{weigh, howMany, many-change, weigh-kept}
-use Rattle.phantomlet.specs.LeafTests.{none-left, drop-past, takes}
+use Rattle.phantomlet.specs.LeafTests.{drop-past, takes}
+use Rattle.phantomlet.specs.MergeCounts.{pick-most}
 
 -- a map of its three parts
 abbrev pub parts : List (Row Record) → List Leaf → List Slot → MapState
@@ -61,6 +63,18 @@ unfolding pendingIn
 kind-pending zero value commit n = absurd (n refl)
 kind-pending (suc zero) value commit n = (_, refl)
 kind-pending (suc (suc k)) value commit n = (_, refl)
+
+pub lock-none : (c : ContentWords) → c .lock ≡ 0 → _≡_ {A = ℕ} 0 (pick (present (contentIn c .holder)) 1 0)
+unfolding contentIn holderIn
+lock-none c e = sym (ap (λ (n : ℕ). pick {A = ℕ} (present (holderIn n)) 1 0) e)
+
+pub lock-some : (c : ContentWords) → (c .lock ≡ 0 → ⊥) → _≡_ {A = ℕ} 1 (pick (present (contentIn c .holder)) 1 0)
+unfolding contentIn holderIn
+lock-some c n = go (c .lock) n
+  where
+    go : (k : ℕ) → (k ≡ 0 → ⊥) → _≡_ {A = ℕ} 1 (pick (present (holderIn k)) 1 0)
+    go zero n = absurd (n refl)
+    go (suc k) n = refl
 
 -- ---- what is left
 
@@ -101,20 +115,34 @@ left-end p ss j h = ap (λ (zs : List Slot). filter (takes p) (entries zs)) (dro
 -- ---- what is said of the address at slot j changes no other slot's entry
 
 module _ {bytes : ℕ} {ss : List Slot} {e : Row Content} (j : ℕ) (c : Content) (good : Good bytes ss) (h : j < length ss) (here : entryAt ss j ≡ some e) where
-  own-slot : (at : ℕ) (old : Option (Row Content)) → at < length ss → entryAt ss at ≡ old → count (keyed (e .key)) ss ≡ keyed (e .key) old → at ≡ j
+  stands-here : 1 ≤ count (keyed (e .key)) ss
   unfolding tally
+  stands-here =
+      let one : keyed (e .key) (entryAt ss j) ≡ 1 = keyed-here (e .key) (entryAt ss j) e here refl in
+      let least : keyed (e .key) (entryAt ss j) ≤ count (keyed (e .key)) ss = total-at (λ (i : ℕ) (s : Slot). keyed (e .key) (s .entry)) ss j emptySlot h in
+      omega arith
+
+  own-slot : (at : ℕ) (old : Option (Row Content)) → at < length ss → entryAt ss at ≡ old → count (keyed (e .key)) ss ≡ keyed (e .key) old → at ≡ j
   own-slot at old l b own =
       ⊎-elim
       (λ t. same-true at j t)
       (λ f.
-      let one : keyed (e .key) (entryAt ss j) ≡ 1 = keyed-here (e .key) (entryAt ss j) e here refl in
-      let least : keyed (e .key) (entryAt ss j) ≤ count (keyed (e .key)) ss = total-at (λ (i : ℕ) (s : Slot). keyed (e .key) (s .entry)) ss j emptySlot h in
+      let least : 1 ≤ count (keyed (e .key)) ss = stands-here in
       let off : holds (e .key) (getD ss at emptySlot) ≡ false
       = only-here ss (e .key) j at (good .once (e .key)) h l (holds-yes (e .key) (getD ss j emptySlot) e here refl) (λ q. same-false at j f (sym q)) in
       let none-there : keyed (e .key) (entryAt ss at) ≡ 0 = keyed-holds (e .key) (getD ss at emptySlot) ∙ ap (λ (b : Bool). pick b 1 0) off in
       let z : keyed (e .key) old ≡ 0 = sym (ap (keyed (e .key)) b) ∙ none-there in
       absurd (let q : ⊥ = omega arith in q))
       (cases (same at j))
+
+  -- there stands what is said
+  enter-here : Room ss (e .key) c → entryAt (enter bytes ss (e .key) c) j ≡ kept (e .key) c
+  unfolding Entering
+  enter-here room =
+      ⊎-elim
+      (λ r. ap (entryAt (enter bytes ss (e .key) c)) (sym (own-slot (r .at) (r .old) (r .changed .inside) (r .changed .before) (r .own))) ∙ r .changed .after)
+      (λ r. absurd (let a : 1 ≤ count (keyed (e .key)) ss = stands-here in let b : count (keyed (e .key)) ss ≡ 0 = r .1 in let q : ⊥ = omega arith in q))
+      (entering good room)
 
   pub enter-others : Room ss (e .key) c → (i : ℕ) → i < length ss → (i ≡ j → ⊥) → entryAt (enter bytes ss (e .key) c) i ≡ entryAt ss i
   unfolding Entering
@@ -151,6 +179,7 @@ pub record Walking (p : ℕ → Bool) (rs : List (Row Record)) (ss : List Slot) 
   pub full : length ss ≡ slotCount
   pub there : j ≤ slotCount
   pub few : w .count ≤ j
+  pub few-left : w .left ≤ j
   -- the slots from here on have the entries that they had
   pub untouched : (i : ℕ) → j ≤ i → i < slotCount → entryAt (slotsOf slots) i ≡ entryAt ss i
   -- an address of the index was one, or had an entry
@@ -163,6 +192,8 @@ pub record Walking (p : ℕ → Bool) (rs : List (Row Record)) (ss : List Slot) 
       (ls : List Leaf) → each (mergeEntry 4) (parts (recordsOf rows (w .records)) ls (slotsOf slots)) (left p ss j)
       ≡ each (mergeEntry 4) (parts rs ls ss) (filter (takes p) (entries ss))
   pub counted : w .count + length (left p ss j) ≡ length (filter (takes p) (entries ss))
+  -- with no lock counted, the slots so far have no entry at an address that passes
+  pub cleared : w .left ≡ 0 → (i : ℕ) → i < j → (e : Row Content) → entryAt (slotsOf slots) i ≡ some e → p (e .key) ≡ false
 
 -- what a walk begins with: as many addresses as the index has room for
 pub record Starting (rows slots : List ℕ) (n e : ℕ) : Type 0 where
@@ -194,11 +225,12 @@ pub record Took (p : ℕ → Bool) (rows slots : List ℕ) (n : ℕ) (rows' slot
       (ls : List Leaf) → parts (recordsOf rows' (w .records)) ls (slotsOf slots')
       ≡ each (mergeEntry 4) (parts (recordsOf rows n) ls (slotsOf slots)) (filter (takes p) (entries (slotsOf slots)))
   pub count : w .count ≡ length (filter (takes p) (entries (slotsOf slots)))
+  pub cleared : w .left ≡ 0 → (i : ℕ) → i < slotCount → (e : Row Content) → entryAt (slotsOf slots') i ≡ some e → p (e .key) ≡ false
 
-abbrev pub walk : ℕ → ℕ → ℕ → Walk
-walk n e c = record { records = n; entries = e; count = c }
+abbrev pub walk : ℕ → ℕ → ℕ → ℕ → Walk
+walk n e c f = record { records = n; entries = e; count = c; left = f }
 
-pub walk-start : {rows slots : List ℕ} {n e : ℕ} (p : ℕ → Bool) → Starting rows slots n e → Walking p (recordsOf rows n) (slotsOf slots) rows slots (walk n e 0) 0
+pub walk-start : {rows slots : List ℕ} {n e : ℕ} (p : ℕ → Bool) → Starting rows slots n e → Walking p (recordsOf rows n) (slotsOf slots) rows slots (walk n e 0 0) 0
 walk-start {rows} {slots} {n} {e} p s =
     record {
       rows-held = s .rows-held;
@@ -207,18 +239,22 @@ walk-start {rows} {slots} {n} {e} p s =
       full = s .words .good .size;
       there = zero-le;
       few = zero-le;
+      few-left = zero-le;
       untouched = λ i a b. refl;
       inside = λ k h. has-left k (keys (recordsOf rows n)) (keys (entries (slotsOf slots))) h;
       apart = λ k h. refl;
       elsewhere = λ q h. refl;
       rest = λ ls. ap (each (mergeEntry 4) (parts (recordsOf rows n) ls (slotsOf slots))) (left-start p (slotsOf slots));
       counted = (let z : length (left p (slotsOf slots) 0) ≡ length (filter (takes p) (entries (slotsOf slots))) = ap length (left-start p (slotsOf slots)) in omega arith);
+      cleared = λ z i l. absurd (not-suc-le-zero l);
     }
 
-walked : {p : ℕ → Bool} {rows slots : List ℕ} {n : ℕ} {rows' slots' : List ℕ} {w : Walk} {j : ℕ} → Walking p (recordsOf rows n) (slotsOf slots) rows' slots' w j
-    → left p (slotsOf slots) j ≡ [] → Took p rows slots n rows' slots' w
+pub walk-end : {p : ℕ → Bool} {rows slots : List ℕ} {n : ℕ} {rows' slots' : List ℕ} {w : Walk} {j : ℕ} → Walking p (recordsOf rows n) (slotsOf slots) rows' slots' w j → 256 ≤ j
+    → Took p rows slots n rows' slots' w
 unfolding each
-walked {p} {rows} {slots} {n} {rows'} {slots'} {w} {j} r e =
+walk-end {p} {rows} {slots} {n} {rows'} {slots'} {w} {j} r h =
+    let f : length (slotsOf slots) ≡ slotCount = r .full in
+    let e : left p (slotsOf slots) j ≡ [] = left-end p (slotsOf slots) j (omega arith) in
     record {
       rows-held = r .rows-held;
       words = r .words;
@@ -228,20 +264,8 @@ walked {p} {rows} {slots} {n} {rows'} {slots'} {w} {j} r e =
       elsewhere = r .elsewhere;
       after = λ ls. sym (ap (each (mergeEntry 4) (parts (recordsOf rows' (w .records)) ls (slotsOf slots'))) e) ∙ r .rest ls;
       count = (let z : length (left p (slotsOf slots) j) ≡ 0 = ap length e in let y : w .count + length (left p (slotsOf slots) j) ≡ length (filter (takes p) (entries (slotsOf slots))) = r .counted in omega arith);
+      cleared = λ z i l. r .cleared z i (omega arith);
     }
-
--- at the last slot
-pub walk-end : {p : ℕ → Bool} {rows slots : List ℕ} {n : ℕ} {rows' slots' : List ℕ} {w : Walk} {j : ℕ} → Walking p (recordsOf rows n) (slotsOf slots) rows' slots' w j → 256 ≤ j
-    → Took p rows slots n rows' slots' w
-walk-end {p} {slots = slots} {j = j} r h = let f : length (slotsOf slots) ≡ slotCount = r .full in walked r (left-end p (slotsOf slots) j (omega arith))
-
--- as soon as all are taken in
-pub walk-stop : {p : ℕ → Bool} {rows slots : List ℕ} {n : ℕ} {rows' slots' : List ℕ} {w : Walk} {j limit : ℕ} → Walking p (recordsOf rows n) (slotsOf slots) rows' slots' w j
-    → limit ≡ length (filter (takes p) (entries (slotsOf slots))) → w .count ≡ limit → Took p rows slots n rows' slots' w
-walk-stop {p} {slots = slots} {w = w} {j = j} r l e =
-    walked r
-    (none-left (left p (slotsOf slots) j)
-    (let y : w .count + length (left p (slotsOf slots) j) ≡ length (filter (takes p) (entries (slotsOf slots))) = r .counted in omega arith))
 
 -- ---- one slot
 
@@ -249,14 +273,15 @@ entry-in : (slots : List ℕ) (j : ℕ) (r : SlotWords) → slotIn r ≡ getD (s
 unfolding slotIn
 entry-in slots j r e = sym (ap (λ (s : Slot). s .entry) e)
 
--- an entry that is not taken, or none
-pub walk-past : {p : ℕ → Bool} {rows slots : List ℕ} {w : Walk} {j : ℕ} (r : SlotWords) → indexlet.Reads slots j r → j < 256
-    → takes p (row (r .key) (contentIn (r .content))) ≡ false → Steps p rows slots w j rows slots w
-walk-past {p} {rows} {slots} {w} {j} r reads h f =
+-- an entry that is not taken, or none; the count of locks becomes f
+walk-past : {p : ℕ → Bool} {rows slots : List ℕ} {w : Walk} {j : ℕ} (r : SlotWords) (f : ℕ) → indexlet.Reads slots j r → j < 256
+    → takes p (row (r .key) (contentIn (r .content))) ≡ false → w .left ≤ f → f ≤ w .left + 1
+    → (f ≡ 0 → (e : Row Content) → entryAt (slotsOf slots) j ≡ some e → p (e .key) ≡ false) → Steps p rows slots w j rows slots (walk (w .records) (w .entries) (w .count) f)
+walk-past {p} {rows} {slots} {w} {j} r f reads h t least most gone =
     record {
       on = λ {rs} {ss} g.
           let z : length ss ≡ slotCount = g .full in
-          let e : left p ss j ≡ left p ss (suc j) = left-past p ss j (omega arith) (r .key) (contentIn (r .content)) (sym (g .untouched j (le-refl j) h) ∙ entry-in slots j r (reads .slot)) f in
+          let e : left p ss j ≡ left p ss (suc j) = left-past p ss j (omega arith) (r .key) (contentIn (r .content)) (sym (g .untouched j (le-refl j) h) ∙ entry-in slots j r (reads .slot)) t in
           let s : suc j ≡ j + 1 = omega arith in
           let d : left p ss (j + 1) ≡ left p ss j = sym (e ∙ ap (left p ss) s) in
           record {
@@ -266,16 +291,23 @@ walk-past {p} {rows} {slots} {w} {j} r reads h f =
             full = g .full;
             there = omega arith;
             few = (let y : w .count ≤ j = g .few in omega arith);
+            few-left = (let y : w .left ≤ j = g .few-left in omega arith);
             untouched = λ i a b. g .untouched i (omega arith) b;
             inside = g .inside;
             apart = g .apart;
             elsewhere = g .elsewhere;
             rest = λ ls. ap (each (mergeEntry 4) (parts (recordsOf rows (w .records)) ls (slotsOf slots))) d ∙ g .rest ls;
             counted = (let y : w .count + length (left p ss j) ≡ length (filter (takes p) (entries ss)) = g .counted in let x : length (left p ss (j + 1)) ≡ length (left p ss j) = ap length d in omega arith);
+            cleared =
+                λ z i l e q.
+                ⊎-elim
+                (λ c. gone z e (ap (entryAt (slotsOf slots)) (sym (same-true i j c)) ∙ q))
+                (λ c. let n : i ≡ j → ⊥ = same-false i j c in g .cleared (omega arith) i (omega arith) e q)
+                (cases (same i j));
           };
     }
 
-pub takes-none : (p : ℕ → Bool) (k : ℕ) (c : ContentWords) → c .kind ≡ 0 → takes p (row k (contentIn c)) ≡ false
+takes-none : (p : ℕ → Bool) (k : ℕ) (c : ContentWords) → c .kind ≡ 0 → takes p (row k (contentIn c)) ≡ false
 unfolding takes contentIn pendingIn
 takes-none p k c e = ap (λ (n : ℕ). both (present (pendingIn n (c .value) (c .commit))) (p k)) e
 
@@ -283,9 +315,48 @@ both-false : (b : Bool) → both b false ≡ false
 both-false true = refl
 both-false false = refl
 
-pub takes-other : (p : ℕ → Bool) (k : ℕ) (c : ContentWords) → p k ≡ false → takes p (row k (contentIn c)) ≡ false
+takes-other : (p : ℕ → Bool) (k : ℕ) (c : ContentWords) → p k ≡ false → takes p (row k (contentIn c)) ≡ false
 unfolding takes
 takes-other p k c e = ap (both (present (contentIn c .pending))) e ∙ both-false (present (contentIn c .pending))
+
+-- what stands there
+stands-as : (slots : List ℕ) (j : ℕ) (r : SlotWords) → indexlet.Reads slots j r → (e : Row Content) → entryAt (slotsOf slots) j ≡ some e
+    → (isIdle (contentIn (r .content)) ≡ false) × (row (r .key) (contentIn (r .content)) ≡ e)
+stands-as slots j r reads e q = kept-entry (r .key) (contentIn (r .content)) e (sym (entry-in slots j r (reads .slot)) ∙ q)
+
+-- an address that does not pass
+pub walk-outside : {p : ℕ → Bool} {rows slots : List ℕ} {w : Walk} {j : ℕ} (r : SlotWords) → indexlet.Reads slots j r → j < 256 → p (r .key) ≡ false → Steps p rows slots w j rows slots w
+walk-outside {p} {rows} {slots} {w} {j} r reads h f =
+    walk-past r (w .left) reads h (takes-other p (r .key) (r .content) f) (le-refl (w .left)) (omega arith)
+    (λ z e q. ap (λ (x : Row Content). p (x .key)) (sym (stands-as slots j r reads e q .1)) ∙ f)
+
+-- nothing pending and no lock: no entry
+unlocked : (c : Content) (x : ℕ) → present (c .pending) ≡ false → x ≡ pick (present (c .holder)) 1 0 → x ≡ 0 → isIdle c ≡ true
+unfolding isIdle
+unlocked c x a b z =
+    ⊎-elim
+    (λ t. absurd (let y : x ≡ 1 = b ∙ ap (λ (d : Bool). pick d 1 0) t in let q : ⊥ = omega arith in q))
+    (λ t. ap (λ (d : Bool). both (not d) (not (present (c .holder)))) a ∙ ap not t)
+    (cases (present (c .holder)))
+
+-- one lock more fits
+pub left-fits : {p : ℕ → Bool} {rs : List (Row Record)} {ss : List Slot} {rows slots : List ℕ} {w : Walk} {j : ℕ} → Walking p rs ss rows slots w j → j < 256
+    → (c : Content) (x : ℕ) → x ≡ pick (present (c .holder)) 1 0 → w .left + x < 2 ^ 64
+left-fits {w = w} {j} g h c x b =
+    let y : w .left ≤ j = g .few-left in
+    let m : pick (present (c .holder)) 1 0 ≤ 1 = pick-most (present (c .holder)) in
+    omega arith
+
+-- nothing is pending: a lock counts
+pub walk-lock : {p : ℕ → Bool} {rows slots : List ℕ} {w : Walk} {j : ℕ} (r : SlotWords) (x : ℕ) → indexlet.Reads slots j r → j < 256 → r .content .kind ≡ 0
+    → x ≡ pick (present (contentIn (r .content) .holder)) 1 0 → Steps p rows slots w j rows slots (walk (w .records) (w .entries) (w .count) (w .left + x))
+unfolding contentIn pendingIn
+walk-lock {p} {rows} {slots} {w} {j} r x reads h k b =
+    let most : pick (present (contentIn (r .content) .holder)) 1 0 ≤ 1 = pick-most (present (contentIn (r .content) .holder)) in
+    walk-past r (w .left + x) reads h (takes-none p (r .key) (r .content) k) (omega arith) (omega arith)
+    (λ z e q. clash
+    (unlocked (contentIn (r .content)) x (ap (λ (n : ℕ). present (pendingIn n (r .content .value) (r .content .commit))) k) b (omega arith))
+    (stands-as slots j r reads e q .0))
 
 weigh-nothing : (q : Row Content → Bool) (k : ℕ) (c : Content) → q (row k c) ≡ false → weigh q (kept k c) ≡ 0
 weigh-nothing q k c e =
@@ -356,12 +427,13 @@ module _ {slots : List ℕ} {j : ℕ} (r : SlotWords) (held : indexlet.Held slot
       (entry-inside (u .records) (u .begun) j (row (r .key) (contentIn (r .content))) (sym (g .untouched j (le-refl j) h) ∙ entry-is))))
       (u .bound)
 
-  pub walk-on : {p : ℕ → Bool} {rows : List ℕ} {w : Walk} (rows' slots' : List ℕ) (n e : ℕ) (c : ContentWords) → j < 256 → p (r .key) ≡ true
+  pub walk-on : {p : ℕ → Bool} {rows : List ℕ} {w : Walk} (rows' slots' : List ℕ) (n e x : ℕ) (c : ContentWords) → j < 256 → p (r .key) ≡ true
+      → x ≡ pick (present (contentIn (r .content) .holder)) 1 0
       → index.Holds rows' n (assign (r .key) (leaving (r .content .kind) (r .content .value) (r .content .commit)) (recordsOf rows (w .records)))
       → contentIn c ≡ withoutPending (contentIn (r .content)) → indexlet.Enters slots (r .key) c slots' e
-      → Steps p rows slots w j rows' slots' (walk n e (w .count + 1))
+      → Steps p rows slots w j rows' slots' (walk n e (w .count + 1) (w .left + x))
   unfolding each
-  walk-on {p} {rows} {w} rows' slots' n e c h t hold ce ent =
+  walk-on {p} {rows} {w} rows' slots' n e lock c h t locks hold ce ent =
       record {
         on = λ {rs} {ss} g.
             let z : length ss ≡ slotCount = g .full in
@@ -379,6 +451,10 @@ module _ {slots : List ℕ} {j : ℕ} (r : SlotWords) (held : indexlet.Held slot
               full = g .full;
               there = omega arith;
               few = (let y : w .count ≤ j = g .few in omega arith);
+              few-left =
+                  (let y : w .left ≤ j = g .few-left in
+                  let m : pick (present (contentIn (r .content) .holder)) 1 0 ≤ 1 = pick-most (present (contentIn (r .content) .holder)) in
+                  omega arith);
               untouched =
                   λ i a b.
                   ap (λ (ts : List Slot). entryAt ts i) (ent .view)
@@ -405,6 +481,21 @@ module _ {slots : List ℕ} {j : ℕ} (r : SlotWords) (held : indexlet.Held slot
                   (let y : w .count + length (left p ss j) ≡ length (filter (takes p) (entries ss)) = g .counted in
                   let q : length (left p ss j) ≡ suc (length (left p ss (j + 1))) = ap length d ∙ ap (λ (k : ℕ). suc (length (left p ss k))) s in
                   omega arith);
+              cleared =
+                  λ y i l o q.
+                  ⊎-elim
+                  (λ b.
+                  let here : entryAt (slotsOf slots') j ≡ kept (r .key) (contentIn c)
+                  = ap (λ (ts : List Slot). entryAt ts j) (ent .view) ∙ enter-here j (contentIn c) (held .good) (omega arith) entry-is (slot-room (contentIn c)) in
+                  clash
+                  (ap isIdle ce ∙ unlocked (withoutPending (contentIn (r .content))) lock refl locks (omega arith))
+                  (kept-entry (r .key) (contentIn c) o (sym here ∙ ap (entryAt (slotsOf slots')) (sym (same-true i j b)) ∙ q) .0))
+                  (λ b.
+                  let m : i ≡ j → ⊥ = same-false i j b in
+                  g .cleared (omega arith) i (omega arith) o
+                  (sym (ap (λ (ts : List Slot). entryAt ts i) (ent .view)
+                  ∙ enter-others j (contentIn c) (held .good) (omega arith) entry-is (slot-room (contentIn c)) i (omega arith) m) ∙ q))
+                  (cases (same i j));
             };
       }
 

@@ -10,14 +10,14 @@ use mathlib.Core.Bool.{Bool, true, false, not}
 use mathlib.Core.List.{List, [], _∷_, map}
 use mathlib.Core.Option.{Option, some}
 use lib.ListN.{length, take, getD}
-use Rattle.lists.specs.Tests.{both, present, same, cases, same-true, same-no}
+use Rattle.lists.specs.Tests.{both, present, same, less, cases, clash, same-true, same-false, same-yes, same-no, less-true, less-false}
 use Rattle.lists.specs.Rows.{Row, look, keys, has, filter}
 use Rattle.lists.specs.RowLaws.{length-keys}
 use Rattle.lists.specs.Ascending.{Ascends}
 use Rattle.lists.specs.Memberships.{has-parts}
 use Rattle.spec.specs.Records.{Settings, Record, standard}
 use Rattle.spec.specs.Leaves.{Leaf, firstLeaf, versionAt, settle, versionsTaken}
-use Rattle.spec.specs.Slots.{Content, entries}
+use Rattle.spec.specs.Slots.{slotCount, Content, entries}
 use Rattle.spec.specs.Maps.{MapState, current, each, mergesAt, merging, mergeEntry, recordsIn, settleMap, mergeAll, mergeAt}
 use Rattle.spec.specs.Maps as model
 use Rattle.laws.specs.LeafVersions.{GoodLeaves}
@@ -42,9 +42,10 @@ use Rattle.map.specs.Held.{Tables, Held}
 use Rattle.phantomlet.specs.LeafTests.{none-left, placed, takes, filter-same, many-same, pending-merging, lows-are, leaves-count, live-at, placed-version, at-version, placed-own}
 use Rattle.map.specs.MergeWalks.{parts, Starting, Took}
 use Rattle.phantomlet.specs.MergeCounts.{Recounting, Counting}
-use Rattle.phantomlet.specs.LeafCounts.{Ranging, lacking, waiting, inLeaf}
+use Rattle.phantomlet.specs.LeafCounts.{Ranging, Bare, lacking, waiting, inLeaf, many-zero}
+use Rattle.phantomlet.specs.LeafRows.{low-inside}
 use Rattle.map.specs.MergeKeys.{entry-narrow, record-narrow, rows-narrow, low-at, first-low}
-use Rattle.map.specs.MergeKeeps.{Shape, settle-shape, shape-length, shape-early, shape-after, kept-test}
+use Rattle.map.specs.MergeKeeps.{Shape, settle-shape, shape-length, shape-early, shape-unjoined, shape-after, kept-test}
 use Rattle.map.specs.MergeSettles.{leafKeys, Resettling, settle-room, Narrow, settle-narrow, narrow-leaves, narrow-at, keys-narrow, lows-ascend}
 
 -- A merge at address a (document 01: fold): the map, the counters and the answer are the model's, the arrays stay what
@@ -150,10 +151,6 @@ module _ {l : Lent} {z : Sizes} (k : Counters) (h : Held l z (k .version)) (a i 
         inside = at .inside;
         some = omega arith;
       }
-
-  -- as many as the walk takes in
-  pub limit-is : getD (l .pending) i 0 ≡ length (filter (takes (placed (l .lows) (z .leaves) i)) (entries (slotsOf (l .slots))))
-  limit-is = pending-count ∙ ap length merging-is
 
   -- something is pending, and was taken in
   module _ (some-pending : getD (l .pending) i 0 ≡ 0 → ⊥) (rows slots : List ℕ) (w : Walk)
@@ -374,7 +371,71 @@ module _ {l : Lent} {z : Sizes} (k : Counters) (h : Held l z (k .version)) (a i 
       later-is : (y : ℕ) → getD (leavesOf lows versions m) (i + 1 + m - z .leaves + y) firstLeaf ≡ getD (mapOf l z .leaves) (i + 1 + y) firstLeaf
       later-is y = ap (λ (q : ℕ). getD (leavesOf lows versions m) (q + y) firstLeaf) to-is ∙ shape-after shape y
 
-      pub recounting : Recounting rows lows slots (w .records) m (l .outside) (l .pending) i (z .leaves)
+      -- ---- no lock is left, and no leaf was joined
+
+      module _ (unlocked : w .left ≡ 0) (unjoined : z .leaves ≤ m) where
+        unmoved : (j : ℕ) → j < i → getD (leavesOf lows versions m) j firstLeaf ≡ getD (mapOf l z .leaves) j firstLeaf
+        unmoved =
+            shape-unjoined shape
+            (let f : length (leavesOf lows versions m) ≡ m = count-is in let c : length (mapOf l z .leaves) ≡ z .leaves = many-leaves in omega arith)
+
+        -- where an address lay before
+        place : ℕ → ℕ
+        place x = lowPlace x (take (z .leaves) (l .lows))
+
+        place-in : (x : ℕ) → place x < z .leaves
+        unfolding place
+        place-in x = low-inside (l .lows) (z .leaves) (h .tables .lows) (h .tables .lows-size) x
+
+        place-is : (x : ℕ) → placed (l .lows) (z .leaves) (place x) x ≡ true
+        unfolding place placed
+        place-is x = same-yes {m = lowPlace x (take (z .leaves) (l .lows))} {n = lowPlace x (take (z .leaves) (l .lows))} refl
+
+        -- an address of another leaf lies in none that the merge made
+        elsewhere : (x : ℕ) → placed (l .lows) (z .leaves) i x ≡ false → (j : ℕ) → i ≤ j → j < i + 1 + m - z .leaves → placed lows m j x ≡ false
+        elsewhere x f j a b =
+            let o : place x < z .leaves = place-in x in
+            ⊎-elim
+            (λ t. let c : place x < i = less-true (place x) i t in
+            placed-one lows m (place x) j x (λ q. let y : ⊥ = omega arith in y)
+            (same-leaf (place x) (place x) (omega arith) o (unmoved (place x) c) x ∙ place-is x))
+            (λ t. let c : i ≤ place x = less-false (place x) i t in
+            ⊎-elim
+            (λ u. clash (ap (λ (n : ℕ). placed (l .lows) (z .leaves) n x) (sym (same-true (place x) i u)) ∙ place-is x) f)
+            (λ u. let n : place x ≡ i → ⊥ = same-false (place x) i u in
+            let y : i + 1 + (place x - i - 1) ≡ place x = omega arith in
+            let g : i + 1 + (place x - i - 1) < z .leaves = omega arith in
+            placed-one lows m (i + 1 + m - z .leaves + (place x - i - 1)) j x (λ q. let r : ⊥ = omega arith in r)
+            (same-leaf (i + 1 + m - z .leaves + (place x - i - 1)) (i + 1 + (place x - i - 1)) (later-leaf (place x - i - 1) g) g (later-is (place x - i - 1)) x
+            ∙ ap (λ (n : ℕ). placed (l .lows) (z .leaves) n x) y ∙ place-is x))
+            (cases (same (place x) i)))
+            (cases (less (place x) i))
+
+        none-made : (t : Row Content → Bool) (j : ℕ) → i ≤ j → j < i + 1 + m - z .leaves → howMany (inLeaf lows m t j) (slotsOf slots) ≡ 0
+        unfolding inLeaf
+        none-made t j a b =
+            many-zero (inLeaf lows m t j) (slotsOf slots)
+            (λ y g e q.
+            ap (λ (c : Bool). both c (t e))
+            (elsewhere (e .key) (took .cleared unlocked y (let s : length (slotsOf slots) ≡ slotCount = took .words .good .size in omega arith) e q) j a b))
+
+        outside-bare : Bare lows m (lacking (recordsOf rows (w .records))) (slotsOf slots) (l .outside) i (i + 1 + m - z .leaves)
+        outside-bare =
+            let b : i < z .leaves = at .inside in
+            record {
+              before = λ j g. outside-kept j j (omega arith) (omega arith) (λ x. let y : ⊥ = omega arith in y) (unmoved j g);
+              made = none-made (lacking (recordsOf rows (w .records)));
+            }
+
+        pending-bare : Bare lows m waiting (slotsOf slots) (l .pending) i (i + 1 + m - z .leaves)
+        pending-bare =
+            let b : i < z .leaves = at .inside in
+            record {
+              before = λ j g. pending-kept j j (omega arith) (omega arith) (λ x. let y : ⊥ = omega arith in y) (unmoved j g);
+              made = none-made waiting;
+            }
+
+      pub recounting : Recounting rows lows slots (w .records) m (l .outside) (l .pending) i (z .leaves) (w .left)
       recounting =
           let e : length (leavesOf lows versions m) ≡ length (shape .front) + (length (mapOf l z .leaves) - suc i) = shape-length shape in
           let f : length (leavesOf lows versions m) ≡ m = count-is in
@@ -401,6 +462,8 @@ module _ {l : Lent} {z : Sizes} (k : Counters) (h : Held l z (k .version)) (a i 
                   before = λ j g. pending-kept j j (early-leaf j g) (omega arith) (λ x. let y : ⊥ = omega arith in y) (shape-early shape j g);
                   after = λ y g. pending-kept (i + 1 + m - z .leaves + y) (i + 1 + y) (later-leaf y g) g (λ x. let u : ⊥ = omega arith in u) (later-is y);
                 };
+            outside-bare = outside-bare;
+            pending-bare = pending-bare;
           }
 
       -- the phantomlet is worked out

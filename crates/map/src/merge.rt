@@ -1,7 +1,8 @@
 // The merge (document 01: fold): a leaf's pending writes enter the index, and the leaf settles around its records.
 //
-// `take_all` walks the slots and takes the leaf's pending writes in; `resettle` settles the leaf; `recount` brings the
-// phantomlet up to date.
+// `take_all` walks the slots, takes the leaf's pending writes in and counts the entries that stay for their lock;
+// `resettle` settles the leaf; `recount` brings the phantomlet up to date. Nearly always no lock stays, and then `recount`
+// needs no walk of its own.
 use crate::Address;
 use crate::Counters;
 use crate::Sizes;
@@ -11,25 +12,27 @@ ghost use mathlib.Core.Path.{_≡_};
 ghost use mathlib.Core.Option.{some};
 ghost use Prim.Native.Nat.{_+_, _^_, _<_, _≤_};
 ghost use lib.ListN.{length};
-ghost use Rattle.lists.specs.Rows.{assign, filter};
-ghost use Rattle.spec.specs.Slots.{entries};
-ghost use Rattle.indexlet.specs.Words.{slotsOf};
+ghost use Rattle.lists.specs.Tests.{pick, present};
+ghost use Rattle.lists.specs.Rows.{assign};
+ghost use Rattle.indexlet.specs.Words.{contentIn};
 ghost use Rattle.index.specs.Views as index-views;
 ghost use Rattle.index.specs.Settles.{SettledAs};
 ghost use Rattle.map.specs.Views.{lent};
 ghost use Rattle.map.specs.Held.{Held};
-ghost use Rattle.phantomlet.specs.LeafTests.{placed, takes};
+ghost use Rattle.phantomlet.specs.LeafTests.{placed};
 ghost use Rattle.phantomlet.specs.LeafCounts.{OneLeaf};
 ghost use Rattle.phantomlet.specs.LeafRows.{Lows, Spans};
 ghost use Rattle.map.specs.MergeSettles.{Resettling, leafKeys};
 ghost use Rattle.map.specs.Merges.{Merges};
 ghost use Rattle.map.specs.MergeWalks.{leaving, Underway, Steps, Starting, Took};
 
-// How far a walk over the slots has come: records of the index, entries of the indexlet, and pending writes taken in.
+// How far a walk over the slots has come: records of the index, entries of the indexlet, pending writes taken in, and
+// entries of the leaf that stay, for their lock.
 struct Walk {
     records: usize,
     entries: usize,
     count: usize,
+    left: usize,
 }
 
 // The rows of a leaf: from row `from` up to, not including, row `to`.
@@ -64,6 +67,16 @@ fn take_write(
     index::records::drop(rows, n, a)
 }
 
+// 1 if somebody holds a lock.
+fn locked(c: indexlet::Content) -> usize
+    ensures { λ r. ⌜ r ≡ pick (present (contentIn c .holder)) 1 0 ⌝ }
+{
+    if c.lock == 0 {
+        return 0;
+    }
+    1
+}
+
 // The walk at slot j: a write that is pending there, in the leaf at place i, whose addresses are r, enters the index; a lock
 // stays.
 fn take_slot(
@@ -87,8 +100,14 @@ fn take_slot(
         return w;
     }
     let c = s.content;
+    let left = w.left + locked(c);
     if c.kind == 0 {
-        return w;
+        return Walk {
+            records: w.records,
+            entries: w.entries,
+            count: w.count,
+            left,
+        };
     }
     let a = key as u32;
     let n = take_write(rows, w.records, a, c.kind, c.value, c.commit);
@@ -103,10 +122,12 @@ fn take_slot(
         records: n,
         entries: e,
         count: w.count + 1,
+        left,
     }
 }
 
-// All pending writes of the leaf at place i enter the index. There are `limit` of them: with the last one the walk ends.
+// All pending writes of the leaf at place i enter the index. The walk goes on behind the last of them, since any slot can
+// have a lock that stays.
 fn take_all(
     rows: &mut [u64; 3072],
     slots: &mut [u64; 1536],
@@ -115,24 +136,20 @@ fn take_all(
     e: usize,
     m: usize,
     i: usize,
-    limit: usize,
     r: Reach,
 ) -> Walk
     requires { ⌜ Starting (now rows) (now slots) n e ⌝ }
     requires { ⌜ OneLeaf (now lows) m i r ⌝ }
-    requires { ⌜ limit ≡ length (filter (takes (placed (now lows) m i)) (entries (slotsOf (now slots)))) ⌝ }
     ensures { λ r. ⌜ Took (placed (now (lows .entry)) m i) (now (rows .entry)) (now (slots .entry)) n (now (rows .exit)) (now (slots .exit)) r ⌝ }
 {
     let mut w = Walk {
         records: n,
         entries: e,
         count: 0,
+        left: 0,
     };
     let mut j = 0;
     while j < 256 {
-        if w.count == limit {
-            return w;
-        }
         w = take_slot(rows, slots, lows, w, r, m, i, j);
         j += 1;
     }
@@ -192,8 +209,8 @@ pub fn merge(
 {
     let m = z.leaves;
     let i = index::leaves::leaf_at(lows, m, a);
-    let limit = pending[i] as usize;
-    if limit == 0 {
+    let waiting = pending[i];
+    if waiting == 0 {
         return Merged {
             sizes: z,
             counters: k,
@@ -201,7 +218,7 @@ pub fn merge(
         };
     }
     let r = recount::addresses_of(lows, m, i, i + 1);
-    let w = take_all(rows, slots, lows, z.records, z.entries, m, i, limit, r);
+    let w = take_all(rows, slots, lows, z.records, z.entries, m, i, r);
     let s = resettle(lows, versions, rows, w.records, m, i, k.version);
     index::shifts::all(lows);
     index::shifts::all(versions);
@@ -215,6 +232,7 @@ pub fn merge(
         s.leaves,
         i,
         m,
+        w.left,
     );
     let sizes = Sizes {
         records: w.records,

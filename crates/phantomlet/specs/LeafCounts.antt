@@ -13,7 +13,8 @@ use lib.ListN.{length, take, drop, getD, set, length-set}
 use lib.Seq.{drop-cons, getD-set-same, getD-set-other}
 use Rattle.lists.specs.Tests.{pick, both, present, same, less, atMost, cases, clash, same-yes, same-no, same-true, same-false, less-yes, less-no, less-true, less-false, atMost-true, atMost-false}
 use Rattle.lists.specs.Rows.{Row, look}
-use Rattle.lists.specs.Sums.{total, total-most}
+use Rattle.lists.specs.Sums.{total, total-most, total-none}
+use Rattle.lists.specs.Options.{options}
 use Rattle.spec.specs.Records.{Record}
 use Rattle.spec.specs.Slots.{slotCount, Content, Slot, emptySlot}
 use Rattle.laws.specs.SlotCounts.{entryAt, tally, count, count-cons}
@@ -55,6 +56,16 @@ weigh-most p (some e) = ⊎-elim (λ t. rw t (omega arith)) (λ t. rw t zero-le)
 pub many-most : (p : Row Content → Bool) (ss : List Slot) → howMany p ss ≤ length ss
 unfolding howMany tally
 many-most p ss = total-most (λ (i : ℕ) (s : Slot). weigh p (s .entry)) ss (λ i s. weigh-most p (s .entry))
+
+-- none passes
+pub many-zero : (p : Row Content → Bool) (ss : List Slot) → ((i : ℕ) → i < length ss → (e : Row Content) → entryAt ss i ≡ some e → p e ≡ false) → howMany p ss ≡ 0
+unfolding howMany tally weigh
+many-zero p ss h =
+    total-none (λ (i : ℕ) (s : Slot). weigh p (s .entry)) ss emptySlot
+    (λ i l. ⊎-elim
+    (λ q. ap (weigh p) q)
+    (λ q. ap (weigh p) (q .1) ∙ ap (λ (b : Bool). pick b 1 0) (h i l (q .0) (q .1)))
+    (options (entryAt ss i)))
 
 pub weigh-none : (p : Row Content → Bool) → weigh p none ≡ 0
 unfolding weigh
@@ -199,6 +210,26 @@ pub record Adding (lows : List ℕ) (m : ℕ) (t : Row Content → Bool) (ss : L
 pub record Keeping (lows : List ℕ) (m : ℕ) (t : Row Content → Bool) (ss : List Slot) (xs : List ℕ) (i old to : ℕ) : Type 0 where
   pub before : (j : ℕ) → j + 1 < i → getD xs j 0 ≡ howMany (inLeaf lows m t j) ss
   pub after : (y : ℕ) → i + 1 + y < old → getD xs (i + 1 + y) 0 ≡ howMany (inLeaf lows m t (to + y)) ss
+
+-- The leaves at the places from i up to `to` have no entry, and the numbers before place i stay.
+pub record Bare (lows : List ℕ) (m : ℕ) (t : Row Content → Bool) (ss : List Slot) (xs : List ℕ) (i to : ℕ) : Type 0 where
+  pub before : (j : ℕ) → j < i → getD xs j 0 ≡ howMany (inLeaf lows m t j) ss
+  pub made : (j : ℕ) → i ≤ j → j < to → howMany (inLeaf lows m t j) ss ≡ 0
+
+-- so each number is known without a walk
+pub bare-numbers : {lows : List ℕ} {m : ℕ} {t : Row Content → Bool} {ss : List Slot} {xs cur : List ℕ} {i old to : ℕ} → to + old ≡ i + 1 + m → i < old
+    → Bare lows m t ss xs i to → Keeping lows m t ss xs i old to → Prepared xs cur i old i to → (j : ℕ) → j < m → getD cur j 0 ≡ howMany (inLeaf lows m t j) ss
+bare-numbers {lows} {m} {t} {ss} {xs} {cur} {i} {old} {to} o l b k p j h =
+    ⊎-elim
+    (λ c. let g : j < i = less-true j i c in p .before j g ∙ b .before j g)
+    (λ c. let g : i ≤ j = less-false j i c in
+    ⊎-elim
+    (λ d. let f : j < to = less-true j to d in p .zeros j g f ∙ sym (b .made j g f))
+    (λ d. let f : to ≤ j = less-false j to d in
+    let y : to + (j - to) ≡ j = omega arith in
+    ap (λ (n : ℕ). getD cur n 0) (sym y) ∙ p .after (j - to) (omega arith) ∙ k .after (j - to) (omega arith) ∙ ap (λ (n : ℕ). howMany (inLeaf lows m t n) ss) y)
+    (cases (less j to)))
+    (cases (less j i))
 
 module _ {lows : List ℕ} {m : ℕ} {t : Row Content → Bool} {ss : List Slot} {from to : ℕ} (full : length ss ≡ slotCount) where
   pub adding-start : {xs cur : List ℕ} {i old : ℕ} → from ≡ i - 1 → to + old ≡ i + 1 + m → i < old → Keeping lows m t ss xs i old to → Prepared xs cur i old from to → Adding lows m t ss from to cur 0

@@ -1,5 +1,5 @@
--- The phantomlet after a merge: the numbers of leaves that the merge did not make stay; those of the others are worked out
--- anew by a walk over the slots, and all are added up.
+-- The phantomlet after a merge: the numbers of leaves that the merge did not make stay; those of the others are 0 if these
+-- have no entry, and are worked out anew by a walk over the slots otherwise; all are added up.
 -- Assumes nothing.
 use Prim.Native.Nat.{ℕ, zero, suc, _+_, _-_, _^_, _<_, _≤_, zero-le}
 use native.Mathlib.Omega.{arith}
@@ -10,7 +10,7 @@ use mathlib.Core.Option.{Option, none, some}
 use lib.ListN.{length, take, getD, set}
 use lib.Seq.{length-take-le}
 use mathlib.Core.Logic.{⊎-elim}
-use Rattle.lists.specs.Tests.{pick, present, same, cases, same-no}
+use Rattle.lists.specs.Tests.{pick, both, present, same, atMost, cases, clash, same-true, same-yes, same-no, atMost-true}
 use Rattle.lists.specs.Rows.{Row, row, look}
 use Rattle.lists.specs.Sums.{total}
 use Rattle.spec.specs.Slots.{slotCount, Content, isIdle, Slot}
@@ -27,12 +27,13 @@ use Rattle.phantomlet.specs.Phantoms.{weigh, howMany}
 use Rattle.phantomlet.specs.LeafTests.{placed}
 use Rattle.phantomlet.specs.declared.recount.Reach.{Reach}
 use Rattle.phantomlet.specs.LeafNumbers.{Prepared, sumTo, sum-same, sum-add, sum-none, sum-one}
-use Rattle.phantomlet.specs.LeafCounts.{lacking, waiting, inLeaf, many-most, weigh-none, weigh-leaf, Range, reached, reached-no, Adding, Keeping, adding-start, adding-end, adding-small, adding-past, adding-some}
+use Rattle.phantomlet.specs.LeafCounts.{lacking, waiting, inLeaf, many-most, weigh-none, weigh-leaf, Range, reached, reached-no, Adding, Keeping, Bare, bare-numbers, adding-start, adding-end, adding-small, adding-past, adding-some}
 
 -- ---- the walk
 
--- What a merge at place i of `old` leaves, now m, asks of the arrays and of the phantomlet's kept numbers.
-pub record Recounting (rows lows slots : List ℕ) (n m : ℕ) (outside pending : List ℕ) (i old : ℕ) : Type 0 where
+-- What a merge at place i of `old` leaves, now m, that left `left` entries there, asks of the arrays and of the
+-- phantomlet's kept numbers.
+pub record Recounting (rows lows slots : List ℕ) (n m : ℕ) (outside pending : List ℕ) (i old left : ℕ) : Type 0 where
   pub rows-held : index.Held rows n
   pub listed : Listed lows m
   pub first : getD lows 0 0 ≡ 0
@@ -43,6 +44,9 @@ pub record Recounting (rows lows slots : List ℕ) (n m : ℕ) (outside pending 
   pub one-less : old ≤ m + 1
   pub outside-kept : Keeping lows m (lacking (recordsOf rows n)) (slotsOf slots) outside i old (i + 1 + m - old)
   pub pending-kept : Keeping lows m waiting (slotsOf slots) pending i old (i + 1 + m - old)
+  -- with no entry left and no leaf joined, the leaves that it made have none
+  pub outside-bare : left ≡ 0 → old ≤ m → Bare lows m (lacking (recordsOf rows n)) (slotsOf slots) outside i (i + 1 + m - old)
+  pub pending-bare : left ≡ 0 → old ≤ m → Bare lows m waiting (slotsOf slots) pending i (i + 1 + m - old)
 
 -- The walk stands before slot j.
 pub record Tallying (rows lows slots : List ℕ) (n m : ℕ) (r : Reach) (outside pending : List ℕ) (j : ℕ) : Type 0 where
@@ -65,10 +69,10 @@ pub record Counting (rows lows slots : List ℕ) (n m : ℕ) (outside pending : 
   pub numbers : Numbers rows lows slots n m outside pending
   pub total-is : total ≡ howMany (lacking (recordsOf rows n)) (slotsOf slots)
 
-pub tally-start : {rows lows slots : List ℕ} {n m : ℕ} {outside pending outside' pending' : List ℕ} {i old from to : ℕ} (r : Reach)
-    → Recounting rows lows slots n m outside pending i old → Range lows m r → r .from ≡ from → from ≡ i - 1 → r .to ≡ to → to ≡ i + 1 + m - old
+pub tally-start : {rows lows slots : List ℕ} {n m : ℕ} {outside pending outside' pending' : List ℕ} {i old left from to : ℕ} (r : Reach)
+    → Recounting rows lows slots n m outside pending i old left → Range lows m r → r .from ≡ from → from ≡ i - 1 → r .to ≡ to → to ≡ i + 1 + m - old
     → Prepared outside outside' i old from to → Prepared pending pending' i old from to → Tallying rows lows slots n m r outside' pending' 0
-tally-start {rows} {lows} {slots} {n} {m} {outside} {pending} {outside'} {pending'} {i} {old} {from} {to} r c g a f b t p q =
+tally-start {rows} {lows} {slots} {n} {m} {outside} {pending} {outside'} {pending'} {i} {old} {left} {from} {to} r c g a f b t p q =
     let l : i < old = c .leaf-in in
     let o : old ≤ m + 1 = c .one-less in
     let s : to + old ≡ i + 1 + m = omega arith in
@@ -172,9 +176,39 @@ module _ {rows lows slots : List ℕ} {n m : ℕ} {z : Reach} {outside pending :
           pending-adds = adding-some full (row (r .key) (contentIn (r .content))) at w pending' (g .pending-adds) h e (g .listed .room) l (omega arith) (omega arith) b q;
         }
 
+-- ---- no walk
+
+pub bare-none : (left m old : ℕ) (b : Bool) → (left ≡ 0 → ⊥) → b ≡ false → b ≡ both (same left 0) (atMost old m)
+bare-none left m old b n e = e ∙ sym (ap (λ (x : Bool). both x (atMost old m)) (same-no {m = left} {n = 0} n))
+
+pub bare-some : (left m old : ℕ) (b : Bool) → left ≡ 0 → b ≡ atMost old m → b ≡ both (same left 0) (atMost old m)
+bare-some left m old b z e = e ∙ sym (ap (λ (x : Bool). both x (atMost old m)) (same-yes {m = left} {n = 0} z))
+
+bare-yes : (left m old : ℕ) → both (same left 0) (atMost old m) ≡ true → (left ≡ 0) × (old ≤ m)
+bare-yes left m old e =
+    ⊎-elim
+    (λ a. (same-true left 0 a, atMost-true old m (ap (λ (x : Bool). both x (atMost old m)) (sym a) ∙ e)))
+    (λ a. clash e (ap (λ (x : Bool). both x (atMost old m)) a))
+    (cases (same left 0))
+
+pub carried : {rows lows slots : List ℕ} {n m : ℕ} {outside pending outside' pending' : List ℕ} {i old left to : ℕ} (b : Bool)
+    → Recounting rows lows slots n m outside pending i old left → to ≡ i + 1 + m - old → b ≡ both (same left 0) (atMost old m) → b ≡ true
+    → Prepared outside outside' i old i to → Prepared pending pending' i old i to → Numbers rows lows slots n m outside' pending'
+carried {rows} {lows} {slots} {n} {m} {outside} {pending} {outside'} {pending'} {i} {old} {left} {to} b c t e y p q =
+    let z = bare-yes left m old (sym e ∙ y) in
+    let l : i < old = c .leaf-in in
+    let o : old ≤ m + 1 = c .one-less in
+    let s : i + 1 + m - old + old ≡ i + 1 + m = omega arith in
+    record {
+      outside-size = p .size;
+      pending-size = q .size;
+      outside-is = bare-numbers s l (c .outside-bare (z .0) (z .1)) (c .outside-kept) (subst (Prepared outside outside' i old i) t p);
+      pending-is = bare-numbers s l (c .pending-bare (z .0) (z .1)) (c .pending-kept) (subst (Prepared pending pending' i old i) t q);
+    }
+
 -- ---- numbers that fit
 
-pick-most : (b : Bool) → pick b 1 0 ≤ 1
+pub pick-most : (b : Bool) → pick b 1 0 ≤ 1
 pick-most true = omega arith
 pick-most false = omega arith
 

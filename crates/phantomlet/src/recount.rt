@@ -1,11 +1,12 @@
-// The phantomlet after a merge. The numbers of leaves that the merge did not make move with their leaves; those of the
-// leaves that it made, and of the leaf before them, are worked out anew by one walk over the slots.
+// The phantomlet after a merge. The numbers of leaves that the merge did not make move with their leaves. In nearly every
+// merge no lock stays in its leaf, and the leaf is not joined to the one before: then the leaves that the merge made have no
+// entry, and their numbers are 0. Otherwise these, and that of the leaf before them, are counted by one walk over the slots.
 use index::Address;
 ghost use mathlib.Core.Path.{_≡_};
 ghost use mathlib.Core.Bool.{not};
 ghost use Prim.Native.Nat.{ℕ, _+_, _-_, _^_, _<_, _≤_};
 ghost use lib.ListN.{getD, set};
-ghost use Rattle.lists.specs.Tests.{pick, present};
+ghost use Rattle.lists.specs.Tests.{pick, both, present, same, atMost};
 ghost use Rattle.lists.specs.Rows.{look};
 ghost use Rattle.lists.specs.Shifts.{moved};
 ghost use Rattle.indexlet.specs.Words.{contentIn};
@@ -220,8 +221,18 @@ fn sum(xs: &[u64; 1025], m: usize) -> usize
     total
 }
 
-// The phantomlet after a merge at place i of `old` leaves, of which there are m now. Answers how many entries lie at
-// addresses that the index lacks.
+// The leaves that a merge made have no entry: it left none in its leaf, and did not join the leaf to the one before it.
+fn bare(left: usize, m: usize, old: usize) -> bool
+    ensures { λ b. ⌜ b ≡ both (same left 0) (atMost old m) ⌝ }
+{
+    if left == 0 {
+        return old <= m;
+    }
+    false
+}
+
+// The phantomlet after a merge at place i of `old` leaves, of which there are m now; the merge left `left` entries in its
+// leaf. Answers how many entries lie at addresses that the index lacks.
 pub fn recount(
     outside: &mut [u64; 1025],
     pending: &mut [u64; 1025],
@@ -232,13 +243,19 @@ pub fn recount(
     m: usize,
     i: usize,
     old: usize,
+    left: usize,
 ) -> usize
-    requires { ⌜ Recounting (now rows) (now lows) (now slots) n m (now outside) (now pending) i old ⌝ }
+    requires { ⌜ Recounting (now rows) (now lows) (now slots) n m (now outside) (now pending) i old left ⌝ }
     ensures { λ r. ⌜ Counting (now (rows .entry)) (now (lows .entry)) (now (slots .entry)) n m (now (outside .exit)) (now (pending .exit)) r ⌝ }
 {
     index::shifts::all(lows);
-    let from = before(i);
     let to = i + 1 + m - old;
+    if bare(left, m, old) {
+        make_room(outside, i, old, i, to);
+        make_room(pending, i, old, i, to);
+        return sum(outside, m);
+    }
+    let from = before(i);
     make_room(outside, i, old, from, to);
     make_room(pending, i, old, from, to);
     let r = addresses_of(lows, m, from, to);

@@ -1,18 +1,18 @@
 -- `map::merge::merge` meets its contract: nothing is pending, or the walk, the settling and the count come together.
 -- Assumes nothing.
 use borrow.Author.Needs.{needs}
-use Rattle.map.specs.Merges.{merges-nothing, starting, ranging, resettling, limit-is, recounting, merges-some}
+use Rattle.map.specs.Merges.{merges-nothing, starting, ranging, resettling, recounting, merges-some}
 use Rattle.map.proofs.merge.merge.Statement.{statement}
 use Rattle.map.proofs.merge.merge.Tie as tie
 
 leaf-at-requires : tie.Need-leaf-at-requires
 leaf-at-requires c κs = search needs
 
-mul-limit : tie.Need-mul-limit
-mul-limit c = search needs
+mul-waiting : tie.Need-mul-waiting
+mul-waiting c = search needs
 
-element-copy-out-limit : tie.Need-element-copy-out-limit
-element-copy-out-limit c = search needs
+element-copy-out-waiting : tie.Need-element-copy-out-waiting
+element-copy-out-waiting c = search needs
 
 returns : tie.Need-returns
 returns c = let s = c .before .before .before .before in
@@ -30,7 +30,7 @@ take-all-requires : tie.Need-take-all-requires
 take-all-requires c κs = let s = c .before .before .before .before .before .before .before .before .before in
     let i = c .before .before .before .before .before .before .before .leaf-at in (
       starting (s .args .k) (s .pre .0) (s .args .a) (i .result) (i .ensures),
-      (record { range = c .before .before .before .addresses-of .ensures .0; from = c .before .before .before .addresses-of .ensures .1; to = c .before .before .before .addresses-of .ensures .2 }, limit-is (s .args .k) (s .pre .0) (s .args .a) (i .result) (i .ensures)),
+      record { range = c .before .before .before .addresses-of .ensures .0; from = c .before .before .before .addresses-of .ensures .1; to = c .before .before .before .addresses-of .ensures .2 },
     )
 
 resettle-requires : tie.Need-resettle-requires
@@ -67,8 +67,8 @@ merge-spec =
     tie.close
     (tie.spec
     leaf-at-requires
-    mul-limit
-    element-copy-out-limit
+    mul-waiting
+    element-copy-out-waiting
     returns
     add-addresses-of
     addresses-of-requires

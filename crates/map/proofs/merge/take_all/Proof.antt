@@ -5,28 +5,24 @@ use borrow.Author.Needs.{needs}
 use Rattle.indexlet.specs.Words.{slotsOf}
 use Rattle.index.specs.Views.{recordsOf}
 use Rattle.phantomlet.specs.LeafTests.{placed}
-use Rattle.map.specs.MergeWalks.{Walking, walk-start, walk-end, walk-stop}
+use Rattle.map.specs.MergeWalks.{Walking, walk-start, walk-end}
 use Rattle.map.proofs.merge.take_all.Statement.{statement}
 use Rattle.map.proofs.merge.take_all.Tie as tie
 
 abbrev Inv-loop : tie.InvT-loop
-Inv-loop rows₀ slots₀ lows n e m i limit r w₀ j₀ rows slots w j = Walking (placed lows m i) (recordsOf rows₀ n) (slotsOf slots₀) rows slots w j
+Inv-loop rows₀ slots₀ lows n e m i r w₀ j₀ rows slots w j = Walking (placed lows m i) (recordsOf rows₀ n) (slotsOf slots₀) rows slots w j
 
 abbrev μ-loop : tie.MeasureT-loop
-μ-loop rows₀ slots₀ lows n e m i limit r w₀ j₀ rows slots w j = 256 - j
+μ-loop rows₀ slots₀ lows n e m i r w₀ j₀ rows slots w j = 256 - j
 
 loop-holds : tie.Need-loop-holds Inv-loop μ-loop
 loop-holds c = walk-start (placed (c .args .lows .now) (c .args .m) (c .args .i)) (c .pre .0)
 
-returns : tie.Need-returns Inv-loop μ-loop
-returns c = let s = c .before .before .before .before in
-    walk-stop (c .before .before .before .loop .inv) (s .pre .1 .1) (c .if1 .taken)
-
 take-slot-requires : tie.Need-take-slot-requires Inv-loop μ-loop
-take-slot-requires c κs = let s = c .before .before .before .before .before .before in
-    let l = c .before .before .before .before .before .loop in (
+take-slot-requires c κs = let s = c .before .before .before .before in
+    let l = c .before .before .before .loop in (
       record { records = recordsOf (s .args .rows .now) (s .args .n); begun = slotsOf (s .args .slots .now); walking = l .inv; bound = s .pre .0 .bound },
-      (s .pre .1 .0, c .before .before .before .before .loop-test .taken),
+      (s .pre .1, c .before .before .loop-test .taken),
     )
 
 add-j : tie.Need-add-j Inv-loop μ-loop
@@ -36,12 +32,12 @@ loop-less : tie.Need-loop-less Inv-loop μ-loop
 loop-less c = search needs
 
 loop-again : tie.Need-loop-again Inv-loop μ-loop
-loop-again c = c .take-slot .ensures .on (c .before .before .before .before .before .before .loop .inv)
+loop-again c = c .take-slot .ensures .on (c .before .before .before .before .loop .inv)
 
-returns-2 : tie.Need-returns-2 Inv-loop μ-loop
-returns-2 c = walk-end (c .before .loop .inv) (c .loop-test .left)
+returns : tie.Need-returns Inv-loop μ-loop
+returns c = walk-end (c .before .loop .inv) (c .loop-test .left)
 
 pub take-all-spec : {M : Type 1} → statement M
 take-all-spec =
     tie.close
-    (tie.spec Inv-loop μ-loop loop-holds returns take-slot-requires add-j loop-less loop-again returns-2)
+    (tie.spec Inv-loop μ-loop loop-holds take-slot-requires add-j loop-less loop-again returns)

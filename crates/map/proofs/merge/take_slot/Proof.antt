@@ -1,9 +1,10 @@
 -- `map::merge::take_slot` meets its contract: the address lies in another leaf, or nothing is pending, or it is taken in.
 -- Assumes nothing.
+use Rattle.indexlet.specs.Words.{contentIn}
 use Rattle.index.specs.Views.{recordFrom}
 use Rattle.phantomlet.specs.LeafTests.{placed}
 use Rattle.phantomlet.specs.LeafCounts.{leaf-outside, leaf-inside, reaches-yes, reaches-no}
-use Rattle.map.specs.MergeWalks.{walk-past, walk-on, takes-none, takes-other, slot-room, write-room, rest-content}
+use Rattle.map.specs.MergeWalks.{walk-outside, walk-lock, walk-on, left-fits, slot-room, write-room, rest-content}
 use borrow.Author.Needs.{needs}
 use Rattle.map.proofs.merge.take_slot.Statement.{statement}
 use Rattle.map.proofs.merge.take_slot.Tie as tie
@@ -17,46 +18,53 @@ reaches-requires c κs = search needs
 returns : tie.Need-returns
 returns c = let s = c .before .before .before .before in
     let r = c .before .before .slot-at in
-    walk-past (r .result) (r .ensures) (s .pre .1 .1)
-    (takes-other (placed (s .args .lows .now) (s .args .m) (s .args .i)) (r .result .key) (r .result .content)
-    (leaf-outside (s .pre .1 .0) (r .result .key) (r .ensures .narrow) (reaches-no _ (s .args .r) (r .result .key) (c .before .reaches .ensures) (c .if1 .taken))))
+    walk-outside (r .result) (r .ensures) (s .pre .1 .1)
+    (leaf-outside (s .pre .1 .0) (r .result .key) (r .ensures .narrow) (reaches-no _ (s .args .r) (r .result .key) (c .before .reaches .ensures) (c .if1 .taken)))
+
+locked-requires : tie.Need-locked-requires
+locked-requires c κs = search needs
+
+add-left : tie.Need-add-left
+add-left c = let s = c .before .before .before .before .before .before .before in
+    record { fits = left-fits (s .pre .0 .walking) (s .pre .1 .1) (contentIn (c .before .before .before .before .before .slot-at .result .content)) _ (c .before .locked .ensures) }
 
 returns-2 : tie.Need-returns-2
-returns-2 c = let s = c .before .before .before .before .before .before .before in
-    let r = c .before .before .before .before .before .slot-at in
-    walk-past (r .result) (r .ensures) (s .pre .1 .1) (takes-none (placed (s .args .lows .now) (s .args .m) (s .args .i)) (r .result .key) (r .result .content) (c .if2 .taken))
+returns-2 c = let s = c .before .before .before .before .before .before .before .before .before in
+    let r = c .before .before .before .before .before .before .before .slot-at in
+    walk-lock (r .result) (c .before .before .before .locked .result) (r .ensures) (s .pre .1 .1) (c .if2 .taken) (c .before .before .before .locked .ensures)
 
 cast-a : tie.Need-cast-a
 cast-a c = search needs
 
 take-write-requires : tie.Need-take-write-requires
-take-write-requires c κs = let s = c .before .before .before .before .before .before .before .before in
-    let r = c .before .before .before .before .before .before .slot-at in
+take-write-requires c κs = let s = c .before .before .before .before .before .before .before .before .before .before in
+    let r = c .before .before .before .before .before .before .before .before .slot-at in
     let k = c .before .if2 .left in (
       s .pre .0 .walking .rows-held,
       write-room (r .result) (s .pre .0 .walking .words) (r .ensures) k (s .pre .0) (s .pre .1 .1) (recordFrom (r .result .content .value) (r .result .content .commit)),
     )
 
 enter-requires : tie.Need-enter-requires
-enter-requires c κs = let s = c .before .before .before .before .before .before .before .before .before .before in
-    let r = c .before .before .before .before .before .before .before .before .slot-at in
+enter-requires c κs = let s = c .before .before .before .before .before .before .before .before .before .before .before .before in
+    let r = c .before .before .before .before .before .before .before .before .before .before .slot-at in
     let k = c .before .before .before .if2 .left in (
       s .pre .0 .walking .words,
       (s .pre .0 .walking .number, slot-room (r .result) (s .pre .0 .walking .words) (r .ensures) k _),
     )
 
-add-t21 : tie.Need-add-t21
-add-t21 c = search needs
+add-t20 : tie.Need-add-t20
+add-t20 c = search needs
 
 returns-3 : tie.Need-returns-3
-returns-3 c = let s = c .before .before .before .before .before .before .before .before .before .before .before .before in
-    let r = c .before .before .before .before .before .before .before .before .before .before .slot-at in
+returns-3 c = let s = c .before .before .before .before .before .before .before .before .before .before .before .before .before .before in
+    let r = c .before .before .before .before .before .before .before .before .before .before .before .before .slot-at in
     let k = c .before .before .before .before .before .if2 .left in
-    let y = reaches-yes _ (s .args .r) (r .result .key) (c .before .before .before .before .before .before .before .before .before .reaches .ensures) (c .before .before .before .before .before .before .before .before .if1 .left) in
+    let y = reaches-yes _ (s .args .r) (r .result .key) (c .before .before .before .before .before .before .before .before .before .before .before .reaches .ensures) (c .before .before .before .before .before .before .before .before .before .before .if1 .left) in
+    let x = c .before .before .before .before .before .before .before .before .locked in
     let w = c .before .before .before .take-write in
     let e = c .before .enter in
-    walk-on (r .result) (s .pre .0 .walking .words) (r .ensures) k (w .last .0) (e .last .0) (w .result) (e .result) _ (s .pre .1 .1)
-    (leaf-inside (s .pre .1 .0) (r .result .key) (y .0) (y .1)) (w .ensures) (rest-content (r .result .content)) (e .ensures)
+    walk-on (r .result) (s .pre .0 .walking .words) (r .ensures) k (w .last .0) (e .last .0) (w .result) (e .result) (x .result) _ (s .pre .1 .1)
+    (leaf-inside (s .pre .1 .0) (r .result .key) (y .0) (y .1)) (x .ensures) (w .ensures) (rest-content (r .result .content)) (e .ensures)
 
 pub take-slot-spec : {M : Type 1} → statement M
 take-slot-spec =
@@ -65,9 +73,11 @@ take-slot-spec =
     slot-at-requires
     reaches-requires
     returns
+    locked-requires
+    add-left
     returns-2
     cast-a
     take-write-requires
     enter-requires
-    add-t21
+    add-t20
     returns-3)

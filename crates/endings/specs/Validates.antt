@@ -8,7 +8,7 @@ use mathlib.Core.Option.{Option, none, some}
 use lib.Dec.{eqb}
 use lib.ListN.{getD, set}
 use Rattle.lists.specs.Tests.{pick, both, same, less, same-yes, same-no, less-yes, less-no}
-use Rattle.lists.specs.Rows.{Row, row, keys, has, any, Rising}
+use Rattle.lists.specs.Rows.{Row, keys, has, any, Rising}
 use Rattle.spec.specs.declared.Refusal.{Refusal}
 use Rattle.spec.specs.declared.Refusal.the-variants.{Changed, UnderLock, Phantom, Spent}
 use Rattle.spec.specs.Steps.{Answer, refused, numbered, cause, firstCause}

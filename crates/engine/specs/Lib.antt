@@ -1,1 +1,2 @@
 pub mod Performs
+pub mod Listings

@@ -38,7 +38,7 @@ use Rattle.ranges.specs.ShowLaws.{beyond-refl}
 use Rattle.accesses.specs.Scans.{scanIn, places, Scans}
 use Rattle.endings.specs.Validates.{validateIn}
 use Rattle.transactions.specs.Views.{Logs}
-use Rattle.transactions.specs.Ready.{Ready, Goes}
+use Rattle.transactions.specs.Ready.{Goes}
 
 -- document 01's step, with the lengths of the lent buffers
 abbrev pub stepIn : Op → ℕ → ℕ → Step

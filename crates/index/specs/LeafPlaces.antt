@@ -1,16 +1,15 @@
 -- The place of an address among the lows of the leaves, and one step of the search for it.
 -- Assumes nothing.
-use Prim.Native.Nat.{ℕ, zero, suc, _+_, _-_, _/_, _<_, _≤_, zero-le, suc-le-suc}
-use native.Mathlib.Nat.{le-refl, le-trans, not-suc-le-zero}
+use Prim.Native.Nat.{ℕ, zero, suc, _+_, _-_, _<_, _≤_, zero-le, suc-le-suc}
+use native.Mathlib.Nat.{le-refl, not-suc-le-zero}
 use native.Mathlib.Omega.{arith}
-use mathlib.Core.Path.{_≡_, refl, sym, ap, _∙_, subst}
+use mathlib.Core.Path.{_≡_, sym}
 use mathlib.Core.Logic.{_⊎_, inl, inr, ⊎-elim}
-use mathlib.Core.Bool.{Bool, true, false}
 use mathlib.Core.List.{List, [], _∷_}
 use lib.ListN.{length, take, getD}
 use lib.Seq.{length-take-le, getD-take}
 use Rattle.lists.specs.Tests.{pick, both, less, atMost, cases, less-true, less-false, less-yes, less-no, atMost-true, atMost-false, atMost-yes, atMost-no}
-use Rattle.lists.specs.Ascending.{Ascends, ascends-at, ascends-mem, mem-getD}
+use Rattle.lists.specs.Ascending.{Ascends, ascends-at}
 use Rattle.index.specs.Nearing.{Took}
 
 -- how many of the lows, from the first one on, are not above a

@@ -1,18 +1,16 @@
 -- The leaves that two arrays hold, in parts; the leaf at a place is the leaf of the address that was searched for.
 -- Assumes nothing.
-use Prim.Native.Nat.{ℕ, zero, suc, _+_, _-_, _<_, _≤_, zero-le, suc-le-suc}
-use native.Mathlib.Nat.{le-refl, le-trans, not-suc-le-zero}
+use Prim.Native.Nat.{ℕ, zero, suc, _+_, _-_, _<_, _≤_}
+use native.Mathlib.Nat.{not-suc-le-zero}
 use native.Mathlib.Omega.{arith}
-use mathlib.Core.Path.{_≡_, refl, sym, ap, _∙_, subst}
+use mathlib.Core.Path.{_≡_, refl, sym, ap, _∙_}
 use mathlib.Core.Logic.{_⊎_, ⊎-elim}
-use mathlib.Core.Bool.{Bool, true, false}
 use mathlib.Core.List.{List, [], _∷_, _++_, map}
-use lib.ListN.{length, take, drop, getD, set}
-use lib.Seq.{length-take-le, take-nil, drop-nil}
-use Rattle.lists.specs.Tests.{pick, less, cases}
-use Rattle.spec.specs.Leaves.{Leaf, firstLeaf, Around, aroundFrom, around, leafOf}
+use lib.ListN.{length, take, drop, getD}
+use Rattle.lists.specs.Tests.{less, cases}
+use Rattle.spec.specs.Leaves.{Leaf, firstLeaf, aroundFrom, around, leafOf}
 use Rattle.laws.specs.SettleLaws.{around-own}
-use Rattle.index.specs.Views.{paired, leavesOf}
+use Rattle.index.specs.Views.{paired}
 use Rattle.index.specs.LeafPlaces.{upTo, lowPlace}
 
 -- a leaf of its low and its version

@@ -1,10 +1,10 @@
 -- A search by halving steps whose every look stays below 1,024: the last place is tried first, then steps from 512 on.
 -- Assumes nothing.
-use Prim.Native.Nat.{ℕ, zero, suc, _+_, _/_, _<_, _≤_}
+use Prim.Native.Nat.{ℕ, _+_, _/_, _<_, _≤_}
 use native.Mathlib.Nat.{le-refl}
 use native.Mathlib.Omega.{arith}
-use mathlib.Core.Path.{_≡_, refl, sym, subst}
-use mathlib.Core.Logic.{_⊎_, inl, inr, ⊎-elim}
+use mathlib.Core.Path.{_≡_, sym, subst}
+use mathlib.Core.Logic.{_⊎_, ⊎-elim}
 use Rattle.lists.specs.Halving.{Narrowing, narrow-start, narrow-on, narrow-stay, narrow-end}
 
 -- r is where a step from the base leads in the search for p: on if it does not pass p

@@ -1,21 +1,18 @@
 -- What the records are after rows are written, put in or taken out.
 -- Assumes nothing.
-use Prim.Native.Nat.{ℕ, zero, suc, _+_, _-_, _<_, _≤_, zero-le}
-use native.Mathlib.Nat.{le-refl, le-trans}
+use Prim.Native.Nat.{ℕ, suc, _+_, _-_, _<_, _≤_}
 use native.Mathlib.Omega.{arith}
-use mathlib.Core.Path.{_≡_, refl, sym, ap, _∙_, subst}
-use mathlib.Core.Logic.{_⊎_, ⊎-elim}
-use mathlib.Core.Bool.{Bool, true, false}
-use mathlib.Core.List.{List, [], _∷_, _++_}
+use mathlib.Core.Path.{_≡_, sym, ap, _∙_, subst}
+use mathlib.Core.List.{List, _∷_, _++_}
 use mathlib.Core.Option.{Option, none, some}
 use lib.ListN.{length, take, drop, getD, set, length-append, length-take, length-drop}
 use lib.Seq.{take-set-lt}
-use Rattle.lists.specs.Rows.{Row, row, look, insert, delete, assign, From, Rising}
+use Rattle.lists.specs.Rows.{Row, row, look, assign, Rising}
 use Rattle.lists.specs.RowLaws.{rising-assign}
 use Rattle.lists.specs.Shifts.{moved, put-in, taken-out}
 use Rattle.lists.specs.Places.{place, place-most, Present, Absent, look-present, look-absent, insert-present, insert-absent, delete-present, delete-absent}
 use Rattle.spec.specs.Records.{Record}
-use Rattle.index.specs.Views.{rowFrom, recordFrom, noRow, rowsOf, recordsOf, Held, Holds, AtPlace}
+use Rattle.index.specs.Views.{noRow, rowsOf, recordsOf, Held, Holds, AtPlace}
 use Rattle.index.specs.ViewLaws.{length-rows, length-records, record-read}
 
 -- ---- whether a key stands at its place

@@ -1,15 +1,13 @@
 -- One step of the search among records and among leaves: tried, and taken if the place is not passed by it.
 -- Assumes nothing.
-use Prim.Native.Nat.{ℕ, zero, suc, _+_, _-_, _/_, _<_, _≤_, zero-le}
-use native.Mathlib.Nat.{le-refl, le-trans}
+use Prim.Native.Nat.{ℕ, _+_, _-_, _<_, _≤_}
 use native.Mathlib.Omega.{arith}
-use mathlib.Core.Path.{_≡_, refl, sym, ap, _∙_, subst}
+use mathlib.Core.Path.{_≡_, sym, ap, _∙_}
 use mathlib.Core.Logic.{_⊎_, inl, inr, ⊎-elim}
-use mathlib.Core.Bool.{Bool, true, false}
-use mathlib.Core.List.{List, [], _∷_}
+use mathlib.Core.List.{List}
 use lib.ListN.{length, getD}
-use Rattle.lists.specs.Tests.{pick, both, less, atMost, cases, clash, less-true, less-false, less-yes, less-no, atMost-true, atMost-false, atMost-yes, atMost-no}
-use Rattle.lists.specs.Rows.{Row, From, Rising}
+use Rattle.lists.specs.Tests.{pick, both, less, atMost, cases, less-true, less-false, less-yes, less-no, atMost-true, atMost-false, atMost-yes, atMost-no}
+use Rattle.lists.specs.Rows.{Row, Rising}
 use Rattle.lists.specs.Places.{place, place-most, place-below, place-above}
 use Rattle.spec.specs.Records.{Record}
 use Rattle.index.specs.Views.{noRow, rowsOf, recordsOf}

@@ -1,22 +1,20 @@
 -- The leaves after a merge, as the arrays have them: a leaf kept, cut into runs, or joined to its left neighbour.
 -- Assumes nothing.
-use Prim.Native.Nat.{ℕ, zero, suc, _+_, _*_, _-_, _/_, _^_, _<_, _≤_, zero-le, suc-le-suc}
-use native.Mathlib.Nat.{le-refl, le-trans, not-suc-le-zero}
+use Prim.Native.Nat.{ℕ, suc, _+_, _*_, _-_, _/_, _^_, _<_, _≤_}
+use native.Mathlib.Nat.{not-suc-le-zero}
 use native.Mathlib.Omega.{arith}
-use mathlib.Core.Path.{_≡_, refl, sym, ap, _∙_, subst}
+use mathlib.Core.Path.{_≡_, refl, sym, ap, _∙_}
 use mathlib.Core.Logic.{_⊎_, inl, inr, ⊎-elim}
-use mathlib.Core.Bool.{Bool, true, false}
-use mathlib.Core.List.{List, [], _∷_, _++_, map, append-assoc}
-use lib.ListN.{length, take, drop, getD, set, length-append, length-drop, length-set}
-use lib.Seq.{length-take-le, take-suc, set-split, split-at, set-append-left, getD-take, getD-drop, take-set-lt}
-use Rattle.lists.specs.Rows.{Row, keys}
-use Rattle.lists.specs.Shifts.{tab, tabFrom, tab-cons, tab-same, length-tab, over, moved, spread, taken-out, length-moved}
-use Rattle.spec.specs.Records.{Settings, Record, standard}
-use Rattle.spec.specs.Leaves.{Leaf, firstLeaf, around, freshLeaves, newLows, widened, settled, settle, versionsTaken}
+use mathlib.Core.List.{List, [], _∷_, _++_, append-assoc}
+use lib.ListN.{length, take, drop, getD, set, length-drop, length-set}
+use lib.Seq.{length-take-le, take-suc, set-split, split-at, set-append-left, take-set-lt}
+use Rattle.lists.specs.Shifts.{tab, tabFrom, tab-cons, tab-same, length-tab, over, moved, spread, taken-out}
+use Rattle.spec.specs.Records.{Settings, standard}
+use Rattle.spec.specs.Leaves.{Leaf, around, freshLeaves, newLows, widened, settled, settle, versionsTaken}
 use Rattle.laws.specs.LeafCuts.{taken-some}
 use Rattle.laws.specs.StandardCuts.{whole-lows, whole-taken, cut-lows, cut-taken}
 use Rattle.index.specs.Views.{noRow, rowsOf, keysBetween, paired, leavesOf}
-use Rattle.index.specs.ViewLaws.{length-rows, length-between, between-read}
+use Rattle.index.specs.ViewLaws.{length-between, between-read}
 use Rattle.index.specs.LeafPlaces.{AtLeaf, lowPlace}
 use Rattle.index.specs.LeafViews.{leaf, paired-append, paired-take, paired-drop, paired-length, paired-getD, paired-lows, Parted, parted}
 

@@ -1,20 +1,17 @@
 -- Laws of the views: a row that is stored, the first rows, leaves in parts.
 -- Assumes nothing.
-use Prim.Native.Nat.{ℕ, zero, suc, _+_, _*_, _-_, _<_, _≤_, zero-le}
-use native.Mathlib.Nat.{le-refl, le-trans, not-suc-le-zero}
+use Prim.Native.Nat.{ℕ, zero, suc, _+_, _*_, _-_, _<_, _≤_}
 use native.Mathlib.Omega.{arith}
-use mathlib.Core.Path.{_≡_, refl, sym, ap, _∙_, subst}
+use mathlib.Core.Path.{_≡_, refl, sym, ap, _∙_}
 use mathlib.Core.Logic.{_⊎_, ⊎-elim}
-use mathlib.Core.Bool.{Bool, true, false}
-use mathlib.Core.List.{List, [], _∷_, _++_}
+use mathlib.Core.List.{List, [], _∷_}
 use lib.ListN.{length, take, drop, getD, set, length-set, length-drop}
 use lib.Seq.{getD-set-same, getD-set-other, ext-getD, length-take-le, getD-take, getD-drop}
 use Rattle.lists.specs.Tests.{same, cases, same-true, same-false}
 use Rattle.lists.specs.Rows.{Row, keys}
 use Rattle.lists.specs.RowLaws.{length-keys}
-use Rattle.lists.specs.Shifts.{tab, length-tab, getD-tab}
+use Rattle.lists.specs.Shifts.{length-tab, getD-tab}
 use Rattle.spec.specs.Records.{Record}
-use Rattle.spec.specs.Leaves.{Leaf}
 use Rattle.index.specs.Views.{rowFrom, noRow, rowAt, rowsOf, recordsOf, keysBetween}
 
 -- ---- rows

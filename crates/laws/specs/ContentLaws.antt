@@ -1,18 +1,16 @@
 -- The present contents have at each address its current record, and what a scan logs is the index addresses of its
 -- range, each with its current record.
 -- Assumes nothing.
-use Prim.Native.Nat.{ℕ, zero, suc, _<_, _≤_}
-use mathlib.Core.Path.{_≡_, refl, sym, ap, _∙_, subst}
-use mathlib.Core.Logic.{_⊎_, inl, inr, ⊎-elim}
-use mathlib.Core.Bool.{Bool, true, false, not}
-use mathlib.Core.List.{List, [], _∷_, _++_, map}
+use Prim.Native.Nat.{ℕ}
+use mathlib.Core.Path.{_≡_, refl, sym, ap, _∙_}
+use mathlib.Core.Logic.{_⊎_, ⊎-elim}
+use mathlib.Core.List.{List, [], _∷_, map}
 use mathlib.Core.Option.{Option, none, some, Option·getD, Option·map}
-use lib.ListN.{length}
-use Rattle.lists.specs.Tests.{pick, both, maybe, present, same, within, cases, clash, same-true, same-false, same-refl, same-yes, same-no}
-use Rattle.lists.specs.Rows.{Row, row, look, lay, between, keys, has, Rising, Different}
+use Rattle.lists.specs.Tests.{pick, both, maybe, present, same, within, cases, clash, same-true, same-false}
+use Rattle.lists.specs.Rows.{Row, row, look, between, keys, Rising, Different}
 use Rattle.lists.specs.RowLaws.{has-keys, look-here, look-there, look-nil, look-lay, look-between, rising-lay}
 use Rattle.spec.specs.Records.{Record}
-use Rattle.spec.specs.Slots.{Pending, Content, idle, Slot, entries, contentOf}
+use Rattle.spec.specs.Slots.{Pending, Content, idle, entries, contentOf}
 use Rattle.spec.specs.Maps.{MapState, outcomeOf, current, pendingRows, contents, indexedBetween}
 use Rattle.laws.specs.SlotCounts.{Good}
 use Rattle.laws.specs.SlotLaws.{keys-differ}

@@ -1,18 +1,17 @@
 -- Any count over the entries changes, when something is said of one address, by that address's own terms.
 -- Assumes nothing.
-use Prim.Native.Nat.{ℕ, zero, suc, _+_, _<_, _≤_}
+use Prim.Native.Nat.{ℕ, _+_}
 use native.Mathlib.Omega.{arith}
-use mathlib.Core.Path.{_≡_, refl, sym, ap, _∙_, subst}
-use mathlib.Core.Logic.{_⊎_, inl, inr, ⊎-elim}
-use mathlib.Core.Bool.{Bool, true, false, not}
-use mathlib.Core.List.{List, [], _∷_, List·Memᴰ}
+use mathlib.Core.Path.{_≡_, refl, sym, ap, _∙_}
+use mathlib.Core.Logic.{_⊎_, ⊎-elim}
+use mathlib.Core.Bool.{Bool, true, false}
+use mathlib.Core.List.{List}
 use mathlib.Core.Option.{Option, none, some, Option·getD}
-use lib.ListN.{length}
-use Rattle.lists.specs.Tests.{pick, both, maybe, present, same, cases, clash, same-true, same-false, same-refl}
+use Rattle.lists.specs.Tests.{pick, same, cases, same-true, same-false, same-refl}
 use Rattle.lists.specs.Rows.{Row, row, look}
 use Rattle.spec.specs.Slots.{Content, idle, isIdle, Slot, entries, contentOf, enter}
-use Rattle.laws.specs.SlotCounts.{Good, entryAt, tally, count, keyed, look-absent, slot-member}
-use Rattle.laws.specs.SlotChanges.{Changed, changed-tally, kept, Entered}
+use Rattle.laws.specs.SlotCounts.{Good, entryAt, count, keyed, look-absent, slot-member}
+use Rattle.laws.specs.SlotChanges.{changed-tally, kept, Entered}
 use Rattle.laws.specs.Entering.{Room, Entering, entering}
 use Rattle.laws.specs.SlotLaws.{member-content}
 

@@ -1,18 +1,18 @@
 -- The cut rule: how many runs there are, that each run gets an address, and the leaves that are made of them.
 -- Assumes nothing.
-use Prim.Native.Nat.{ℕ, zero, suc, _+_, _*_, _-_, _<_, _≤_, zero-le, suc-le-suc}
-use native.Mathlib.Nat.{le-refl, le-trans, le-step, not-suc-le-zero, suc-mul, zero-mul}
+use Prim.Native.Nat.{ℕ, zero, suc, _+_, _*_, _-_, _<_, _≤_, zero-le}
+use native.Mathlib.Nat.{le-refl, not-suc-le-zero, suc-mul, zero-mul}
 use native.Mathlib.Omega.{arith}
-use mathlib.Core.Path.{_≡_, refl, sym, ap, _∙_, subst}
-use mathlib.Core.Logic.{_⊎_, inl, inr, ⊎-elim}
-use mathlib.Core.Bool.{Bool, true, false}
-use mathlib.Core.List.{List, [], _∷_, _++_, List·Memᴰ, List·Memᴰ·head, List·Memᴰ·tail}
+use mathlib.Core.Path.{_≡_, refl, sym, ap, subst}
+use mathlib.Core.Logic.{_⊎_, ⊎-elim}
+use mathlib.Core.Bool.{true}
+use mathlib.Core.List.{List, [], _∷_, _++_, List·Memᴰ}
 use lib.ListN.{length, drop, getD, length-drop}
-use Rattle.lists.specs.Tests.{pick, less, atMost, cases, clash, less-true, less-false, less-yes, less-no, atMost-yes, atMost-true}
+use Rattle.lists.specs.Tests.{less, atMost, cases, clash, less-false, less-yes, less-no, atMost-yes}
 use Rattle.lists.specs.Ascending.{Ascends, ascends-at, ascends-drop, ascends-mem, mem-getD, mem-drop}
 use Rattle.spec.specs.Records.{Settings, standard}
 use Rattle.spec.specs.Leaves.{Leaf, leafFrom, live, runs, cuts, starts, newLows, freshLeaves, versionsTaken}
-use Rattle.laws.specs.LeafParts.{LowsFrom, Above, Apart, live-nil, live-head, live-later, live-cons, not-live, lows-weaken}
+use Rattle.laws.specs.LeafParts.{LowsFrom, Above, Apart, live-nil, live-cons, not-live, lows-weaken}
 
 -- Settings under which a cut leaves no run without an address.
 pub record GoodCut (s : Settings) : Type 0 where

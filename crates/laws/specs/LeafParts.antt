@@ -1,15 +1,15 @@
 -- Leaves in parts: rising lows, versions that differ, and which part of a list holds the leaf of an address.
 -- Assumes nothing.
-use Prim.Native.Nat.{ℕ, zero, suc, _+_, _<_, _≤_, zero-le, suc-le-suc}
-use native.Mathlib.Nat.{le-refl, le-trans, le-step, not-suc-le-zero}
+use Prim.Native.Nat.{ℕ, suc, _+_, _<_, _≤_}
+use native.Mathlib.Nat.{le-refl, le-trans}
 use native.Mathlib.Omega.{arith}
-use mathlib.Core.Path.{_≡_, refl, sym, ap, _∙_, subst}
+use mathlib.Core.Path.{_≡_, refl, sym, ap, _∙_}
 use mathlib.Core.Logic.{_⊎_, inl, inr, ⊎-elim}
-use mathlib.Core.Bool.{Bool, true, false}
-use mathlib.Core.List.{List, [], _∷_, _++_, append-assoc, append-nil}
-use Rattle.lists.specs.Tests.{pick, same, less, cases, clash, same-true, same-yes, same-refl, less-true, less-false, less-yes, less-no}
+use mathlib.Core.Bool.{true, false}
+use mathlib.Core.List.{List, [], _∷_, _++_, append-nil}
+use Rattle.lists.specs.Tests.{pick, same, less, cases, clash, same-true, same-yes, less-true, less-false, less-yes, less-no}
 use Rattle.lists.specs.Rows.{any}
-use Rattle.spec.specs.Leaves.{Leaf, firstLeaf, leafFrom, leafOf, versionAt, live}
+use Rattle.spec.specs.Leaves.{Leaf, leafFrom, leafOf, live}
 
 -- ---- lows
 

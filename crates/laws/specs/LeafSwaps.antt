@@ -1,14 +1,13 @@
 -- Some leaves in a row replaced by fresh ones that start at the same address: the leaves stay good, every address keeps
 -- its version or gets a fresh one. Everything that a merge does to leaves is such a swap.
 -- Assumes nothing.
-use Prim.Native.Nat.{ℕ, zero, suc, _+_, _<_, _≤_, zero-le, suc-le-suc}
-use native.Mathlib.Nat.{le-refl, le-trans}
+use Prim.Native.Nat.{ℕ, _+_, _<_, _≤_}
 use native.Mathlib.Omega.{arith}
-use mathlib.Core.Path.{_≡_, refl, sym, ap, _∙_, subst}
-use mathlib.Core.Logic.{_⊎_, inl, inr, ⊎-elim}
+use mathlib.Core.Path.{_≡_, sym, ap, _∙_, subst}
+use mathlib.Core.Logic.{_⊎_, ⊎-elim}
 use mathlib.Core.Bool.{Bool, true, false}
 use mathlib.Core.List.{List, [], _∷_, _++_}
-use Rattle.lists.specs.Tests.{cases, clash}
+use Rattle.lists.specs.Tests.{clash}
 use Rattle.spec.specs.Leaves.{Leaf, leafFrom, leafOf, versionAt, live}
 use Rattle.laws.specs.LeafParts.{LowsFrom, Covers, Above, Reached, Apart, Side, below, inside, beyond, sideOf, lows-exchange, live-left, live-right, live-parts, not-live, apart-left, apart-right, apart-cross, apart-join, leaf-live, leaf-below, leaf-from, leaf-inside, leaf-beyond}
 use Rattle.laws.specs.LeafVersions.{GoodLeaves}

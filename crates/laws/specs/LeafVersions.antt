@@ -1,14 +1,14 @@
 -- The laws of leaves: every address has one, no two versions are the same, what a scan's range meets.
 -- Assumes nothing.
-use Prim.Native.Nat.{ℕ, zero, suc, _+_, _<_, _≤_, zero-le, suc-le-suc}
-use native.Mathlib.Nat.{le-refl, le-trans, le-step, not-suc-le-zero}
+use Prim.Native.Nat.{ℕ, suc, _+_, _<_, _≤_, zero-le}
+use native.Mathlib.Nat.{le-refl}
 use native.Mathlib.Omega.{arith}
 use mathlib.Core.Path.{_≡_, refl, sym, ap, _∙_, subst}
 use mathlib.Core.Logic.{_⊎_, inl, inr, ⊎-elim}
-use mathlib.Core.Bool.{Bool, true, false}
-use mathlib.Core.List.{List, [], _∷_, _++_, map, append-assoc, append-nil, List·Memᴰ, List·Memᴰ·head, List·Memᴰ·tail, Memᴰ·map, Memᴰ·of-map}
-use Rattle.lists.specs.Tests.{pick, both, same, less, atMost, cases, clash, same-true, less-true, less-false, less-yes, less-no, atMost-yes}
-use Rattle.lists.specs.Rows.{any, filter}
+use mathlib.Core.Bool.{true}
+use mathlib.Core.List.{List, [], _∷_, _++_, List·Memᴰ, List·Memᴰ·head, List·Memᴰ·tail, Memᴰ·map, Memᴰ·of-map}
+use Rattle.lists.specs.Tests.{less, cases, clash, less-true, less-false, less-yes, atMost-yes}
+use Rattle.lists.specs.Rows.{filter}
 use Rattle.lists.specs.Ascending.{filter-mem, mem-filter}
 use Rattle.spec.specs.Leaves.{Leaf, firstLeaf, leafFrom, leafOf, versionAt, live, startsIn, meeting}
 use Rattle.laws.specs.LeafParts.{LowsFrom, Covers, Above, Apart, live-nil, live-head, live-later, live-cons, leaf-live, leaf-from, leaf-inside, lows-right}

@@ -1,21 +1,21 @@
 -- What the four changes of a map do, address by address: lock, unlock, install, and the first part of a merge, in which
 -- pending writes enter the index. Each keeps the slots good.
 -- Assumes nothing.
-use Prim.Native.Nat.{ℕ, zero, suc, _<_, _≤_}
-use native.Mathlib.Nat.{le-refl, le-trans, le-of-eq, lt-of-le-of-lt}
+use Prim.Native.Nat.{ℕ, _<_, _≤_}
+use native.Mathlib.Nat.{le-trans, le-of-eq, lt-of-le-of-lt}
 use mathlib.Core.Path.{_≡_, refl, sym, ap, _∙_, subst}
 use mathlib.Core.Logic.{_⊎_, inl, inr, ⊎-elim}
 use mathlib.Core.Bool.{Bool, true, false, not}
-use mathlib.Core.List.{List, [], _∷_, _++_, List·Memᴰ, List·Memᴰ·head, List·Memᴰ·tail}
-use mathlib.Core.Option.{Option, none, some, Option·getD}
+use mathlib.Core.List.{List, [], _∷_, _++_}
+use mathlib.Core.Option.{Option, none, some}
 use lib.ListN.{length}
-use Rattle.lists.specs.Tests.{pick, both, either, maybe, present, same, cases, clash, same-true, same-false, same-refl, same-yes, same-no}
-use Rattle.lists.specs.Rows.{Row, row, look, assign, lay, keys, has, distinct, Rising, Different}
-use Rattle.lists.specs.RowLaws.{has-keys, length-keys, look-assign, look-here, look-there, look-nil, look-lay, rising-assign, rising-lay, some-not-none}
+use Rattle.lists.specs.Tests.{pick, both, either, maybe, present, same, cases, clash, same-true, same-false, same-yes, same-no}
+use Rattle.lists.specs.Rows.{Row, look, keys, has, distinct, Different}
+use Rattle.lists.specs.RowLaws.{has-keys, length-keys, look-here, look-there}
 use Rattle.lists.specs.Counting.{has-nil, has-cons, has-append, Within, distinct-within, different-within}
-use Rattle.spec.specs.Records.{Settings, Record, Write}
+use Rattle.spec.specs.Records.{Settings, Write}
 use Rattle.spec.specs.Slots.{Pending, Content, idle, isIdle, Slot, slotCount, entries, contentOf, enter}
-use Rattle.spec.specs.Maps.{MapState, outcomeOf, current, pendingRows, contents, lockKey, unlockKey, installRow, each, withSlots, lockAll, unlockAll, installAll, mergeEntry}
+use Rattle.spec.specs.Maps.{MapState, lockKey, unlockKey, installRow, each, withSlots, lockAll, unlockAll, installAll}
 use Rattle.laws.specs.SlotCounts.{Good}
 use Rattle.laws.specs.SlotLaws.{Room, goes, stands, fits, enter-good, content-enter, present-content, keys-differ}
 

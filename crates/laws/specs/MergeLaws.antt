@@ -1,25 +1,24 @@
 -- What a merge does, address by address. It alters no current record and no lock; of each address it keeps leaf version
 -- and index entry, or the old version is live no more.
 -- Assumes nothing.
-use Prim.Native.Nat.{ℕ, zero, suc, _+_, _<_, _≤_}
-use native.Mathlib.Nat.{le-refl, le-trans, le-of-eq, le-add-right}
+use Prim.Native.Nat.{ℕ, _<_, _≤_}
+use native.Mathlib.Nat.{le-refl, le-add-right}
 use mathlib.Core.Path.{_≡_, refl, sym, ap, _∙_, subst}
-use mathlib.Core.Logic.{_⊎_, inl, inr, ⊎-elim}
-use mathlib.Core.Bool.{Bool, true, false, not}
-use mathlib.Core.List.{List, [], _∷_, _++_, List·Memᴰ, List·Memᴰ·head, List·Memᴰ·tail}
-use mathlib.Core.Option.{Option, none, some, Option·getD}
-use lib.ListN.{length}
-use Rattle.lists.specs.Tests.{pick, both, either, maybe, present, same, cases, clash, same-true, same-false, same-refl, same-yes, same-no}
-use Rattle.lists.specs.Rows.{Row, row, look, assign, lay, keys, has, any, filter, distinct, Rising, Different}
-use Rattle.lists.specs.RowLaws.{has-keys, look-assign, look-here, look-there, look-nil, look-lay, rising-assign, rising-lay, some-not-none}
-use Rattle.lists.specs.Counting.{has-nil, has-cons, has-append, Within}
-use Rattle.spec.specs.Records.{Settings, Record, Write}
+use mathlib.Core.Logic.{_⊎_, ⊎-elim}
+use mathlib.Core.Bool.{Bool, true, false}
+use mathlib.Core.List.{List, [], _∷_}
+use mathlib.Core.Option.{Option, none}
+use Rattle.lists.specs.Tests.{pick, both, maybe, present, same, cases, clash, same-true, same-false, same-yes, same-no}
+use Rattle.lists.specs.Rows.{Row, look, keys, has, filter, Rising}
+use Rattle.lists.specs.RowLaws.{look-assign, rising-assign}
+use Rattle.lists.specs.Counting.{has-nil, has-cons}
+use Rattle.spec.specs.Records.{Settings, Record}
 use Rattle.spec.specs.Leaves.{Leaf, versionAt, settle, versionsTaken}
-use Rattle.spec.specs.Slots.{Pending, Content, idle, isIdle, Slot, entries, contentOf, enter}
+use Rattle.spec.specs.Slots.{Pending, Content, isIdle, entries, contentOf}
 use Rattle.spec.specs.Maps.{MapState, outcomeOf, current, each, mergesAt, merging, mergeEntry, recordsIn, Merged, settleMap, mergeAll, mergeAt}
 use Rattle.laws.specs.SlotCounts.{Good}
-use Rattle.laws.specs.SlotLaws.{Room, enter-good, content-enter, present-content}
-use Rattle.laws.specs.MapLaws.{idle-holder, idle-pending, room-old, has-entry, entries-after}
+use Rattle.laws.specs.SlotLaws.{Room, enter-good, content-enter}
+use Rattle.laws.specs.MapLaws.{idle-holder, room-old}
 use Rattle.laws.specs.LeafLaws.{GoodLeaves}
 use Rattle.laws.specs.LeafCuts.{GoodCut}
 use Rattle.laws.specs.LeafSwaps.{Kept}

@@ -1,20 +1,20 @@
 -- The leaves after a merge: they are a swap, so they stay good, and every address keeps its version or gets a fresh one.
 -- Assumes nothing.
-use Prim.Native.Nat.{ℕ, zero, suc, _+_, _<_, _≤_, zero-le, suc-le-suc}
-use native.Mathlib.Nat.{le-refl, le-trans}
+use Prim.Native.Nat.{ℕ, suc, _+_, _<_, _≤_}
+use native.Mathlib.Nat.{le-refl}
 use native.Mathlib.Omega.{arith}
 use mathlib.Core.Path.{_≡_, refl, sym, ap, _∙_, subst}
-use mathlib.Core.Logic.{_⊎_, inl, inr, ⊎-elim}
-use mathlib.Core.Bool.{Bool, true, false}
-use mathlib.Core.List.{List, [], _∷_, _++_, append-assoc, tail, List·Memᴰ, List·Memᴰ·head, List·Memᴰ·tail, List·Memᴰ·not-nil}
+use mathlib.Core.Logic.{_⊎_, ⊎-elim}
+use mathlib.Core.Bool.{Bool, true}
+use mathlib.Core.List.{List, [], _∷_, _++_, append-assoc, tail, List·Memᴰ, List·Memᴰ·head, List·Memᴰ·not-nil}
 use lib.ListN.{length}
-use Rattle.lists.specs.Tests.{pick, same, less, cases, clash, same-true, same-yes}
+use Rattle.lists.specs.Tests.{same, less, cases, clash, same-true}
 use Rattle.lists.specs.Rows.{Row, Rising, keys, filter}
 use Rattle.lists.specs.Ascending.{Ascends, rising-keys, rising-filter, mem-filter, mem-keys}
 use Rattle.spec.specs.Records.{Settings}
-use Rattle.spec.specs.Leaves.{Leaf, firstLeaf, leafFrom, leafOf, versionAt, live, cuts, starts, newLows, freshLeaves, Around, aroundFrom, around, widened, settled, settle, versionsTaken}
-use Rattle.laws.specs.LeafParts.{LowsFrom, Covers, Above, Apart, live-nil, live-head, live-later, live-cons, live-left, live-right, live-parts, not-live, apart-right, lows-right, lows-weaken}
-use Rattle.laws.specs.LeafCuts.{GoodCut, starts-none, cuts-fit, fresh-holds, taken-some, lows-taken, taken-none, fresh-versions, fresh-apart, fresh-rise}
+use Rattle.spec.specs.Leaves.{Leaf, leafFrom, leafOf, versionAt, live, cuts, starts, newLows, freshLeaves, Around, aroundFrom, around, widened, settled, settle, versionsTaken}
+use Rattle.laws.specs.LeafParts.{LowsFrom, Covers, Above, Apart, live-nil, live-head, live-later, live-cons, live-left, live-right, live-parts, apart-right, lows-right, lows-weaken}
+use Rattle.laws.specs.LeafCuts.{GoodCut, starts-none, cuts-fit, fresh-holds, taken-some, lows-taken, fresh-versions, fresh-apart, fresh-rise}
 use Rattle.laws.specs.LeafVersions.{GoodLeaves, version-old}
 use Rattle.laws.specs.LeafSwaps.{Swap, Kept, gone-side, new-inside, swap-good, swap-renews, swap-keeps}
 

@@ -1,23 +1,21 @@
 -- A logged leaf version was given: it is not above the last one. Every step keeps this.
 -- Assumes nothing.
-use Prim.Native.Nat.{ℕ, zero, suc, _<_, _≤_}
-use native.Mathlib.Nat.{le-refl, le-trans}
-use mathlib.Core.Path.{_≡_, refl, sym, ap, _∙_, subst}
+use Prim.Native.Nat.{ℕ, _≤_}
+use native.Mathlib.Nat.{le-trans}
+use mathlib.Core.Path.{sym, subst}
 use mathlib.Core.Logic.{_⊎_, ⊎-elim}
 use mathlib.Core.Bool.{Bool, true, false}
-use mathlib.Core.List.{List, [], _∷_, _++_, List·Memᴰ, List·Memᴰ·not-nil, List·Memᴰ·append-cases}
+use mathlib.Core.List.{List, [], _++_, List·Memᴰ, List·Memᴰ·not-nil, List·Memᴰ·append-cases}
 use mathlib.Core.Option.{Option, none, some}
-use lib.ListN.{length, getD, set, replicate, List·getD-eq-default}
+use lib.ListN.{length, getD, set}
 use lib.Seq.{set-out}
 use Rattle.lists.specs.Tests.{pick, maybe, same, less, cases, same-true, same-false, less-true, less-false}
 use Rattle.spec.specs.declared.Refusal.{Refusal}
 use Rattle.spec.specs.Refusals.{ends}
 use Rattle.spec.specs.Records.{Settings}
-use Rattle.spec.specs.Leaves.{meeting}
-use Rattle.spec.specs.Maps.{mergeAt}
 use Rattle.spec.specs.Steps.{Worker, freeWorker, State, fresh, workerOf, Step, begin, read, scan, put, remove, lock, validate, install, abort, merge, workerIn, scanVersions, refusal, withWorker, withMap, withCounters, atStage, logged, writing, checkedAs, dropped, merged, effect, afterRefusal, next}
 use Rattle.laws.specs.LeafVersions.{meeting-old}
-use Rattle.laws.specs.MergeLaws.{Merges, merges}
+use Rattle.laws.specs.MergeLaws.{merges}
 use Rattle.laws.specs.WorkerLaws.{set-same, set-other, worker-fresh}
 use Rattle.limits.specs.Invariant.{Kept}
 

@@ -1,13 +1,13 @@
 -- How many different numbers stand in a list: at most as many as in a list that has them all.
 -- Assumes nothing.
-use Prim.Native.Nat.{ℕ, zero, suc, _+_, _<_, _≤_, zero-le, suc-le-suc}
-use native.Mathlib.Nat.{le-refl, le-trans, le-step, le-of-eq}
-use mathlib.Core.Path.{_≡_, refl, sym, ap, _∙_, subst}
-use mathlib.Core.Logic.{_⊎_, inl, inr, ⊎-elim}
-use mathlib.Core.Bool.{Bool, true, false, not}
+use Prim.Native.Nat.{ℕ, suc, _+_, _≤_, zero-le, suc-le-suc}
+use native.Mathlib.Nat.{le-trans, le-of-eq}
+use mathlib.Core.Path.{_≡_, refl, sym, ap, _∙_}
+use mathlib.Core.Logic.{_⊎_, ⊎-elim}
+use mathlib.Core.Bool.{Bool, true, false}
 use mathlib.Core.List.{List, [], _∷_, _++_}
 use lib.ListN.{length}
-use Rattle.lists.specs.Tests.{pick, both, either, same, cases, clash, same-true, same-false, same-yes, same-no, same-refl}
+use Rattle.lists.specs.Tests.{pick, either, same, cases, clash, same-true, same-false, same-no, same-refl}
 use Rattle.lists.specs.Rows.{any, has, distinct, Different}
 
 pub has-nil : (k : ℕ) → has k [] ≡ false

@@ -1,16 +1,15 @@
 -- The place of a key among rising rows, and what look-up, insertion and deletion do there.
 -- Assumes nothing.
 use Prim.Native.Nat.{ℕ, zero, suc, _+_, _-_, _<_, _≤_, zero-le, suc-le-suc}
-use native.Mathlib.Nat.{le-refl, le-trans, le-step, not-suc-le-zero}
+use native.Mathlib.Nat.{le-refl, not-suc-le-zero}
 use native.Mathlib.Omega.{arith}
-use mathlib.Core.Path.{_≡_, refl, sym, ap, _∙_, subst}
-use mathlib.Core.Logic.{_⊎_, inl, inr, ⊎-elim}
-use mathlib.Core.Bool.{Bool, true, false}
+use mathlib.Core.Path.{_≡_, refl, sym, ap}
+use mathlib.Core.Logic.{_⊎_, ⊎-elim}
 use mathlib.Core.List.{List, [], _∷_, _++_}
-use mathlib.Core.Option.{Option, none, some}
+use mathlib.Core.Option.{none, some}
 use lib.ListN.{length, take, drop, getD, set}
-use Rattle.lists.specs.Tests.{pick, same, less, cases, clash, same-true, same-false, same-yes, same-no, less-true, less-false, less-yes, less-no}
-use Rattle.lists.specs.Rows.{Row, row, look, insert, delete, From, Rising}
+use Rattle.lists.specs.Tests.{pick, same, less, cases, same-true, same-false, same-yes, same-no, less-true, less-false, less-yes, less-no}
+use Rattle.lists.specs.Rows.{Row, row, look, insert, delete, From}
 use Rattle.lists.specs.RowLaws.{look-low}
 
 module _ {A : Type 0} where

@@ -1,17 +1,15 @@
 -- The rows of a range of keys stand together: from the place of its low end up to the first key above its high end.
 -- Assumes nothing.
 use Prim.Native.Nat.{ℕ, zero, suc, _<_, _≤_}
-use native.Mathlib.Nat.{le-refl, le-trans, le-step}
+use native.Mathlib.Nat.{le-refl}
 use native.Mathlib.Omega.{arith}
 use mathlib.Core.Path.{_≡_, refl, sym, ap, _∙_}
 use mathlib.Core.Logic.{_⊎_, ⊎-elim}
-use mathlib.Core.Bool.{Bool, true, false}
 use mathlib.Core.List.{List, [], _∷_}
 use lib.ListN.{length, drop, getD}
 use lib.Seq.{drop-cons}
-use Rattle.lists.specs.Tests.{pick, both, less, atMost, within, cases, less-true, less-false, less-yes, less-no, atMost-true, atMost-false, atMost-yes, atMost-no}
+use Rattle.lists.specs.Tests.{pick, less, atMost, within, cases, less-true, less-false, less-no, atMost-true, atMost-false, atMost-yes, atMost-no}
 use Rattle.lists.specs.Rows.{Row, between, From, Rising, filter}
-use Rattle.lists.specs.RowLaws.{from-weaken}
 use Rattle.lists.specs.Places.{place}
 
 module _ {A : Type 0} where

@@ -1,17 +1,17 @@
 -- The laws of rows: what a look-up finds after each change, that keys go on rising, and that two lists of rows with
 -- rising keys are equal if every look-up finds the same in both.
 -- Assumes nothing.
-use Prim.Native.Nat.{ℕ, zero, suc, _<_, _≤_, zero-le, suc-le-suc}
-use native.Mathlib.Nat.{le-refl, le-trans, le-step, not-suc-le-zero}
+use Prim.Native.Nat.{ℕ, suc, _<_, _≤_, zero-le}
+use native.Mathlib.Nat.{le-refl, le-trans, le-step}
 use native.Mathlib.Omega.{arith}
 use mathlib.Core.Path.{_≡_, refl, sym, ap, _∙_, subst}
-use mathlib.Core.Logic.{_⊎_, inl, inr, ⊎-elim}
-use mathlib.Core.Bool.{Bool, true, false, not}
-use mathlib.Core.List.{List, [], _∷_, _++_, List·Memᴰ, List·Memᴰ·head, List·Memᴰ·tail}
+use mathlib.Core.Logic.{_⊎_, ⊎-elim}
+use mathlib.Core.Bool.{Bool, true, false}
+use mathlib.Core.List.{List, [], _∷_, List·Memᴰ, List·Memᴰ·head, List·Memᴰ·tail}
 use mathlib.Core.Option.{Option, none, some, Option·getD, Option·map}
 use lib.ListN.{length}
-use Rattle.lists.specs.Tests.{pick, both, maybe, present, same, less, atMost, within, cases, clash, same-true, same-false, same-yes, same-no, same-refl, less-true, less-false, less-yes, less-no}
-use Rattle.lists.specs.Rows.{Row, row, look, insert, delete, assign, lay, between, keys, From, Rising, mapItems, any, filter, has, distinct, Different}
+use Rattle.lists.specs.Tests.{pick, present, same, less, within, cases, clash, same-true, same-false, same-yes, same-no, less-true, less-false}
+use Rattle.lists.specs.Rows.{Row, row, look, insert, delete, assign, lay, between, keys, From, Rising, mapItems, any, has, Different}
 
 pub some-not-none : {A : Type 0} {a : A} → some a ≡ none → ⊥
 some-not-none {a = a} e = let z : _≡_ {A = ℕ} 0 1 = cc in omega arith

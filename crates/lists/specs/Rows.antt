@@ -1,11 +1,11 @@
 -- Rows: lists of a key and an item. Look-up, writing and dropping by key, overlay, range; rising keys; when two are equal.
 -- Assumes nothing.
-use Prim.Native.Nat.{ℕ, suc, _<_, _≤_}
-use mathlib.Core.Path.{_≡_, refl, sym, ap, _∙_, subst}
-use mathlib.Core.Bool.{Bool, true, false, not}
-use mathlib.Core.List.{List, [], _∷_, _++_, map}
-use mathlib.Core.Option.{Option, none, some, Option·getD}
-use Rattle.lists.specs.Tests.{pick, both, same, less, atMost, within}
+use Prim.Native.Nat.{ℕ, suc, _≤_}
+use mathlib.Core.Path.{_≡_}
+use mathlib.Core.Bool.{Bool, true, false}
+use mathlib.Core.List.{List, [], _∷_}
+use mathlib.Core.Option.{Option, none, some}
+use Rattle.lists.specs.Tests.{pick, same, less, within}
 
 pub record Row (A : Type 0) : Type 0 where
   pub key : ℕ

@@ -1,12 +1,12 @@
 -- A list with a part of it overwritten: what a loop of stores leaves that shifts elements or fills places in a row.
 -- Assumes nothing.
-use Prim.Native.Nat.{ℕ, zero, suc, _+_, _-_, _<_, _≤_, zero-le, suc-le-suc, min}
-use native.Mathlib.Nat.{le-refl, le-trans, not-suc-le-zero, add-zero, zero-add, add-suc}
+use Prim.Native.Nat.{ℕ, zero, suc, _+_, _-_, _<_, _≤_, zero-le}
+use native.Mathlib.Nat.{le-refl, not-suc-le-zero, add-zero, zero-add}
 use native.Mathlib.Omega.{arith}
-use mathlib.Core.Path.{_≡_, refl, sym, ap, _∙_, subst}
+use mathlib.Core.Path.{_≡_, refl, sym, ap, _∙_}
 use mathlib.Core.List.{List, [], _∷_, _++_, append-assoc}
 use lib.ListN.{length, take, drop, getD, set, length-append, length-take, length-drop, List·getD-append}
-use lib.Seq.{length-take-le, take-suc, drop-cons, getD-drop, getD-take, take-at, drop-at, set-at, drop-drop, take-take, getD-append-add, take-append-le, take-append-add, split-at, take-nil}
+use lib.Seq.{length-take-le, take-suc, drop-cons, getD-drop, getD-take, take-at, drop-at, set-at, take-take, take-append-le, take-nil}
 
 module _ {A : Type 0} where
   -- xs with ys from place `at` on

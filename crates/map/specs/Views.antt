@@ -4,9 +4,7 @@ use Prim.Native.Nat.{ℕ, zero, suc, _+_, _*_}
 use mathlib.Core.List.{List, [], _∷_}
 use lib.ListN.{getD}
 use Rattle.lists.specs.Rows.{Row, row}
-use Rattle.spec.specs.Records.{Record, Write, written, deleted}
-use Rattle.spec.specs.Leaves.{Leaf}
-use Rattle.spec.specs.Slots.{Slot}
+use Rattle.spec.specs.Records.{Write, written, deleted}
 use Rattle.spec.specs.Maps.{MapState}
 use Rattle.indexlet.specs.Words.{slotsOf}
 use Rattle.index.specs.Views.{recordsOf, leavesOf}

@@ -2,17 +2,15 @@
 -- lacks, and how many pending writes lie in it. A leaf hides a key from worker w exactly if the first number exceeds the
 -- count of entries there that say nothing but a lock of w's own.
 -- Assumes nothing.
-use Prim.Native.Nat.{ℕ, zero, suc, _+_, _<_, _≤_}
-use native.Mathlib.Omega.{arith}
-use mathlib.Core.Path.{_≡_, refl, sym, ap, _∙_, subst}
-use mathlib.Core.Logic.{_⊎_, inl, inr, ⊎-elim}
+use Prim.Native.Nat.{ℕ, _+_, _<_}
+use mathlib.Core.Path.{_≡_, refl}
 use mathlib.Core.Bool.{Bool, true, false, not}
-use mathlib.Core.List.{List, [], _∷_}
+use mathlib.Core.List.{List}
 use mathlib.Core.Option.{Option, none, some}
 use lib.ListN.{length, getD}
-use Rattle.lists.specs.Tests.{pick, both, present, same, cases, clash}
+use Rattle.lists.specs.Tests.{pick, both, present, same}
 use Rattle.lists.specs.Rows.{Row, row, look}
-use Rattle.spec.specs.Leaves.{Leaf, firstLeaf, versionAt}
+use Rattle.spec.specs.Leaves.{firstLeaf, versionAt}
 use Rattle.spec.specs.Slots.{Content, isIdle, Slot, contentOf, enter}
 use Rattle.spec.specs.Maps.{MapState}
 use Rattle.laws.specs.SlotCounts.{Good, count}

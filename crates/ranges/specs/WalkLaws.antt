@@ -20,7 +20,7 @@ use Rattle.sets.specs.WriteRows.{length-writes}
 use Rattle.index.specs.Views.{noRow, recordsOf}
 use Rattle.index.specs.ViewLaws.{length-records}
 use Rattle.looks.specs.declared.Seen.{Seen}
-use Rattle.looks.specs.LookViews.{mapWith, recordIn, walk, indexedAt, seenIn, SeenAt}
+use Rattle.looks.specs.LookViews.{mapWith, recordIn, indexedAt, seenIn, SeenAt}
 use Rattle.looks.specs.RangeLaws.{walk-map}
 use Rattle.ranges.specs.Parts.{walk-on, walk-past, drop-all}
 use Rattle.ranges.specs.Overlays.{from-drop, shown, overlay, overlay-none, overlay-upper, overlay-lower, overlay-both, rising-part, rising-tail, rising-map}

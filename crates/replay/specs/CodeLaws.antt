@@ -4,7 +4,7 @@ use Prim.Native.Nat.{ℕ, _^_, _<_, _≤_}
 use mathlib.Core.Path.{_≡_, refl, sym, ap, _∙_, subst}
 use mathlib.Core.Bool.{Bool}
 use mathlib.Core.List.{List}
-use Rattle.lists.specs.Tests.{pick, same, less, same-no, less-yes, less-no}
+use Rattle.lists.specs.Tests.{pick, same, same-no, less-yes, less-no}
 use Rattle.map.specs.Views.{Lent}
 use Rattle.transactions.specs.declared.Core.{Core}
 use Rattle.transactions.specs.Views.{Logs}
@@ -18,7 +18,6 @@ use Rattle.replay.specs.declared.codes.Code.{Code}
 use Rattle.replay.specs.declared.codes.Decoded.{Decoded}
 use Rattle.replay.specs.declared.codes.Decoded.the-variants.{Meant, Meaningless}
 use Rattle.replay.specs.declared.codes.Coded.{Coded}
-use Rattle.replay.specs.declared.codes.Stepped.{Stepped}
 use Rattle.replay.specs.Codes.{accessOf, decodedAccess, oneNumber, decoded, codedOf, noMeaning, Steps}
 
 -- ---- read, scan, put, remove

@@ -1,15 +1,15 @@
 -- The loop over all codes: what stands after i of them, and the promise at its end.
 -- Assumes nothing.
-use Prim.Native.Nat.{ℕ, zero, suc, _+_, _-_, _*_, _/_, _%_, _<_, _≤_, zero-le}
+use Prim.Native.Nat.{ℕ, _+_, _-_, _*_, _/_, _%_, _<_, _≤_, zero-le}
 use native.Mathlib.Omega.{arith}
 use mathlib.Core.Path.{_≡_, refl, sym, ap, _∙_, subst}
 use mathlib.Core.Bool.{Bool, true, false}
 use mathlib.Core.List.{List, [], _∷_, _++_, map, append-nil, append-assoc}
 use lib.ListN.{length, drop, length-append, length-drop}
 use lib.Seq.{length-sets}
-use Rattle.lists.specs.Tests.{pick, same, less, same-yes, same-no}
+use Rattle.lists.specs.Tests.{pick, same, less}
 use Rattle.lists.specs.Rows.{Row}
-use Rattle.spec.specs.Records.{standard, Payload, Record}
+use Rattle.spec.specs.Records.{standard, Payload}
 use Rattle.spec.specs.Maps.{MapState, contents}
 use Rattle.spec.specs.Steps.{State, fresh, Answer, refused, done, found, listed, numbered, counted, answer, next, Event, final, history}
 use Rattle.spec.specs.Runs.{stepsOf}
@@ -30,7 +30,6 @@ use Rattle.replay.specs.declared.codes.Decoded.the-variants.{Meant, Mean
 use Rattle.replay.specs.declared.runs.Stop.{Stop}
 use Rattle.replay.specs.declared.runs.Stop.the-variants as stop
 use Rattle.replay.specs.declared.runs.Turn.{Turn}
-use Rattle.replay.specs.declared.runs.Replayed.{Replayed}
 use Rattle.replay.specs.Codes.{decoded, wordsOf}
 use Rattle.replay.specs.Replays.{Ran, ended, event, after, byMeaning, codeOf, longest, ran, allWords, leftIn, addressOf, valueOf, listedIn, runOf, Replays}
 use Rattle.replay.specs.RunLaws.{codeAt, drop-four, before, chained, tally, Turns}

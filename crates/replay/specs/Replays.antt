@@ -13,7 +13,6 @@ use Rattle.spec.specs.Maps.{contents}
 use Rattle.spec.specs.Steps.{State, Step, fresh, Answer, refused, done, found, listed, numbered, counted, answer, next, Event}
 use Rattle.spec.specs.Claim.{SerialRun}
 use Rattle.map.specs.Views.{Lent, mapOf}
-use Rattle.transactions.specs.declared.Core.{Core}
 use Rattle.transactions.specs.Views.{Logs, stateOf}
 use Rattle.transactions.specs.Ready.{Ready}
 use Rattle.engine.specs.declared.steps.Op.{Op}

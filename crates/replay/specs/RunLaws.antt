@@ -1,40 +1,31 @@
 -- A run, step by step: one turn, the loop over all codes, and what stands at its end.
 -- Assumes nothing.
-use Prim.Native.Nat.{ℕ, zero, suc, _+_, _-_, _*_, _/_, _%_, _<_, _≤_, min}
-use native.Mathlib.Numerals.{add-one}
+use Prim.Native.Nat.{ℕ, suc, _+_, _-_, _*_, _<_, _≤_, min}
 use native.Mathlib.Omega.{arith}
 use mathlib.Core.Path.{_≡_, refl, sym, ap, _∙_, subst}
-use mathlib.Core.Bool.{Bool, true, false, not}
-use mathlib.Core.List.{List, [], _∷_, _++_, append-nil, append-assoc}
-use lib.ListN.{length, getD, drop, length-append}
-use lib.Seq.{drop-cons, drop-nil, length-sets}
-use Rattle.lists.specs.Tests.{pick, less, less-yes, less-no}
-use Rattle.spec.specs.Records.{standard}
-use Rattle.spec.specs.Maps.{MapState, contents}
-use Rattle.spec.specs.Steps.{State, Step, fresh, Answer, answer, next, Event, final, history}
-use Rattle.spec.specs.Runs.{stepsOf}
-use Rattle.spec.specs.Claim.{SerialRun}
-use Rattle.serial.specs.Theorem.{theorem}
-use Rattle.map.specs.Views.{Lent, mapOf}
+use mathlib.Core.List.{List, [], _∷_, _++_, append-nil}
+use lib.ListN.{length, getD, drop}
+use lib.Seq.{drop-cons}
+use Rattle.lists.specs.Tests.{less-yes, less-no}
+use Rattle.spec.specs.Steps.{State, Answer, answer, next, Event}
+use Rattle.map.specs.Views.{Lent}
 use Rattle.transactions.specs.declared.Core.{Core}
 use Rattle.transactions.specs.Views.{Logs, stateOf}
 use Rattle.transactions.specs.Ready.{Ready}
-use Rattle.transactions.specs.Starts.{Fresh}
 use Rattle.engine.specs.declared.steps.Op.{Op}
 use Rattle.engine.specs.declared.steps.Performed.{Performed}
 use Rattle.engine.specs.Performs.{stepIn, replyIn, placesIn, Performs}
 use Rattle.script.specs.Output.{Wrote}
-use Rattle.script.specs.OutputLaws.{wrote-join, wrote-length}
 use Rattle.replay.specs.declared.codes.Code.{Code}
 use Rattle.replay.specs.declared.codes.Decoded.{Decoded}
 use Rattle.replay.specs.declared.codes.Decoded.the-variants.{Meant, Meaningless}
 use Rattle.replay.specs.declared.runs.Stop.{Stop}
 use Rattle.replay.specs.declared.runs.Stop.the-variants as stop
 use Rattle.replay.specs.declared.runs.Turn.{Turn}
-use Rattle.replay.specs.declared.runs.Replayed.{Replayed}
 use Rattle.replay.specs.Codes.{decoded, wordsOf}
-use Rattle.replay.specs.Replays.{Ran, ended, event, after, byMeaning, codeOf, longest, ran, allWords, leftIn, addressOf, valueOf, listedIn, runOf, Replays}
-use Rattle.replay.specs.ShownLaws.{places-fit, shown-addresses, shown-values, roomy}
+use Rattle.replay.specs.Replays.{Ran, ended, event, after, codeOf, longest, ran, allWords, leftIn, addressOf, valueOf, listedIn}
+use Rattle.engine.specs.Listings.{places-fit}
+use Rattle.replay.specs.ShownLaws.{shown-addresses, shown-values, roomy}
 use Rattle.replay.specs.Words.{Roomy}
 
 -- ---- codes

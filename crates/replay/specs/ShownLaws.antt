@@ -3,38 +3,18 @@
 use Prim.Native.Nat.{ℕ, zero, suc, _+_, _-_, _*_, _<_, _≤_, min}
 use native.Mathlib.Nat.{zero-add}
 use native.Mathlib.Omega.{arith}
-use mathlib.Core.Path.{_≡_, refl, sym, ap, _∙_, subst}
-use mathlib.Core.List.{List, [], _∷_, _++_, map}
+use mathlib.Core.Path.{_≡_, refl, sym, ap, _∙_}
+use mathlib.Core.List.{List, _∷_, _++_, map}
 use lib.ListN.{length, getD, take, drop, take-append-drop, length-drop}
 use lib.Seq.{sets, sets-eq, ext-getD, getD-drop, length-take-le, drop-cons}
-use Rattle.lists.specs.Shifts.{tab, tabFrom, length-tab}
-use Rattle.lists.specs.Rows.{Row, row}
-use Rattle.spec.specs.Records.{Payload}
-use Rattle.spec.specs.Steps.{State, answer}
+use Rattle.lists.specs.Shifts.{tab, tabFrom}
+use Rattle.lists.specs.Rows.{row}
 use Rattle.ranges.specs.Walks.{rowsIn, Beyond}
-use Rattle.ranges.specs.ShowLaws.{length-rows}
-use Rattle.engine.specs.declared.steps.Op.{Op}
 use Rattle.engine.specs.declared.steps.Reply.{Reply}
 use Rattle.engine.specs.declared.steps.Reply.the-variants as reply
-use Rattle.engine.specs.Performs.{stepIn, replyIn, placesIn}
+use Rattle.engine.specs.Performs.{replyIn, placesIn}
 use Rattle.replay.specs.Replays.{listedIn, addressOf, valueOf, longest}
 use Rattle.replay.specs.Words.{Roomy}
-use Rattle.replay.specs.FitLaws.{countIn, listed-fits}
-
--- ---- how many places
-
-pub places-count : (p : Reply) (ks vs : List ℕ) → placesIn p ≡ countIn (replyIn p ks vs)
-places-count reply.Granted ks vs = refl
-places-count (reply.Value v) ks vs = refl
-places-count reply.Absent ks vs = refl
-places-count (reply.Listed n) ks vs = sym (length-rows n ks vs)
-places-count (reply.Numbered n) ks vs = refl
-places-count (reply.Counted n) ks vs = refl
-places-count (reply.Refused r) ks vs = refl
-
-pub places-fit : (σ : State) (o : Op) (m n : ℕ) (p : Reply) (ks vs : List ℕ) → replyIn p ks vs ≡ answer σ (stepIn o m n) → placesIn p ≤ min m n
-places-fit σ o m n p ks vs e =
-    subst (λ (x : ℕ). x ≤ min m n) (sym (places-count p ks vs ∙ ap countIn e)) (listed-fits σ o m n)
 
 -- room for the longest answer is room for this one
 pub roomy : (p : Reply) (ks vs ks' vs' out : List ℕ) (at : ℕ) → placesIn p ≤ min (length ks) (length vs) → length ks' ≡ length ks → length vs' ≡ length vs

@@ -15,7 +15,6 @@ use Rattle.spec.specs.Runs.{Run, home, leaves, script, stepsOf, starred, Holds}
 use Rattle.map.specs.Views.{Lent, mapOf}
 use Rattle.transactions.specs.Views.{Logs, stateOf}
 use Rattle.script.specs.Output.{Wrote}
-use Rattle.replay.specs.declared.runs.Stop.{Stop}
 use Rattle.replay.specs.declared.runs.Stop.the-variants as stop
 use Rattle.replay.specs.declared.runs.Replayed.{Replayed}
 use Rattle.replay.specs.Codes.{accessOf, decodedAccess, oneNumber, decoded, pairWords, wordsOf}

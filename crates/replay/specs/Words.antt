@@ -1,13 +1,12 @@
 -- Answers put into words: the text of a reply, three words and a scan's records.
 -- Assumes nothing.
-use Prim.Native.Nat.{ℕ, zero, suc, _+_, _*_, _<_, _≤_}
+use Prim.Native.Nat.{ℕ, suc, _+_, _*_, _<_, _≤_}
 use native.Mathlib.Nat.{le-antisymm}
 use native.Mathlib.Numerals.{add-one}
 use native.Mathlib.Omega.{arith}
 use mathlib.Core.Path.{_≡_, refl, sym, ap, _∙_, subst}
 use mathlib.Core.List.{List, [], _∷_, _++_, append-nil}
 use lib.ListN.{length, getD, set}
-use lib.Seq.{sets}
 use Rattle.lists.specs.Shifts.{tab, tabFrom, tab-snoc}
 use Rattle.lists.specs.Rows.{Row, row}
 use Rattle.spec.specs.Records.{Payload}

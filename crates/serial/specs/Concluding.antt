@@ -1,18 +1,18 @@
 -- From the invariant to the claim of demand 3.
 -- Assumes nothing.
-use Prim.Native.Nat.{ℕ, zero, suc, _<_, _≤_, zero-le, suc-le-suc}
-use native.Mathlib.Nat.{le-refl, le-trans, le-of-eq}
+use Prim.Native.Nat.{ℕ, suc, zero-le, suc-le-suc}
+use native.Mathlib.Nat.{le-trans, le-of-eq}
 use native.Mathlib.Omega.{arith}
-use mathlib.Core.Path.{_≡_, refl, sym, ap, _∙_, subst}
-use mathlib.Core.List.{List, [], _∷_, List·Memᴰ}
-use mathlib.Core.Option.{Option, none, some}
+use mathlib.Core.Path.{_≡_, sym, ap, _∙_, subst}
+use mathlib.Core.List.{List}
+use mathlib.Core.Option.{some}
 use Rattle.lists.specs.Rows.{Row, row, look, Rising}
 use Rattle.lists.specs.RowLaws.{rows-equal}
 use Rattle.spec.specs.Records.{Record}
 use Rattle.spec.specs.Sequential.{AllAgree}
 use Rattle.spec.specs.Claim.{Transaction, Reading, listAfter, Serial}
 use Rattle.serial.specs.Feeding.{look-member, rising-listAfter}
-use Rattle.serial.specs.Invariant.{Facts, Observation, Matches, Done, Invariant}
+use Rattle.serial.specs.Invariant.{Facts, Matches, Done, Invariant}
 
 module _ {F : Facts} {ρ : Reading} (i : Invariant F ρ) where
   agree : (n : ℕ) (t : Transaction) → look (ρ .installed) (suc n) ≡ some t → AllAgree (suc n) (listAfter (ρ .installed) n) (t .events)

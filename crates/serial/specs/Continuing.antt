@@ -1,36 +1,33 @@
 -- Begin, read, scan, put, remove, lock, and the end of a transaction that is not installed keep the invariant: each only
 -- rewrites its own worker, and of the map at most its own locks.
 -- Assumes nothing.
-use Prim.Native.Nat.{ℕ, zero, suc, _+_, _<_, _≤_, zero-le}
-use native.Mathlib.Nat.{le-refl, le-trans, le-step, le-of-eq, lt-of-le-of-lt}
+use Prim.Native.Nat.{ℕ, _+_, _<_, _≤_, zero-le}
+use native.Mathlib.Nat.{le-trans, le-step, le-of-eq}
 use native.Mathlib.Omega.{arith}
 use mathlib.Core.Path.{_≡_, refl, sym, ap, _∙_, subst}
-use mathlib.Core.Logic.{_⊎_, inl, inr, ⊎-elim}
-use mathlib.Core.Bool.{Bool, true, false, not}
-use mathlib.Core.List.{List, [], _∷_, _++_, List·Memᴰ, List·Memᴰ·head, List·Memᴰ·tail, List·Memᴰ·cases-cons, Memᴰ·append-left, Memᴰ·append-right, append-nil}
+use mathlib.Core.Logic.{_⊎_, ⊎-elim}
+use mathlib.Core.Bool.{Bool, true, false}
+use mathlib.Core.List.{List, [], _∷_, _++_, List·Memᴰ·head, List·Memᴰ·cases-cons, Memᴰ·append-left, Memᴰ·append-right}
 use mathlib.Core.Option.{Option, none, some}
 use lib.ListN.{length}
-use Rattle.lists.specs.Tests.{pick, both, maybe, present, same, less, within, atMost, cases, clash, same-true, same-false, same-yes, less-true, less-false, atMost-yes}
-use Rattle.lists.specs.Rows.{Row, row, look, insert, keys, has, any, Rising}
-use Rattle.lists.specs.RowLaws.{has-keys, any-false, some-not-none, rising-nil, from-insert}
-use Rattle.spec.specs.declared.Stage.{Stage}
-use Rattle.spec.specs.declared.Stage.the-variants.{Free, Open, Locked, Checked}
+use Rattle.lists.specs.Tests.{pick, both, maybe, present, within, cases, clash, atMost-yes}
+use Rattle.lists.specs.Rows.{Row, row, look, insert, Rising}
+use Rattle.lists.specs.RowLaws.{from-insert}
 use Rattle.spec.specs.Records.{Payload, Record, Write, written, deleted, payloadOf, ownView}
-use Rattle.spec.specs.Leaves.{Leaf, versionAt, meeting}
-use Rattle.spec.specs.Slots.{Pending, Content, contentOf, slotCount}
-use Rattle.spec.specs.Maps.{MapState, outcomeOf, current, indexedBetween, heldByOther, waitingWith, withSlots, lockAll, unlockAll}
-use Rattle.spec.specs.Steps.{Worker, freeWorker, State, workerOf, Step, begin, read, scan, put, remove, lock, Answer, done, found, listed, Event, isFree, isOpen, isChecked, ownWrite, scanned, scanReads, scanVersions, lockedByOther, writeKeys, withWorker, withMap, atStage, logged, writing, readRows, dropped}
+use Rattle.spec.specs.Leaves.{Leaf, versionAt}
+use Rattle.spec.specs.Slots.{contentOf}
+use Rattle.spec.specs.Maps.{MapState, current, indexedBetween}
+use Rattle.spec.specs.Steps.{Worker, State, workerOf, Step, read, scan, put, remove, Answer, done, found, listed, Event, isFree, isOpen, isChecked, ownWrite, scanned, scanReads, scanVersions, withWorker, withMap, logged, writing, readRows}
 use Rattle.spec.specs.Sequential.{Agrees}
-use Rattle.spec.specs.Claim.{Transaction, Reading, runningNow, passed, started, extended, goesOn, listAfter}
-use Rattle.laws.specs.MapLaws.{LockRoom, withHolder, lock-good, lock-says, unlocked, unlocked-pending, unlocked-holder, unlock-good, unlock-says}
+use Rattle.spec.specs.Claim.{Reading, runningNow, extended, goesOn}
 use Rattle.laws.specs.ContentLaws.{look-indexedBetween}
 use Rattle.laws.specs.LeafLaws.{version-old, meeting-covers}
 use Rattle.serial.specs.Stages.{open-unchecked, open-busy}
-use Rattle.serial.specs.Feeding.{writesOf, writesOf-nil, writesOf-snoc, wrote, look-member}
+use Rattle.serial.specs.Feeding.{writesOf, writesOf-snoc, wrote, look-member}
 use Rattle.serial.specs.Invariant.{Facts, Observation, Throughout, Explains, Backed, by-read, by-leaf, Working, Invariant}
-use Rattle.serial.specs.Keeping.{ReadOn, Own, own-step}
+use Rattle.serial.specs.Keeping.{ReadOn, own-step}
 use Rattle.serial.specs.Observing.{explain-quiet, explain-own-read, readOf, explain-read, ScanOf, scanOf, shown, explain-scan}
-use Rattle.serial.specs.Model.{facts, Fine, worker-same, worker-other, worker-free, fine-worker, read-passed, read-running, running-same, running-other, goesOn-some}
+use Rattle.serial.specs.Model.{facts, Fine, worker-same, worker-other, fine-worker, read-running, running-same, running-other, goesOn-some}
 
 -- The state is fine, and the invariant holds between it and what was read.
 pub record Sound (σ : State) (ρ : Reading) : Type 0 where

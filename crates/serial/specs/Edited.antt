@@ -2,14 +2,14 @@
 -- claim. Each of these was a plausible rule; a scan, a read or a lock would be lost on a customer's map.
 -- (Numbers by the order of installs: `byInstall` among the lies of crate `spec`.)
 -- Assumes nothing.
-use Prim.Native.Nat.{ℕ, zero, suc}
+use Prim.Native.Nat.{ℕ}
 use native.Mathlib.Omega.{arith}
 use mathlib.Core.Path.{_≡_, refl}
-use mathlib.Core.Bool.{Bool, true, false, not}
+use mathlib.Core.Bool.{Bool, not}
 use mathlib.Core.List.{List, [], _∷_, _++_}
-use mathlib.Core.Option.{Option, none, some}
+use mathlib.Core.Option.{none, some}
 use Rattle.lists.specs.Tests.{pick, both, either, maybe, present, same}
-use Rattle.lists.specs.Rows.{Row, row, look, any, filter, has, keys}
+use Rattle.lists.specs.Rows.{Row, look, any, filter, has}
 use Rattle.spec.specs.declared.Refusal.{Refusal}
 use Rattle.spec.specs.declared.Refusal.the-variants.{Phantom}
 use Rattle.spec.specs.Refusals.{numberOf}
@@ -17,7 +17,7 @@ use Rattle.spec.specs.Records.{standard, Payload}
 use Rattle.spec.specs.Leaves.{live}
 use Rattle.spec.specs.Slots.{Content, entries}
 use Rattle.spec.specs.Maps.{contents, hiddenIn}
-use Rattle.spec.specs.Steps.{State, fresh, workerOf, Step, begin, read, scan, put, remove, lock, validate, install, abort, merge, Answer, refused, done, found, listed, numbered, counted, Cause, cause, causes, firstCause, granted, effect, afterRefusal, writeKeys, Event}
+use Rattle.spec.specs.Steps.{State, fresh, workerOf, Step, begin, read, scan, put, remove, lock, validate, install, abort, merge, refused, found, listed, Cause, cause, causes, firstCause, granted, effect, afterRefusal, writeKeys, Event}
 use Rattle.spec.specs.Claim.{SerialRun}
 use Rattle.spec.specs.Computing.{claim}
 use Rattle.spec.specs.Runs.{value}

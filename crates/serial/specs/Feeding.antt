@@ -5,18 +5,17 @@
 -- at its own keys, from its number on, its own write, if no writer of the key has a larger number.
 -- Assumes nothing.
 use Prim.Native.Nat.{ℕ, zero, suc, _<_, _≤_}
-use native.Mathlib.Nat.{le-refl, le-trans, le-step, not-suc-le-zero}
 use native.Mathlib.Omega.{arith}
-use mathlib.Core.Path.{_≡_, refl, sym, ap, _∙_, subst}
-use mathlib.Core.Logic.{_⊎_, inl, inr, ⊎-elim}
-use mathlib.Core.Bool.{Bool, true, false}
+use mathlib.Core.Path.{_≡_, refl, sym, ap, _∙_}
+use mathlib.Core.Logic.{_⊎_, ⊎-elim}
+use mathlib.Core.Bool.{true}
 use mathlib.Core.List.{List, [], _∷_, _++_, List·Memᴰ, List·Memᴰ·head, List·Memᴰ·tail}
 use mathlib.Core.Option.{Option, none, some}
-use Rattle.lists.specs.Tests.{pick, maybe, present, same, cases, clash, same-true, same-false, same-yes, same-no, same-refl}
-use Rattle.lists.specs.Rows.{Row, row, look, insert, assign, Rising}
+use Rattle.lists.specs.Tests.{pick, maybe, present, same, cases, same-true, same-false}
+use Rattle.lists.specs.Rows.{Row, row, look, insert, Rising}
 use Rattle.lists.specs.RowLaws.{some-not-none, look-insert, look-assign, look-here, look-there, look-nil, rising-assign, rising-nil}
 use Rattle.spec.specs.Records.{Record, Write, written, deleted, outcome}
-use Rattle.spec.specs.Steps.{Step, begin, read, scan, put, remove, lock, validate, install, abort, merge, Answer, Event}
+use Rattle.spec.specs.Steps.{Step, begin, read, scan, put, remove, lock, validate, install, abort, merge, Event}
 use Rattle.spec.specs.Sequential.{after, Agrees, afterAll, AllAgree}
 use Rattle.spec.specs.Claim.{Transaction, listAfter}
 

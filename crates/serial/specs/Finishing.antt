@@ -1,35 +1,32 @@
 -- Validate, install and merge keep the invariant.
 -- Assumes nothing.
-use Prim.Native.Nat.{ℕ, zero, suc, _+_, _<_, _≤_, zero-le}
-use native.Mathlib.Nat.{le-refl, le-trans, le-step, le-of-eq}
-use native.Mathlib.Omega.{arith}
+use Prim.Native.Nat.{ℕ, suc, _<_}
+use native.Mathlib.Nat.{le-refl, le-step}
 use mathlib.Core.Path.{_≡_, refl, sym, ap, _∙_, subst}
-use mathlib.Core.Logic.{_⊎_, inl, inr, ⊎-elim}
+use mathlib.Core.Logic.{_⊎_, ⊎-elim}
 use mathlib.Core.Bool.{Bool, true, false, not}
-use mathlib.Core.List.{List, [], _∷_, _++_, List·Memᴰ, List·Memᴰ·head, List·Memᴰ·tail}
+use mathlib.Core.List.{List, _∷_, List·Memᴰ}
 use mathlib.Core.Option.{Option, none, some}
 use lib.ListN.{length}
-use Rattle.lists.specs.Tests.{pick, both, either, maybe, present, same, less, cases, clash, same-true, same-false, same-yes, same-no}
-use Rattle.lists.specs.Rows.{Row, row, look, insert, delete, keys, has, any, Rising}
-use Rattle.lists.specs.RowLaws.{has-keys, any-false, member-keys, look-delete, some-not-none, rising-nil, rising-different}
-use Rattle.spec.specs.declared.Stage.the-variants.{Free, Open, Locked, Checked}
+use Rattle.lists.specs.Tests.{pick, both, either, maybe, present, same, cases, clash, same-yes, same-no}
+use Rattle.lists.specs.Rows.{Row, row, look, keys, any, Rising}
+use Rattle.lists.specs.RowLaws.{any-false, member-keys, look-delete, some-not-none, rising-nil, rising-different}
 use Rattle.spec.specs.Records.{Record, Write, outcome, sameRecord}
 use Rattle.spec.specs.Leaves.{Leaf, versionAt, live}
-use Rattle.spec.specs.Slots.{Pending, Content, Slot, isIdle, contentOf, entries}
+use Rattle.spec.specs.Slots.{Pending, Content, isIdle, contentOf, entries}
 use Rattle.spec.specs.Maps.{MapState, outcomeOf, current, heldByOther, hiding, hiddenIn, hides, withSlots, installAll, Merged, mergeAt}
-use Rattle.spec.specs.Steps.{Worker, freeWorker, State, workerOf, validate, install, numbered, done, Event, isFree, isOpen, isLocked, isChecked, lockedByOther, changedSince, phantomIn, withWorker, withMap, withCounters, checkedAs, merged}
+use Rattle.spec.specs.Steps.{Worker, freeWorker, State, workerOf, validate, numbered, Event, isFree, isLocked, isChecked, lockedByOther, changedSince, phantomIn, withWorker, withMap, withCounters, checkedAs, merged}
 use Rattle.spec.specs.Sequential.{Agrees}
 use Rattle.spec.specs.Claim.{Transaction, Reading, runningNow, passed, extended, withNumber, numberIn, oneMoreGiven, validated, installedNow}
-use Rattle.laws.specs.SlotCounts.{Good}
 use Rattle.laws.specs.SlotLaws.{content-member}
 use Rattle.laws.specs.MapLaws.{idle-holder, idle-pending, Installable, writtenBy, install-good, install-says}
-use Rattle.laws.specs.RecordLaws.{both-left, both-right, sameRecord-true}
+use Rattle.laws.specs.RecordLaws.{sameRecord-true}
 use Rattle.laws.specs.LeafLaws.{GoodLeaves, live-version}
 use Rattle.laws.specs.MergeLaws.{Merges, merges}
-use Rattle.serial.specs.Stages.{locked-busy, locked-unchecked, locked-not-open, checked-busy, checked-not-open, checked-checked, free-free}
+use Rattle.serial.specs.Stages.{locked-busy, locked-unchecked, locked-not-open, checked-busy, checked-not-open, free-free}
 use Rattle.serial.specs.Feeding.{writesOf, writesOf-snoc, wrote, laid}
-use Rattle.serial.specs.Invariant.{Facts, Observation, Explains, Harmless, unwritten, Working, Invariant}
-use Rattle.serial.specs.Keeping.{ReadOn, Rearranged, merge-step}
+use Rattle.serial.specs.Invariant.{Observation, Explains, unwritten, Working, Invariant}
+use Rattle.serial.specs.Keeping.{Rearranged, merge-step}
 use Rattle.serial.specs.Validating.{Untouched, Passed, Checks, validate-step}
 use Rattle.serial.specs.Installing.{Installs, install-step}
 use Rattle.serial.specs.Observing.{explain-quiet}

@@ -1,23 +1,23 @@
 -- An install keeps the invariant: the transaction's writes enter the list at its number, below which nothing changes; no
 -- writer of its keys has a larger number, since it holds their locks; and nobody checked after it saw what it changes.
 -- Assumes nothing.
-use Prim.Native.Nat.{ℕ, zero, suc, _<_, _≤_, zero-le, suc-le-suc}
-use native.Mathlib.Nat.{le-refl, le-trans, le-step, le-of-eq}
+use Prim.Native.Nat.{ℕ, suc, _<_, _≤_, zero-le, suc-le-suc}
+use native.Mathlib.Nat.{le-refl, le-trans, le-of-eq}
 use native.Mathlib.Omega.{arith}
 use mathlib.Core.Path.{_≡_, refl, sym, ap, _∙_, subst}
 use mathlib.Core.Logic.{_⊎_, inl, inr, ⊎-elim}
-use mathlib.Core.Bool.{Bool, true, false}
-use mathlib.Core.List.{List, [], _∷_, _++_, List·Memᴰ, List·Memᴰ·head, List·Memᴰ·tail, List·Memᴰ·cases-cons}
+use mathlib.Core.Bool.{true, false}
+use mathlib.Core.List.{List, _∷_, List·Memᴰ, List·Memᴰ·cases-cons}
 use mathlib.Core.Option.{Option, none, some}
-use Rattle.lists.specs.Tests.{maybe, present, same, less, cases, clash, same-true, same-false, less-true, less-false}
+use Rattle.lists.specs.Tests.{present, same, less, cases, clash, same-true, same-false, less-true, less-false}
 use Rattle.lists.specs.Rows.{Row, row, look, keys, has, Different}
-use Rattle.lists.specs.RowLaws.{look-here, look-there, some-not-none, has-keys}
-use Rattle.spec.specs.Records.{Record, Write, written, deleted, outcome}
-use Rattle.spec.specs.Steps.{Worker, isFree, isOpen, isChecked}
+use Rattle.lists.specs.RowLaws.{look-there, has-keys}
+use Rattle.spec.specs.Records.{Record, Write, deleted, outcome}
+use Rattle.spec.specs.Steps.{Worker, isFree, isChecked}
 use Rattle.spec.specs.Claim.{Transaction, Reading, listAfter}
 use Rattle.serial.specs.Stages.{checked-busy, checked-not-open}
-use Rattle.serial.specs.Feeding.{writesOf, laid, NoLaterWriter, listAfter-before, listAfter-other, listAfter-mine}
-use Rattle.serial.specs.Invariant.{Facts, Observation, Throughout, Matches, Explains, Backed, Harmless, unwritten, already-absent, ChecksUpTo, Valid, CheckedAs, Working, Done, Invariant}
+use Rattle.serial.specs.Feeding.{writesOf, laid, listAfter-before, listAfter-other, listAfter-mine}
+use Rattle.serial.specs.Invariant.{Facts, Observation, Matches, Explains, Harmless, unwritten, already-absent, Valid, CheckedAs, Working, Done, Invariant}
 use Rattle.serial.specs.Keeping.{SameChecks, valid-kept, Kept, working-kept, backed-kept}
 
 -- The state and the reading after worker w installed.

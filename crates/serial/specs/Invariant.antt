@@ -8,10 +8,10 @@
 -- - once it has number m + 1, each observation equals what the transactions numbered up to m leave, and no checked
 --   transaction that may still be installed among those would change it (`Valid`).
 -- Assumes nothing.
-use Prim.Native.Nat.{ℕ, zero, suc, _<_, _≤_}
+use Prim.Native.Nat.{ℕ, suc, _<_, _≤_}
 use mathlib.Core.Path.{_≡_}
 use mathlib.Core.Bool.{Bool, true, false}
-use mathlib.Core.List.{List, [], _∷_, _++_, List·Memᴰ}
+use mathlib.Core.List.{List, List·Memᴰ}
 use mathlib.Core.Option.{Option, none, some}
 use Rattle.lists.specs.Tests.{present}
 use Rattle.lists.specs.Rows.{Row, row, look, Rising, keys, Different}

@@ -1,22 +1,20 @@
 -- The invariant is kept: one lemma for every step that only rewrites its own worker, and one each for a validation, an
 -- install, and a merge. A step that changes nothing is a merge that moves nothing.
 -- Assumes nothing.
-use Prim.Native.Nat.{ℕ, zero, suc, _<_, _≤_}
-use native.Mathlib.Nat.{le-refl, le-trans, le-step, le-of-eq}
+use Prim.Native.Nat.{ℕ, _<_, _≤_}
+use native.Mathlib.Nat.{le-trans, le-of-eq}
 use native.Mathlib.Omega.{arith}
-use mathlib.Core.Path.{_≡_, refl, sym, ap, _∙_, subst}
-use mathlib.Core.Logic.{_⊎_, inl, inr, ⊎-elim}
+use mathlib.Core.Path.{_≡_, sym, ap, _∙_, subst}
+use mathlib.Core.Logic.{_⊎_, inl, ⊎-elim}
 use mathlib.Core.Bool.{Bool, true, false}
-use mathlib.Core.List.{List, [], _∷_, _++_, List·Memᴰ, List·Memᴰ·head, List·Memᴰ·tail, List·Memᴰ·cases-cons}
-use mathlib.Core.Option.{Option, none, some}
-use Rattle.lists.specs.Tests.{pick, maybe, present, same, less, cases, clash, same-true, same-false, less-true, less-false}
-use Rattle.lists.specs.Rows.{Row, row, look, keys, has, Different}
-use Rattle.lists.specs.RowLaws.{look-here, look-there, some-not-none, has-keys}
-use Rattle.spec.specs.Records.{Record, Write, written, deleted, outcome}
-use Rattle.spec.specs.Steps.{Worker, isFree, isOpen, isChecked, Event, freeWorker}
+use mathlib.Core.List.{List, List·Memᴰ}
+use mathlib.Core.Option.{Option, some}
+use Rattle.lists.specs.Tests.{same, cases, clash, same-true, same-false}
+use Rattle.lists.specs.Rows.{Row, look, keys, Different}
+use Rattle.spec.specs.Records.{Record}
+use Rattle.spec.specs.Steps.{Worker, isFree, isChecked}
 use Rattle.spec.specs.Claim.{Transaction, Reading, listAfter}
-use Rattle.serial.specs.Feeding.{writesOf, laid, NoLaterWriter, look-member, listAfter-none, listAfter-before, listAfter-other, listAfter-mine}
-use Rattle.serial.specs.Invariant.{Facts, Observation, Throughout, Matches, Explains, Backed, by-read, by-leaf, Harmless, unwritten, already-absent, ChecksUpTo, Valid, CheckedAs, Working, Done, Invariant}
+use Rattle.serial.specs.Invariant.{Facts, Observation, Backed, by-read, by-leaf, Harmless, ChecksUpTo, Valid, CheckedAs, Working, Done, Invariant}
 
 -- ---- what does not change
 

@@ -1,29 +1,27 @@
 -- Begin, lock, and the end of a transaction that is not installed keep the invariant.
 -- Assumes nothing.
-use Prim.Native.Nat.{ℕ, zero, suc, _+_, _<_, _≤_, zero-le}
-use native.Mathlib.Nat.{le-refl, le-trans, le-step, le-of-eq, lt-of-le-of-lt}
-use native.Mathlib.Omega.{arith}
+use Prim.Native.Nat.{ℕ, _<_, _≤_}
+use native.Mathlib.Nat.{le-refl, le-trans, le-step, le-of-eq}
 use mathlib.Core.Path.{_≡_, refl, sym, ap, _∙_, subst}
-use mathlib.Core.Logic.{_⊎_, inl, inr, ⊎-elim}
+use mathlib.Core.Logic.{_⊎_, ⊎-elim}
 use mathlib.Core.Bool.{Bool, true, false, not}
-use mathlib.Core.List.{List, [], _∷_, _++_, List·Memᴰ, List·Memᴰ·head, List·Memᴰ·tail, List·Memᴰ·not-nil}
-use mathlib.Core.Option.{Option, none, some}
+use mathlib.Core.List.{List, [], List·Memᴰ, List·Memᴰ·not-nil}
+use mathlib.Core.Option.{Option, some}
 use lib.ListN.{length}
-use Rattle.lists.specs.Tests.{pick, both, maybe, present, same, less, cases, clash, same-true, same-false, less-false}
-use Rattle.lists.specs.Rows.{Row, row, look, keys, has, any, distinct, Rising}
-use Rattle.lists.specs.RowLaws.{has-keys, any-false, some-not-none, rising-nil}
-use Rattle.spec.specs.declared.Stage.the-variants.{Free, Open, Locked, Checked}
+use Rattle.lists.specs.Tests.{pick, maybe, present, same, cases, clash}
+use Rattle.lists.specs.Rows.{Row, look, has, Rising}
+use Rattle.lists.specs.RowLaws.{has-keys, rising-nil}
+use Rattle.spec.specs.declared.Stage.the-variants.{Open, Locked}
 use Rattle.spec.specs.Records.{Record, Write}
-use Rattle.spec.specs.Slots.{Pending, Content, Slot, contentOf, slotCount, entries}
-use Rattle.spec.specs.Maps.{MapState, outcomeOf, current, heldByOther, waitingWith, withSlots, lockAll, unlockAll}
-use Rattle.spec.specs.Steps.{Worker, freeWorker, State, workerOf, lock, done, Event, isFree, isOpen, isChecked, lockedByOther, writeKeys, withWorker, withMap, atStage, dropped}
+use Rattle.spec.specs.Slots.{Pending, Content, contentOf}
+use Rattle.spec.specs.Maps.{MapState, outcomeOf, current, heldByOther, withSlots, lockAll, unlockAll}
+use Rattle.spec.specs.Steps.{Worker, freeWorker, State, workerOf, lock, done, Event, isChecked, lockedByOther, writeKeys, withWorker, withMap, atStage, dropped}
 use Rattle.spec.specs.Sequential.{Agrees, AllAgree}
 use Rattle.spec.specs.Claim.{Transaction, Reading, runningNow, passed, started, goesOn}
 use Rattle.laws.specs.MapLaws.{LockRoom, withHolder, lock-good, lock-says, unlocked, unlocked-pending, unlocked-holder, unlock-good, unlock-says}
 use Rattle.serial.specs.Stages.{open-open, open-not-checked, free-free}
 use Rattle.serial.specs.Feeding.{writesOf-nil, wrote}
-use Rattle.serial.specs.Invariant.{Facts, Observation, Throughout, Backed, by-read, by-leaf, Working, Invariant}
-use Rattle.serial.specs.Keeping.{ReadOn}
+use Rattle.serial.specs.Invariant.{Throughout, Backed, by-read, by-leaf, Working, Invariant}
 use Rattle.serial.specs.Observing.{explain-quiet}
 use Rattle.serial.specs.Model.{facts, Fine, worker-same, worker-free, fine-worker, read-passed, read-running, running-same, running-other}
 use Rattle.serial.specs.Continuing.{Sound, OwnLocks, own-map, own-worker, goes-on, read-goesOn, running-goesOn, IsOpen, g, g-backed}

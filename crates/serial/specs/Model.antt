@@ -1,25 +1,24 @@
 -- The model seen through the theorem's facts, and what holds of its state after every step: the slots are good, records
 -- and write sets rise, and the leaves are good.
 -- Assumes nothing.
-use Prim.Native.Nat.{ℕ, zero, suc, _+_, _<_, _≤_, zero-le}
-use native.Mathlib.Nat.{le-refl, le-trans, le-step, le-of-eq}
+use Prim.Native.Nat.{ℕ, zero, suc, _<_, _≤_}
+use native.Mathlib.Nat.{le-refl, le-step}
 use native.Mathlib.Omega.{arith}
 use mathlib.Core.Path.{_≡_, refl, sym, ap, _∙_, subst}
-use mathlib.Core.Logic.{_⊎_, inl, inr, ⊎-elim}
+use mathlib.Core.Logic.{_⊎_, ⊎-elim}
 use mathlib.Core.Bool.{Bool, true, false, not}
-use mathlib.Core.List.{List, [], _∷_, _++_, List·Memᴰ}
+use mathlib.Core.List.{List, _∷_}
 use mathlib.Core.Option.{Option, none, some}
-use lib.ListN.{length, getD, set, replicate, length-set, length-replicate, List·getD-eq-default}
+use lib.ListN.{length, getD, replicate, length-set, length-replicate, List·getD-eq-default}
 use lib.Seq.{getD-set-same, getD-set-other, set-out}
-use Rattle.lists.specs.Tests.{pick, maybe, present, same, less, cases, clash, same-true, same-false, less-true, less-false}
-use Rattle.lists.specs.Rows.{Row, row, look, insert, keys, Rising}
-use Rattle.lists.specs.RowLaws.{look-insert, look-here, look-there, some-not-none, rising-nil, from-insert}
-use Rattle.spec.specs.declared.Refusal.{Refusal}
+use Rattle.lists.specs.Tests.{pick, maybe, present, same, less, cases, same-true, same-false, less-true, less-false}
+use Rattle.lists.specs.Rows.{look, Rising}
+use Rattle.lists.specs.RowLaws.{look-insert, some-not-none, rising-nil}
 use Rattle.spec.specs.Records.{Settings, standard, Record, Write}
 use Rattle.spec.specs.Leaves.{versionAt}
 use Rattle.spec.specs.Slots.{slotCount, contentOf}
-use Rattle.spec.specs.Maps.{MapState, current}
-use Rattle.spec.specs.Steps.{Worker, freeWorker, State, fresh, workerOf, Cause, firstCause, withWorker, withMap, withCounters, isFree, isOpen, isChecked, Event}
+use Rattle.spec.specs.Maps.{current}
+use Rattle.spec.specs.Steps.{Worker, freeWorker, State, fresh, workerOf, Cause, firstCause, withWorker, Event}
 use Rattle.spec.specs.Claim.{Transaction, Reading, runningNow, passed, extended, goesOn}
 use Rattle.laws.specs.SlotCounts.{Good}
 use Rattle.laws.specs.SlotLaws.{fresh-good}

@@ -1,20 +1,20 @@
 -- The observations go on explaining the answers, with one event more.
 -- Assumes nothing.
-use Prim.Native.Nat.{ℕ, zero, suc, _<_, _≤_}
+use Prim.Native.Nat.{ℕ, _≤_}
 use native.Mathlib.Nat.{le-refl}
-use mathlib.Core.Path.{_≡_, refl, sym, ap, _∙_, subst}
-use mathlib.Core.Logic.{_⊎_, inl, inr, ⊎-elim}
-use mathlib.Core.Bool.{Bool, true, false}
-use mathlib.Core.List.{List, [], _∷_, _++_, List·Memᴰ, List·Memᴰ·head, List·Memᴰ·tail}
+use mathlib.Core.Path.{_≡_, refl, sym, ap, _∙_}
+use mathlib.Core.Logic.{_⊎_, ⊎-elim}
+use mathlib.Core.Bool.{Bool, true}
+use mathlib.Core.List.{List, [], _∷_, _++_, List·Memᴰ·head, List·Memᴰ·tail}
 use mathlib.Core.Option.{Option, none, some, Option·getD, Option·map}
-use Rattle.lists.specs.Tests.{pick, both, maybe, present, within, atMost, cases, atMost-true}
-use Rattle.lists.specs.Rows.{Row, row, look, Rising, lay, between, mapItems}
+use Rattle.lists.specs.Tests.{pick, both, maybe, within, atMost, cases, atMost-true}
+use Rattle.lists.specs.Rows.{Row, look, Rising, lay, between, mapItems}
 use Rattle.lists.specs.RowLaws.{rows-equal, look-lay, look-nil, look-mapItems, look-between, rising-lay, rising-nil, rising-mapItems, rising-between}
 use Rattle.spec.specs.Records.{Payload, Record, Write, written, deleted, outcome, ownView, payloadOf}
-use Rattle.spec.specs.Steps.{Step, begin, read, scan, put, remove, lock, validate, install, abort, merge, Answer, found, listed, Event}
-use Rattle.spec.specs.Sequential.{after, Agrees, afterAll, AllAgree, listScan}
-use Rattle.serial.specs.Feeding.{writesOf, laid, look-afterAll, rising-afterAll, afterAll-snoc, allAgree-snoc}
-use Rattle.serial.specs.Invariant.{Observation, Throughout, Matches, Explains}
+use Rattle.spec.specs.Steps.{Step, read, scan, Answer, found, listed, Event}
+use Rattle.spec.specs.Sequential.{Agrees, afterAll, listScan}
+use Rattle.serial.specs.Feeding.{writesOf, laid, look-afterAll, rising-afterAll, allAgree-snoc}
+use Rattle.serial.specs.Invariant.{Observation, Matches, Explains}
 
 -- what a list says after the transaction's own writes were laid over another
 abbrev pub Over : ℕ → List (Row Write) → List (Row Record) → List (Row Record) → Type 0

@@ -1,30 +1,27 @@
 -- Demand 3 over the model: every list of steps from a fresh map is a serial run.
 -- Assumes nothing.
-use Prim.Native.Nat.{ℕ, zero, suc, _<_, _≤_, zero-le}
-use native.Mathlib.Nat.{le-refl, le-trans, le-step, le-of-eq, lt-of-le-of-lt}
-use native.Mathlib.Omega.{arith}
-use mathlib.Core.Path.{_≡_, refl, sym, ap, _∙_, subst}
-use mathlib.Core.Logic.{_⊎_, inl, inr, ⊎-elim}
-use mathlib.Core.Bool.{Bool, true, false, not}
-use mathlib.Core.List.{List, [], _∷_, _++_, List·Memᴰ, List·Memᴰ·not-nil}
+use Prim.Native.Nat.{ℕ, zero, suc, _<_}
+use native.Mathlib.Nat.{le-trans, le-of-eq, lt-of-le-of-lt}
+use mathlib.Core.Path.{_≡_, refl, sym, ap, _∙_}
+use mathlib.Core.Logic.{_⊎_, ⊎-elim}
+use mathlib.Core.Bool.{true, false, not}
+use mathlib.Core.List.{List, [], _∷_, List·Memᴰ·not-nil}
 use mathlib.Core.Option.{Option, none, some, Option·getD}
 use lib.ListN.{length, replicate}
-use Rattle.lists.specs.Tests.{pick, maybe, present, same, less, cases, clash, less-true, less-false}
-use Rattle.lists.specs.Rows.{Row, look, keys, has, Different}
+use Rattle.lists.specs.Tests.{maybe, less, cases, clash, less-true, less-false}
+use Rattle.lists.specs.Rows.{Row, look, keys, Different}
 use Rattle.lists.specs.RowLaws.{has-any, look-nil}
 use Rattle.spec.specs.declared.Refusal.{Refusal}
 use Rattle.spec.specs.Refusals.{ends}
-use Rattle.spec.specs.Records.{Settings, standard, Payload, Record}
+use Rattle.spec.specs.Records.{Settings, standard, Payload}
 use Rattle.spec.specs.Slots.{slotCount, Content, idle, emptySlot, entries, contentOf}
 use Rattle.spec.specs.Maps.{freshMap, outcomeOf, current, contents, waitingWith}
-use Rattle.spec.specs.Steps.{Worker, freeWorker, State, fresh, workerOf, Step, begin, read, scan, put, remove, lock, validate, install, abort, merge, workerIn, Answer, refused, isFree, isOpen, isLocked, isChecked, Cause, noWorker, workerFree, wrongStage, causes, firstCause, refusal, granted, effect, afterRefusal, answer, next, Event, final, history}
+use Rattle.spec.specs.Steps.{Worker, State, fresh, workerOf, Step, begin, read, scan, put, remove, lock, validate, install, abort, merge, workerIn, refused, isFree, isOpen, isLocked, isChecked, Cause, noWorker, workerFree, wrongStage, causes, firstCause, refusal, granted, effect, afterRefusal, answer, next, final, history}
 use Rattle.spec.specs.Claim.{Reading, nothingRead, isGranted, passed, readGranted, advance, readOn, reading, listAfter, SerialRun}
-use Rattle.laws.specs.MapLaws.{LockRoom}
 use Rattle.laws.specs.ContentLaws.{look-contents, rising-contents}
 use Rattle.serial.specs.Stages.{free-free, checked-busy}
-use Rattle.serial.specs.Invariant.{Facts, Invariant}
 use Rattle.serial.specs.Concluding.{serial}
-use Rattle.serial.specs.Model.{facts, GoodSettings, standard-good, Fine, fine-fresh, worker-fresh, cause-passed, not-false}
+use Rattle.serial.specs.Model.{GoodSettings, standard-good, Fine, fine-fresh, worker-fresh, cause-passed, not-false}
 use Rattle.serial.specs.Continuing.{Sound, IsOpen, put-sound, remove-sound, read-sound, scan-sound}
 use Rattle.serial.specs.Locking.{begin-sound, Lockable, lock-sound, dropped-sound}
 use Rattle.serial.specs.Finishing.{Validatable, validate-sound, install-sound, merge-sound, same-sound}

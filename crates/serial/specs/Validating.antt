@@ -1,24 +1,23 @@
 -- A granted validation keeps the invariant: the new transaction comes after all others, what it observed is what stands
 -- now, and nobody who may still be installed before it would change that.
 -- Assumes nothing.
-use Prim.Native.Nat.{ℕ, zero, suc, _<_, _≤_}
+use Prim.Native.Nat.{ℕ, suc, _<_, _≤_}
 use native.Mathlib.Nat.{le-refl, le-trans, le-step, le-of-eq}
 use native.Mathlib.Omega.{arith}
 use mathlib.Core.Path.{_≡_, refl, sym, ap, _∙_, subst}
-use mathlib.Core.Logic.{_⊎_, inl, inr, ⊎-elim}
-use mathlib.Core.Bool.{Bool, true, false}
-use mathlib.Core.List.{List, [], _∷_, _++_, List·Memᴰ}
+use mathlib.Core.Logic.{_⊎_, inl, ⊎-elim}
+use mathlib.Core.Bool.{true, false}
+use mathlib.Core.List.{List, List·Memᴰ}
 use mathlib.Core.Option.{Option, none, some}
 use Rattle.lists.specs.Tests.{present, same, cases, clash, same-true, same-false}
 use Rattle.lists.specs.Rows.{Row, row, look, keys, Different}
-use Rattle.lists.specs.RowLaws.{some-not-none}
 use Rattle.spec.specs.Records.{Record}
 use Rattle.spec.specs.Steps.{Worker, isFree, isOpen, isChecked}
 use Rattle.spec.specs.Claim.{Transaction, Reading, listAfter}
 use Rattle.serial.specs.Stages.{checked-busy}
 use Rattle.serial.specs.Feeding.{writesOf, NoLaterWriter, look-member, listAfter-none}
-use Rattle.serial.specs.Invariant.{Facts, Observation, Throughout, Matches, Explains, Backed, by-read, by-leaf, Harmless, ChecksUpTo, Valid, CheckedAs, Working, Done, Invariant}
-use Rattle.serial.specs.Keeping.{SameChecks, valid-kept, done-kept, checked-kept, Kept, working-kept, backed-kept}
+use Rattle.serial.specs.Invariant.{Facts, Observation, Throughout, Explains, Backed, by-read, by-leaf, Harmless, Valid, CheckedAs, Working, Done, Invariant}
+use Rattle.serial.specs.Keeping.{SameChecks, done-kept, checked-kept, Kept, working-kept, backed-kept}
 
 -- no checked worker but w would change r at k
 abbrev pub Untouched : Facts → ℕ → ℕ → Option Record → Type 0

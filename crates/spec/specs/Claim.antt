@@ -10,8 +10,7 @@ use Prim.Native.Nat.{ℕ, zero, suc, _<_, _≤_}
 use mathlib.Core.Path.{_≡_}
 use mathlib.Core.Bool.{Bool, true, false}
 use mathlib.Core.List.{List, [], _∷_, _++_, List·Memᴰ}
-use mathlib.Core.Option.{Option, none, some}
-use lib.ListN.{length}
+use mathlib.Core.Option.{some}
 use Rattle.lists.specs.Tests.{pick, maybe}
 use Rattle.lists.specs.Rows.{Row, row, look, insert, delete, keys, Different}
 use Rattle.spec.specs.Records.{Record}

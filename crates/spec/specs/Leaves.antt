@@ -5,7 +5,7 @@
 -- version (document 01: mark), "in the leaf with version v" is "its leaf has version v".
 -- Assumes nothing.
 use Prim.Native.Nat.{ℕ, zero, suc, _-_}
-use mathlib.Core.Bool.{Bool, true, false}
+use mathlib.Core.Bool.{Bool}
 use mathlib.Core.List.{List, [], _∷_, _++_, map}
 use lib.ListN.{length, drop, getD}
 use Rattle.lists.specs.Tests.{pick, both, same, less, atMost}

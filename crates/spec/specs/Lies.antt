@@ -1,15 +1,15 @@
 -- The claim bites: histories that no correct engine gives, one for each kind of lie, do not meet it.
 -- Assumes nothing.
-use Prim.Native.Nat.{ℕ, zero, suc, _<_}
+use Prim.Native.Nat.{ℕ, _<_}
 use native.Mathlib.Omega.{arith}
 use mathlib.Core.Path.{_≡_, refl, ap}
-use mathlib.Core.Bool.{Bool, true, false}
+use mathlib.Core.Bool.{true, false}
 use mathlib.Core.List.{List, [], _∷_, _++_, List·Memᴰ·head, List·Memᴰ·tail}
-use mathlib.Core.Option.{Option, none, some}
+use mathlib.Core.Option.{none, some}
 use Rattle.lists.specs.Rows.{Row, row}
 use Rattle.spec.specs.Records.{Record}
-use Rattle.spec.specs.Steps.{Step, begin, read, scan, put, remove, lock, validate, install, abort, merge, Answer, refused, done, found, listed, numbered, counted, Event}
-use Rattle.spec.specs.Claim.{Transaction, reading, SerialRun}
+use Rattle.spec.specs.Steps.{begin, read, scan, put, lock, validate, install, done, found, listed, numbered, Event}
+use Rattle.spec.specs.Claim.{SerialRun}
 use Rattle.spec.specs.Computing.{claim}
 use Rattle.spec.specs.Runs.{value, event, entryOf}
 

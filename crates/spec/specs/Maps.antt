@@ -1,15 +1,14 @@
 -- Document 01: the map. Present records, hidden keys, the counts behind refusals 10 and 11, and the four changes: lock,
 -- unlock, install, fold.
 -- Assumes nothing.
-use Prim.Native.Nat.{ℕ, zero, suc, _+_}
-use mathlib.Core.Bool.{Bool, true, false, not}
+use Prim.Native.Nat.{ℕ, _+_}
+use mathlib.Core.Bool.{Bool, false, not}
 use mathlib.Core.List.{List, [], _∷_, _++_, map}
-use mathlib.Core.Option.{Option, none, some, Option·getD}
-use lib.ListN.{length}
+use mathlib.Core.Option.{Option, none, some}
 use Rattle.lists.specs.Tests.{pick, both, either, maybe, present, same}
-use Rattle.lists.specs.Rows.{Row, row, look, assign, lay, between, keys, mapItems, any, filter, distinct}
+use Rattle.lists.specs.Rows.{Row, row, look, assign, lay, between, keys, any, filter, distinct}
 use Rattle.spec.specs.Records.{Settings, Record, Write, outcome}
-use Rattle.spec.specs.Leaves.{Leaf, firstLeaf, leafOf, versionAt, meeting, settle, versionsTaken}
+use Rattle.spec.specs.Leaves.{Leaf, firstLeaf, versionAt, settle, versionsTaken}
 use Rattle.spec.specs.Slots.{Slot, Pending, Content, emptySlots, entries, contentOf, enter}
 
 -- The index (sorted records and leaves) and the indexlet.

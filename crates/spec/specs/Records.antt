@@ -5,10 +5,8 @@
 -- Assumes nothing.
 use Prim.Native.Nat.{ℕ}
 use mathlib.Core.Bool.{Bool, true, false}
-use mathlib.Core.List.{List}
 use mathlib.Core.Option.{Option, none, some}
 use Rattle.lists.specs.Tests.{both, same}
-use Rattle.lists.specs.Rows.{Row}
 
 -- The limits of a map, as document 01 and the requests give them.
 pub record Settings : Type 0 where

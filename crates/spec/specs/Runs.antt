@@ -2,15 +2,14 @@
 -- Assumes nothing.
 use Prim.Native.Nat.{ℕ}
 use mathlib.Core.Path.{_≡_, refl}
-use mathlib.Core.List.{List, [], _∷_, _++_, map}
-use mathlib.Core.Option.{Option, none, some}
-use lib.ListN.{replicate}
-use Rattle.lists.specs.Rows.{Row, row, has}
+use mathlib.Core.List.{List, [], _∷_, map}
+use mathlib.Core.Option.{none, some}
+use Rattle.lists.specs.Rows.{Row, row}
 use Rattle.spec.specs.declared.Refusal.the-variants.{NoWorker, WorkerFree, Backward, ShortBuffer, Changed, UnderLock, Phantom}
 use Rattle.spec.specs.Records.{standard, Payload, Record}
-use Rattle.spec.specs.Leaves.{runs, cuts}
-use Rattle.spec.specs.Slots.{homeSlot, holds}
-use Rattle.spec.specs.Maps.{contents, each}
+use Rattle.spec.specs.Leaves.{cuts}
+use Rattle.spec.specs.Slots.{homeSlot}
+use Rattle.spec.specs.Maps.{contents}
 use Rattle.spec.specs.Steps.{fresh, Step, begin, read, scan, put, remove, lock, validate, install, abort, merge, Answer, refused, done, found, listed, numbered, counted, answer, Event, final, history}
 use Rattle.spec.specs.Computing.{model}
 

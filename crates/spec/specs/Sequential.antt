@@ -2,10 +2,9 @@
 -- limits; and what it answers when a transaction's steps are run on it alone.
 -- Nothing here knows leaves, slots, locks or refusals.
 -- Assumes nothing.
-use Prim.Native.Nat.{ℕ, zero, suc}
+use Prim.Native.Nat.{ℕ}
 use mathlib.Core.Path.{_≡_}
-use mathlib.Core.List.{List, [], _∷_, _++_}
-use mathlib.Core.Option.{Option, none, some}
+use mathlib.Core.List.{List, [], _∷_}
 use Rattle.lists.specs.Rows.{Row, look, assign, between, mapItems}
 use Rattle.spec.specs.Records.{Payload, Record, written, deleted, outcome, payloadOf}
 use Rattle.spec.specs.Steps.{Step, begin, read, scan, put, remove, lock, validate, install, abort, merge, Answer, found, listed, Event}

@@ -1,12 +1,12 @@
 -- Document 01, "Seats and steps" and "Refusals by number": workers, the ten steps, when each is refused, what a granted
 -- one answers and changes, and a run of steps.
 -- Assumes nothing.
-use Prim.Native.Nat.{ℕ, zero, suc, _+_, min}
+use Prim.Native.Nat.{ℕ, suc, _+_, min}
 use mathlib.Core.Bool.{Bool, true, false, not}
 use mathlib.Core.List.{List, [], _∷_, _++_, map}
 use mathlib.Core.Option.{Option, none, some}
 use lib.ListN.{length, getD, set, replicate}
-use Rattle.lists.specs.Tests.{pick, both, either, maybe, present, same, less, atMost}
+use Rattle.lists.specs.Tests.{pick, both, either, maybe, present, less}
 use Rattle.lists.specs.Rows.{Row, row, look, insert, lay, between, keys, mapItems, any}
 use Rattle.spec.specs.declared.Refusal.{Refusal}
 use Rattle.spec.specs.declared.Refusal.the-variants.{NoWorker, WorkerFree, WorkerTaken, WrongStage, Backward, LogFull, WritesFull, ShortBuffer, Held, IndexletFull, MapFull, Changed, UnderLock, Phantom, Spent}
@@ -15,7 +15,7 @@ use Rattle.spec.specs.declared.Stage.the-variants.{Free, Open, Locked, C
 use Rattle.spec.specs.Refusals.{ends}
 use Rattle.spec.specs.Records.{Settings, Payload, Record, Write, written, deleted, ownView, payloadOf, sameRecord}
 use Rattle.spec.specs.Leaves.{live, meeting}
-use Rattle.spec.specs.Slots.{Content, entries, contentOf}
+use Rattle.spec.specs.Slots.{contentOf}
 use Rattle.spec.specs.Maps.{MapState, freshMap, current, indexedBetween, heldByOther, hides, waitingWith, addressesWith, merging, lockAll, unlockAll, installAll, Merged, mergeAt}
 
 -- ---- state

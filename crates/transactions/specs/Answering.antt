@@ -1,16 +1,16 @@
 -- How a step's refusals are found one after the other: the causes that the code has tested, in their order.
 -- Assumes nothing.
 use Prim.Native.Nat.{ℕ, _<_, _≤_}
-use mathlib.Core.Path.{_≡_, refl, sym, ap, _∙_}
+use mathlib.Core.Path.{_≡_, refl, ap, _∙_}
 use mathlib.Core.Bool.{Bool, true, false, not}
 use mathlib.Core.List.{List, [], _∷_}
 use mathlib.Core.Option.{Option, none, some}
 use Rattle.lists.specs.Tests.{pick, maybe, less, less-yes, less-no}
 use Rattle.spec.specs.declared.Refusal.{Refusal}
-use Rattle.spec.specs.declared.Refusal.the-variants.{NoWorker, WorkerFree, WorkerTaken, WrongStage}
+use Rattle.spec.specs.declared.Refusal.the-variants.{NoWorker, WorkerFree, WrongStage}
 use Rattle.spec.specs.declared.Stage.{Stage}
 use Rattle.spec.specs.Refusals.{ends}
-use Rattle.spec.specs.Steps.{State, workerOf, Step, Answer, refused, isFree, Cause, cause, noWorker, workerFree, wrongStage, causes, firstCause, refusal, granted, effect, answer, next}
+use Rattle.spec.specs.Steps.{State, workerOf, Step, Answer, refused, isFree, Cause, cause, noWorker, workerFree, wrongStage, firstCause, refusal, granted, effect, answer, next}
 use Rattle.limits.specs.Refusing.{next-granted, refused-same}
 
 -- What a step comes to: its answer, and the state after it.

@@ -1,18 +1,16 @@
 -- Begin, as it goes: refused by 1 or 3, or the worker is open with nothing read or written.
 -- Assumes nothing.
-use Prim.Native.Nat.{ℕ, zero, suc, _<_, _≤_, zero-le}
+use Prim.Native.Nat.{ℕ, _<_, zero-le}
 use mathlib.Core.Path.{_≡_, refl, sym, ap, _∙_, subst}
 use mathlib.Core.Logic.{_⊎_, ⊎-elim}
-use mathlib.Core.Bool.{Bool, true, false, not}
-use mathlib.Core.List.{List, [], _∷_}
-use mathlib.Core.Option.{Option, none, some}
-use lib.ListN.{length, getD, set, length-set}
+use mathlib.Core.Bool.{true}
+use mathlib.Core.Option.{none}
+use lib.ListN.{getD, set, length-set}
 use lib.Seq.{getD-set-same, getD-set-other}
-use Rattle.lists.specs.Tests.{same, less, cases, same-true, same-false, less-yes, less-no}
+use Rattle.lists.specs.Tests.{same, cases, same-true, same-false}
 use Rattle.spec.specs.declared.Refusal.{Refusal}
 use Rattle.spec.specs.declared.Stage.the-variants.{Open}
-use Rattle.spec.specs.Steps as model
-use Rattle.spec.specs.Steps.{begin, Answer, done, refused, isFree, workerOf, noWorker, causes, firstCause, refusal, granted, effect, withWorker, atStage, freeWorker}
+use Rattle.spec.specs.Steps.{begin, Answer, done, refused, granted, effect, withWorker, atStage, freeWorker}
 use Rattle.sets.specs.declared.workers.Worker.{Worker}
 use Rattle.sets.specs.Workers.{workerIn, freed, begun}
 use Rattle.sets.specs.Reads.{readsIn}
@@ -25,7 +23,7 @@ use Rattle.transactions.specs.declared.begins.Plain.the-variants.{Grante
 use Rattle.transactions.specs.declared.begins.Done.{Done}
 use Rattle.transactions.specs.Answering.{comes-granted}
 use Rattle.transactions.specs.Admits.{Barred, Vacant}
-use Rattle.transactions.specs.Views.{Logs, seatIn, stateOf, withSeat, OthersSame, state-with, worker-at}
+use Rattle.transactions.specs.Views.{Logs, seatIn, stateOf, withSeat, OthersSame, state-with}
 use Rattle.transactions.specs.Ready.{seat, Within, Stored, Ready, Goes, goes, goes-refused}
 
 -- document 01's answer

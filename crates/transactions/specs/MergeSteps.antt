@@ -1,25 +1,24 @@
 -- A merge, as it goes: the map and the last version are the model's, and each logged low still lies in its leaf.
 -- Assumes nothing.
-use Prim.Native.Nat.{ℕ, zero, suc, _+_, _*_, _^_, _<_, _≤_}
-use native.Mathlib.Nat.{le-refl, le-trans, le-of-eq}
+use Prim.Native.Nat.{ℕ, _+_, _*_, _^_, _<_, _≤_}
+use native.Mathlib.Nat.{le-trans, le-of-eq}
 use native.Mathlib.Omega.{arith}
 use mathlib.Core.Path.{_≡_, refl, sym, ap, _∙_, subst}
 use mathlib.Core.Logic.{_⊎_, ⊎-elim}
-use mathlib.Core.Bool.{Bool, true, false}
-use mathlib.Core.List.{List, List·Memᴰ}
+use mathlib.Core.Bool.{true, false}
+use mathlib.Core.List.{List·Memᴰ}
 use mathlib.Core.Option.{none}
 use lib.ListN.{getD}
-use Rattle.lists.specs.Tests.{cases, clash}
+use Rattle.lists.specs.Tests.{cases}
 use Rattle.spec.specs.Records.{standard}
-use Rattle.spec.specs.Leaves.{Leaf, versionAt, live}
-use Rattle.spec.specs.Maps.{MapState, mergeAt, merging}
+use Rattle.spec.specs.Leaves.{versionAt, live}
+use Rattle.spec.specs.Maps.{MapState, mergeAt}
 use Rattle.spec.specs.Steps as model
 use Rattle.spec.specs.Steps.{State, merge, counted, refusal, causes, firstCause, granted, effect, withMap, withCounters, merged}
 use Rattle.laws.specs.LeafVersions.{GoodLeaves, version-live, live-version}
 use Rattle.laws.specs.LeafCuts.{standard-cut}
 use Rattle.laws.specs.MergeLaws as laws
-use Rattle.limits.specs.Invariant.{Kept, standard-version}
-use Rattle.limits.specs.LoggedVersions.{LoggedOld}
+use Rattle.limits.specs.Invariant.{standard-version}
 use Rattle.sets.specs.Leaves.{versionsIn, lowsIn}
 use Rattle.sets.specs.LeafLaws.{length-versions}
 use Rattle.lists.specs.Ascending.{mem-getD}

@@ -1,16 +1,15 @@
 -- The invariant of the engine: every public entry asks it, `fresh` establishes it and every entry keeps it. And what a
 -- step promises: its answer and the state after it are the model's.
 -- Assumes nothing.
-use Prim.Native.Nat.{ℕ, zero, suc, _<_, _≤_}
-use mathlib.Core.Path.{_≡_, refl, sym, ap, _∙_, subst}
-use mathlib.Core.Bool.{Bool, true, false}
-use mathlib.Core.List.{List}
-use mathlib.Core.Option.{Option, none, some}
+use Prim.Native.Nat.{ℕ, _<_, _≤_}
+use mathlib.Core.Path.{_≡_, refl, sym, _∙_, subst}
+use mathlib.Core.Bool.{true, false}
+use mathlib.Core.Option.{some}
 use lib.ListN.{length, getD}
 use Rattle.spec.specs.declared.Refusal.{Refusal}
 use Rattle.spec.specs.Refusals.{ends}
 use Rattle.spec.specs.Leaves.{versionAt, live}
-use Rattle.spec.specs.Steps.{State, Step, Answer, refused, refusal, granted, effect, answer, next}
+use Rattle.spec.specs.Steps.{State, Step, Answer, refused, refusal, answer, next}
 use Rattle.limits.specs.Invariant.{Kept}
 use Rattle.limits.specs.Keeping.{next-kept}
 use Rattle.limits.specs.LoggedVersions.{LoggedOld, next-logged}
@@ -23,7 +22,7 @@ use Rattle.map.specs.Views.{Lent, mapOf}
 use Rattle.map.specs.Held as map
 use Rattle.transactions.specs.declared.Core.{Core}
 use Rattle.transactions.specs.Views.{Logs, stateOf}
-use Rattle.transactions.specs.Answering.{Comes, comes-granted, comes-refused}
+use Rattle.transactions.specs.Answering.{Comes, comes-refused}
 
 abbrev pub seat : Core → ℕ → Worker
 seat c w = getD (c .seats) w freed

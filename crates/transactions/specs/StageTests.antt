@@ -1,7 +1,7 @@
 -- The tests of a stage, at each of the four.
 -- Assumes nothing.
 use mathlib.Core.Path.{_≡_, refl}
-use mathlib.Core.Bool.{Bool, true, false}
+use mathlib.Core.Bool.{true, false}
 use Rattle.spec.specs.declared.Stage.the-variants.{Free, Open, Locked, Checked}
 use Rattle.spec.specs.Steps.{isFree, isOpen, isLocked, isChecked}
 

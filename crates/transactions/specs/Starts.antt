@@ -1,27 +1,26 @@
 -- The arrays of a fresh map, with every worker free.
 -- Assumes nothing.
-use Prim.Native.Nat.{ℕ, zero, suc, _<_, _≤_, zero-le}
+use Prim.Native.Nat.{ℕ, zero, suc, _<_, zero-le}
 use native.Mathlib.Nat.{not-suc-le-zero}
-use mathlib.Core.Path.{_≡_, refl, sym, ap, _∙_, subst}
-use mathlib.Core.List.{List, [], _∷_}
-use lib.ListN.{length, getD, replicate, length-replicate}
+use mathlib.Core.Path.{_≡_, refl, sym, subst}
+use mathlib.Core.List.{_∷_}
+use lib.ListN.{getD, replicate, length-replicate}
 use Rattle.spec.specs.Records.{standard}
-use Rattle.spec.specs.Maps.{MapState, freshMap}
-use Rattle.spec.specs.Steps as model
-use Rattle.spec.specs.Steps.{State, fresh, freeWorker}
+use Rattle.spec.specs.Maps.{freshMap}
+use Rattle.spec.specs.Steps.{fresh, freeWorker}
 use Rattle.laws.specs.WorkerLaws.{standard-settings}
 use Rattle.limits.specs.Invariant.{Kept, fresh-kept}
 use Rattle.limits.specs.LoggedVersions.{LoggedOld, fresh-logged}
 use Rattle.sets.specs.declared.workers.Worker.{Worker}
 use Rattle.sets.specs.Workers.{workerIn, freed}
 use Rattle.sets.specs.Reads.{readsIn}
-use Rattle.sets.specs.Leaves.{versionsIn, lowsIn}
+use Rattle.sets.specs.Leaves.{versionsIn}
 use Rattle.sets.specs.Writes.{writesIn}
 use Rattle.sets.specs.ReadLaws.{reads-zero}
 use Rattle.sets.specs.LeafLaws.{leaves-zero}
 use Rattle.sets.specs.WriteRows.{writes-zero}
 use Rattle.map.specs.declared.Sizes.{Sizes}
-use Rattle.map.specs.Views.{Lent, mapOf}
+use Rattle.map.specs.Views.{Lent}
 use Rattle.map.specs.Says.{Becomes}
 use Rattle.transactions.specs.declared.Core.{Core}
 use Rattle.transactions.specs.Views.{Logs, logs, seatIn, workersFrom, stateOf}

@@ -1,6 +1,6 @@
 -- How the lent arrays and the core are read: they are the model's state.
 -- Assumes nothing.
-use Prim.Native.Nat.{ℕ, zero, suc, _+_, _<_, _≤_, zero-le, suc-le-suc}
+use Prim.Native.Nat.{ℕ, zero, suc, _+_, _<_}
 use native.Mathlib.Nat.{not-suc-le-zero, le-of-suc-le-suc, add-zero, add-suc, suc-add}
 use native.Mathlib.Omega.{arith}
 use mathlib.Core.Path.{_≡_, refl, sym, ap, _∙_, subst}
@@ -12,7 +12,7 @@ use Rattle.spec.specs.Steps.{State, workerOf, freeWorker, withWorker}
 use Rattle.sets.specs.declared.workers.Worker.{Worker}
 use Rattle.sets.specs.Workers.{workerIn, freed}
 use Rattle.sets.specs.Reads.{readsIn}
-use Rattle.sets.specs.Leaves.{versionsIn, lowsIn}
+use Rattle.sets.specs.Leaves.{versionsIn}
 use Rattle.sets.specs.Writes.{writesIn}
 use Rattle.map.specs.Views.{Lent, mapOf}
 use Rattle.transactions.specs.declared.Core.{Core}

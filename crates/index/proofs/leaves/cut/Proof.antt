@@ -6,11 +6,6 @@ use Rattle.index.specs.Settles.{fresh, runLow}
 use borrow.Author.Needs.{needs}
 use Rattle.index.proofs.leaves.cut.Statement.{statement}
 use Rattle.index.proofs.leaves.cut.Tie as tie
-use Rattle.index.proofs.leaves.cut.Reads as reads
-use Rattle.index.proofs.leaves.cut.Lts as lts
-use Rattle.index.proofs.leaves.fill_lows.Reads as fill-lows-reads
-use Rattle.index.proofs.leaves.fill_versions.Reads as fill-versions-reads
-use Rattle.index.proofs.shifts.shift_right.Reads as shift-right-reads
 
 add-shift-right : tie.Need-add-shift-right
 add-shift-right c = search needs

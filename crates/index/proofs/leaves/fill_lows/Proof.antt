@@ -8,10 +8,6 @@ use Rattle.spec.specs.Records.{Record}
 use Rattle.index.specs.Settles.{runLow}
 use Rattle.index.proofs.leaves.fill_lows.Statement.{statement}
 use Rattle.index.proofs.leaves.fill_lows.Tie as tie
-use Rattle.index.proofs.leaves.fill_lows.Reads as reads
-use Rattle.index.proofs.leaves.fill_lows.Lts as lts
-use Rattle.index.proofs.rows.get.Reads as get-reads
-use Rattle.index.proofs.shifts.all.Reads as all-reads
 
 abbrev Inv-loop : tie.InvT-loop
 Inv-loop lows₀ rows at i n x₀ lows x = Filling lows₀ lows at (runLow rows i) n x

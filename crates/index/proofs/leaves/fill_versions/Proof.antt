@@ -6,9 +6,6 @@ use Rattle.lists.specs.Shifts.{Filling, filling-start, filling-on, filling-end}
 use Rattle.index.specs.Settles.{fresh}
 use Rattle.index.proofs.leaves.fill_versions.Statement.{statement}
 use Rattle.index.proofs.leaves.fill_versions.Tie as tie
-use Rattle.index.proofs.leaves.fill_versions.Reads as reads
-use Rattle.index.proofs.leaves.fill_versions.Lts as lts
-use Rattle.index.proofs.shifts.all.Reads as all-reads
 
 abbrev Inv-loop : tie.InvT-loop
 Inv-loop versions₀ at v n x₀ versions x = Filling versions₀ versions at (fresh v) n x

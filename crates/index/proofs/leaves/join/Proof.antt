@@ -5,9 +5,6 @@ use lib.ListN.{set}
 use borrow.Author.Needs.{needs}
 use Rattle.index.proofs.leaves.join.Statement.{statement}
 use Rattle.index.proofs.leaves.join.Tie as tie
-use Rattle.index.proofs.leaves.join.Reads as reads
-use Rattle.index.proofs.leaves.join.Lts as lts
-use Rattle.index.proofs.shifts.shift_left.Reads as shift-left-reads
 
 add-shift-left : tie.Need-add-shift-left
 add-shift-left c = search needs

@@ -1,5 +1,5 @@
 use mathlib.Core.Path.{_≡_}
-use Prim.Native.Nat.{_≤_, _<_}
+use Prim.Native.Nat.{_<_}
 use lib.ListN.{length, take}
 use lib.Seq.{length-take-le}
 use native.Mathlib.Omega.{arith}
@@ -8,10 +8,6 @@ use Rattle.index.specs.Nearing.{Took, Nearing, first-taken, near-start, 
 use Rattle.index.specs.LeafPlaces.{lowPlace, place-inside, low-took}
 use Rattle.index.proofs.leaves.leaf_at.Statement.{statement}
 use Rattle.index.proofs.leaves.leaf_at.Tie as tie
-use Rattle.index.proofs.leaves.leaf_at.Reads as reads
-use Rattle.index.proofs.leaves.leaf_at.Lts as lts
-use Rattle.index.proofs.leaves.probe.Reads as probe-reads
-use Rattle.index.proofs.shifts.all.Reads as all-reads
 
 abbrev Inv-loop : tie.InvT-loop
 Inv-loop lows m a key last base₀ step₀ base step = Nearing (lowPlace key (take m lows)) base step

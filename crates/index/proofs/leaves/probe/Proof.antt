@@ -4,9 +4,6 @@ use Rattle.index.specs.LeafPlaces.{leaf-step, leaf-stay, leaf-end}
 use borrow.Author.Needs.{needs}
 use Rattle.index.proofs.leaves.probe.Statement.{statement}
 use Rattle.index.proofs.leaves.probe.Tie as tie
-use Rattle.index.proofs.leaves.probe.Reads as reads
-use Rattle.index.proofs.leaves.probe.Lts as lts
-use Rattle.index.proofs.shifts.all.Reads as all-reads
 
 all-requires : tie.Need-all-requires
 all-requires c κs = search needs

@@ -1,4 +1,4 @@
-use Prim.Native.Nat.{_-_, _/_, _≤_}
+use Prim.Native.Nat.{_-_, _/_}
 use mathlib.Core.Path.{_≡_, refl}
 use mathlib.Core.Logic.{inl, inr}
 use lib.ListN.{length}
@@ -9,12 +9,6 @@ use native.Mathlib.Omega.{arith}
 use borrow.Author.Needs.{needs}
 use Rattle.index.proofs.leaves.settle.Statement.{statement}
 use Rattle.index.proofs.leaves.settle.Tie as tie
-use Rattle.index.proofs.leaves.settle.Reads as reads
-use Rattle.index.proofs.leaves.settle.Lts as lts
-use Rattle.index.proofs.leaves.cut.Reads as cut-reads
-use Rattle.index.proofs.leaves.join.Reads as join-reads
-use Rattle.index.proofs.leaves.keep.Reads as keep-reads
-use Rattle.index.proofs.shifts.all.Reads as all-reads
 
 all-requires : tie.Need-all-requires
 all-requires c κs = search needs

@@ -3,11 +3,6 @@ use Rattle.index.specs.RecordLaws.{present-at, absent-at, absent-past, d
 use borrow.Author.Needs.{needs}
 use Rattle.index.proofs.records.drop.Statement.{statement}
 use Rattle.index.proofs.records.drop.Tie as tie
-use Rattle.index.proofs.records.drop.Reads as reads
-use Rattle.index.proofs.records.drop.Lts as lts
-use Rattle.index.proofs.records.locate.Reads as locate-reads
-use Rattle.index.proofs.rows.get.Reads as get-reads
-use Rattle.index.proofs.rows.lower.Reads as lower-reads
 
 locate-requires : tie.Need-locate-requires
 locate-requires c κs = search needs

@@ -3,10 +3,6 @@ use Rattle.index.specs.RecordLaws.{present-at, absent-at, absent-past, f
 use borrow.Author.Needs.{needs}
 use Rattle.index.proofs.records.find.Statement.{statement}
 use Rattle.index.proofs.records.find.Tie as tie
-use Rattle.index.proofs.records.find.Reads as reads
-use Rattle.index.proofs.records.find.Lts as lts
-use Rattle.index.proofs.records.locate.Reads as locate-reads
-use Rattle.index.proofs.rows.get.Reads as get-reads
 
 locate-requires : tie.Need-locate-requires
 locate-requires c κs = search needs

@@ -4,10 +4,6 @@ use Rattle.index.specs.RecordLaws.{inserted}
 use borrow.Author.Needs.{needs}
 use Rattle.index.proofs.records.insert.Statement.{statement}
 use Rattle.index.proofs.records.insert.Tie as tie
-use Rattle.index.proofs.records.insert.Reads as reads
-use Rattle.index.proofs.records.insert.Lts as lts
-use Rattle.index.proofs.rows.raise.Reads as raise-reads
-use Rattle.index.proofs.rows.store.Reads as store-reads
 
 add-raise : tie.Need-add-raise
 add-raise c = search needs

@@ -1,5 +1,5 @@
-use mathlib.Core.Path.{_≡_, subst, sym}
-use Prim.Native.Nat.{ℕ, _≤_}
+use mathlib.Core.Path.{_≡_}
+use Prim.Native.Nat.{_≤_}
 use lib.ListN.{length}
 use native.Mathlib.Omega.{arith}
 use borrow.Author.Needs.{needs}
@@ -10,9 +10,6 @@ use Rattle.index.specs.Nearing.{Took, Nearing, first-taken, near-start, 
 use Rattle.index.specs.Searches.{probe-took}
 use Rattle.index.proofs.records.locate.Statement.{statement}
 use Rattle.index.proofs.records.locate.Tie as tie
-use Rattle.index.proofs.records.locate.Reads as reads
-use Rattle.index.proofs.records.locate.Lts as lts
-use Rattle.index.proofs.records.probe.Reads as probe-reads
 
 abbrev Inv-loop : tie.InvT-loop
 Inv-loop rows n a key end base₀ step₀ base step = Nearing (place key (recordsOf rows n)) base step

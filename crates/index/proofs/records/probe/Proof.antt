@@ -3,9 +3,6 @@ use Rattle.index.specs.Searches.{step-taken, step-passed, step-short}
 use borrow.Author.Needs.{needs}
 use Rattle.index.proofs.records.probe.Statement.{statement}
 use Rattle.index.proofs.records.probe.Tie as tie
-use Rattle.index.proofs.records.probe.Reads as reads
-use Rattle.index.proofs.records.probe.Lts as lts
-use Rattle.index.proofs.rows.get.Reads as get-reads
 
 add-end : tie.Need-add-end
 add-end c = search needs

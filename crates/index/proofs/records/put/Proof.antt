@@ -1,14 +1,8 @@
-use Rattle.index.specs.Views.{rowOf, recordFrom, Holds}
+use Rattle.index.specs.Views.{rowOf, recordFrom}
 use Rattle.index.specs.RecordLaws.{present-at, absent-at, absent-past, put-over, put-room, put-new}
 use borrow.Author.Needs.{needs}
 use Rattle.index.proofs.records.put.Statement.{statement}
 use Rattle.index.proofs.records.put.Tie as tie
-use Rattle.index.proofs.records.put.Reads as reads
-use Rattle.index.proofs.records.put.Lts as lts
-use Rattle.index.proofs.records.insert.Reads as insert-reads
-use Rattle.index.proofs.records.locate.Reads as locate-reads
-use Rattle.index.proofs.rows.get.Reads as get-reads
-use Rattle.index.proofs.rows.store.Reads as store-reads
 
 locate-requires : tie.Need-locate-requires
 locate-requires c κs = search needs

@@ -3,8 +3,6 @@ use mathlib.Core.Path.{sym}
 use Rattle.index.specs.ViewLaws.{row-read}
 use Rattle.index.proofs.rows.get.Statement.{statement}
 use Rattle.index.proofs.rows.get.Tie as tie
-use Rattle.index.proofs.rows.get.Reads as reads
-use Rattle.index.proofs.rows.get.Lts as lts
 
 -- src/rows.rt:33:23
 mul-t3 : tie.Need-mul-t3

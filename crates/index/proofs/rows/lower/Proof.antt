@@ -10,10 +10,6 @@ use Rattle.index.specs.Views.{rowsOf, noRow}
 use Rattle.lists.specs.Shifts.{Lowering, lowering-start, lowering-on, lowering-end}
 use Rattle.index.proofs.rows.lower.Statement.{statement}
 use Rattle.index.proofs.rows.lower.Tie as tie
-use Rattle.index.proofs.rows.lower.Reads as reads
-use Rattle.index.proofs.rows.lower.Lts as lts
-use Rattle.index.proofs.rows.get.Reads as get-reads
-use Rattle.index.proofs.rows.store.Reads as store-reads
 
 abbrev Inv-loop : tie.InvT-loop
 Inv-loop rows₀ from to n i₀ rows i = Lowering (rowsOf rows₀) (rowsOf rows) from to n i

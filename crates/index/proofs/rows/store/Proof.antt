@@ -2,9 +2,6 @@ use borrow.Author.Needs.{needs}
 use Rattle.index.specs.ViewLaws.{row-stored}
 use Rattle.index.proofs.rows.store.Statement.{statement}
 use Rattle.index.proofs.rows.store.Tie as tie
-use Rattle.index.proofs.rows.store.Reads as reads
-use Rattle.index.proofs.rows.store.Lts as lts
-use Rattle.index.proofs.rows.all.Reads as all-reads
 
 -- src/rows.rt:44:5
 all-requires : tie.Need-all-requires

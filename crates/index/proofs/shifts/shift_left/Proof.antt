@@ -4,9 +4,6 @@ use mathlib.Core.Path.{refl}
 use Rattle.lists.specs.Shifts.{Lowering, lowering-start, lowering-on, lowering-end}
 use Rattle.index.proofs.shifts.shift_left.Statement.{statement}
 use Rattle.index.proofs.shifts.shift_left.Tie as tie
-use Rattle.index.proofs.shifts.shift_left.Reads as reads
-use Rattle.index.proofs.shifts.shift_left.Lts as lts
-use Rattle.index.proofs.shifts.all.Reads as all-reads
 
 abbrev Inv-loop : tie.InvT-loop
 Inv-loop xs₀ from to n i₀ xs i = Lowering xs₀ xs from to n i

@@ -4,9 +4,6 @@ use mathlib.Core.Path.{refl}
 use Rattle.lists.specs.Shifts.{Raising, raising-start, raising-on, raising-end}
 use Rattle.index.proofs.shifts.shift_right.Statement.{statement}
 use Rattle.index.proofs.shifts.shift_right.Tie as tie
-use Rattle.index.proofs.shifts.shift_right.Reads as reads
-use Rattle.index.proofs.shifts.shift_right.Lts as lts
-use Rattle.index.proofs.shifts.all.Reads as all-reads
 
 abbrev Inv-loop : tie.InvT-loop
 Inv-loop xs₀ from to n i₀ xs i = Raising xs₀ xs from to n i

@@ -2,7 +2,6 @@
 -- Assumes nothing.
 use Rattle.indexlet.specs.Words.{contentIn}
 use Rattle.index.specs.Views.{recordFrom}
-use Rattle.phantomlet.specs.LeafTests.{placed}
 use Rattle.phantomlet.specs.LeafCounts.{leaf-outside, leaf-inside, reaches-yes, reaches-no}
 use Rattle.map.specs.MergeWalks.{walk-outside, walk-lock, walk-on, left-fits, slot-room, write-room, rest-content}
 use borrow.Author.Needs.{needs}

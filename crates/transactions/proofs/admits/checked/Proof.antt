@@ -1,12 +1,10 @@
 use mathlib.Core.Path.{refl, ap, _∙_}
 use borrow.Author.Needs.{needs}
 use Rattle.spec.specs.Steps.{isFree, isChecked}
-use Rattle.transactions.specs.StageTests.{free-free, open-taken, locked-taken, checked-taken, open-not-locked, locked-locked, checked-not-locked, open-not-checked, locked-not-checked, checked-checked}
+use Rattle.transactions.specs.StageTests.{free-free, open-taken, locked-taken, checked-taken, open-not-checked, locked-not-checked, checked-checked}
 use Rattle.transactions.specs.Admits.{turned-none, turned-free, turned-wrong, admitted}
 use Rattle.transactions.proofs.admits.checked.Statement.{statement}
 use Rattle.transactions.proofs.admits.checked.Tie as tie
-use Rattle.transactions.proofs.admits.checked.Reads as reads
-use Rattle.transactions.proofs.admits.checked.Lts as lts
 
 -- src/admits.rt:19:9
 returns : tie.Need-returns

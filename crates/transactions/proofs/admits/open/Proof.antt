@@ -5,8 +5,6 @@ use Rattle.transactions.specs.StageTests.{free-free, open-taken, locked-
 use Rattle.transactions.specs.Admits.{turned-none, turned-free, turned-wrong, admitted}
 use Rattle.transactions.proofs.admits.open.Statement.{statement}
 use Rattle.transactions.proofs.admits.open.Tie as tie
-use Rattle.transactions.proofs.admits.open.Reads as reads
-use Rattle.transactions.proofs.admits.open.Lts as lts
 
 -- src/admits.rt:19:9
 returns : tie.Need-returns

@@ -5,8 +5,6 @@ use Rattle.transactions.specs.StageTests.{free-free, open-taken, locked-
 use Rattle.transactions.specs.Admits.{barred-none, barred-taken, vacant-free}
 use Rattle.transactions.proofs.admits.vacant.Statement.{statement}
 use Rattle.transactions.proofs.admits.vacant.Tie as tie
-use Rattle.transactions.proofs.admits.vacant.Reads as reads
-use Rattle.transactions.proofs.admits.vacant.Lts as lts
 
 -- src/admits.rt:70:9
 returns : tie.Need-returns

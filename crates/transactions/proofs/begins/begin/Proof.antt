@@ -1,16 +1,9 @@
-use mathlib.Core.Path.{refl, sym, ap, _∙_, subst}
+use mathlib.Core.Path.{subst}
 use borrow.Author.Needs.{needs}
-use Rattle.transactions.specs.Begins.{Begins, begin-refused, begin-granted}
-use Rattle.transactions.specs.Views.{withSeat}
-use Rattle.transactions.specs.declared.begins.Plain.the-variants.{Granted}
-use Rattle.sets.specs.declared.workers.Worker.{Worker}
+use Rattle.transactions.specs.Begins.{begin-refused, begin-granted}
 use Rattle.transactions.specs.Admits.{Begun}
 use Rattle.transactions.proofs.begins.begin.Statement.{statement}
 use Rattle.transactions.proofs.begins.begin.Tie as tie
-use Rattle.transactions.proofs.begins.begin.Reads as reads
-use Rattle.transactions.proofs.begins.begin.Lts as lts
-use Rattle.sets.proofs.workers.Worker.begin.Reads as begin-reads
-use Rattle.transactions.proofs.admits.vacant.Reads as vacant-reads
 
 -- src/begins.rt:27:11
 vacant-requires : tie.Need-vacant-requires

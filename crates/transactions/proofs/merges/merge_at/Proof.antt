@@ -1,9 +1,6 @@
 use Rattle.transactions.specs.MergeSteps.{version-room, merge-goes}
 use Rattle.transactions.proofs.merges.merge_at.Statement.{statement}
 use Rattle.transactions.proofs.merges.merge_at.Tie as tie
-use Rattle.transactions.proofs.merges.merge_at.Reads as reads
-use Rattle.transactions.proofs.merges.merge_at.Lts as lts
-use Rattle.map.proofs.merge.merge.Reads as merge-reads
 
 -- src/merges.rt:36:9
 merge-requires : tie.Need-merge-requires

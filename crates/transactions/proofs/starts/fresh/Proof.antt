@@ -3,9 +3,6 @@ use Rattle.map.specs.Views.{lent}
 use Rattle.transactions.specs.Starts.{fresh-start}
 use Rattle.transactions.proofs.starts.fresh.Statement.{statement}
 use Rattle.transactions.proofs.starts.fresh.Tie as tie
-use Rattle.transactions.proofs.starts.fresh.Reads as reads
-use Rattle.transactions.proofs.starts.fresh.Lts as lts
-use Rattle.map.proofs.say.fresh.Reads as fresh-reads
 
 -- src/starts.rt:25:9
 fresh-requires : tie.Need-fresh-requires

@@ -3,8 +3,8 @@
 // `take_all` walks the slots and takes the leaf's pending writes in; `resettle` settles the leaf; `recount` brings the
 // phantomlet up to date.
 use crate::Address;
-use crate::Counters;
 use crate::Sizes;
+use counters::Counters;
 use phantomlet::recount;
 use phantomlet::recount::Reach;
 ghost use mathlib.Core.Path.{_≡_};
@@ -222,10 +222,8 @@ pub fn merge(
         entries: w.entries,
         outside: out,
     };
-    let counters = Counters {
-        number: k.number,
-        version: s.version,
-    };
+    let taken = counters::take_versions(k, s.version - k.version);
+    let counters = taken.counters;
     Merged {
         sizes,
         counters,

@@ -11,7 +11,7 @@ pub mod scans;
 pub mod starts;
 pub mod validates;
 
-use map::Counters;
+use counters::Counters;
 use map::Sizes;
 use sets::workers::Worker;
 

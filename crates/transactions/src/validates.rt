@@ -3,7 +3,6 @@ use crate::Core;
 use crate::admits;
 use crate::admits::Admit;
 use crate::drops;
-use map::Counters;
 use map::Sizes;
 use map::holders;
 use map::looks;
@@ -210,13 +209,11 @@ fn take_number(c: Core, w: usize, x: Worker) -> ValidateDone
             answer: ValidateAnswer::Refused(Refusal::Spent),
         };
     }
-    let n = last.number + 1;
+    let taken = counters::take_number(last);
+    let n = taken.last;
     let checked = x.check(n as u32);
     seats[w] = checked;
-    let counters = Counters {
-        number: n,
-        version: last.version,
-    };
+    let counters = taken.counters;
     let core = Core {
         seats,
         sizes,

@@ -17,6 +17,8 @@ use Rattle.spec.specs.Slots.{contentOf}
 use Rattle.spec.specs.Maps.{MapState, current, heldByOther}
 use Rattle.indexlet.specs.Words.{slotsOf}
 use Rattle.index.specs.Views.{recordFrom, leavesOf}
+use Rattle.counters.specs.declared.Counters.{Counters}
+use Rattle.counters.specs.Taking as taking
 use Rattle.map.specs.declared.Sizes.{Sizes}
 use Rattle.looks.specs.declared.Current.{Current}
 use Rattle.looks.specs.LookViews.{mapWith, Sees, recordIn as currentIn}
@@ -190,9 +192,15 @@ module _ (c : Core) (w : ℕ) (x : Worker) where
   unfolding numbering
   number-spent h = sym (ap (takes c w x) (less-no {m = c .counters .number} {n = 1000000} h))
 
-  pub number-left : (y : Worker) → c .counters .number < 1000000 → y ≡ atCheck x (c .counters .number + 1)
-      → record { core = withNumber c w y (c .counters .number + 1); answer = Number (c .counters .number + 1) } ≡ numbering c w x
+  pub number-left : c .counters .number < 1000000
+      → record { core = withNumber c w (atCheck x (c .counters .number + 1)) (c .counters .number + 1); answer = Number (c .counters .number + 1) } ≡ numbering c w x
   unfolding numbering
-  number-left y h e =
-      ap (λ (u : Worker). record { core = withNumber c w u (c .counters .number + 1); answer = Number (c .counters .number + 1) }) e
-      ∙ sym (ap (takes c w x) (less-yes {m = c .counters .number} {n = 1000000} h))
+  number-left h = sym (ap (takes c w x) (less-yes {m = c .counters .number} {n = 1000000} h))
+
+  -- the number is taken from the counters
+  pub number-taken : (k : Counters) (n : ℕ) (y : Worker) → c .counters .number < 1000000
+      → (n ≡ taking.numbered (c .counters) .number) × (k ≡ taking.numbered (c .counters)) → y ≡ atCheck x n
+      → record { core = record { seats = set (c .seats) w y; sizes = c .sizes; counters = k }; answer = Number n } ≡ numbering c w x
+  number-taken k n y h (p, q) e =
+      (λ i. record { core = record { seats = set (c .seats) w ((e ∙ ap (atCheck x) p) i); sizes = c .sizes; counters = q i }; answer = Number (p i) })
+      ∙ number-left h

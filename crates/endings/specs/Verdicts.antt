@@ -329,7 +329,7 @@ module _ {l : Lent} {rs ls ws : List ℕ} {c : Core} (w : ℕ) (k : Ready l (log
     validate-passed v y p j e =
         let q = sym (ap verdictIn p) ∙ j in
         ⊎-elim
-        (λ b. subst Taken (number-left c w x _ (less-true (c .counters .number) 1000000 b) refl ∙ sym e)
+        (λ b. subst Taken (number-left c w x (less-true (c .counters .number) 1000000 b) ∙ sym e)
         (numbered-goes (c .counters .number + 1) (add-one (c .counters .number))
         (refusal-by none q ∙ spent-is true b ∙ cause-fails false Spent [] refl ∙ (unfold firstCause in refl))))
         (λ b. subst Taken (number-spent c w x (less-false (c .counters .number) 1000000 b) ∙ sym e)

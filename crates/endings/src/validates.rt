@@ -1,7 +1,6 @@
 // Validate: the log is compared with what stands now, and the next commit number is taken.
 use crate::drops;
 use looks::Current;
-use map::Counters;
 use map::Sizes;
 use map::holders;
 use sets::leaves;
@@ -209,13 +208,11 @@ fn take_number(c: Core, w: usize, x: Worker) -> ValidateDone
             answer: ValidateAnswer::Refused(Refusal::Spent),
         };
     }
-    let n = last.number + 1;
+    let taken = counters::take_number(last);
+    let n = taken.last;
     let checked = x.check(n as u32);
     seats[w] = checked;
-    let counters = Counters {
-        number: n,
-        version: last.version,
-    };
+    let counters = taken.counters;
     let core = Core {
         seats,
         sizes,

@@ -33,7 +33,8 @@ use Rattle.index.specs.LeafPlaces.{lowPlace, AtLeaf, Listed}
 use Rattle.index.specs.LeafViews.{parted}
 use Rattle.index.specs.Settles.{SettledAs}
 use Rattle.map.specs.declared.Sizes.{Sizes}
-use Rattle.map.specs.declared.Counters.{Counters}
+use Rattle.counters.specs.declared.Counters.{Counters}
+use Rattle.counters.specs.Taking.{versioned}
 use Rattle.map.specs.declared.merge.Walk.{Walk}
 use Rattle.map.specs.declared.merge.Merged.{Merged}
 use Rattle.phantomlet.specs.Phantoms.{howMany, outsideAny, outsideIn, pendingIn, versionOf, Phantomlet}
@@ -249,6 +250,12 @@ module _ {l : Lent} {z : Sizes} (k : Counters) (h : Held l z (k .version)) (a i 
       version-is : v ≡ mergeAt standard (k .version) (mapOf l z) a .version
       unfolding settledTo ks
       version-is = settled .version ∙ sym (ap (λ (x : model.Merged). x .version) merged-is)
+
+      -- so many versions were used
+      all-taken : k .version + (v - k .version) ≡ v
+      all-taken =
+          let e : v ≡ k .version + versionsTaken standard (leafKeys (l .lows) rows (w .records) (z .leaves) i) = settled .version in
+          omega arith
 
       now-bounded : Bounded standard (mergeAt standard (k .version) (mapOf l z) a .version) now
       now-bounded = subst (Bounded standard (mergeAt standard (k .version) (mapOf l z) a .version)) (sym map-is) bounded
@@ -509,18 +516,19 @@ module _ {l : Lent} {z : Sizes} (k : Counters) (h : Held l z (k .version)) (a i 
               phantoms = now-phantoms;
             }
 
-        pub merges-some : Merges l z k a (lent rows lows versions outside pending slots)
+        -- the versions that settling used are taken
+        pub merges-some : {n : Counters} → n ≡ versioned k (v - k .version) → Merges l z k a (lent rows lows versions outside pending slots)
             (record {
               sizes = record { records = w .records; leaves = m; entries = w .entries; outside = out };
-              counters = record { number = k .number; version = v };
+              counters = n;
               count = w .count;
             })
         unfolding now
-        merges-some =
+        merges-some taken =
             record {
               map = map-is;
-              version = version-is;
-              number = refl;
+              version = ap (λ (x : Counters). x .version) taken ∙ all-taken ∙ version-is;
+              number = ap (λ (x : Counters). x .number) taken;
               count = took .count ∙ ap length (sym merging-is);
               held = record { tables = now-tables; bounded = now-bounded };
               same-current =

@@ -20,9 +20,3 @@ pub struct Sizes {
     pub entries: usize,
     pub outside: usize,
 }
-
-// The last commit number and the last leaf version given (document 01: serial number and mark); they travel together.
-pub struct Counters {
-    pub number: u64,
-    pub version: u64,
-}

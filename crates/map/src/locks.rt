@@ -1,8 +1,8 @@
 // A write set's locks: tests, lock, unlock and install, one address after the other.
 use crate::Address;
-use crate::Counters;
 use crate::Sizes;
 use crate::say;
+use counters::Counters;
 ghost use mathlib.Core.Path.{_≡_};
 ghost use mathlib.Core.Bool.{false};
 ghost use Prim.Native.Nat.{ℕ, _+_, _^_, _<_};

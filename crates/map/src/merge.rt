@@ -4,8 +4,8 @@
 // `resettle` settles the leaf; `recount` brings the phantomlet up to date. Nearly always no lock stays, and then `recount`
 // needs no walk of its own.
 use crate::Address;
-use crate::Counters;
 use crate::Sizes;
+use counters::Counters;
 use phantomlet::recount;
 use phantomlet::recount::Reach;
 ghost use mathlib.Core.Path.{_≡_};
@@ -240,10 +240,8 @@ pub fn merge(
         entries: w.entries,
         outside: out,
     };
-    let counters = Counters {
-        number: k.number,
-        version: s.version,
-    };
+    let taken = counters::take_versions(k, s.version - k.version);
+    let counters = taken.counters;
     Merged {
         sizes,
         counters,

@@ -1,7 +1,7 @@
 // What is said of one address: the indexlet changes, and the phantomlet with it. And an empty map.
 use crate::Address;
-use crate::Counters;
 use crate::Sizes;
+use counters::Counters;
 ghost use mathlib.Core.Path.{_≡_};
 ghost use mathlib.Core.Bool.{not};
 ghost use Prim.Native.Nat.{_+_, _-_};

@@ -11,7 +11,7 @@ use Rattle.spec.specs.declared.Stage.{Stage}
 use Rattle.spec.specs.declared.Stage.the-variants.{Free, Open, Locked, Checked}
 use Rattle.sets.specs.declared.workers.Worker.{Worker}
 use Rattle.map.specs.declared.Sizes.{Sizes}
-use Rattle.map.specs.declared.Counters.{Counters}
+use Rattle.counters.specs.declared.Counters.{Counters}
 use Rattle.transactions.specs.declared.Core.{Core}
 use Rattle.sections.specs.declared.saved.SeatWords.{SeatWords}
 

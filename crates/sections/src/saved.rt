@@ -1,5 +1,5 @@
 // The core in lent words: what goes by value between Rattle functions, another language keeps in an array.
-use map::Counters;
+use counters::Counters;
 use map::Sizes;
 use sets::workers::Worker;
 use spec::Stage;

@@ -5,7 +5,7 @@ pub mod begins;
 pub mod merges;
 pub mod starts;
 
-use map::Counters;
+use counters::Counters;
 use map::Sizes;
 use sets::workers::Worker;
 

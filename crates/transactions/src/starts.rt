@@ -1,6 +1,6 @@
 // A fresh map in any lent arrays, with every worker free.
 use crate::Core;
-use map::Counters;
+use counters::Counters;
 use map::say;
 use sets::workers::Worker;
 use spec::Stage;

@@ -1,14 +1,14 @@
 -- `validates::take_number` meets its contract: by whether a commit number is left. Assumes nothing.
 use borrow.Author.Needs.{needs}
-use Rattle.endings.specs.Validates.{number-spent, number-left}
+use Rattle.endings.specs.Validates.{number-spent, number-taken}
 use Rattle.endings.proofs.validates.take_number.Statement.{statement}
 use Rattle.endings.proofs.validates.take_number.Tie as tie
 
 returns : tie.Need-returns
 returns c = number-spent _ _ _ (c .if1 .taken)
 
-add-n : tie.Need-add-n
-add-n c = search needs
+take-number-requires : tie.Need-take-number-requires
+take-number-requires c κs = search needs
 
 cast-check : tie.Need-cast-check
 cast-check c = search needs
@@ -23,8 +23,8 @@ array-set-from-seats : tie.Need-array-set-from-seats
 array-set-from-seats c = search needs
 
 returns-2 : tie.Need-returns-2
-returns-2 c = number-left _ _ _ _ (c .before .before .if1 .left) (c .check .ensures)
+returns-2 c = number-taken _ _ _ _ _ _ (c .before .before .before .if1 .left) (c .before .before .take-number .ensures) (c .before .check .ensures)
 
 pub take-number-spec : {M : Type 1} → statement M
 take-number-spec =
-    tie.close (tie.spec returns add-n cast-check check-requires mul-seats array-set-from-seats returns-2)
+    tie.close (tie.spec returns take-number-requires cast-check check-requires mul-seats array-set-from-seats returns-2)

@@ -53,14 +53,20 @@ recount-requires c κs = let s = c .before .before .before .before .before .befo
     recounting (s .args .k) (s .pre .0) (s .args .a) (i .result) (i .ensures) (c .before .before .before .before .before .before .before .before .before .before .before .before .before .before .before .before .before .before .before .if1 .left) (w .last .0) (w .last .1 .0) (w .result) (w .ensures)
     (r .last .0) (r .last .1 .0) (r .result .leaves) (r .result .version) (c .before .before .before .before .before .before .before .all .ensures) (c .before .before .before .before .before .all2 .ensures) (r .ensures)
 
+sub-take-versions : tie.Need-sub-take-versions
+sub-take-versions c = search needs
+
+take-versions-requires : tie.Need-take-versions-requires
+take-versions-requires c κs = search needs
+
 returns-2 : tie.Need-returns-2
-returns-2 c = let s = c .before .before .before .before .before .before .before .before .before .before .before .before .before .before .before .before .before .before .before .before .before .before .before .before in
-    let i = c .before .before .before .before .before .before .before .before .before .before .before .before .before .before .before .before .before .before .before .before .before .before .leaf-at in
-    let w = c .before .before .before .before .before .before .before .before .before .before .before .before .before .before .take-all in
-    let r = c .before .before .before .before .before .before .before .before .before .before .resettle in
-    merges-some (s .args .k) (s .pre .0) (s .args .a) (i .result) (i .ensures) (c .before .before .before .before .before .before .before .before .before .before .before .before .before .before .before .before .before .before .before .before .if1 .left) (w .last .0) (w .last .1 .0) (w .result) (w .ensures)
-    (r .last .0) (r .last .1 .0) (r .result .leaves) (r .result .version) (c .before .before .before .before .before .before .before .before .all .ensures) (c .before .before .before .before .before .before .all2 .ensures) (r .ensures)
-    (c .recount .last .0) (c .recount .last .1 .0) (c .recount .result) (c .recount .ensures)
+returns-2 c = let s = c .before .before .before .before .before .before .before .before .before .before .before .before .before .before .before .before .before .before .before .before .before .before .before .before .before .before .before .before in
+    let i = c .before .before .before .before .before .before .before .before .before .before .before .before .before .before .before .before .before .before .before .before .before .before .before .before .before .before .leaf-at in
+    let w = c .before .before .before .before .before .before .before .before .before .before .before .before .before .before .before .before .before .before .take-all in
+    let r = c .before .before .before .before .before .before .before .before .before .before .before .before .before .before .resettle in
+    merges-some (s .args .k) (s .pre .0) (s .args .a) (i .result) (i .ensures) (c .before .before .before .before .before .before .before .before .before .before .before .before .before .before .before .before .before .before .before .before .before .before .before .before .if1 .left) (w .last .0) (w .last .1 .0) (w .result) (w .ensures)
+    (r .last .0) (r .last .1 .0) (r .result .leaves) (r .result .version) (c .before .before .before .before .before .before .before .before .before .before .before .before .all .ensures) (c .before .before .before .before .before .before .before .before .before .before .all2 .ensures) (r .ensures)
+    (c .before .before .before .before .recount .last .0) (c .before .before .before .before .recount .last .1 .0) (c .before .before .before .before .recount .result) (c .before .before .before .before .recount .ensures) (c .before .take-versions .ensures .1)
 
 pub merge-spec : {M : Type 1} → statement M
 merge-spec =
@@ -77,4 +83,6 @@ merge-spec =
     all-requires
     all-requires-2
     recount-requires
+    sub-take-versions
+    take-versions-requires
     returns-2)

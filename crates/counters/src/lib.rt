@@ -1,0 +1,85 @@
+// The counters: the last commit number and the last leaf version given, and the functions that take the next ones.
+//
+// `next_number` and `next_versions` are lent the counters: such a function is proved by a walk of its code by hand, and so
+// is one that lends them. `take_number` and `take_versions` lend them in their bodies alone, so their callers need no walk.
+ghost use mathlib.Core.Path.{_≡_};
+ghost use Prim.Native.Nat.{_+_, _^_, _<_};
+ghost use Rattle.counters.specs.Taking.{numbered, versioned};
+
+// The last commit number and the last leaf version given (document 01: serial number and mark); they travel together.
+pub struct Counters {
+    pub number: u64,
+    pub version: u64,
+}
+
+impl Counters {
+    // The next commit number is given.
+    fn numbered(self) -> Counters
+        requires { ⌜ self .number + 1 < 2 ^ 64 ⌝ }
+        ensures { λ r. ⌜ r ≡ numbered self ⌝ }
+    {
+        Counters {
+            number: self.number + 1,
+            version: self.version,
+        }
+    }
+
+    // The next `count` leaf versions are given.
+    fn versioned(self, count: u64) -> Counters
+        requires { ⌜ self .version + count < 2 ^ 64 ⌝ }
+        ensures { λ r. ⌜ r ≡ versioned self count ⌝ }
+    {
+        Counters {
+            number: self.number,
+            version: self.version + count,
+        }
+    }
+}
+
+// Takes the next commit number, and answers it.
+pub fn next_number(k: &mut Counters) -> u64
+    requires { ⌜ now k .number + 1 < 2 ^ 64 ⌝ }
+    ensures { λ r. ⌜ (r ≡ numbered (now (k .entry)) .number) × (now (k .exit) ≡ numbered (now (k .entry))) ⌝ }
+{
+    let before = *k;
+    let after = before.numbered();
+    *k = after;
+    after.number
+}
+
+// Takes the next `count` leaf versions, and answers the last one given.
+pub fn next_versions(k: &mut Counters, count: u64) -> u64
+    requires { ⌜ now k .version + count < 2 ^ 64 ⌝ }
+    ensures { λ r. ⌜ (r ≡ versioned (now (k .entry)) count .version) × (now (k .exit) ≡ versioned (now (k .entry)) count) ⌝ }
+{
+    let before = *k;
+    let after = before.versioned(count);
+    *k = after;
+    after.version
+}
+
+// The counters once the next numbers are taken, and the last of these.
+pub struct Taken {
+    pub counters: Counters,
+    pub last: u64,
+}
+
+// The next commit number, where the counters go by value.
+pub fn take_number(k: Counters) -> Taken
+    requires { ⌜ k .number + 1 < 2 ^ 64 ⌝ }
+    ensures { λ r. ⌜ (r .last ≡ numbered k .number) × (r .counters ≡ numbered k) ⌝ }
+{
+    let mut counters = k;
+    let last = next_number(&mut counters);
+    Taken { counters, last }
+}
+
+// The next `count` leaf versions, where the counters go by value.
+pub fn take_versions(k: Counters, count: u64) -> Taken
+    requires { ⌜ k .version + count < 2 ^ 64 ⌝ }
+    ensures { λ r. ⌜ (r .last ≡ versioned k count .version) × (r .counters ≡ versioned k count) ⌝ }
+{
+    let mut counters = k;
+    let last = next_versions(&mut counters, count);
+    Taken { counters, last }
+}

@@ -8,3 +8,4 @@ pub mod TurnLaws
 pub mod Closings
 pub mod Finishes
 pub mod Examples
+pub mod WholeRuns

@@ -1,0 +1,75 @@
+-- A whole run of the program. The input comes in pieces; a piece is fed until all of it is read; what was written is taken
+-- away whenever it suits; at the end the rest is written. However the input is cut, and however often output is taken
+-- away, all that was written is `output` of the input: `told-end`, and after a malformed line `told-stopped`.
+-- Assumes nothing.
+use Prim.Native.Nat.{ℕ, _≤_}
+use mathlib.Core.Path.{_≡_, refl, sym, ap, _∙_}
+use mathlib.Core.Bool.{Bool, true}
+use mathlib.Core.List.{List, [], _++_, append-assoc, append-nil}
+use lib.ListN.{length, drop}
+use Rattle.lists.specs.Tests.{pick}
+use Rattle.spec.specs.Steps.{State}
+use Rattle.map.specs.Views.{Lent}
+use Rattle.transactions.specs.Views.{Logs, stateOf}
+use Rattle.script.specs.Parsing.{After}
+use Rattle.console.specs.declared.session.Session.{Session}
+use Rattle.console.specs.Program.{writtenFrom, output}
+use Rattle.console.specs.Sessions.{due, Continues, Begins, withPlaces}
+use Rattle.ranges.specs.Parts.{drop-all}
+
+-- A run over the input `whole` stands at session x: the bytes `line` of the current line are read, the piece `input` is
+-- read up to the session's place, `future` has not come yet, and `told` was written.
+pub record Told (whole : List ℕ) (l : Lent) (g : Logs) (x : Session) (line input future told : List ℕ) : Type 0 where
+  pub after : After line (x .parser)
+  pub is : output whole ≡ told ++ due (stateOf l g (x .core)) line (x .stopped) input (x .next) future
+
+-- a fresh session: nothing has come, nothing was written
+pub told-start : {l : Lent} {g : Logs} {x : Session} (whole : List ℕ) → Begins l g x → Told whole l g x [] [] whole []
+unfolding due
+told-start {l} {g} {x} whole b =
+    record {
+      after = b .after;
+      is =
+          ap (λ (σ : State). writtenFrom σ [] whole) (sym (b .fresh .state))
+          ∙ ap (λ (n : ℕ). writtenFrom (stateOf l g (x .core)) [] (drop n [] ++ whole)) (sym (b .next-is))
+          ∙ ap (λ (s : Bool). pick s [] (writtenFrom (stateOf l g (x .core)) [] (drop (x .next) [] ++ whole))) (sym (b .goes));
+    }
+
+module _ {whole : List ℕ} {l : Lent} {g : Logs} {x : Session} {line input told : List ℕ} where
+  -- feeding writes a part of what is due
+  pub told-fed : {future old new : List ℕ} {l' : Lent} {g' : Logs} {y : Session} → Told whole l g x line input future told
+      → (c : Continues l g x input old l' g' y new line) → Told whole l' g' y (c .line) input future (told ++ c .text)
+  told-fed {future} t c =
+      record {
+        after = c .after;
+        is = t .is ∙ ap (λ (bs : List ℕ). told ++ bs) (c .rest future) ∙ sym (append-assoc told (c .text) _);
+      }
+
+  -- what was written is taken away
+  pub told-taken : {future : List ℕ} (at : ℕ) → Told whole l g x line input future told → Told whole l g (withPlaces x (x .next) at) line input future told
+  told-taken at t = record { after = t .after; is = t .is }
+
+  -- a piece is read, and the next one comes
+  pub told-piece : {future : List ℕ} (more : List ℕ) (at : ℕ) → Told whole l g x line input (more ++ future) told → length input ≤ x .next
+      → Told whole l g (withPlaces x 0 at) line more future told
+  unfolding due
+  told-piece {future} more at t h =
+      record {
+        after = t .after;
+        is = t .is ∙ ap (λ (bs : List ℕ). told ++ pick (x .stopped) [] (writtenFrom (stateOf l g (x .core)) line (bs ++ (more ++ future)))) (drop-all (x .next) input h);
+      }
+
+  -- the input is at its end: what `finish` writes then is all that is missing
+  pub told-end : Told whole l g x line input [] told → length input ≤ x .next
+      → told ++ due (stateOf l g (x .core)) line (x .stopped) [] 0 [] ≡ output whole
+  unfolding due
+  told-end t h =
+      sym (t .is ∙ ap (λ (bs : List ℕ). told ++ pick (x .stopped) [] (writtenFrom (stateOf l g (x .core)) line (bs ++ []))) (drop-all (x .next) input h))
+
+  -- a malformed line was met: nothing is missing, whatever may still come
+  pub told-stopped : {future : List ℕ} → Told whole l g x line input future told → x .stopped ≡ true → told ≡ output whole
+  unfolding due
+  told-stopped {future} t e =
+      sym (t .is
+      ∙ ap (λ (s : Bool). told ++ pick s [] (writtenFrom (stateOf l g (x .core)) line (drop (x .next) input ++ future))) e
+      ∙ append-nil told)

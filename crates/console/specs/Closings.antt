@@ -14,6 +14,7 @@ use Rattle.lists.specs.Rows.{Row, row, keys, has, look, From, Rising}
 use Rattle.lists.specs.RowLaws.{has-keys, length-keys, rising-different}
 use Rattle.lists.specs.Counting.{has-append, different-within}
 use Rattle.lists.specs.Options.{both-options, some-same}
+use Rattle.lists.specs.Texts.{Wrote, wrote-join}
 use Rattle.spec.specs.Records.{Settings, Record}
 use Rattle.spec.specs.Slots.{Content, entries}
 use Rattle.spec.specs.Maps.{MapState, outcomeOf, current, contents}
@@ -25,8 +26,8 @@ use Rattle.looks.specs.declared.Next.{Next}
 use Rattle.looks.specs.declared.Next.the-variants.{At, Done}
 use Rattle.looks.specs.LookViews.{mapWith}
 use Rattle.looks.specs.NextViews.{firstFrom, rowsFrom, nextIn, Follows}
-use Rattle.script.specs.Output.{pair, pairs, Wrote}
-use Rattle.script.specs.OutputLaws.{pair-most, wrote-join}
+use Rattle.script.specs.Output.{pair, pairs}
+use Rattle.script.specs.OutputLaws.{pair-most}
 
 -- ---- how many records there can be
 

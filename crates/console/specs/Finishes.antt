@@ -8,6 +8,7 @@ use mathlib.Core.List.{List, [], _∷_, _++_}
 use lib.ListN.{length}
 use Rattle.lists.specs.Tests.{pick}
 use Rattle.lists.specs.Rows.{Row}
+use Rattle.lists.specs.Texts.{Wrote, wrote-join}
 use Rattle.spec.specs.Records.{Record}
 use Rattle.spec.specs.Maps.{contents}
 use Rattle.map.specs.Views.{Lent}
@@ -15,8 +16,7 @@ use Rattle.transactions.specs.Views.{Logs, stateOf}
 use Rattle.transactions.specs.Ready.{Ready}
 use Rattle.transactions.specs.declared.Core.{Core}
 use Rattle.script.specs.Parsing.{filled, After}
-use Rattle.script.specs.Output.{field, endLine, malformedLine, Wrote}
-use Rattle.script.specs.OutputLaws.{wrote-join}
+use Rattle.script.specs.Output.{field, endLine, malformedLine}
 use Rattle.console.specs.declared.session.Session.{Session}
 use Rattle.console.specs.Program.{writtenFrom}
 use Rattle.console.specs.Sessions.{due}

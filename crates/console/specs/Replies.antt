@@ -8,11 +8,12 @@ use mathlib.Core.List.{List, [], _∷_, _++_}
 use lib.ListN.{length, take, getD, length-append}
 use Rattle.lists.specs.Rows.{row}
 use Rattle.lists.specs.Shifts.{tabFrom, tab, tab-cons}
+use Rattle.lists.specs.Texts.{Wrote}
 use Rattle.spec.specs.declared.Refusal.{Refusal}
 use Rattle.spec.specs.Refusals.{numberOf}
 use Rattle.spec.specs.Records.{Payload}
 use Rattle.script.specs.declared.Line.{Line}
-use Rattle.script.specs.Output.{field, absent, pair, pairs, pairsOf, stepOf, answerText, Wrote}
+use Rattle.script.specs.Output.{field, absent, pair, pairs, pairsOf, stepOf, answerText}
 use Rattle.script.specs.OutputLaws.{pair-most}
 use Rattle.ranges.specs.Walks.{rowsIn}
 use Rattle.ranges.specs.ShowLaws.{length-rows}

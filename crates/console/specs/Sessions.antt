@@ -8,6 +8,7 @@ use mathlib.Core.Bool.{Bool, false, not}
 use mathlib.Core.List.{List, [], _++_, append-assoc}
 use lib.ListN.{length, drop}
 use Rattle.lists.specs.Tests.{pick, both, less, atMost}
+use Rattle.lists.specs.Texts.{Wrote, wrote-join}
 use Rattle.spec.specs.Steps.{State}
 use Rattle.map.specs.Views.{Lent}
 use Rattle.transactions.specs.Views.{Logs, stateOf}
@@ -15,8 +16,6 @@ use Rattle.transactions.specs.Ready.{Ready}
 use Rattle.transactions.specs.Starts.{Fresh}
 use Rattle.script.specs.declared.Parser.{Parser}
 use Rattle.script.specs.Parsing.{After}
-use Rattle.script.specs.Output.{Wrote}
-use Rattle.script.specs.OutputLaws.{wrote-join}
 use Rattle.console.specs.declared.session.Session.{Session}
 use Rattle.console.specs.Program.{writtenFrom}
 use Rattle.console.specs.Replies.{longest}

@@ -11,6 +11,7 @@ use lib.ListN.{length, drop, length-drop}
 use Rattle.lists.specs.Tests.{pick, clash, same-refl}
 use Rattle.lists.specs.Rows.{has}
 use Rattle.lists.specs.Counting.{has-nil, has-cons, has-append}
+use Rattle.lists.specs.Texts.{Wrote, wrote-length}
 use Rattle.spec.specs.Steps.{State, answer, next}
 use Rattle.map.specs.Views.{Lent}
 use Rattle.transactions.specs.Views.{Logs, stateOf}
@@ -25,8 +26,7 @@ use Rattle.script.specs.declared.Event.{Event}
 use Rattle.script.specs.declared.Event.the-variants as event
 use Rattle.script.specs.declared.Parsed.{Parsed}
 use Rattle.script.specs.Parsing.{continued, After, Whole, Says, Reads}
-use Rattle.script.specs.Output.{letterOf, stepOf, answerText, answerLine, malformedLine, Wrote}
-use Rattle.script.specs.OutputLaws.{wrote-length}
+use Rattle.script.specs.Output.{letterOf, stepOf, answerText, answerLine, malformedLine}
 use Rattle.console.specs.declared.session.Session.{Session}
 use Rattle.console.specs.Program.{places, writtenFrom}
 use Rattle.console.specs.ProgramLaws.{told, clear-last, from-clear, from-whole, from-spoiled}

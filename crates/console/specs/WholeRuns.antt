@@ -3,10 +3,10 @@
 -- away, all that was written is `output` of the input: `told-end`, and after a malformed line `told-stopped`.
 -- Assumes nothing.
 use Prim.Native.Nat.{ℕ, _≤_}
-use mathlib.Core.Path.{_≡_, refl, sym, ap, _∙_}
+use mathlib.Core.Path.{_≡_, sym, ap, _∙_}
 use mathlib.Core.Bool.{Bool, true}
 use mathlib.Core.List.{List, [], _++_, append-assoc, append-nil}
-use lib.ListN.{length, drop}
+use lib.ListN.{length, drop, drop-of-length-le}
 use Rattle.lists.specs.Tests.{pick}
 use Rattle.spec.specs.Steps.{State}
 use Rattle.map.specs.Views.{Lent}
@@ -15,7 +15,6 @@ use Rattle.script.specs.Parsing.{After}
 use Rattle.console.specs.declared.session.Session.{Session}
 use Rattle.console.specs.Program.{writtenFrom, output}
 use Rattle.console.specs.Sessions.{due, Continues, Begins, withPlaces}
-use Rattle.ranges.specs.Parts.{drop-all}
 
 -- A run over the input `whole` stands at session x: the bytes `line` of the current line are read, the piece `input` is
 -- read up to the session's place, `future` has not come yet, and `told` was written.
@@ -56,7 +55,7 @@ module _ {whole : List ℕ} {l : Lent} {g : Logs} {x : Session} {line input told
   told-piece {future} more at t h =
       record {
         after = t .after;
-        is = t .is ∙ ap (λ (bs : List ℕ). told ++ pick (x .stopped) [] (writtenFrom (stateOf l g (x .core)) line (bs ++ (more ++ future)))) (drop-all (x .next) input h);
+        is = t .is ∙ ap (λ (bs : List ℕ). told ++ pick (x .stopped) [] (writtenFrom (stateOf l g (x .core)) line (bs ++ (more ++ future)))) (drop-of-length-le input h);
       }
 
   -- the input is at its end: what `finish` writes then is all that is missing
@@ -64,7 +63,7 @@ module _ {whole : List ℕ} {l : Lent} {g : Logs} {x : Session} {line input told
       → told ++ due (stateOf l g (x .core)) line (x .stopped) [] 0 [] ≡ output whole
   unfolding due
   told-end t h =
-      sym (t .is ∙ ap (λ (bs : List ℕ). told ++ pick (x .stopped) [] (writtenFrom (stateOf l g (x .core)) line (bs ++ []))) (drop-all (x .next) input h))
+      sym (t .is ∙ ap (λ (bs : List ℕ). told ++ pick (x .stopped) [] (writtenFrom (stateOf l g (x .core)) line (bs ++ []))) (drop-of-length-le input h))
 
   -- a malformed line was met: nothing is missing, whatever may still come
   pub told-stopped : {future : List ℕ} → Told whole l g x line input future told → x .stopped ≡ true → told ≡ output whole

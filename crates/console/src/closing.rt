@@ -5,13 +5,14 @@ use script::text;
 ghost use mathlib.Core.Path.{_≡_};
 ghost use Prim.Native.Nat.{_+_, _*_, _≤_};
 ghost use lib.ListN.{length};
+ghost use Rattle.lists.specs.Texts.{Wrote};
 ghost use Rattle.indexlet.specs.Held as indexlet;
 ghost use Rattle.index.specs.Views as index;
 ghost use Rattle.looks.specs.LookViews.{Narrow};
 ghost use Rattle.map.specs.Views.{lent};
 ghost use Rattle.transactions.specs.Views.{logs};
 ghost use Rattle.transactions.specs.Ready.{Ready};
-ghost use Rattle.script.specs.Output.{endLine, Wrote};
+ghost use Rattle.script.specs.Output.{endLine};
 ghost use Rattle.console.specs.Closings.{allRecords, PairsPut};
 ghost use Rattle.console.specs.Finishes.{longestEnd, Finishes};
 

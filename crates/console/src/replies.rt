@@ -4,7 +4,8 @@ use script::text;
 ghost use mathlib.Core.List.{[], _∷_, _++_};
 ghost use Prim.Native.Nat.{_+_, _*_, _≤_};
 ghost use lib.ListN.{length, take};
-ghost use Rattle.script.specs.Output.{field, absent, pairsOf, Wrote};
+ghost use Rattle.lists.specs.Texts.{Wrote};
+ghost use Rattle.script.specs.Output.{field, absent, pairsOf};
 ghost use Rattle.engine.specs.Performs.{placesIn};
 ghost use Rattle.console.specs.Replies.{longest, Replies};
 

@@ -6,7 +6,7 @@ use mathlib.Core.Path.{_≡_, refl, sym, ap, _∙_, subst}
 use mathlib.Core.List.{List}
 use lib.ListN.{getD}
 use lib.Bits.{bitXor, xor-lt}
-use Rattle.lists.specs.Tabs.{tab, getD-tab}
+use Rattle.lists.specs.Shifts.{tabFrom, tab, getD-tab}
 use Rattle.spec.specs.Slots.{slotCount, tableEntry, byteOf, homeFrom, homeSlot}
 
 -- the table as a list. antt computes it where it meets the literal of the code: that is the test of all 256 numbers.
@@ -26,11 +26,11 @@ abbrev pub tableBack : ℕ → ℕ
 tableBack y = 23 * (y + 243) % slotCount
 
 there-and-back : tab (λ (i : ℕ). tableBack (tableEntry i)) slotCount ≡ tab (λ (i : ℕ). i) slotCount
-unfolding tab tableEntry
+unfolding tab tabFrom tableEntry
 there-and-back = refl
 
 back-and-there : tab (λ (y : ℕ). tableEntry (tableBack y)) slotCount ≡ tab (λ (y : ℕ). y) slotCount
-unfolding tab tableEntry
+unfolding tab tabFrom tableEntry
 back-and-there = refl
 
 at-place : (f g : ℕ → ℕ) → tab f slotCount ≡ tab g slotCount → (i : ℕ) → i < slotCount → f i ≡ g i

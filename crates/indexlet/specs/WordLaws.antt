@@ -16,7 +16,7 @@ use borrow.Author.Tests.{ne-eqb}
 use Rattle.lists.specs.Tests.{pick, both, maybe, present, same, cases, same-true, same-false, same-yes, same-no}
 use Rattle.lists.specs.Rows.{Row, row}
 use Rattle.lists.specs.Stores.{sets-away, sets-at}
-use Rattle.lists.specs.Tabs.{length-tab, getD-tab}
+use Rattle.lists.specs.Shifts.{length-tab, getD-tab}
 use Rattle.spec.specs.Records.{written, deleted}
 use Rattle.spec.specs.Slots.{slotCount, Content, isIdle, emptySlot, slotAt, vacant, holds}
 use Rattle.indexlet.specs.declared.Content.{Content as ContentWords}

@@ -6,7 +6,7 @@ use mathlib.Core.List.{List, [], _∷_}
 use mathlib.Core.Option.{Option, none, some}
 use lib.ListN.{getD}
 use lib.Seq.{sets}
-use Rattle.lists.specs.Tabs.{tab}
+use Rattle.lists.specs.Shifts.{tab}
 use Rattle.spec.specs.Records.{written, deleted}
 use Rattle.spec.specs.Slots.{slotCount, Pending, Content, Slot}
 use Rattle.laws.specs.SlotChanges.{kept}

@@ -6,10 +6,10 @@ pub mod Sums
 pub mod Options
 pub mod Ascending
 pub mod Members
-pub mod Tabs
 pub mod Memberships
 pub mod Halving
 pub mod Places
 pub mod Shifts
 pub mod Stores
 pub mod Ranges
+pub mod Texts

@@ -11,7 +11,7 @@ use lib.Seq.{length-take-le, getD-take}
 use Rattle.lists.specs.Rows.{Row, row, keys, has}
 use Rattle.lists.specs.Ascending.{mem-getD, mem-keys, keys-mem}
 use Rattle.lists.specs.Memberships.{member-has, has-member}
-use Rattle.lists.specs.Tabs.{getD-tab}
+use Rattle.lists.specs.Shifts.{getD-tab}
 use Rattle.spec.specs.Records.{Record}
 use Rattle.spec.specs.Leaves.{Leaf, firstLeaf}
 use Rattle.spec.specs.Slots.{slotCount, Content, Slot, emptySlot, entries}

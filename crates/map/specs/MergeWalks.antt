@@ -10,7 +10,7 @@ use mathlib.Core.Logic.{_⊎_, ⊎-elim}
 use mathlib.Core.Bool.{Bool, true, false, not}
 use mathlib.Core.List.{List, [], _∷_, _++_}
 use mathlib.Core.Option.{Option, none, some}
-use lib.ListN.{length, drop, getD}
+use lib.ListN.{length, drop, drop-of-length-le, getD}
 use lib.Seq.{drop-cons}
 use Rattle.lists.specs.Tests.{pick, both, maybe, present, same, cases, clash, same-true, same-false, same-no}
 use Rattle.lists.specs.Rows.{Row, row, look, assign, keys, has, filter, distinct, Rising}
@@ -37,7 +37,7 @@ use Rattle.index.specs.Views as index
 use Rattle.index.specs.Views.{recordFrom, recordsOf}
 use Rattle.map.specs.declared.merge.Walk.{Walk}
 use Rattle.phantomlet.specs.Phantoms.{weigh, howMany, many-change, weigh-kept}
-use Rattle.phantomlet.specs.LeafTests.{drop-past, takes}
+use Rattle.phantomlet.specs.LeafTests.{takes}
 use Rattle.phantomlet.specs.MergeCounts.{pick-most}
 
 -- a map of its three parts
@@ -110,7 +110,7 @@ left-start p ss = refl
 
 left-end : (p : ℕ → Bool) (ss : List Slot) (j : ℕ) → length ss ≤ j → left p ss j ≡ []
 unfolding left
-left-end p ss j h = ap (λ (zs : List Slot). filter (takes p) (entries zs)) (drop-past ss j h) ∙ (unfold entries filter in refl)
+left-end p ss j h = ap (λ (zs : List Slot). filter (takes p) (entries zs)) (drop-of-length-le ss h) ∙ (unfold entries filter in refl)
 
 -- ---- what is said of the address at slot j changes no other slot's entry
 

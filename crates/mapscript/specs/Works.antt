@@ -6,11 +6,11 @@ use native.Mathlib.Omega.{arith}
 use mathlib.Core.Path.{_≡_, refl, sym, ap, _∙_, subst}
 use mathlib.Core.List.{List, []}
 use lib.ListN.{length}
+use Rattle.lists.specs.Texts.{wrote-length}
 use Rattle.map.specs.Views.{Lent}
 use Rattle.transactions.specs.Views.{Logs}
 use Rattle.transactions.specs.Ready.{Ready}
 use Rattle.script.specs.Parsing.{After}
-use Rattle.script.specs.OutputLaws.{wrote-length}
 use Rattle.console.specs.declared.session.Session.{Session}
 use Rattle.console.specs.Sessions.{Started, Begins, withPlaces}
 use Rattle.console.specs.Finishes.{longestEnd, Finishes}

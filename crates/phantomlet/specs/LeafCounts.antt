@@ -9,7 +9,7 @@ use mathlib.Core.Bool.{Bool, true, false, not}
 use mathlib.Core.List.{List}
 use mathlib.Core.Option.{Option, none, some}
 use lib.Dec.{ltb}
-use lib.ListN.{length, take, drop, getD, set, length-set}
+use lib.ListN.{length, take, drop, drop-of-length-le, getD, set, length-set}
 use lib.Seq.{drop-cons, getD-set-same, getD-set-other}
 use Rattle.lists.specs.Tests.{pick, both, present, same, less, atMost, cases, clash, same-yes, same-no, same-true, same-false, less-yes, less-no, less-true, less-false, atMost-true, atMost-false}
 use Rattle.lists.specs.Rows.{Row, look}
@@ -21,7 +21,7 @@ use Rattle.laws.specs.SlotCounts.{entryAt, tally, count, count-cons}
 use Rattle.index.specs.LeafPlaces.{lowPlace, AtLeaf, Listed}
 use Rattle.phantomlet.specs.Phantoms.{weigh, howMany}
 use Rattle.phantomlet.specs.LeafRows.{low-from, low-before, low-below, low-inside}
-use Rattle.phantomlet.specs.LeafTests.{drop-past, placed}
+use Rattle.phantomlet.specs.LeafTests.{placed}
 use Rattle.phantomlet.specs.declared.recount.Reach.{Reach}
 use Rattle.phantomlet.specs.LeafNumbers.{Prepared}
 
@@ -46,7 +46,7 @@ many-drop p ss j h =
 
 pub many-past : (p : Row Content → Bool) (ss : List Slot) (j : ℕ) → length ss ≤ j → howMany p (drop j ss) ≡ 0
 unfolding howMany tally total
-many-past p ss j h = ap (count (weigh p)) (drop-past ss j h)
+many-past p ss j h = ap (count (weigh p)) (drop-of-length-le ss h)
 
 weigh-most : (p : Row Content → Bool) (o : Option (Row Content)) → weigh p o ≤ 1
 unfolding weigh

@@ -8,8 +8,8 @@ use mathlib.Core.Logic.{_⊎_, ⊎-elim}
 use mathlib.Core.Bool.{Bool, true, false}
 use mathlib.Core.List.{List, [], _∷_, map}
 use mathlib.Core.Option.{Option}
-use lib.ListN.{length, take, drop, getD, length-map}
-use lib.Seq.{length-take-le, drop-nil}
+use lib.ListN.{length, take, getD, length-map}
+use lib.Seq.{length-take-le}
 use Rattle.lists.specs.Tests.{both, present, same, cases, clash, same-true, same-false, same-yes, same-no}
 use Rattle.lists.specs.Rows.{Row, filter}
 use Rattle.lists.specs.Options.{options}
@@ -112,11 +112,6 @@ module _ {v : ℕ} (lows versions : List ℕ) (m : ℕ) (al : length lows ≡ 10
 pub none-left : {A : Type 0} (xs : List A) → length xs ≡ 0 → xs ≡ []
 none-left [] e = refl
 none-left (x ∷ xs) e = absurd (let q : ⊥ = omega arith in q)
-
-pub drop-past : {A : Type 0} (xs : List A) (j : ℕ) → length xs ≤ j → drop j xs ≡ []
-drop-past [] j h = drop-nil j
-drop-past (x ∷ xs) zero h = absurd (not-suc-le-zero h)
-drop-past (x ∷ xs) (suc j) h = drop-past xs j (le-of-suc-le-suc h)
 
 -- ---- tests and counts
 

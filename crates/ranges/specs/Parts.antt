@@ -59,9 +59,3 @@ module _ {A : Type 0} where
   drop-take (suc p) zero xs = ap (λ (n : ℕ). take n (drop (suc p) xs)) (let e : 0 ≡ 0 - suc p = omega arith in e)
   drop-take (suc p) (suc q) [] = sym (take-nil (suc q - suc p))
   drop-take (suc p) (suc q) (x ∷ xs) = drop-take p q xs ∙ ap (λ (n : ℕ). take n (drop p xs)) (let e : q - p ≡ suc q - suc p = omega arith in e)
-
-  pub drop-all : (n : ℕ) (xs : List A) → length xs ≤ n → drop n xs ≡ []
-  drop-all zero [] h = refl
-  drop-all (suc n) [] h = refl
-  drop-all zero (x ∷ xs) h = absurd (omega arith)
-  drop-all (suc n) (x ∷ xs) h = drop-all n xs (omega arith)

@@ -6,7 +6,7 @@ use mathlib.Core.Path.{_≡_, refl, sym, ap, _∙_, subst}
 use mathlib.Core.Bool.{Bool, true, false}
 use mathlib.Core.List.{List, [], _∷_}
 use mathlib.Core.Option.{Option, none, some}
-use lib.ListN.{length, take, drop, getD}
+use lib.ListN.{length, take, drop, drop-of-length-le, getD}
 use lib.Dec.{eqb}
 use lib.Seq.{drop-cons}
 use Rattle.lists.specs.Tests.{pick, same}
@@ -22,7 +22,7 @@ use Rattle.index.specs.ViewLaws.{length-records}
 use Rattle.looks.specs.declared.Seen.{Seen}
 use Rattle.looks.specs.LookViews.{mapWith, recordIn, indexedAt, seenIn, SeenAt}
 use Rattle.looks.specs.RangeLaws.{walk-map}
-use Rattle.ranges.specs.Parts.{walk-on, walk-past, drop-all}
+use Rattle.ranges.specs.Parts.{walk-on, walk-past}
 use Rattle.ranges.specs.Overlays.{from-drop, shown, overlay, overlay-none, overlay-upper, overlay-lower, overlay-both, rising-part, rising-tail, rising-map}
 use Rattle.ranges.specs.Walks.{Ground, seenFrom, ownFrom, rest, Walks, Inside, indexTurn, ownTurn, turnIn, Steps}
 
@@ -89,7 +89,7 @@ module _ (g : Ground) (h : Walks g) where
 
   own-end : (j : ℕ) → g .bounds .end ≤ j → ownFrom g j ≡ []
   unfolding ownFrom
-  own-end j l = drop-all j (writesIn (g .writes) (g .bounds .worker) (g .bounds .end)) (rw own-size l)
+  own-end j l = drop-of-length-le (writesIn (g .writes) (g .bounds .worker) (g .bounds .end)) {i = j} (rw own-size l)
 
   own-on : (j : ℕ) (e : Entry) → j < g .bounds .end → GivesWrite (g .writes) (g .bounds .worker) j e → ownFrom g j ≡ entryIn e ∷ ownFrom g (j + 1)
   unfolding ownFrom

@@ -9,6 +9,7 @@ use lib.ListN.{length, drop, length-append, length-drop}
 use lib.Seq.{length-sets}
 use Rattle.lists.specs.Tests.{pick, same, less}
 use Rattle.lists.specs.Rows.{Row}
+use Rattle.lists.specs.Texts.{Wrote, wrote-join, wrote-length}
 use Rattle.spec.specs.Records.{standard, Payload}
 use Rattle.spec.specs.Maps.{MapState, contents}
 use Rattle.spec.specs.Steps.{State, fresh, Answer, refused, done, found, listed, numbered, counted, answer, next, Event, final, history}
@@ -22,8 +23,6 @@ use Rattle.transactions.specs.Ready.{Ready}
 use Rattle.transactions.specs.Starts.{Fresh}
 use Rattle.engine.specs.declared.steps.Op.{Op}
 use Rattle.engine.specs.Performs.{stepIn}
-use Rattle.script.specs.Output.{Wrote}
-use Rattle.script.specs.OutputLaws.{wrote-join, wrote-length}
 use Rattle.replay.specs.declared.codes.Code.{Code}
 use Rattle.replay.specs.declared.codes.Decoded.{Decoded}
 use Rattle.replay.specs.declared.codes.Decoded.the-variants.{Meant, Meaningless}

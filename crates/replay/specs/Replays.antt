@@ -8,6 +8,7 @@ use lib.ListN.{length}
 use lib.Seq.{sets}
 use Rattle.lists.specs.Tests.{pick, less}
 use Rattle.lists.specs.Rows.{Row}
+use Rattle.lists.specs.Texts.{Wrote}
 use Rattle.spec.specs.Records.{standard, Payload}
 use Rattle.spec.specs.Maps.{contents}
 use Rattle.spec.specs.Steps.{State, Step, fresh, Answer, refused, done, found, listed, numbered, counted, answer, next, Event}
@@ -17,7 +18,6 @@ use Rattle.transactions.specs.Views.{Logs, stateOf}
 use Rattle.transactions.specs.Ready.{Ready}
 use Rattle.engine.specs.declared.steps.Op.{Op}
 use Rattle.engine.specs.Performs.{stepIn}
-use Rattle.script.specs.Output.{Wrote}
 use Rattle.replay.specs.declared.codes.Code.{Code}
 use Rattle.replay.specs.declared.codes.Decoded.{Decoded}
 use Rattle.replay.specs.declared.codes.Decoded.the-variants.{Meant, Meaningless}

@@ -7,6 +7,7 @@ use mathlib.Core.List.{List, [], _∷_, _++_, append-nil}
 use lib.ListN.{length, getD, drop}
 use lib.Seq.{drop-cons}
 use Rattle.lists.specs.Tests.{less-yes, less-no}
+use Rattle.lists.specs.Texts.{Wrote}
 use Rattle.spec.specs.Steps.{State, Answer, answer, next, Event}
 use Rattle.map.specs.Views.{Lent}
 use Rattle.transactions.specs.declared.Core.{Core}
@@ -15,7 +16,6 @@ use Rattle.transactions.specs.Ready.{Ready}
 use Rattle.engine.specs.declared.steps.Op.{Op}
 use Rattle.engine.specs.declared.steps.Performed.{Performed}
 use Rattle.engine.specs.Performs.{stepIn, replyIn, placesIn, Performs}
-use Rattle.script.specs.Output.{Wrote}
 use Rattle.replay.specs.declared.codes.Code.{Code}
 use Rattle.replay.specs.declared.codes.Decoded.{Decoded}
 use Rattle.replay.specs.declared.codes.Decoded.the-variants.{Meant, Meaningless}

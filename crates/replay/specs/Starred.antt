@@ -5,6 +5,7 @@ use mathlib.Core.Path.{_≡_, refl, sym, ap, _∙_, subst}
 use mathlib.Core.List.{List, [], _∷_, _++_}
 use lib.ListN.{length}
 use Rattle.lists.specs.Rows.{Row}
+use Rattle.lists.specs.Texts.{Wrote}
 use Rattle.spec.specs.Records.{standard, Record}
 use Rattle.spec.specs.Leaves.{cuts}
 use Rattle.spec.specs.Slots.{homeSlot}
@@ -14,7 +15,6 @@ use Rattle.spec.specs.Computing.{model}
 use Rattle.spec.specs.Runs.{Run, home, leaves, script, stepsOf, starred, Holds}
 use Rattle.map.specs.Views.{Lent, mapOf}
 use Rattle.transactions.specs.Views.{Logs, stateOf}
-use Rattle.script.specs.Output.{Wrote}
 use Rattle.replay.specs.declared.runs.Stop.the-variants as stop
 use Rattle.replay.specs.declared.runs.Replayed.{Replayed}
 use Rattle.replay.specs.Codes.{accessOf, decodedAccess, oneNumber, decoded, pairWords, wordsOf}

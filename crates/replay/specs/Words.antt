@@ -9,14 +9,13 @@ use mathlib.Core.List.{List, [], _∷_, _++_, append-nil}
 use lib.ListN.{length, getD, set}
 use Rattle.lists.specs.Shifts.{tab, tabFrom, tab-snoc}
 use Rattle.lists.specs.Rows.{Row, row}
+use Rattle.lists.specs.Texts.{Wrote, wrote-join, wrote-length, wrote-byte}
 use Rattle.spec.specs.Records.{Payload}
 use Rattle.ranges.specs.Walks.{rowsIn}
 use Rattle.ranges.specs.ShowLaws.{length-rows}
 use Rattle.engine.specs.declared.steps.Reply.{Reply}
 use Rattle.engine.specs.declared.steps.Reply.the-variants as reply
 use Rattle.engine.specs.Performs.{replyIn, placesIn}
-use Rattle.script.specs.Output.{Wrote}
-use Rattle.script.specs.OutputLaws.{wrote-join, wrote-byte, wrote-length}
 use Rattle.replay.specs.declared.codes.Coded.{Coded}
 use Rattle.replay.specs.Codes.{codedOf, pairWords, wordsOf}
 

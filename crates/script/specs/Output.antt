@@ -1,11 +1,9 @@
 -- Document 01, "The script program": the text that the program writes, as bytes.
 -- Assumes nothing.
-use Prim.Native.Nat.{ℕ, zero, suc, _+_, _/_, _%_, _≤_}
-use mathlib.Core.Path.{_≡_}
+use Prim.Native.Nat.{ℕ, zero, suc, _+_, _/_, _%_}
 use mathlib.Core.List.{List, [], _∷_, _++_}
 use mathlib.Core.Option.{none, some}
 use lib.ListN.{length}
-use lib.Seq.{sets}
 use Rattle.lists.specs.Tests.{pick, less}
 use Rattle.lists.specs.Rows.{Row}
 use Rattle.spec.specs.Refusals.{numberOf}
@@ -101,9 +99,3 @@ abbrev pub malformedLine : List ℕ
 malformedLine = 63 ∷ 10 ∷ []
 
 -- ---- what is promised
-
--- the text stands in the bytes from the place on, all others are as before, and next is the place after it
-pub record Wrote (old : List ℕ) (at : ℕ) (text : List ℕ) (new : List ℕ) (next : ℕ) : Type 0 where
-  pub written : new ≡ sets old at text
-  pub within : at + length text ≤ length old
-  pub place : next ≡ at + length text

@@ -12,12 +12,13 @@ use lib.ListN.{length, getD, take, set, length-append}
 use lib.Seq.{sets, length-sets, set-comm, append-snoc, take-suc, length-take-le}
 use Rattle.lists.specs.Tests.{pick, less, cases, less-yes, less-no, less-true, less-false}
 use Rattle.lists.specs.Rows.{Row, keys}
+use Rattle.lists.specs.Texts.{Wrote, wrote-join}
 use Rattle.spec.specs.declared.Refusal.{Refusal}
 use Rattle.spec.specs.Refusals.{numberOf}
 use Rattle.spec.specs.Records.{Payload}
 use Rattle.spec.specs.Steps.{refused, done, found, listed, numbered, counted}
 use Rattle.script.specs.declared.Line.{Line}
-use Rattle.script.specs.Output.{digitsWithin, decimal, field, absent, pair, pairs, pairsOf, letterOf, answerText, answerLine, Wrote}
+use Rattle.script.specs.Output.{digitsWithin, decimal, field, absent, pair, pairs, pairsOf, letterOf, answerText, answerLine}
 
 -- ---- the equations that a reader expects
 
@@ -140,29 +141,6 @@ set-sets l i j (a ∷ w) d h =
 pub set-before : (l : List ℕ) (j : ℕ) (w : List ℕ) (d : ℕ) → set (sets l (suc j) w) j d ≡ sets l j (d ∷ w)
 set-before l j w d = set-sets l (suc j) j w d (le-refl (suc j))
 
-pub sets-append : (l : List ℕ) (i : ℕ) (a b : List ℕ) → sets (sets l i a) (i + length a) b ≡ sets l i (a ++ b)
-sets-append l i [] b = ap (λ (k : ℕ). sets l k b) (omega arith)
-sets-append l i (x ∷ a) b =
-    ap (λ (k : ℕ). sets (sets (set l i x) (suc i) a) k b) (omega arith)
-    ∙ sets-append (set l i x) (suc i) a b
-
--- a text after a text
-pub wrote-join : {l m n : List ℕ} {i j k : ℕ} {a b : List ℕ} → Wrote l i a m j → Wrote m j b n k → Wrote l i (a ++ b) n k
-wrote-join {l} {m} {n} {i} {j} {k} {a} {b} x y =
-    let p : j ≡ i + length a = x .place in
-    let q : k ≡ j + length b = y .place in
-    let s : length (a ++ b) ≡ length a + length b = length-append a b in
-    let r : length m ≡ length l = ap length (x .written) ∙ length-sets l i a in
-    let w : j + length b ≤ length m = y .within in
-    record {
-      written = y .written ∙ ap (λ (z : List ℕ). sets z j b) (x .written) ∙ ap (λ (z : ℕ). sets (sets l i a) z b) p ∙ sets-append l i a b;
-      within = omega arith;
-      place = omega arith;
-    }
-
-pub wrote-length : {l m : List ℕ} {i j : ℕ} {a : List ℕ} → Wrote l i a m j → length m ≡ length l
-wrote-length {l} {m} {i} {j} {a} x = ap length (x .written) ∙ length-sets l i a
-
 -- ---- writing a number from its last digit to its first
 
 -- the digits after place i are written, and rest is what is left of n
@@ -216,10 +194,6 @@ wrote-number {l} {m} {at} n k e h r w =
 -- a number of one digit
 pub wrote-digit : {l m : List ℕ} {at j : ℕ} (n : ℕ) → n < 10 → Wrote l at ((48 + n) ∷ []) m j → Wrote l at (decimal n) m j
 wrote-digit n h w = rw (decimal-one n h) w
-
--- a byte
-pub wrote-byte : (l : List ℕ) (at b : ℕ) → at < length l → Wrote l at (b ∷ []) (set l at b) (at + 1)
-wrote-byte l at b h = record { written = refl; within = omega arith; place = refl }
 
 -- the most bytes of a field
 pub field-most : (n : ℕ) → n < 2 ^ 64 → length (field n) ≤ 21

@@ -5,7 +5,8 @@ ghost use mathlib.Core.List.{[], _∷_, _++_};
 ghost use Prim.Native.Nat.{_+_, _*_, _≤_, _<_};
 ghost use lib.ListN.{length, take};
 ghost use lib.Seq.{sets};
-ghost use Rattle.script.specs.Output.{decimal, field as Output·field, absent, pair, pairsOf, malformedLine, Wrote};
+ghost use Rattle.lists.specs.Texts.{Wrote};
+ghost use Rattle.script.specs.Output.{decimal, field as Output·field, absent, pair, pairsOf, malformedLine};
 ghost use Rattle.script.specs.OutputLaws.{lastDigits};
 
 // How many digits a number has.

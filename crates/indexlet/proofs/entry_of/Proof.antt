@@ -1,6 +1,6 @@
 -- `indexlet::entry_of` meets its contract by the table's rule. Assumes nothing.
 use borrow.Author.Needs.{needs}
-use Rattle.lists.specs.Tabs.{tab}
+use Rattle.lists.specs.Shifts.{tabFrom, tab}
 use Rattle.spec.specs.Slots.{tableEntry}
 use Rattle.indexlet.specs.Table.{table-at}
 use Rattle.indexlet.proofs.entry_of.Statement.{statement}
@@ -10,7 +10,7 @@ array-read-result : tie.Need-array-read-result
 array-read-result c = search needs
 
 returns : tie.Need-returns
-unfolding tab tableEntry
+unfolding tab tabFrom tableEntry
 returns c = table-at (c .args .b) (search needs)
 
 pub entry-of-spec : {M : Type 1} → statement M

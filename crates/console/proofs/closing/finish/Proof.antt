@@ -1,6 +1,6 @@
 -- `closing::finish` meets its contract, case by case. Assumes nothing.
 use native.Mathlib.Omega.{arith}
-use Rattle.script.specs.OutputLaws.{wrote-length}
+use Rattle.lists.specs.Texts.{wrote-length}
 use Rattle.console.specs.Finishes.{records-fit, finish-stopped, finish-whole, finish-inside}
 use Rattle.console.proofs.closing.finish.Statement.{statement}
 use Rattle.console.proofs.closing.finish.Tie as tie

@@ -3,8 +3,8 @@ use Prim.Native.Nat.{_-_}
 use native.Mathlib.Omega.{arith}
 use mathlib.Core.Path.{refl}
 use borrow.Author.Needs.{needs}
+use Rattle.lists.specs.Texts.{wrote-length}
 use Rattle.looks.specs.NextLaws.{passed-start, follows-done}
-use Rattle.script.specs.OutputLaws.{wrote-length}
 use Rattle.console.specs.Closings.{allRecords, Listing, rising-all, next-at, next-done, listing-start, listing-room, listing-above, listing-on, listing-end}
 use Rattle.console.proofs.closing.put_records.Statement.{statement}
 use Rattle.console.proofs.closing.put_records.Tie as tie

@@ -2,7 +2,8 @@
 use native.Mathlib.Omega.{arith}
 use denote.Ref.{now}
 use borrow.Author.Needs.{needs}
-use Rattle.script.specs.OutputLaws.{wrote-join, field-most}
+use Rattle.lists.specs.Texts.{wrote-join}
+use Rattle.script.specs.OutputLaws.{field-most}
 use Rattle.console.specs.Replies.{pairs-most}
 use Rattle.console.proofs.replies.put_listed_line.Statement.{statement}
 use Rattle.console.proofs.replies.put_listed_line.Tie as tie

@@ -5,9 +5,9 @@ use native.Mathlib.Omega.{arith}
 use mathlib.Core.Path.{_≡_, subst}
 use lib.ListN.{length}
 use denote.Ref.{now}
+use Rattle.lists.specs.Texts.{wrote-length}
 use Rattle.engine.specs.declared.steps.Reply.{Reply}
 use Rattle.engine.specs.Performs.{placesIn}
-use Rattle.script.specs.OutputLaws.{wrote-length}
 use Rattle.console.specs.Replies.{wrote-granted, wrote-value, wrote-absent, wrote-listed, wrote-numbered, wrote-counted, wrote-refused}
 use Rattle.console.proofs.replies.put_reply.Statement.{statement}
 use Rattle.console.proofs.replies.put_reply.Tie as tie

@@ -1,7 +1,7 @@
 -- `session::turn` meets its contract, event by event. Assumes nothing.
 use borrow.Author.Needs.{needs}
 use native.Mathlib.Omega.{arith}
-use Rattle.script.specs.OutputLaws.{wrote-length}
+use Rattle.lists.specs.Texts.{wrote-length}
 use Rattle.console.specs.SessionLaws.{goes-true}
 use Rattle.console.specs.Places.{places-fit}
 use Rattle.console.specs.TurnLaws.{turn-ended, turn-malformed, turn-line}

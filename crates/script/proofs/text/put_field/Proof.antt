@@ -1,7 +1,7 @@
 -- `script::text::put_field` meets its contract: a byte and a number. Assumes nothing.
 use borrow.Author.Needs.{needs}
+use Rattle.lists.specs.Texts.{wrote-join}
 use Rattle.script.specs.Output.{field}
-use Rattle.script.specs.OutputLaws.{wrote-join}
 use Rattle.script.proofs.text.put_field.Statement.{statement}
 use Rattle.script.proofs.text.put_field.Tie as tie
 

@@ -1,7 +1,8 @@
 -- `script::text::put_line` meets its contract: an answer and a byte. Assumes nothing.
 use native.Mathlib.Omega.{arith}
 use borrow.Author.Needs.{needs}
-use Rattle.script.specs.OutputLaws.{wrote-join, field-most}
+use Rattle.lists.specs.Texts.{wrote-join}
+use Rattle.script.specs.OutputLaws.{field-most}
 use Rattle.script.proofs.text.put_line.Statement.{statement}
 use Rattle.script.proofs.text.put_line.Tie as tie
 

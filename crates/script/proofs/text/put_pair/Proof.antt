@@ -1,8 +1,9 @@
 -- `script::text::put_pair` meets its contract: two fields; the first leaves room for the second. Assumes nothing.
 use native.Mathlib.Omega.{arith}
 use borrow.Author.Needs.{needs}
+use Rattle.lists.specs.Texts.{wrote-join}
 use Rattle.script.specs.Output.{pair}
-use Rattle.script.specs.OutputLaws.{wrote-join, field-most}
+use Rattle.script.specs.OutputLaws.{field-most}
 use Rattle.script.proofs.text.put_pair.Statement.{statement}
 use Rattle.script.proofs.text.put_pair.Tie as tie
 

@@ -1,4 +1,4 @@
--- Decimal digits, how many there are, and texts one after the other.
+-- Decimal digits, how many there are, and what is written for a number, for pairs and for an answer.
 -- Assumes nothing.
 use Prim.Native.Nat.{ℕ, zero, suc, _+_, _-_, _*_, _/_, _%_, _^_, _<_, _≤_}
 use native.Mathlib.Nat.{le-refl, pow-suc}

@@ -1,5 +1,4 @@
 -- Put and remove, as they go: refused by 1, 2, 4 or 7, or the write stands in the worker's write set.
--- Assumes nothing.
 use Prim.Native.Nat.{ℕ, _<_, _≤_}
 use native.Mathlib.Omega.{arith}
 use mathlib.Core.Path.{_≡_, refl, sym, ap, _∙_, subst}
@@ -7,13 +6,13 @@ use mathlib.Core.Logic.{_⊎_}
 use mathlib.Core.Bool.{Bool, true, false, not}
 use mathlib.Core.List.{List, [], _∷_}
 use mathlib.Core.Option.{Option, none, some}
-use lib.ListN.{length}
+use lib.ListN.{length, getD, set}
 use Rattle.lists.specs.Tests.{both, maybe, present, less, less-yes, less-no}
 use Rattle.lists.specs.Rows.{look, any}
 use Rattle.spec.specs.declared.Refusal.{Refusal}
 use Rattle.spec.specs.declared.Refusal.the-variants.{WritesFull}
 use Rattle.spec.specs.Refusals.{ends}
-use Rattle.spec.specs.Records.{Write, written, deleted}
+use Rattle.spec.specs.Records.{standard, Write, written, deleted}
 use Rattle.spec.specs.Steps as model
 use Rattle.spec.specs.Steps.{State, Step, put, remove, Answer, done, isOpen, workerOf, ownWrite, cause, noWorker, workerFree, wrongStage, writesFull, causes, firstCause, refusal, granted, effect, withWorker, writing}
 use Rattle.laws.specs.WorkerLaws.{mild-cause}
@@ -21,8 +20,10 @@ use Rattle.sets.specs.declared.workers.Worker.{Worker}
 use Rattle.sets.specs.declared.writes.Found.{Found}
 use Rattle.sets.specs.Workers.{workerIn, withWrites}
 use Rattle.sets.specs.WorkerLaws.{write-in}
-use Rattle.sets.specs.Writes.{writeOf, foundIn, writesIn, PutsWrite}
-use Rattle.sets.specs.WriteRows.{length-writes}
+use Rattle.sets.specs.Reads.{ReadRows}
+use Rattle.sets.specs.Leaves.{LeafSetRows}
+use Rattle.sets.specs.Writes.{WriteRows, writeOf, foundIn, writeIn, writesOf, PutsWrite}
+use Rattle.sets.specs.SetLaws.{each-set, other-set, length-rows}
 use Rattle.sets.specs.WriteLaws.{put-kind, deletion-kind, room-found}
 use Rattle.map.specs.Views.{Lent}
 use Rattle.transactions.specs.declared.Core.{Core}
@@ -40,13 +41,13 @@ abbrev pub editing : ℕ → ℕ → Write → Step
 editing w a (written p) = put w a p
 editing w a deleted = remove w a
 
--- worker w, of n writes, has no write at the address, and no room for one
-abbrev pub fullAt : List ℕ → ℕ → ℕ → ℕ → Bool
-fullAt ws w n a = both (not (present (look (writesIn ws w n) a))) (not (less n 16))
+-- a write set of n writes has no write at the address, and no room for one
+abbrev pub fullAt : WriteRows → ℕ → ℕ → Bool
+fullAt ws n a = both (not (present (look (writesOf ws n) a))) (not (less n (standard .writeLimit)))
 
 -- The step, whatever the other arrays hold: ws are the write sets before it, us those after it.
-pub record Edits (ws : List ℕ) (c : Core) (w a : ℕ) (e : Write) (us : List ℕ) (r : Done) : Type 0 where
-  pub goes-so : (l : Lent) (rs ls : List ℕ) → Ready l (logs rs ls ws) c
+pub record Edits (ws : List WriteRows) (c : Core) (w a : ℕ) (e : Write) (us : List WriteRows) (r : Done) : Type 0 where
+  pub goes-so : (l : Lent) (rs : List ReadRows) (ls : List LeafSetRows) → Ready l (logs rs ls ws) c
       → Goes l (logs rs ls ws) c (editing w a e) l (logs rs ls us) (r .core) (plainIn (r .answer))
 
 -- ---- whether there is room
@@ -55,23 +56,23 @@ both-last : (b : Bool) → false ≡ both b false
 both-last true = refl
 both-last false = refl
 
-module _ (ws : List ℕ) (w n a : ℕ) where
-  pub full-room : n < 16 → false ≡ fullAt ws w n a
+module _ (ws : WriteRows) (n a : ℕ) where
+  pub full-room : n < standard .writeLimit → false ≡ fullAt ws n a
   full-room h =
-      both-last (not (present (look (writesIn ws w n) a)))
-      ∙ ap (λ (b : Bool). both (not (present (look (writesIn ws w n) a))) (not b)) (sym (less-yes {m = n} {n = 16} h))
+      both-last (not (present (look (writesOf ws n) a)))
+      ∙ ap (λ (b : Bool). both (not (present (look (writesOf ws n) a))) (not b)) (sym (less-yes {m = n} {n = standard .writeLimit} h))
 
-  pub full-there : (f g : Found) → f ≡ g → present (foundIn g) ≡ true → foundIn f ≡ look (writesIn ws w n) a → false ≡ fullAt ws w n a
+  pub full-there : (f g : Found) → f ≡ g → present (foundIn g) ≡ true → foundIn f ≡ look (writesOf ws n) a → false ≡ fullAt ws n a
   full-there f g e t q =
-      ap (λ (b : Bool). both (not b) (not (less n 16))) (sym (ap present (sym q ∙ ap foundIn e) ∙ t))
+      ap (λ (b : Bool). both (not b) (not (less n (standard .writeLimit)))) (sym (ap present (sym q ∙ ap foundIn e) ∙ t))
 
-  pub full-none : (f g : Found) → f ≡ g → foundIn g ≡ none → foundIn f ≡ look (writesIn ws w n) a → 16 ≤ n → true ≡ fullAt ws w n a
+  pub full-none : (f g : Found) → f ≡ g → foundIn g ≡ none → foundIn f ≡ look (writesOf ws n) a → standard .writeLimit ≤ n → true ≡ fullAt ws n a
   full-none f g e t q h =
-      ap (λ (b : Bool). not b) (sym (less-no {m = n} {n = 16} h))
-      ∙ ap (λ (o : Option Write). both (not (present o)) (not (less n 16))) (sym (sym q ∙ ap foundIn e ∙ t))
+      ap (λ (b : Bool). not b) (sym (less-no {m = n} {n = standard .writeLimit} h))
+      ∙ ap (λ (o : Option Write). both (not (present o)) (not (less n (standard .writeLimit)))) (sym (sym q ∙ ap foundIn e ∙ t))
 
-  pub room-here : (b : Bool) → b ≡ fullAt ws w n a → b ≡ false → (n < 16) ⊎ (present (look (writesIn ws w n) a) ≡ true)
-  room-here b q f = room-found ws w n a (sym q ∙ f)
+  pub room-here : (b : Bool) → b ≡ fullAt ws n a → b ≡ false → (n < standard .writeLimit) ⊎ (present (look (writesOf ws n) a) ≡ true)
+  room-here b q f = room-found ws n a (sym q ∙ f)
 
 -- ---- the refusals
 
@@ -91,9 +92,9 @@ refusal-front : (σ : State) (w a : ℕ) (e : Write) (o : Option Refusal) → fr
 refusal-front σ w a e o q =
     refusal-editing σ w a e ∙ ap (λ (p : Option Refusal). maybe p (firstCause (cause (writesFull σ w a) WritesFull ∷ [])) some) q
 
-pub edit-refused : (ws : List ℕ) (c : Core) (w a : ℕ) (e : Write) (r : Refusal) → Turned isOpen (c .seats) w r
+pub edit-refused : {ws : List WriteRows} {c : Core} {w a : ℕ} {e : Write} {r : Refusal} → Turned isOpen (c .seats) w r
     → Edits ws c w a e ws (record { core = c; answer = Refused r })
-edit-refused ws c w a e r t =
+edit-refused {ws} {c} {w} {a} {e} {r} t =
     record {
       goes-so = λ l rs ls k.
           let q : refusal (stateOf l (logs rs ls ws) c) (editing w a e) ≡ some r
@@ -104,22 +105,22 @@ edit-refused ws c w a e r t =
 -- ---- the worker in the open stage
 
 module _ (l : Lent) (g : Logs) (c : Core) (w : ℕ) (x : Worker) (k : Ready l g c) (t : Entered isOpen (c .seats) w x) where
-  full-is : (a : ℕ) → writesFull (stateOf l g c) w a ≡ fullAt (g .writes) w (x .writes) a
+  full-is : (a : ℕ) → writesFull (stateOf l g c) w a ≡ fullAt (getD (g .writes) w []) (x .writes) a
   unfolding writesFull ownWrite workerIn stateOf
   full-is a =
-      ap (λ (y : model.Worker). both (not (present (look (y .writes) a))) (not (less (length (y .writes)) 16))) (seated isOpen l g c w x k t)
-      ∙ ap (λ (n : ℕ). both (not (present (look (writesIn (g .writes) w (x .writes)) a))) (not (less n 16)))
-      (length-writes (g .writes) w (x .writes) (within isOpen l g c w x k t .writes))
+      ap (λ (y : model.Worker). both (not (present (look (y .writes) a))) (not (less (length (y .writes)) (standard .writeLimit)))) (seated isOpen l g c w x k t)
+      ∙ ap (λ (n : ℕ). both (not (present (look (writesOf (getD (g .writes) w []) (x .writes)) a))) (not (less n (standard .writeLimit))))
+      (length-rows writeIn (getD (g .writes) w []) (x .writes))
 
-  refusal-is : (a : ℕ) (e : Write) (b : Bool) → b ≡ fullAt (g .writes) w (x .writes) a
+  refusal-is : (a : ℕ) (e : Write) (b : Bool) → b ≡ fullAt (getD (g .writes) w []) (x .writes) a
       → refusal (stateOf l g c) (editing w a e) ≡ firstCause (cause b WritesFull ∷ [])
   refusal-is a e b q =
       refusal-front (stateOf l g c) w a e none (t .front-is l g c refl)
       ∙ ap (λ (d : Bool). firstCause (cause d WritesFull ∷ [])) (full-is a ∙ sym q)
 
-pub edit-full : (ws : List ℕ) (c : Core) (w a : ℕ) (e : Write) (x : Worker) (b : Bool) → Entered isOpen (c .seats) w x
-    → b ≡ fullAt ws w (x .writes) a → b ≡ true → Edits ws c w a e ws (record { core = c; answer = Refused WritesFull })
-edit-full ws c w a e x b t q f =
+pub edit-full : {ws : List WriteRows} {c : Core} {w a : ℕ} {e : Write} {x : Worker} {b : Bool} → Entered isOpen (c .seats) w x
+    → b ≡ fullAt (getD ws w []) (x .writes) a → b ≡ true → Edits ws c w a e ws (record { core = c; answer = Refused WritesFull })
+edit-full {ws} {c} {w} {a} {e} {x} {b} t q f =
     record {
       goes-so = λ l rs ls k.
           goes-refused k (refusal-is l (logs rs ls ws) c w x k t a e b q ∙ cause-holds b WritesFull [] f) refl;
@@ -137,39 +138,41 @@ unfolding effect
 effect-editing σ w a (written p) = refl
 effect-editing σ w a deleted = refl
 
-pub edit-granted : (ws us : List ℕ) (c : Core) (w a kind value : ℕ) (x : Worker) (b : Bool) (n : ℕ) → Entered isOpen (c .seats) w x
-    → b ≡ fullAt ws w (x .writes) a → b ≡ false → PutsWrite ws w (x .writes) a kind value us n
-    → Edits ws c w a (writeOf kind value) us (record { core = withSeat c w (withWrites x n); answer = Granted })
+pub edit-granted : {ws : List WriteRows} {us : WriteRows} {c o : Core} {w a kind value : ℕ} {x : Worker} {b : Bool} {n : ℕ} → Entered isOpen (c .seats) w x
+    → b ≡ fullAt (getD ws w []) (x .writes) a → b ≡ false → PutsWrite (getD ws w []) (x .writes) a kind value us n → o ≡ withSeat c w (withWrites x n)
+    → Edits ws c w a (writeOf kind value) (set ws w us) (record { core = o; answer = Granted })
 unfolding firstCause
-edit-granted ws us c w a kind value x b n t q f p =
+edit-granted {ws} {us} {c} {o} {w} {a} {kind} {value} {x} {b} {n} t q f p s =
     record {
       goes-so = λ l rs ls k.
-          let σ = stateOf l (logs rs ls ws) c in
+          subst (λ (o : Core). Goes l (logs rs ls ws) c (editing w a (writeOf kind value)) l (logs rs ls (set ws w us)) o (plainIn Granted)) (sym s)
+          (let σ = stateOf l (logs rs ls ws) c in
           let e = writeOf kind value in
           let g : Comes σ (editing w a e) (granted σ (editing w a e)) (effect σ (editing w a e))
           = comes-granted σ (editing w a e) (refusal-is l (logs rs ls ws) c w x k t a e b q ∙ cause-fails b WritesFull [] f) in
           let d : Comes σ (editing w a e) done (effect σ (editing w a e))
           = subst (λ (o : Answer). Comes σ (editing w a e) o (effect σ (editing w a e))) (granted-editing σ w a e) g in
           goes k d
-          (state-with l (logs rs ls ws) (logs rs ls us) c w (withWrites x n)
-          (record { reads = λ v m d. refl; leaves = λ v m d. refl; writes = p .others })
-          ∙ ap (withWorker σ w) (write-in x rs ls ws us w n a kind value p ∙ ap (writing a e) (sym (seated isOpen l (logs rs ls ws) c w x k t)))
+          (state-with l (logs rs ls ws) (logs rs ls (set ws w us)) c w (withWrites x n)
+          (record { reads = λ v m d. refl; leaves = λ v m d. refl; writes = λ v m d. other-set (λ (s : WriteRows). writesOf s m) ws w us v d })
+          ∙ ap (withWorker σ w)
+          (write-in rs ls ws w x us n a kind value (k .stored .writes) (t .inside) p ∙ ap (writing a e) (sym (seated isOpen l (logs rs ls ws) c w x k t)))
           ∙ sym (effect-editing σ w a e))
-          (stored-seat l rs ls ws rs us c w (withWrites x n) (t .inside) (k .stored) (k .stored .reads) (p .set .held)
+          (stored-seat l rs ls ws rs (set ws w us) c w (withWrites x n) (t .inside) (k .stored) (k .stored .reads) (each-set w us (k .stored .writes) (p .set .held))
           (let h : Within x = within isOpen l (logs rs ls ws) c w x k t in record { reads = h .reads; leaves = h .leaves; writes = p .set .room })
-          (ap (λ (y : Worker). y .leaves) (t .is)));
+          (ap (λ (y : Worker). y .leaves) (t .is))));
     }
 
 -- ---- the two steps
 
-pub put-goes : {ws us : List ℕ} {c : Core} {w a : ℕ} {r : Done} {l : Lent} {rs ls : List ℕ} (value : ℕ) → Edits ws c w a (writeOf 1 value) us r
+pub put-goes : {ws us : List WriteRows} {c : Core} {w a : ℕ} {r : Done} {l : Lent} {rs : List ReadRows} {ls : List LeafSetRows} (value : ℕ) → Edits ws c w a (writeOf 1 value) us r
     → Ready l (logs rs ls ws) c
     → Goes l (logs rs ls ws) c (put w a (record { value = value })) l (logs rs ls us) (r .core) (plainIn (r .answer))
 put-goes {ws} {us} {c} {w} {a} {r} {l} {rs} {ls} value e k =
     subst (λ (x : Write). Goes l (logs rs ls ws) c (editing w a x) l (logs rs ls us) (r .core) (plainIn (r .answer)))
     (put-kind 1 value refl) (e .goes-so l rs ls k)
 
-pub remove-goes : {ws us : List ℕ} {c : Core} {w a : ℕ} {r : Done} {l : Lent} {rs ls : List ℕ} → Edits ws c w a (writeOf 2 0) us r
+pub remove-goes : {ws us : List WriteRows} {c : Core} {w a : ℕ} {r : Done} {l : Lent} {rs : List ReadRows} {ls : List LeafSetRows} → Edits ws c w a (writeOf 2 0) us r
     → Ready l (logs rs ls ws) c → Goes l (logs rs ls ws) c (remove w a) l (logs rs ls us) (r .core) (plainIn (r .answer))
 remove-goes {ws} {us} {c} {w} {a} {r} {l} {rs} {ls} e k =
     subst (λ (x : Write). Goes l (logs rs ls ws) c (editing w a x) l (logs rs ls us) (r .core) (plainIn (r .answer)))

@@ -1,4 +1,5 @@
 pub mod Edits
 pub mod ReadSteps
+pub mod ScanCauses
 pub mod ScanSteps
 pub mod Scans

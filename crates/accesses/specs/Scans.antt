@@ -1,6 +1,6 @@
 -- Scan, as it goes.
--- Assumes nothing.
 use Prim.Native.Nat.{ℕ}
+use mathlib.Core.Path.{_≡_, sym, subst}
 use mathlib.Core.List.{List}
 use lib.ListN.{length}
 use Rattle.spec.specs.declared.Refusal.{Refusal}
@@ -15,9 +15,11 @@ use Rattle.ranges.specs.declared.plans.Task.{Task}
 use Rattle.transactions.specs.Admits.{Turned, Entered}
 use Rattle.ranges.specs.Walks.{rowsIn, Beyond}
 use Rattle.ranges.specs.ShowLaws.{beyond-refl}
-use Rattle.ranges.specs.Plans.{Declined, Passed, Carried}
-use Rattle.accesses.specs.ScanSteps.{scan-turned, scan-declined, scan-granted}
-use Rattle.transactions.specs.Views.{Logs, logs, withSeat}
+use Rattle.sets.specs.Reads.{ReadRows}
+use Rattle.sets.specs.Leaves.{LeafSetRows}
+use Rattle.accesses.specs.ScanCauses.{DeclinedIn, PassedIn, scan-turned, scan-declined}
+use Rattle.accesses.specs.ScanSteps.{CarriedIn, logging, scan-granted}
+use Rattle.transactions.specs.Views.{Logs, withSeat}
 use Rattle.transactions.specs.Ready.{Ready, Goes}
 
 -- document 01's answer: the first places of the buffers after the scan, as rows
@@ -47,15 +49,19 @@ scans-turned lo hi ks vs k t =
 
 -- refused for its range, its log or its buffers
 pub scans-declined : {l : Lent} {g : Logs} {c : Core} {w : ℕ} {x : Worker} {r : Refusal} (lo hi : ℕ) (ks vs : List ℕ) → Ready l g c → Entered isOpen (c .seats) w x
-    → Declined (l .rows) (l .lows) (l .slots) (g .writes) (c .sizes) x w lo hi (length ks) (length vs) r
-    → Scans l g c w lo hi ks vs g ks vs (record { core = c; answer = Refused r })
+    → DeclinedIn l g c w x lo hi (length ks) (length vs) r → Scans l g c w lo hi ks vs g ks vs (record { core = c; answer = Refused r })
 scans-declined {r} lo hi ks vs k e d =
     record { goes = scan-declined k e lo hi (length ks) (length vs) r d; addresses = beyond-refl 0 ks; values = beyond-refl 0 vs }
 
 -- granted
-pub scans-granted : {l : Lent} {g : Logs} {c : Core} {w : ℕ} {x : Worker} (lo hi : ℕ) (t : Task) (ks vs ks' vs' rs' ls' : List ℕ) (y : Worker) → Ready l g c
-    → Entered isOpen (c .seats) w x → Passed (l .rows) (l .lows) (l .slots) (g .writes) (c .sizes) x w lo hi (length ks) (length vs) t
-    → Carried (l .rows) (l .lows) (l .versions) (l .slots) (g .writes) (c .sizes) x w t ks vs (g .reads) (g .leaves) ks' vs' rs' ls' y
-    → Scans l g c w lo hi ks vs (logs rs' ls' (g .writes)) ks' vs' (record { core = withSeat c w y; answer = Count (t .count) })
-scans-granted lo hi t ks vs ks' vs' rs' ls' y k e p d =
-    record { goes = scan-granted k e lo hi t ks vs ks' vs' rs' ls' y p d; addresses = d .fills .addresses; values = d .fills .values }
+pub scans-granted : {l : Lent} {g : Logs} {c : Core} {w : ℕ} {x : Worker} {o : Core} {t : Task} {ks' vs' : List ℕ} {rs : ReadRows} {ls : LeafSetRows} {y : Worker} (lo hi : ℕ) (ks vs : List ℕ)
+    → Ready l g c → Entered isOpen (c .seats) w x → PassedIn l g c w x lo hi (length ks) (length vs) t → CarriedIn l g c w x t ks vs ks' vs' rs ls y → o ≡ withSeat c w y
+    → Scans l g c w lo hi ks vs (logging g w rs ls) ks' vs' (record { core = o; answer = Count (t .count) })
+scans-granted {l} {g} {c} {w} {t = t} {ks'} {vs'} {rs} {ls} {y} lo hi ks vs k e p d q =
+    record {
+      goes =
+          subst (λ (z : Core). Goes l g c (scan w lo hi (length ks) (length vs)) l (logging g w rs ls) z (listed (rowsIn (t .count) ks' vs'))) (sym q)
+          (scan-granted k e lo hi t ks vs ks' vs' rs ls y p d);
+      addresses = d .fills .addresses;
+      values = d .fills .values;
+    }

@@ -1,9 +1,18 @@
 // Put and remove: a worker's write set takes a write.
-use map::Address;
+use crate::seats;
+use map::Leaves;
+use map::Records;
+use map::Slots;
+use sets::LeafSets;
+use sets::ReadSets;
+use sets::WriteSet;
+use sets::WriteSets;
 use sets::workers::Worker;
 use sets::writes;
 use sets::writes::Found;
+use spec::Address;
 use spec::Refusal;
+use spec::WRITE_LIMIT;
 use transactions::Core;
 use transactions::admits;
 use transactions::admits::Admit;
@@ -11,7 +20,7 @@ use transactions::begins::Done;
 use transactions::begins::Plain;
 ghost use mathlib.Core.Path.{_≡_};
 ghost use Rattle.spec.specs.Steps.{put, remove};
-ghost use Rattle.sets.specs.Writes.{WriteSet, writeOf};
+ghost use Rattle.sets.specs.Writes.{WriteSetOrdered, writeOf};
 ghost use Rattle.map.specs.Views.{lent};
 ghost use Rattle.transactions.specs.Views.{logs};
 ghost use Rattle.transactions.specs.Ready.{Ready, Goes};
@@ -19,15 +28,15 @@ ghost use Rattle.transactions.specs.Begins.{plainIn};
 ghost use Rattle.transactions.specs.SeatLaws.{Writable};
 ghost use Rattle.accesses.specs.Edits.{Edits, fullAt};
 
-// Whether worker w, of n writes, has neither a write at the address nor room for one.
-fn full(writes: &[u64; 384], w: usize, n: usize, a: Address) -> bool
-    requires { ⌜ WriteSet (now writes) w n ⌝ }
-    ensures { λ r. ⌜ r ≡ fullAt (now (writes .entry)) w n a ⌝ }
+// Whether a write set of n writes has neither a write at the address nor room for one.
+fn full(writes: &WriteSet, n: usize, a: Address) -> bool
+    requires { ⌜ WriteSetOrdered (now writes) n ⌝ }
+    ensures { λ r. ⌜ r ≡ fullAt (now (writes .entry)) n a ⌝ }
 {
-    if n < 16 {
+    if n < WRITE_LIMIT {
         return false;
     }
-    match writes::find_write(writes, w, n, a) {
+    match writes::find_write(writes, n, a) {
         Found::Put(_) => false,
         Found::Deletion => false,
         Found::Nothing => true,
@@ -35,40 +44,35 @@ fn full(writes: &[u64; 384], w: usize, n: usize, a: Address) -> bool
 }
 
 // Both steps: the write is of kind 1 (a put) or 2 (a deletion).
-fn edit(writes: &mut [u64; 384], c: Core, w: u32, a: Address, kind: u64, value: u64) -> Done
+fn edit(writes: &mut WriteSets, c: Core, w: u32, a: Address, kind: u64, value: u64) -> Done
     requires { ⌜ Writable (now writes) c ⌝ }
     ensures { λ r. ⌜ Edits (now (writes .entry)) c w a (writeOf kind value) (now (writes .exit)) r ⌝ }
 {
-    let mut seats = c.seats;
-    let sizes = c.sizes;
-    let counters = c.counters;
+    let seats = c.seats;
     match admits::open(seats, w) {
         Admit::Refused(r) => Done {
             core: c,
             answer: Plain::Refused(r),
         },
         Admit::Seat(x) => {
-            if full(writes, w as usize, x.writes as usize, a) {
+            let v = w as usize;
+            let n = x.writes as usize;
+            if full(&writes[v], n, a) {
                 return Done {
                     core: c,
                     answer: Plain::Refused(Refusal::WritesFull),
                 };
             }
-            let n = writes::put_write(writes, w as usize, x.writes as usize, a, kind, value);
+            let count = writes::put_write(&mut writes[v], n, a, kind, value);
             let stage = x.stage;
             let y = Worker {
                 stage,
                 number: x.number,
                 reads: x.reads,
                 leaves: x.leaves,
-                writes: n as u8,
+                writes: count as u8,
             };
-            seats[w as usize] = y;
-            let core = Core {
-                seats,
-                sizes,
-                counters,
-            };
+            let core = seats::with_seat(c, v, y);
             Done {
                 core,
                 answer: Plain::Granted,
@@ -79,43 +83,43 @@ fn edit(writes: &mut [u64; 384], c: Core, w: u32, a: Address, kind: u64, value: 
 
 // Worker w puts a value at an address.
 pub fn put(
-    writes: &mut [u64; 384],
-    rows: &[u64; 3072],
-    lows: &[u64; 1025],
-    versions: &[u64; 1025],
-    outside: &[u64; 1025],
-    pending: &[u64; 1025],
-    slots: &[u64; 1536],
-    reads: &[u64; 2048],
-    leaves: &[u64; 512],
+    writes: &mut WriteSets,
+    rows: &Records,
+    leaves: &Leaves,
+    slots: &Slots,
+    reads: &ReadSets,
+    leafsets: &LeafSets,
     c: Core,
     w: u32,
     a: Address,
     value: u64,
 ) -> Done
-    requires { ⌜ Ready (lent (now rows) (now lows) (now versions) (now outside) (now pending) (now slots)) (logs (now reads) (now leaves) (now writes)) c ⌝ }
-    ensures { λ r. ⌜ Goes (lent (now (rows .entry)) (now (lows .entry)) (now (versions .entry)) (now (outside .entry)) (now (pending .entry)) (now (slots .entry))) (logs (now (reads .entry)) (now (leaves .entry)) (now (writes .entry))) c (put w a (record { value = value })) (lent (now (rows .exit)) (now (lows .exit)) (now (versions .exit)) (now (outside .exit)) (now (pending .exit)) (now (slots .exit))) (logs (now (reads .exit)) (now (leaves .exit)) (now (writes .exit))) (r .core) (plainIn (r .answer)) ⌝ }
+    requires { ⌜ Ready (lent (now rows) (now leaves) (now slots)) (logs (now reads) (now leafsets) (now writes)) c ⌝ }
+    ensures { λ r. ⌜ Goes (lent (now (rows .entry)) (now (leaves .entry)) (now (slots .entry)))
+        (logs (now (reads .entry)) (now (leafsets .entry)) (now (writes .entry))) c (put w a (record { value = value }))
+        (lent (now (rows .entry)) (now (leaves .entry)) (now (slots .entry)))
+        (logs (now (reads .entry)) (now (leafsets .entry)) (now (writes .exit))) (r .core) (plainIn (r .answer)) ⌝ }
 {
     edit(writes, c, w, a, 1, value)
 }
 
 // Worker w removes an address.
 pub fn remove(
-    writes: &mut [u64; 384],
-    rows: &[u64; 3072],
-    lows: &[u64; 1025],
-    versions: &[u64; 1025],
-    outside: &[u64; 1025],
-    pending: &[u64; 1025],
-    slots: &[u64; 1536],
-    reads: &[u64; 2048],
-    leaves: &[u64; 512],
+    writes: &mut WriteSets,
+    rows: &Records,
+    leaves: &Leaves,
+    slots: &Slots,
+    reads: &ReadSets,
+    leafsets: &LeafSets,
     c: Core,
     w: u32,
     a: Address,
 ) -> Done
-    requires { ⌜ Ready (lent (now rows) (now lows) (now versions) (now outside) (now pending) (now slots)) (logs (now reads) (now leaves) (now writes)) c ⌝ }
-    ensures { λ r. ⌜ Goes (lent (now (rows .entry)) (now (lows .entry)) (now (versions .entry)) (now (outside .entry)) (now (pending .entry)) (now (slots .entry))) (logs (now (reads .entry)) (now (leaves .entry)) (now (writes .entry))) c (remove w a) (lent (now (rows .exit)) (now (lows .exit)) (now (versions .exit)) (now (outside .exit)) (now (pending .exit)) (now (slots .exit))) (logs (now (reads .exit)) (now (leaves .exit)) (now (writes .exit))) (r .core) (plainIn (r .answer)) ⌝ }
+    requires { ⌜ Ready (lent (now rows) (now leaves) (now slots)) (logs (now reads) (now leafsets) (now writes)) c ⌝ }
+    ensures { λ r. ⌜ Goes (lent (now (rows .entry)) (now (leaves .entry)) (now (slots .entry)))
+        (logs (now (reads .entry)) (now (leafsets .entry)) (now (writes .entry))) c (remove w a)
+        (lent (now (rows .entry)) (now (leaves .entry)) (now (slots .entry)))
+        (logs (now (reads .entry)) (now (leafsets .entry)) (now (writes .exit))) (r .core) (plainIn (r .answer)) ⌝ }
 {
     edit(writes, c, w, a, 2, 0)
 }

@@ -2,3 +2,4 @@
 pub mod edits;
 pub mod reads;
 pub mod scans;
+mod seats;

@@ -1,21 +1,29 @@
 // Read: a worker's own write, or the current record, which its read set takes.
-use map::Address;
+use crate::seats;
+use map::Leaves;
+use map::Records;
+use map::Slots;
+use sets::LeafSets;
+use sets::ReadSet;
+use sets::ReadSets;
+use sets::WriteSets;
 use sets::reads;
-use sets::reads::Seen;
 use sets::workers::Worker;
 use sets::writes;
 use sets::writes::Found;
+use spec::Address;
+use spec::Current;
+use spec::READ_LIMIT;
 use spec::Refusal;
 use transactions::Core;
 use transactions::admits;
 use transactions::admits::Admit;
 ghost use mathlib.Core.Path.{_≡_};
 ghost use Prim.Native.Nat.{_<_};
-ghost use Rattle.spec.specs.Records.{payloadOf};
+ghost use Rattle.spec.specs.Records.{standard, payloadOf};
 ghost use Rattle.spec.specs.Steps.{read, found, isOpen};
-ghost use Rattle.sets.specs.Reads.{recordIn, ReadsHeld};
-ghost use Rattle.index.specs.Views as index;
-ghost use Rattle.indexlet.specs.Held as indexlet;
+ghost use Rattle.sets.specs.Reads.{recordIn, ReadSetHeld};
+ghost use Rattle.map.specs.Parts.{RecordsHeld, SlotsHeld};
 ghost use Rattle.map.specs.Views.{lent};
 ghost use Rattle.transactions.specs.Views.{logs};
 ghost use Rattle.transactions.specs.Ready.{Ready, Goes};
@@ -38,11 +46,11 @@ pub struct ReadDone {
 // How many reads are logged now, and what the last one saw.
 struct Taken {
     count: usize,
-    seen: Seen,
+    seen: Current,
 }
 
 // The answer that tells a record.
-fn shown(seen: Seen) -> ReadAnswer
+fn shown(seen: Current) -> ReadAnswer
     ensures { λ r. ⌜ readIn r ≡ found (payloadOf (recordIn seen)) ⌝ }
 {
     if seen.there {
@@ -51,37 +59,31 @@ fn shown(seen: Seen) -> ReadAnswer
     ReadAnswer::Absent
 }
 
-// Logs the current record of an address, after the n reads of worker w.
+// Logs the current record of an address, after the n rows of a read set.
 fn take(
-    reads: &mut [u64; 2048],
-    rows: &[u64; 3072],
-    slots: &[u64; 1536],
+    reads: &mut ReadSet,
+    rows: &Records,
+    slots: &Slots,
     records: usize,
-    w: usize,
     n: usize,
     a: Address,
 ) -> Taken
-    requires { ⌜ ReadsHeld (now reads) ⌝ }
-    requires { ⌜ index.Held (now rows) records ⌝ }
-    requires { ⌜ indexlet.Held (now slots) ⌝ }
-    requires { ⌜ (w < 8) × (n < 64) ⌝ }
-    ensures { λ r. ⌜ Takes (now (reads .entry)) (now (rows .entry)) (now (slots .entry)) records w n a (now (reads .exit)) r ⌝ }
+    requires { ⌜ ReadSetHeld (now reads) ⌝ }
+    requires { ⌜ RecordsHeld (now rows) records ⌝ }
+    requires { ⌜ SlotsHeld (now slots) ⌝ }
+    requires { ⌜ n < standard .readLimit ⌝ }
+    ensures { λ r. ⌜ Takes (now (reads .entry)) (now (rows .entry)) (now (slots .entry)) records n a (now (reads .exit)) r ⌝ }
 {
-    let r = looks::current_record(rows, slots, records, a);
-    let seen = Seen {
-        there: r.there,
-        value: r.value,
-        commit: r.commit,
-    };
-    let count = reads::log_read(reads, w, n, a, seen);
+    let seen = looks::current_record(rows, slots, records, a);
+    let count = reads::log_read(reads, n, a, seen);
     Taken { count, seen }
 }
 
 // The read of a worker that has no write at the address.
 fn read_current(
-    reads: &mut [u64; 2048],
-    rows: &[u64; 3072],
-    slots: &[u64; 1536],
+    reads: &mut ReadSets,
+    rows: &Records,
+    slots: &Slots,
     c: Core,
     w: u32,
     x: Worker,
@@ -91,24 +93,16 @@ fn read_current(
     requires { ⌜ Entered isOpen (c .seats) w x ⌝ }
     ensures { λ r. ⌜ TellsCurrent (now (reads .entry)) (now (rows .entry)) (now (slots .entry)) c w x a (now (reads .exit)) r ⌝ }
 {
-    let mut seats = c.seats;
     let sizes = c.sizes;
-    let counters = c.counters;
-    if 64 <= x.reads {
+    let v = w as usize;
+    let n = x.reads as usize;
+    if READ_LIMIT <= n {
         return ReadDone {
             core: c,
             answer: ReadAnswer::Refused(Refusal::LogFull),
         };
     }
-    let taken = take(
-        reads,
-        rows,
-        slots,
-        sizes.records,
-        w as usize,
-        x.reads as usize,
-        a,
-    );
+    let taken = take(&mut reads[v], rows, slots, sizes.records, n, a);
     let stage = x.stage;
     let y = Worker {
         stage,
@@ -117,12 +111,7 @@ fn read_current(
         leaves: x.leaves,
         writes: x.writes,
     };
-    seats[w as usize] = y;
-    let core = Core {
-        seats,
-        sizes,
-        counters,
-    };
+    let core = seats::with_seat(c, v, y);
     let seen = taken.seen;
     let answer = shown(seen);
     ReadDone { core, answer }
@@ -130,10 +119,10 @@ fn read_current(
 
 // The step, over the arrays that it looks at.
 fn tell(
-    reads: &mut [u64; 2048],
-    rows: &[u64; 3072],
-    slots: &[u64; 1536],
-    writes: &[u64; 384],
+    reads: &mut ReadSets,
+    rows: &Records,
+    slots: &Slots,
+    writes: &WriteSets,
     c: Core,
     w: u32,
     a: Address,
@@ -148,11 +137,12 @@ fn tell(
             answer: ReadAnswer::Refused(r),
         },
         Admit::Seat(x) => {
-            let own = writes::find_write(writes, w as usize, x.writes as usize, a);
+            let v = w as usize;
+            let own = writes::find_write(&writes[v], x.writes as usize, a);
             match own {
-                Found::Put(v) => ReadDone {
+                Found::Put(value) => ReadDone {
                     core: c,
-                    answer: ReadAnswer::Value(v),
+                    answer: ReadAnswer::Value(value),
                 },
                 Found::Deletion => ReadDone {
                     core: c,
@@ -166,21 +156,21 @@ fn tell(
 
 // Worker w reads an address. Its own write is told as it stands; else the current record is, and it is logged.
 pub fn read(
-    reads: &mut [u64; 2048],
-    rows: &[u64; 3072],
-    lows: &[u64; 1025],
-    versions: &[u64; 1025],
-    outside: &[u64; 1025],
-    pending: &[u64; 1025],
-    slots: &[u64; 1536],
-    leaves: &[u64; 512],
-    writes: &[u64; 384],
+    reads: &mut ReadSets,
+    rows: &Records,
+    leaves: &Leaves,
+    slots: &Slots,
+    leafsets: &LeafSets,
+    writes: &WriteSets,
     c: Core,
     w: u32,
     a: Address,
 ) -> ReadDone
-    requires { ⌜ Ready (lent (now rows) (now lows) (now versions) (now outside) (now pending) (now slots)) (logs (now reads) (now leaves) (now writes)) c ⌝ }
-    ensures { λ r. ⌜ Goes (lent (now (rows .entry)) (now (lows .entry)) (now (versions .entry)) (now (outside .entry)) (now (pending .entry)) (now (slots .entry))) (logs (now (reads .entry)) (now (leaves .entry)) (now (writes .entry))) c (read w a) (lent (now (rows .exit)) (now (lows .exit)) (now (versions .exit)) (now (outside .exit)) (now (pending .exit)) (now (slots .exit))) (logs (now (reads .exit)) (now (leaves .exit)) (now (writes .exit))) (r .core) (readIn (r .answer)) ⌝ }
+    requires { ⌜ Ready (lent (now rows) (now leaves) (now slots)) (logs (now reads) (now leafsets) (now writes)) c ⌝ }
+    ensures { λ r. ⌜ Goes (lent (now (rows .entry)) (now (leaves .entry)) (now (slots .entry)))
+        (logs (now (reads .entry)) (now (leafsets .entry)) (now (writes .entry))) c (read w a)
+        (lent (now (rows .entry)) (now (leaves .entry)) (now (slots .entry)))
+        (logs (now (reads .exit)) (now (leafsets .entry)) (now (writes .entry))) (r .core) (readIn (r .answer)) ⌝ }
 {
     tell(reads, rows, slots, writes, c, w, a)
 }

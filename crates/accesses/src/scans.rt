@@ -1,7 +1,14 @@
 // Scan: the records of a range, as the transaction sees them. It counts and tests first and writes after.
-use map::Address;
+use crate::seats;
+use map::Leaves;
+use map::Records;
+use map::Slots;
 use ranges::plans;
 use ranges::plans::Plan;
+use sets::LeafSets;
+use sets::ReadSets;
+use sets::WriteSets;
+use spec::Address;
 use spec::Refusal;
 use transactions::Core;
 use transactions::admits;
@@ -28,26 +35,24 @@ pub struct ScanDone {
 pub fn scan(
     addresses: &mut [u32],
     values: &mut [u64],
-    reads: &mut [u64; 2048],
-    leaves: &mut [u64; 512],
-    rows: &[u64; 3072],
-    lows: &[u64; 1025],
-    versions: &[u64; 1025],
-    outside: &[u64; 1025],
-    pending: &[u64; 1025],
-    slots: &[u64; 1536],
-    writes: &[u64; 384],
+    reads: &mut ReadSets,
+    leafsets: &mut LeafSets,
+    rows: &Records,
+    leaves: &Leaves,
+    slots: &Slots,
+    writes: &WriteSets,
     c: Core,
     w: u32,
     lo: Address,
     hi: Address,
 ) -> ScanDone
-    requires { ⌜ Ready (lent (now rows) (now lows) (now versions) (now outside) (now pending) (now slots)) (logs (now reads) (now leaves) (now writes)) c ⌝ }
-    ensures { λ r. ⌜ Scans (lent (now (rows .entry)) (now (lows .entry)) (now (versions .entry)) (now (outside .entry)) (now (pending .entry)) (now (slots .entry))) (logs (now (reads .entry)) (now (leaves .entry)) (now (writes .entry))) c w lo hi (now (addresses .entry)) (now (values .entry)) (logs (now (reads .exit)) (now (leaves .exit)) (now (writes .entry))) (now (addresses .exit)) (now (values .exit)) r ⌝ }
+    requires { ⌜ Ready (lent (now rows) (now leaves) (now slots)) (logs (now reads) (now leafsets) (now writes)) c ⌝ }
+    ensures { λ r. ⌜ Scans (lent (now (rows .entry)) (now (leaves .entry)) (now (slots .entry)))
+        (logs (now (reads .entry)) (now (leafsets .entry)) (now (writes .entry))) c w lo hi (now (addresses .entry)) (now (values .entry))
+        (logs (now (reads .exit)) (now (leafsets .exit)) (now (writes .entry))) (now (addresses .exit)) (now (values .exit)) r ⌝ }
 {
-    let mut seats = c.seats;
+    let seats = c.seats;
     let sizes = c.sizes;
-    let counters = c.counters;
     match admits::open(seats, w) {
         Admit::Refused(r) => ScanDone {
             core: c,
@@ -57,7 +62,7 @@ pub fn scan(
             let v = w as usize;
             let m = addresses.len();
             let n = values.len();
-            match plans::measure(rows, lows, slots, writes, sizes, x, v, lo, hi, m, n) {
+            match plans::measure(rows, leaves, slots, &writes[v], sizes, x, lo, hi, m, n) {
                 Plan::Refused(r) => ScanDone {
                     core: c,
                     answer: ScanAnswer::Refused(r),
@@ -66,24 +71,17 @@ pub fn scan(
                     let y = plans::carry(
                         addresses,
                         values,
-                        reads,
-                        leaves,
+                        &mut reads[v],
+                        &mut leafsets[v],
                         rows,
-                        lows,
-                        versions,
+                        leaves,
                         slots,
-                        writes,
+                        &writes[v],
                         sizes,
                         x,
-                        v,
                         t,
                     );
-                    seats[v] = y;
-                    let core = Core {
-                        seats,
-                        sizes,
-                        counters,
-                    };
+                    let core = seats::with_seat(c, v, y);
                     ScanDone {
                         core,
                         answer: ScanAnswer::Count(t.count),

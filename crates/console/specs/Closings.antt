@@ -21,13 +21,14 @@ use Rattle.spec.specs.Maps.{MapState, outcomeOf, current, contents}
 use Rattle.laws.specs.SlotLaws.{content-none}
 use Rattle.laws.specs.MapBounds.{Bounded}
 use Rattle.laws.specs.ContentLaws.{look-contents, rising-contents}
-use Rattle.index.specs.Views.{recordFrom, Held}
+use Rattle.map.specs.Parts.{RecordsHeld}
 use Rattle.looks.specs.declared.Next.{Next}
 use Rattle.looks.specs.declared.Next.the-variants.{At, Done}
 use Rattle.looks.specs.LookViews.{mapWith}
 use Rattle.looks.specs.NextViews.{firstFrom, rowsFrom, nextIn, Follows}
 use Rattle.script.specs.Output.{pair, pairs}
 use Rattle.script.specs.OutputLaws.{pair-most}
+use Rattle.map.specs.Views.{recordFrom, SlotRows, RecordRows}
 
 -- ---- how many records there can be
 
@@ -112,20 +113,20 @@ module _ {A : Type 0} where
 -- ---- the pairs of all records
 
 -- all records of the index and the indexlet; leaves play no part
-abbrev pub allRecords : List ℕ → ℕ → List ℕ → List (Row Record)
+abbrev pub allRecords : RecordRows → ℕ → SlotRows → List (Row Record)
 allRecords rows n slots = contents (mapWith rows n slots [])
 
 abbrev pub pairsFor : List (Row Record) → List ℕ
 pairsFor rs = pairs (λ (r : Record). r .payload .value) rs
 
-pub rising-all : (rows : List ℕ) (n : ℕ) (slots : List ℕ) → Held rows n → Rising (allRecords rows n slots)
-rising-all rows n slots h = rising-contents (mapWith rows n slots []) (h .rising)
+pub rising-all : (rows : RecordRows) (n : ℕ) (slots : SlotRows) → RecordsHeld rows n → Rising (allRecords rows n slots)
+rising-all rows n slots h = rising-contents (mapWith rows n slots []) (h .held .rising)
 
-pub next-at : {rows slots : List ℕ} {n k : ℕ} {r : Next} {a v u : ℕ} → Follows rows n slots k r → r ≡ At a v u
+pub next-at : {rows : RecordRows} {slots : SlotRows} {n k : ℕ} {r : Next} {a v u : ℕ} → Follows rows n slots k r → r ≡ At a v u
     → firstFrom k (allRecords rows n slots) ≡ some (row a (recordFrom v u))
 next-at f e = sym (f .next-is []) ∙ ap nextIn e
 
-pub next-done : {rows slots : List ℕ} {n k : ℕ} {r : Next} → Follows rows n slots k r → r ≡ Done → firstFrom k (allRecords rows n slots) ≡ none
+pub next-done : {rows : RecordRows} {slots : SlotRows} {n k : ℕ} {r : Next} → Follows rows n slots k r → r ≡ Done → firstFrom k (allRecords rows n slots) ≡ none
 next-done f e = sym (f .next-is []) ∙ ap nextIn e
 
 -- the pairs of all records are written

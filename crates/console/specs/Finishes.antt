@@ -1,6 +1,5 @@
 -- What is promised of the end of the input.
--- Assumes nothing.
-use Prim.Native.Nat.{ℕ, _+_, _≤_}
+use Prim.Native.Nat.{ℕ, _+_, _*_, _≤_}
 use native.Mathlib.Omega.{arith}
 use mathlib.Core.Path.{_≡_, refl, sym, ap, _∙_, subst}
 use mathlib.Core.Bool.{Bool, true, false, not}
@@ -9,7 +8,7 @@ use lib.ListN.{length}
 use Rattle.lists.specs.Tests.{pick}
 use Rattle.lists.specs.Rows.{Row}
 use Rattle.lists.specs.Texts.{Wrote, wrote-join}
-use Rattle.spec.specs.Records.{Record}
+use Rattle.spec.specs.Records.{standard, Record}
 use Rattle.spec.specs.Maps.{contents}
 use Rattle.map.specs.Views.{Lent}
 use Rattle.transactions.specs.Views.{Logs, stateOf}
@@ -22,9 +21,9 @@ use Rattle.console.specs.Program.{writtenFrom}
 use Rattle.console.specs.Sessions.{due}
 use Rattle.console.specs.Closings.{allRecords, pairsFor, PairsPut, contents-count}
 
--- the longest last line: a letter, a number, 1,024 pairs and a line feed
+-- the longest last line: a letter, a number, the pairs of a full map and a line feed
 abbrev pub longestEnd : ℕ
-longestEnd = 43031
+longestEnd = 23 + 42 * standard .mapLimit
 
 -- all that is still due was written, when no more input comes
 pub record Finishes (l : Lent) (g : Logs) (x : Session) (old new : List ℕ) (next : ℕ) : Type 0 where
@@ -39,7 +38,7 @@ unfolding endLine
 end-wrote {rs} {old} {a} {b} {new} {at} {i} {j} {k} {n} e x y z =
     subst (λ (m : ℕ). Wrote old at ((69 ∷ field m) ++ pairsFor rs ++ (10 ∷ [])) new k) e (wrote-join (wrote-join x (y .wrote)) z)
 
-pub records-fit : {l : Lent} {g : Logs} {c : Core} → Ready l g c → length (allRecords (l .rows) (c .sizes .records) (l .slots)) ≤ 1024
+pub records-fit : {l : Lent} {g : Logs} {c : Core} → Ready l g c → length (allRecords (l .rows) (c .sizes .records) (l .slots)) ≤ standard .mapLimit
 unfolding contents
 records-fit r = contents-count (r .stored .map .bounded)
 

@@ -1,5 +1,4 @@
 -- A line as an operation of the engine, and the line that is written for its reply.
--- Assumes nothing.
 use Prim.Native.Nat.{ℕ, zero, suc, _+_, _*_, _^_, _<_, _≤_}
 use native.Mathlib.Nat.{not-suc-le-zero, le-of-suc-le-suc}
 use native.Mathlib.Omega.{arith}
@@ -25,6 +24,7 @@ use Rattle.engine.specs.declared.steps.Op.the-variants as op
 use Rattle.engine.specs.declared.steps.Reply.{Reply}
 use Rattle.engine.specs.declared.steps.Reply.the-variants as reply
 use Rattle.engine.specs.Performs.{stepIn, replyIn}
+use Rattle.console.specs.Program.{places}
 
 -- o is the operation that a line asks for, whatever the places of a scan's two buffers
 pub record Asks (l : Line) (o : Op) : Type 0 where
@@ -65,9 +65,9 @@ replyText c p ks vs = c ∷ answerText (replyIn p ks vs) ++ (10 ∷ [])
 pub record Replies (c : ℕ) (p : Reply) (ks vs old : List ℕ) (at : ℕ) (new : List ℕ) (next : ℕ) : Type 0 where
   pub wrote : Wrote old at (replyText c p ks vs) new next
 
--- the longest line: a letter, two numbers, 64 pairs and a line feed
+-- the longest line: a letter, two numbers, a scan's pairs and a line feed
 abbrev pub longest : ℕ
-longest = 2732
+longest = 44 + 42 * places
 
 -- ---- a scan's buffers
 

@@ -1,14 +1,19 @@
 // The end of the input: all records, or the mark of a line without its line feed.
 use crate::session::Session;
 use looks::Next;
+use map::Leaves;
+use map::Records;
+use map::Slots;
 use script::text;
-ghost use mathlib.Core.Path.{_≡_};
+use sets::LeafSets;
+use sets::ReadSets;
+use sets::WriteSets;
+use spec::ADDRESSES;
 ghost use Prim.Native.Nat.{_+_, _*_, _≤_};
 ghost use lib.ListN.{length};
 ghost use Rattle.lists.specs.Texts.{Wrote};
-ghost use Rattle.indexlet.specs.Held as indexlet;
-ghost use Rattle.index.specs.Views as index;
-ghost use Rattle.looks.specs.LookViews.{Narrow};
+ghost use Rattle.spec.specs.Records.{standard};
+ghost use Rattle.map.specs.Parts.{RecordsHeld, SlotsHeld};
 ghost use Rattle.map.specs.Views.{lent};
 ghost use Rattle.transactions.specs.Views.{logs};
 ghost use Rattle.transactions.specs.Ready.{Ready};
@@ -17,22 +22,15 @@ ghost use Rattle.console.specs.Closings.{allRecords, PairsPut};
 ghost use Rattle.console.specs.Finishes.{longestEnd, Finishes};
 
 // The pairs of all records, by rising address.
-fn put_records(
-    out: &mut [u8],
-    at: usize,
-    rows: &[u64; 3072],
-    slots: &[u64; 1536],
-    n: usize,
-) -> usize
-    requires { ⌜ index.Held (now rows) n ⌝ }
-    requires { ⌜ Narrow (now rows) n ⌝ }
-    requires { ⌜ indexlet.Held (now slots) ⌝ }
+fn put_records(out: &mut [u8], at: usize, rows: &Records, slots: &Slots, n: usize) -> usize
+    requires { ⌜ RecordsHeld (now rows) n ⌝ }
+    requires { ⌜ SlotsHeld (now slots) ⌝ }
     requires { ⌜ at + 42 * length (allRecords (now rows) n (now slots)) ≤ length (now out) ⌝ }
     ensures { λ r. ⌜ PairsPut (allRecords (now (rows .entry)) n (now (slots .entry))) (now (out .entry)) at (now (out .exit)) r ⌝ }
 {
     let mut place = at;
     let mut from: u64 = 0;
-    while from < 4294967296 {
+    while from < ADDRESSES {
         let next = looks::next_record(rows, slots, n, from);
         match next {
             Next::At {
@@ -50,17 +48,10 @@ fn put_records(
 }
 
 // `E`, how many records there are, and their pairs.
-fn put_contents(
-    out: &mut [u8],
-    at: usize,
-    rows: &[u64; 3072],
-    slots: &[u64; 1536],
-    n: usize,
-) -> usize
-    requires { ⌜ index.Held (now rows) n ⌝ }
-    requires { ⌜ Narrow (now rows) n ⌝ }
-    requires { ⌜ indexlet.Held (now slots) ⌝ }
-    requires { ⌜ (length (allRecords (now rows) n (now slots)) ≤ 1024) × (at + longestEnd ≤ length (now out)) ⌝ }
+fn put_contents(out: &mut [u8], at: usize, rows: &Records, slots: &Slots, n: usize) -> usize
+    requires { ⌜ RecordsHeld (now rows) n ⌝ }
+    requires { ⌜ SlotsHeld (now slots) ⌝ }
+    requires { ⌜ (length (allRecords (now rows) n (now slots)) ≤ standard .mapLimit) × (at + longestEnd ≤ length (now out)) ⌝ }
     ensures { λ r. ⌜ Wrote (now (out .entry)) at (endLine (allRecords (now (rows .entry)) n (now (slots .entry)))) (now (out .exit)) r ⌝ }
 {
     let count = looks::count_records(rows, slots, n);
@@ -72,20 +63,17 @@ fn put_contents(
 // The last line of the output, when the input has ended. After a malformed line there is none.
 pub fn finish(
     out: &mut [u8],
-    rows: &[u64; 3072],
-    lows: &[u64; 1025],
-    versions: &[u64; 1025],
-    outside: &[u64; 1025],
-    pending: &[u64; 1025],
-    slots: &[u64; 1536],
-    reads: &[u64; 2048],
-    leaves: &[u64; 512],
-    writes: &[u64; 384],
+    rows: &Records,
+    leaves: &Leaves,
+    slots: &Slots,
+    reads: &ReadSets,
+    leafsets: &LeafSets,
+    writes: &WriteSets,
     x: Session,
 ) -> usize
-    requires { ⌜ Ready (lent (now rows) (now lows) (now versions) (now outside) (now pending) (now slots)) (logs (now reads) (now leaves) (now writes)) (x .core) ⌝ }
+    requires { ⌜ Ready (lent (now rows) (now leaves) (now slots)) (logs (now reads) (now leafsets) (now writes)) (x .core) ⌝ }
     requires { ⌜ x .at + longestEnd ≤ length (now out) ⌝ }
-    ensures { λ r. ⌜ Finishes (lent (now (rows .entry)) (now (lows .entry)) (now (versions .entry)) (now (outside .entry)) (now (pending .entry)) (now (slots .entry))) (logs (now (reads .entry)) (now (leaves .entry)) (now (writes .entry))) x (now (out .entry)) (now (out .exit)) r ⌝ }
+    ensures { λ r. ⌜ Finishes (lent (now (rows .entry)) (now (leaves .entry)) (now (slots .entry))) (logs (now (reads .entry)) (now (leafsets .entry)) (now (writes .entry))) x (now (out .entry)) (now (out .exit)) r ⌝ }
 {
     if x.stopped {
         return x.at;

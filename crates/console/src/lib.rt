@@ -1,5 +1,8 @@
 // From the bytes of a script to the bytes of its answers, over the engine. What is written for an input is `output`, in
 // specs/Program.antt. Nothing here reads or writes a file.
+// The places of a scan's two buffers (document 01, "The script program").
+pub const SCAN_PLACES: usize = 64;
+
 pub mod closing;
 pub mod lines;
 pub mod replies;

@@ -1,4 +1,5 @@
-// The line that is written for a reply. The longest has a letter, two numbers, 64 pairs and a line feed.
+// The line that is written for a reply. The longest has a letter, two numbers, a scan's pairs and a line feed.
+use crate::SCAN_PLACES;
 use engine::steps::Reply;
 use script::text;
 ghost use mathlib.Core.List.{[], _∷_, _++_};
@@ -7,6 +8,7 @@ ghost use lib.ListN.{length, take};
 ghost use Rattle.lists.specs.Texts.{Wrote};
 ghost use Rattle.script.specs.Output.{field, absent, pairsOf};
 ghost use Rattle.engine.specs.Performs.{placesIn};
+ghost use Rattle.console.specs.Program.{places};
 ghost use Rattle.console.specs.Replies.{longest, Replies};
 
 // A read that finds nothing.
@@ -42,13 +44,13 @@ fn put_listed_line(
 pub fn put_reply(
     out: &mut [u8],
     at: usize,
-    addresses: &[u32; 64],
-    values: &[u64; 64],
+    addresses: &[u32; SCAN_PLACES],
+    values: &[u64; SCAN_PLACES],
     letter: u8,
     reply: Reply,
 ) -> usize
     requires { ⌜ at + longest ≤ length (now out) ⌝ }
-    requires { ⌜ placesIn reply ≤ 64 ⌝ }
+    requires { ⌜ placesIn reply ≤ places ⌝ }
     ensures { λ r. ⌜ Replies letter reply (now (addresses .entry)) (now (values .entry)) (now (out .entry)) at (now (out .exit)) r ⌝ }
 {
     match reply {

@@ -1,10 +1,17 @@
 // The lines of an input, one after the other.
+use crate::SCAN_PLACES;
 use crate::lines;
 use crate::replies;
 use engine::steps;
+use map::Leaves;
+use map::Records;
+use map::Slots;
 use script::Event;
 use script::Parser;
 use script::text;
+use sets::LeafSets;
+use sets::ReadSets;
+use sets::WriteSets;
 use transactions::Core;
 use transactions::starts;
 ghost use mathlib.Core.Path.{_≡_};
@@ -16,8 +23,8 @@ ghost use Rattle.transactions.specs.Views.{logs};
 ghost use Rattle.transactions.specs.Ready.{Ready};
 ghost use Rattle.console.specs.Sessions.{Started, goesOn, Turns, Runs, Begins, withPlaces};
 
-// The longest line that is written.
-const LONGEST: usize = 2732;
+// The longest line that is written: a letter, two numbers, a scan's pairs and a line feed.
+const LONGEST: usize = 44 + 42 * SCAN_PLACES;
 
 // What is kept from line to line: the engine's core, the parser, the place in the input, the place in the output, and
 // whether a malformed line has ended the script.
@@ -31,29 +38,16 @@ pub struct Session {
 
 // A session with a fresh map, whatever the arrays held.
 pub fn fresh(
-    rows: &mut [u64; 3072],
-    lows: &mut [u64; 1025],
-    versions: &mut [u64; 1025],
-    outside: &mut [u64; 1025],
-    pending: &mut [u64; 1025],
-    slots: &mut [u64; 1536],
-    reads: &mut [u64; 2048],
-    leaves: &mut [u64; 512],
-    writes: &mut [u64; 384],
+    rows: &mut Records,
+    leaves: &mut Leaves,
+    slots: &mut Slots,
+    reads: &mut ReadSets,
+    leafsets: &mut LeafSets,
+    writes: &mut WriteSets,
 ) -> Session
-    ensures { λ r. ⌜ Begins (lent (now (rows .exit)) (now (lows .exit)) (now (versions .exit)) (now (outside .exit)) (now (pending .exit)) (now (slots .exit))) (logs (now (reads .exit)) (now (leaves .exit)) (now (writes .exit))) r ⌝ }
+    ensures { λ r. ⌜ Begins (lent (now (rows .exit)) (now (leaves .exit)) (now (slots .exit))) (logs (now (reads .exit)) (now (leafsets .exit)) (now (writes .exit))) r ⌝ }
 {
-    let core = starts::fresh(
-        rows,
-        lows,
-        versions,
-        outside,
-        pending,
-        slots,
-        reads,
-        leaves,
-        writes,
-    );
+    let core = starts::fresh(rows, leaves, slots, reads, leafsets, writes);
     let parser = script::fresh();
     Session {
         core,
@@ -102,24 +96,23 @@ fn goes_on(stopped: bool, next: usize, size: usize, at: usize, room: usize) -> b
 // of the input.
 fn turn(
     out: &mut [u8],
-    addresses: &mut [u32; 64],
-    values: &mut [u64; 64],
-    rows: &mut [u64; 3072],
-    lows: &mut [u64; 1025],
-    versions: &mut [u64; 1025],
-    outside: &mut [u64; 1025],
-    pending: &mut [u64; 1025],
-    slots: &mut [u64; 1536],
-    reads: &mut [u64; 2048],
-    leaves: &mut [u64; 512],
-    writes: &mut [u64; 384],
+    addresses: &mut [u32; SCAN_PLACES],
+    values: &mut [u64; SCAN_PLACES],
+    rows: &mut Records,
+    leaves: &mut Leaves,
+    slots: &mut Slots,
+    reads: &mut ReadSets,
+    leafsets: &mut LeafSets,
+    writes: &mut WriteSets,
     input: &[u8],
     x: Session,
 ) -> Session
-    requires { ⌜ Ready (lent (now rows) (now lows) (now versions) (now outside) (now pending) (now slots)) (logs (now reads) (now leaves) (now writes)) (x .core) ⌝ }
+    requires { ⌜ Ready (lent (now rows) (now leaves) (now slots)) (logs (now reads) (now leafsets) (now writes)) (x .core) ⌝ }
     requires { ⌜ Started (x .parser) ⌝ }
     requires { ⌜ goesOn (x .stopped) (x .next) (length (now input)) (x .at) (length (now out)) ≡ true ⌝ }
-    ensures { λ r. ⌜ Turns (lent (now (rows .entry)) (now (lows .entry)) (now (versions .entry)) (now (outside .entry)) (now (pending .entry)) (now (slots .entry))) (logs (now (reads .entry)) (now (leaves .entry)) (now (writes .entry))) x (now (input .entry)) (now (out .entry)) (lent (now (rows .exit)) (now (lows .exit)) (now (versions .exit)) (now (outside .exit)) (now (pending .exit)) (now (slots .exit))) (logs (now (reads .exit)) (now (leaves .exit)) (now (writes .exit))) r (now (out .exit)) ⌝ }
+    ensures { λ r. ⌜ Turns (lent (now (rows .entry)) (now (leaves .entry)) (now (slots .entry)))
+        (logs (now (reads .entry)) (now (leafsets .entry)) (now (writes .entry))) x (now (input .entry)) (now (out .entry))
+        (lent (now (rows .exit)) (now (leaves .exit)) (now (slots .exit))) (logs (now (reads .exit)) (now (leafsets .exit)) (now (writes .exit))) r (now (out .exit)) ⌝ }
 {
     let core = x.core;
     let parser = x.parser;
@@ -133,13 +126,10 @@ fn turn(
                 addresses,
                 values,
                 rows,
-                lows,
-                versions,
-                outside,
-                pending,
+                leaves,
                 slots,
                 reads,
-                leaves,
+                leafsets,
                 writes,
                 core,
                 lines::op_of(l),
@@ -179,25 +169,24 @@ fn turn(
 // room for the next answer.
 pub fn feed(
     out: &mut [u8],
-    rows: &mut [u64; 3072],
-    lows: &mut [u64; 1025],
-    versions: &mut [u64; 1025],
-    outside: &mut [u64; 1025],
-    pending: &mut [u64; 1025],
-    slots: &mut [u64; 1536],
-    reads: &mut [u64; 2048],
-    leaves: &mut [u64; 512],
-    writes: &mut [u64; 384],
+    rows: &mut Records,
+    leaves: &mut Leaves,
+    slots: &mut Slots,
+    reads: &mut ReadSets,
+    leafsets: &mut LeafSets,
+    writes: &mut WriteSets,
     input: &[u8],
     start: Session,
 ) -> Session
-    requires { ⌜ Ready (lent (now rows) (now lows) (now versions) (now outside) (now pending) (now slots)) (logs (now reads) (now leaves) (now writes)) (start .core) ⌝ }
+    requires { ⌜ Ready (lent (now rows) (now leaves) (now slots)) (logs (now reads) (now leafsets) (now writes)) (start .core) ⌝ }
     requires { ⌜ Started (start .parser) ⌝ }
     requires { ⌜ start .at ≤ length (now out) ⌝ }
-    ensures { λ r. ⌜ Runs (lent (now (rows .entry)) (now (lows .entry)) (now (versions .entry)) (now (outside .entry)) (now (pending .entry)) (now (slots .entry))) (logs (now (reads .entry)) (now (leaves .entry)) (now (writes .entry))) start (now (input .entry)) (now (out .entry)) (lent (now (rows .exit)) (now (lows .exit)) (now (versions .exit)) (now (outside .exit)) (now (pending .exit)) (now (slots .exit))) (logs (now (reads .exit)) (now (leaves .exit)) (now (writes .exit))) r (now (out .exit)) ⌝ }
+    ensures { λ r. ⌜ Runs (lent (now (rows .entry)) (now (leaves .entry)) (now (slots .entry)))
+        (logs (now (reads .entry)) (now (leafsets .entry)) (now (writes .entry))) start (now (input .entry)) (now (out .entry))
+        (lent (now (rows .exit)) (now (leaves .exit)) (now (slots .exit))) (logs (now (reads .exit)) (now (leafsets .exit)) (now (writes .exit))) r (now (out .exit)) ⌝ }
 {
-    let mut addresses = [0u32; 64];
-    let mut values = [0u64; 64];
+    let mut addresses = [0u32; SCAN_PLACES];
+    let mut values = [0u64; SCAN_PLACES];
     let mut x = start;
     while goes_on(x.stopped, x.next, input.len(), x.at, out.len()) {
         x = turn(
@@ -205,13 +194,10 @@ pub fn feed(
             &mut addresses,
             &mut values,
             rows,
-            lows,
-            versions,
-            outside,
-            pending,
+            leaves,
             slots,
             reads,
-            leaves,
+            leafsets,
             writes,
             input,
             x,

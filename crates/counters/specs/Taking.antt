@@ -1,11 +1,14 @@
 -- What taking the next numbers makes of the counters.
--- Assumes nothing.
 use Prim.Native.Nat.{ℕ, _+_}
 use Rattle.counters.specs.declared.Counters.{Counters}
 
 -- the next commit number is given
 abbrev pub numbered : Counters → Counters
 numbered k = record { number = k .number + 1; version = k .version }
+
+-- the next n commit numbers are given
+abbrev pub counted : Counters → ℕ → Counters
+counted k n = record { number = k .number + n; version = k .version }
 
 -- the next n leaf versions are given
 abbrev pub versioned : Counters → ℕ → Counters

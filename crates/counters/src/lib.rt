@@ -1,10 +1,11 @@
 // The counters: the last commit number and the last leaf version given, and the functions that take the next ones.
 //
-// `next_number` and `next_versions` are lent the counters: such a function is proved by a walk of its code by hand, and so
-// is one that lends them. `take_number` and `take_versions` lend them in their bodies alone, so their callers need no walk.
+// `next_numbers` and `next_versions` are lent the counters: such a function is proved by a walk of its code by hand, and so
+// is one that lends them. `take_numbers` and `take_versions` lend them in their bodies alone, so their callers need no walk.
+// The four are two pairs of one shape, and each pair has one walk.
 ghost use mathlib.Core.Path.{_≡_};
 ghost use Prim.Native.Nat.{_+_, _^_, _<_};
-ghost use Rattle.counters.specs.Taking.{numbered, versioned};
+ghost use Rattle.counters.specs.Taking.{numbered, counted, versioned};
 
 // The last commit number and the last leaf version given (document 01: serial number and mark); they travel together.
 pub struct Counters {
@@ -13,13 +14,13 @@ pub struct Counters {
 }
 
 impl Counters {
-    // The next commit number is given.
-    fn numbered(self) -> Counters
-        requires { ⌜ self .number + 1 < 2 ^ 64 ⌝ }
-        ensures { λ r. ⌜ r ≡ numbered self ⌝ }
+    // The next `count` commit numbers are given.
+    fn counted(self, count: u64) -> Counters
+        requires { ⌜ self .number + count < 2 ^ 64 ⌝ }
+        ensures { λ r. ⌜ r ≡ counted self count ⌝ }
     {
         Counters {
-            number: self.number + 1,
+            number: self.number + count,
             version: self.version,
         }
     }
@@ -36,13 +37,13 @@ impl Counters {
     }
 }
 
-// Takes the next commit number, and answers it.
-pub fn next_number(k: &mut Counters) -> u64
-    requires { ⌜ now k .number + 1 < 2 ^ 64 ⌝ }
-    ensures { λ r. ⌜ (r ≡ numbered (now (k .entry)) .number) × (now (k .exit) ≡ numbered (now (k .entry))) ⌝ }
+// Takes the next `count` commit numbers, and answers the last one given.
+pub fn next_numbers(k: &mut Counters, count: u64) -> u64
+    requires { ⌜ now k .number + count < 2 ^ 64 ⌝ }
+    ensures { λ r. ⌜ (r ≡ counted (now (k .entry)) count .number) × (now (k .exit) ≡ counted (now (k .entry)) count) ⌝ }
 {
     let before = *k;
-    let after = before.numbered();
+    let after = before.counted(count);
     *k = after;
     after.number
 }
@@ -64,14 +65,22 @@ pub struct Taken {
     pub last: u64,
 }
 
+// The next `count` commit numbers, where the counters go by value.
+fn take_numbers(k: Counters, count: u64) -> Taken
+    requires { ⌜ k .number + count < 2 ^ 64 ⌝ }
+    ensures { λ r. ⌜ (r .last ≡ counted k count .number) × (r .counters ≡ counted k count) ⌝ }
+{
+    let mut counters = k;
+    let last = next_numbers(&mut counters, count);
+    Taken { counters, last }
+}
+
 // The next commit number, where the counters go by value.
 pub fn take_number(k: Counters) -> Taken
     requires { ⌜ k .number + 1 < 2 ^ 64 ⌝ }
     ensures { λ r. ⌜ (r .last ≡ numbered k .number) × (r .counters ≡ numbered k) ⌝ }
 {
-    let mut counters = k;
-    let last = next_number(&mut counters);
-    Taken { counters, last }
+    take_numbers(k, 1)
 }
 
 // The next `count` leaf versions, where the counters go by value.

@@ -1,46 +1,39 @@
 -- What lock, install and the end of a transaction make of the state: a new map, and a new seat of one worker.
--- Assumes nothing.
-use Prim.Native.Nat.{ℕ, _<_, _≤_, zero-le}
-use native.Mathlib.Nat.{not-suc-le-zero}
+use Prim.Native.Nat.{ℕ, _<_, zero-le}
 use mathlib.Core.Path.{_≡_, refl, sym, ap, _∙_, subst}
-use mathlib.Core.Logic.{_⊎_, inr, ⊎-elim}
-use mathlib.Core.Bool.{true}
+use mathlib.Core.Logic.{inr}
 use mathlib.Core.List.{List}
-use lib.ListN.{length, getD, set, length-set}
-use lib.Seq.{getD-set-same, getD-set-other}
-use Rattle.lists.specs.Tests.{same, cases, same-true, same-false}
+use lib.ListN.{length}
 use Rattle.lists.specs.Rows.{Row, keys}
 use Rattle.spec.specs.Records.{standard, Write}
-use Rattle.spec.specs.Leaves.{Leaf, live, versionAt}
 use Rattle.spec.specs.Maps.{MapState, withSlots, unlockAll, installAll}
 use Rattle.spec.specs.Steps as model
 use Rattle.spec.specs.Steps.{State, workerOf, writeKeys, withWorker, withMap, dropped, effect, install}
 use Rattle.sets.specs.declared.workers.Worker.{Worker}
 use Rattle.sets.specs.Workers.{workerIn, freed}
 use Rattle.sets.specs.WorkerLaws.{free-in}
-use Rattle.sets.specs.Leaves.{versionsIn, lowsIn}
-use Rattle.sets.specs.Writes.{writesIn}
+use Rattle.sets.specs.Reads.{ReadRows}
+use Rattle.sets.specs.Leaves.{LeafSetRows}
+use Rattle.sets.specs.Writes.{WriteRows, writesIn, WriteSetOrdered}
 use Rattle.map.specs.declared.Sizes.{Sizes}
-use Rattle.map.specs.Views.{Lent, mapOf, block}
+use Rattle.map.specs.Views.{Lent, mapOf}
 use Rattle.map.specs.Says.{Becomes}
+use Rattle.map.specs.WriteWalks.{Writing}
 use Rattle.transactions.specs.declared.Core.{Core}
-use Rattle.transactions.specs.Views.{Logs, logs, seatIn, workersFrom, stateOf, worker-at, OthersSame, state-with}
+use Rattle.transactions.specs.Views.{Logs, logs, seatIn, workersFrom, stateOf, withBoth, worker-at, same-logs, state-with}
 use Rattle.transactions.specs.Ready.{seat, Within, Stored}
-use Rattle.endings.specs.WriteBlocks.{BlockOf}
-
--- the core with another worker and other sizes
-abbrev pub withBoth : Core → ℕ → Worker → Sizes → Core
-withBoth c w x z = record { seats = set (c .seats) w x; sizes = z; counters = c .counters }
+use Rattle.transactions.specs.SeatLaws.{LeavesKept, stored-put, lows-kept}
 
 -- The arrays and the core after a change f of the state, whatever the read sets and leaf sets hold.
-pub record Reaches (f : State → State) (l : Lent) (ws : List ℕ) (c : Core) (l' : Lent) (c' : Core) : Type 0 where
-  pub state : (rs ls : List ℕ) → Stored l (logs rs ls ws) c → stateOf l' (logs rs ls ws) c' ≡ f (stateOf l (logs rs ls ws) c)
-  pub stored : (rs ls : List ℕ) → Stored l (logs rs ls ws) c → Stored l' (logs rs ls ws) c'
+pub record Reaches (f : State → State) (l : Lent) (ws : List WriteRows) (c : Core) (l' : Lent) (c' : Core) : Type 0 where
+  pub state : (rs : List ReadRows) (ls : List LeafSetRows) → Stored l (logs rs ls ws) c → stateOf l' (logs rs ls ws) c' ≡ f (stateOf l (logs rs ls ws) c)
+  pub stored : (rs : List ReadRows) (ls : List LeafSetRows) → Stored l (logs rs ls ws) c → Stored l' (logs rs ls ws) c'
+
+-- a worker's write set, as the map takes it
+pub writing : {ws : WriteRows} {n : ℕ} → WriteSetOrdered ws n → Writing ws n
+writing o = record { held = o .held; few = o .room }
 
 -- ---- a new map and a new seat
-
-same-logs : (g : Logs) (w : ℕ) → OthersSame g g w
-same-logs g w = record { reads = λ v n d. refl; leaves = λ v n d. refl; writes = λ v n d. refl }
 
 new-map : (l l' : Lent) (g : Logs) (c : Core) (z : Sizes) (m : MapState) → mapOf l' z ≡ m
     → stateOf l' g (record { seats = c .seats; sizes = z; counters = c .counters }) ≡ withMap (stateOf l g c) m
@@ -62,52 +55,15 @@ state-both l l' g c w x z m e =
     state-with l' g g (record { seats = c .seats; sizes = z; counters = c .counters }) w x (same-logs g w)
     ∙ ap (λ (σ : State). withWorker σ w (seatIn g x w)) (new-map l l' g c z m e)
 
--- a logged low address lies in the leaf with the version logged beside it, as long as there is one
-Lows : List Leaf → Logs → ℕ → ℕ → Type 0
-Lows ts g v n =
-    (i : ℕ) → i < n → live ts (getD (versionsIn (g .leaves) v n) i 0) ≡ true
-    → versionAt ts (getD (lowsIn (g .leaves) v n) i 0) ≡ getD (versionsIn (g .leaves) v n) i 0
-
--- the seat logs as many leaves as before, or none
-abbrev pub LeavesKept : Core → ℕ → Worker → Type 0
-LeavesKept c w x = (x .leaves ≡ seat c w .leaves) ⊎ (x .leaves ≡ 0)
-
-pub stored-both : (l l' : Lent) (g : Logs) (c : Core) (w : ℕ) (x : Worker) (z : Sizes) (m : MapState) → w < 8
+pub stored-both : (l l' : Lent) (g : Logs) (c : Core) (w : ℕ) (x : Worker) (z : Sizes) (m : MapState) → w < standard .workers
     → Becomes l' z (c .counters .version) m → m .leaves ≡ mapOf l (c .sizes) .leaves → Within x → LeavesKept c w x
     → Stored l g c → Stored l' g (withBoth c w x z)
-unfolding Lows
 stored-both l l' g c w x z m h b e q k t =
-    record {
-      map = b .held;
-      reads = t .reads;
-      leaves = t .leaves;
-      writes = t .writes;
-      seats = length-set (c .seats) w x ∙ t .seats;
-      counts = λ v i.
-          ⊎-elim
-          (λ d. subst Within (sym (mine v (same-true v w d))) q)
-          (λ d. subst Within (sym (other v (same-false v w d))) (t .counts v i))
-          (cases (same v w));
-      lows = λ v i.
-          subst (λ (ts : List Leaf). Lows ts g v (seat (withBoth c w x z) v .leaves)) (sym (ap (λ (y : MapState). y .leaves) (b .map) ∙ e))
-          (⊎-elim
-          (λ d. ⊎-elim
-          (λ f. subst (Lows (mapOf l (c .sizes) .leaves) g v) (sym (ap (λ (y : Worker). y .leaves) (mine v (same-true v w d)) ∙ f ∙ ap (λ (u : ℕ). seat c u .leaves) (sym (same-true v w d)))) (t .lows v i))
-          (λ f. subst (Lows (mapOf l (c .sizes) .leaves) g v) (sym (ap (λ (y : Worker). y .leaves) (mine v (same-true v w d)) ∙ f)) (λ j n. absurd (not-suc-le-zero n)))
-          k)
-          (λ d. subst (λ (y : Worker). Lows (mapOf l (c .sizes) .leaves) g v (y .leaves)) (sym (other v (same-false v w d))) (t .lows v i))
-          (cases (same v w)));
-    }
-  where
-    mine : (v : ℕ) → v ≡ w → seat (withBoth c w x z) v ≡ x
-    mine v d = ap (λ (u : ℕ). getD (set (c .seats) w x) u freed) d ∙ getD-set-same (c .seats) w x freed (subst (λ (n : ℕ). w < n) (sym (t .seats)) h)
-
-    other : (v : ℕ) → (v ≡ w → ⊥) → seat (withBoth c w x z) v ≡ seat c v
-    other v d = getD-set-other (c .seats) w v x freed d
+    stored-put l' g w x z h t (b .held) (ap (λ (y : MapState). y .leaves) (b .map) ∙ e) (t .reads) (t .leaves) (t .writes) (λ v d. refl) q (lows-kept w x h t k)
 
 -- ---- the worker's write set
 
-pub seat-inside : {l : Lent} {g : Logs} {c : Core} → Stored l g c → (w : ℕ) → w < 8 → w < length (c .seats)
+pub seat-inside : {l : Lent} {g : Logs} {c : Core} → Stored l g c → (w : ℕ) → w < standard .workers → w < length (c .seats)
 seat-inside t w h = subst (λ (n : ℕ). w < n) (sym (t .seats)) h
 
 module _ (l : Lent) (g : Logs) (c : Core) (w : ℕ) (inside : w < length (c .seats)) where
@@ -125,10 +81,10 @@ module _ (l : Lent) (g : Logs) (c : Core) (w : ℕ) (inside : w < length (c .sea
 
 -- A change f of the state that is a new map m and a new seat x of worker w: `is` says that it is, `within` that the seat's
 -- counts stay within its rows.
-pub reached : (f : State → State) (l l' : Lent) (ws : List ℕ) (c : Core) (w : ℕ) (x : Worker) (z : Sizes) (m : MapState) → w < 8
+pub reached : (f : State → State) (l l' : Lent) (ws : List WriteRows) (c : Core) (w : ℕ) (x : Worker) (z : Sizes) (m : MapState) → w < standard .workers
     → Becomes l' z (c .counters .version) m → m .leaves ≡ mapOf l (c .sizes) .leaves → LeavesKept c w x
-    → ((rs ls : List ℕ) → Stored l (logs rs ls ws) c → Within x)
-    → ((rs ls : List ℕ) → Stored l (logs rs ls ws) c
+    → ((rs : List ReadRows) (ls : List LeafSetRows) → Stored l (logs rs ls ws) c → Within x)
+    → ((rs : List ReadRows) (ls : List LeafSetRows) → Stored l (logs rs ls ws) c
     → withWorker (withMap (stateOf l (logs rs ls ws) c) m) w (workerIn x rs ls ws w) ≡ f (stateOf l (logs rs ls ws) c))
     → Reaches f l ws c l' (withBoth c w x z)
 reached f l l' ws c w x z m h b e k within is =
@@ -146,20 +102,20 @@ unlock-leaves : (w : ℕ) (m : MapState) (ks : List ℕ) → unlockAll standard 
 unfolding unlockAll withSlots
 unlock-leaves w m ks = refl
 
--- y the worker after it, us the block of its writes
-pub drops : (l l' : Lent) (ws us : List ℕ) (c : Core) (w : ℕ) (y : Worker) (z : Sizes) → w < 8 → seat c w .writes ≤ 16 → BlockOf ws w us
-    → y ≡ freed → Becomes l' z (c .counters .version) (unlockAll standard w (mapOf l (c .sizes)) (keys (block us (seat c w .writes))))
+-- y the worker after it
+pub drops : (l l' : Lent) (ws : List WriteRows) (c : Core) (w : ℕ) (y : Worker) (z : Sizes) → w < standard .workers → y ≡ freed
+    → Becomes l' z (c .counters .version) (unlockAll standard w (mapOf l (c .sizes)) (keys (writesIn ws w (seat c w .writes))))
     → Reaches (λ (σ : State). dropped σ w) l ws c l' (withBoth c w y z)
-drops l l' ws us c w y z h few v q b =
+drops l l' ws c w y z h q b =
     subst (λ (u : Worker). Reaches (λ (σ : State). dropped σ w) l ws c l' (withBoth c w u z)) (sym q)
-    (reached (λ (σ : State). dropped σ w) l l' ws c w freed z _ h b (unlock-leaves w (mapOf l (c .sizes)) (keys (block us (seat c w .writes)))) (inr refl)
+    (reached (λ (σ : State). dropped σ w) l l' ws c w freed z _ h b (unlock-leaves w (mapOf l (c .sizes)) (keys (writesIn ws w (seat c w .writes)))) (inr refl)
     (λ rs ls t. freed-within)
     (λ rs ls t.
     (λ i. withWorker (withMap (stateOf l (logs rs ls ws) c) (unlockAll standard w (mapOf l (c .sizes)) (ks rs ls t i))) w (free-in rs ls ws w i))
     ∙ (unfold dropped stateOf in refl)))
   where
-    ks : (rs ls : List ℕ) → Stored l (logs rs ls ws) c → keys (block us (seat c w .writes)) ≡ writeKeys (stateOf l (logs rs ls ws) c) w
-    ks rs ls t = ap keys (v .view (seat c w .writes) few) ∙ sym (keys-are l (logs rs ls ws) c w (seat-inside t w h))
+    ks : (rs : List ReadRows) (ls : List LeafSetRows) → Stored l (logs rs ls ws) c → keys (writesIn ws w (seat c w .writes)) ≡ writeKeys (stateOf l (logs rs ls ws) c) w
+    ks rs ls t = sym (keys-are l (logs rs ls ws) c w (seat-inside t w h))
 
 -- ---- install
 
@@ -167,21 +123,21 @@ install-leaves : (n : ℕ) (m : MapState) (rs : List (Row Write)) → installAll
 unfolding installAll withSlots
 install-leaves n m rs = refl
 
--- y the worker after it, us the block of its writes
-pub installs : (l l' : Lent) (ws us : List ℕ) (c : Core) (w : ℕ) (y : Worker) (z : Sizes) → w < 8 → seat c w .writes ≤ 16 → BlockOf ws w us
-    → y ≡ freed → Becomes l' z (c .counters .version) (installAll standard (seat c w .number) (mapOf l (c .sizes)) (block us (seat c w .writes)))
+-- y the worker after it
+pub installs : (l l' : Lent) (ws : List WriteRows) (c : Core) (w : ℕ) (y : Worker) (z : Sizes) → w < standard .workers → y ≡ freed
+    → Becomes l' z (c .counters .version) (installAll standard (seat c w .number) (mapOf l (c .sizes)) (writesIn ws w (seat c w .writes)))
     → Reaches (λ (σ : State). effect σ (install w)) l ws c l' (withBoth c w y z)
-installs l l' ws us c w y z h few v q b =
+installs l l' ws c w y z h q b =
     subst (λ (u : Worker). Reaches (λ (σ : State). effect σ (install w)) l ws c l' (withBoth c w u z)) (sym q)
     (reached (λ (σ : State). effect σ (install w)) l l' ws c w freed z _ h b
-    (install-leaves (seat c w .number) (mapOf l (c .sizes)) (block us (seat c w .writes))) (inr refl) (λ rs ls t. freed-within)
+    (install-leaves (seat c w .number) (mapOf l (c .sizes)) (writesIn ws w (seat c w .writes))) (inr refl) (λ rs ls t. freed-within)
     (λ rs ls t.
     (λ i.
     withWorker (withMap (stateOf l (logs rs ls ws) c) (installAll standard (number rs ls t i) (mapOf l (c .sizes)) (writes rs ls t i))) w (free-in rs ls ws w i))
     ∙ (unfold effect stateOf in refl)))
   where
-    number : (rs ls : List ℕ) → Stored l (logs rs ls ws) c → seat c w .number ≡ workerOf (stateOf l (logs rs ls ws) c) w .number
+    number : (rs : List ReadRows) (ls : List LeafSetRows) → Stored l (logs rs ls ws) c → seat c w .number ≡ workerOf (stateOf l (logs rs ls ws) c) w .number
     number rs ls t = sym (number-is l (logs rs ls ws) c w (seat-inside t w h))
 
-    writes : (rs ls : List ℕ) → Stored l (logs rs ls ws) c → block us (seat c w .writes) ≡ workerOf (stateOf l (logs rs ls ws) c) w .writes
-    writes rs ls t = v .view (seat c w .writes) few ∙ sym (writes-are l (logs rs ls ws) c w (seat-inside t w h))
+    writes : (rs : List ReadRows) (ls : List LeafSetRows) → Stored l (logs rs ls ws) c → writesIn ws w (seat c w .writes) ≡ workerOf (stateOf l (logs rs ls ws) c) w .writes
+    writes rs ls t = sym (writes-are l (logs rs ls ws) c w (seat-inside t w h))

@@ -1,14 +1,12 @@
 -- Abort and install, as they go: refused by 1, 2 or 4, or the transaction is over.
--- Assumes nothing.
 use Prim.Native.Nat.{ℕ, _<_}
 use mathlib.Core.Path.{_≡_, refl, sym, ap, _∙_, subst}
-use mathlib.Core.Bool.{Bool, true, false}
+use mathlib.Core.Bool.{false}
 use mathlib.Core.List.{List}
 use mathlib.Core.Option.{some}
 use lib.ListN.{length}
 use Rattle.lists.specs.Rows.{Row, any}
 use Rattle.spec.specs.declared.Refusal.{Refusal}
-use Rattle.spec.specs.declared.Stage.{Stage}
 use Rattle.spec.specs.Records.{Write}
 use Rattle.spec.specs.Refusals.{ends}
 use Rattle.spec.specs.Steps as model
@@ -18,21 +16,18 @@ use Rattle.laws.specs.MapLaws.{Installable}
 use Rattle.limits.specs.Finishing.{installable}
 use Rattle.sets.specs.declared.workers.Worker.{Worker}
 use Rattle.sets.specs.Workers.{workerIn}
-use Rattle.sets.specs.Writes.{writesIn}
-use Rattle.indexlet.specs.Words.{slotsOf}
-use Rattle.map.specs.Views.{Lent}
+use Rattle.sets.specs.Reads.{ReadRows}
+use Rattle.sets.specs.Leaves.{LeafSetRows}
+use Rattle.sets.specs.Writes.{WriteRows, writesIn}
+use Rattle.map.specs.Views.{slotsIn, Lent}
 use Rattle.transactions.specs.declared.Core.{Core}
 use Rattle.transactions.specs.declared.begins.Plain.the-variants.{Granted, Refused}
 use Rattle.transactions.specs.Answering.{front, comes-granted}
-use Rattle.transactions.specs.Admits.{Turned, Entered}
+use Rattle.transactions.specs.Admits.{anyStage, Turned, Entered}
 use Rattle.transactions.specs.Views.{Logs, logs, stateOf, worker-at}
 use Rattle.transactions.specs.Ready.{seat, Ready, Goes, goes, goes-refused}
 use Rattle.transactions.specs.Begins.{plainIn}
 use Rattle.endings.specs.Commits.{Reaches, seat-inside, writes-are}
-
--- abort has no wrong stage
-abbrev pub anyStage : Stage → Bool
-anyStage st = true
 
 -- none of a step's causes ends the transaction
 pub mild : (σ : State) (s : Step) (r : Refusal) → any (λ (c : Cause). ends (c .refusal)) (causes σ s) ≡ false → refusal σ s ≡ some r → ends r ≡ false
@@ -49,7 +44,7 @@ abort-mild : (σ : State) (w : ℕ) → any (λ (c : Cause). ends (c .refusal)) 
 unfolding causes noWorker workerFree any
 abort-mild σ w = refl
 
-module _ {l : Lent} {rs ls ws : List ℕ} {c : Core} (w : ℕ) (k : Ready l (logs rs ls ws) c) where
+module _ {l : Lent} {rs : List ReadRows} {ls : List LeafSetRows} {ws : List WriteRows} {c : Core} (w : ℕ) (k : Ready l (logs rs ls ws) c) where
   pub abort-refused : (r : Refusal) → Turned anyStage (c .seats) w r → Goes l (logs rs ls ws) c (abort w) l (logs rs ls ws) c (plainIn (Refused r))
   abort-refused r t =
       let e : refusal (stateOf l (logs rs ls ws) c) (abort w) ≡ some r
@@ -75,7 +70,7 @@ install-mild : (σ : State) (w : ℕ) → any (λ (c : Cause). ends (c .refusal)
 unfolding causes noWorker workerFree wrongStage any
 install-mild σ w = refl
 
-slots-are : (l : Lent) (g : Logs) (c : Core) (ws : List (Row Write)) → Installable (stateOf l g c .map .slots) ws → Installable (slotsOf (l .slots)) ws
+slots-are : (l : Lent) (g : Logs) (c : Core) (ws : List (Row Write)) → Installable (stateOf l g c .map .slots) ws → Installable (slotsIn (l .slots)) ws
 unfolding stateOf
 slots-are l g c ws i = i
 
@@ -83,7 +78,7 @@ stage-is : (l : Lent) (g : Logs) (c : Core) (w : ℕ) → w < length (c .seats) 
 unfolding workerIn
 stage-is l g c w h = ap (λ (x : model.Worker). x .stage) (worker-at l g c w h)
 
-module _ {l : Lent} {rs ls ws : List ℕ} {c : Core} (w : ℕ) (k : Ready l (logs rs ls ws) c) where
+module _ {l : Lent} {rs : List ReadRows} {ls : List LeafSetRows} {ws : List WriteRows} {c : Core} (w : ℕ) (k : Ready l (logs rs ls ws) c) where
   pub install-refused : (r : Refusal) → Turned isChecked (c .seats) w r → Goes l (logs rs ls ws) c (install w) l (logs rs ls ws) c (plainIn (Refused r))
   install-refused r t =
       let e : refusal (stateOf l (logs rs ls ws) c) (install w) ≡ some r
@@ -91,9 +86,9 @@ module _ {l : Lent} {rs ls ws : List ℕ} {c : Core} (w : ℕ) (k : Ready l (log
       goes-refused k e (mild (stateOf l (logs rs ls ws) c) (install w) r (install-mild (stateOf l (logs rs ls ws) c) w) e)
 
   -- a checked worker has the locks of its write set
-  pub install-can : (x : Worker) → Entered isChecked (c .seats) w x → Installable (slotsOf (l .slots)) (writesIn ws w (seat c w .writes))
+  pub install-can : (x : Worker) → Entered isChecked (c .seats) w x → Installable (slotsIn (l .slots)) (writesIn ws w (seat c w .writes))
   install-can x t =
-      subst (Installable (slotsOf (l .slots))) (writes-are l (logs rs ls ws) c w inside)
+      subst (Installable (slotsIn (l .slots))) (writes-are l (logs rs ls ws) c w inside)
       (slots-are l (logs rs ls ws) c _
       (installable (k .kept) w (ap isChecked (stage-is l (logs rs ls ws) c w inside ∙ ap (λ (y : Worker). y .stage) (sym (t .is))) ∙ t .stage)))
     where

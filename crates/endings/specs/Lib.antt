@@ -1,4 +1,3 @@
-pub mod WriteBlocks
 pub mod Commits
 pub mod Finishes
 pub mod Locks

@@ -1,5 +1,4 @@
 -- Lock, as it goes: refused by 1, 2, 4, 9, 10 or 11, or the addresses of the write set are locked.
--- Assumes nothing.
 use Prim.Native.Nat.{ℕ, _+_, _^_, _<_, _≤_}
 use native.Mathlib.Omega.{arith}
 use mathlib.Core.Path.{_≡_, refl, sym, ap, _∙_, subst}
@@ -7,12 +6,13 @@ use mathlib.Core.Logic.{inl}
 use mathlib.Core.Bool.{Bool, true, false}
 use mathlib.Core.List.{List, [], _∷_}
 use mathlib.Core.Option.{Option, none, some}
+use lib.ListN.{getD}
 use Rattle.lists.specs.Tests.{maybe, present, clash, less, less-yes, less-no, less-false}
-use Rattle.lists.specs.Rows.{Row, keys, any, Rising}
+use Rattle.lists.specs.Rows.{keys, any}
 use Rattle.spec.specs.declared.Refusal.{Refusal}
 use Rattle.spec.specs.declared.Refusal.the-variants.{Held, IndexletFull, MapFull}
 use Rattle.spec.specs.declared.Stage.the-variants.{Locked}
-use Rattle.spec.specs.Records.{standard, Write}
+use Rattle.spec.specs.Records.{standard}
 use Rattle.spec.specs.Refusals.{ends}
 use Rattle.spec.specs.Leaves.{Leaf}
 use Rattle.spec.specs.Slots.{Slot, contentOf}
@@ -22,11 +22,11 @@ use Rattle.laws.specs.WorkerLaws.{cause-passed}
 use Rattle.sets.specs.declared.workers.Worker.{Worker}
 use Rattle.sets.specs.Workers.{workerIn, atLock}
 use Rattle.sets.specs.WorkerLaws.{lock-in}
-use Rattle.sets.specs.Writes.{writesIn}
-use Rattle.indexlet.specs.Words.{slotsOf}
-use Rattle.index.specs.Views.{recordsOf}
+use Rattle.sets.specs.Reads.{ReadRows}
+use Rattle.sets.specs.Leaves.{LeafSetRows}
+use Rattle.sets.specs.Writes.{WriteRows, writesOf, writesIn}
 use Rattle.map.specs.declared.Sizes.{Sizes}
-use Rattle.map.specs.Views.{Lent, mapOf, block}
+use Rattle.map.specs.Views.{slotsIn, recordsIn, SlotRows, RecordRows, Lent, mapOf}
 use Rattle.map.specs.Says.{Becomes}
 use Rattle.map.specs.LockLaws.{Lockable}
 use Rattle.map.specs.AddressCounts.{Waits, Addressed}
@@ -35,11 +35,10 @@ use Rattle.transactions.specs.declared.begins.Plain.{Plain}
 use Rattle.transactions.specs.declared.begins.Plain.the-variants.{Granted, Refused}
 use Rattle.transactions.specs.Answering.{front, front-first, cause-holds, cause-fails, comes-granted, comes-refused}
 use Rattle.transactions.specs.Admits.{Turned, Entered}
-use Rattle.transactions.specs.Views.{Logs, logs, stateOf, worker-at}
+use Rattle.transactions.specs.Views.{Logs, logs, stateOf, withBoth, worker-at}
 use Rattle.transactions.specs.Ready.{seat, Stored, Ready, Goes, goes, goes-refused}
 use Rattle.transactions.specs.Begins.{plainIn}
-use Rattle.endings.specs.WriteBlocks.{BlockOf}
-use Rattle.endings.specs.Commits.{withBoth, Reaches, reached, seat-inside, writes-are, keys-are}
+use Rattle.endings.specs.Commits.{Reaches, reached, seat-inside, keys-are}
 use Rattle.endings.specs.Finishes.{mild}
 
 -- the refusal that is answered
@@ -59,46 +58,46 @@ lockTests m ks w =
     ∷ [])
 
 -- what they answer, of every map with these records and slots
-pub record Tested (rows slots us : List ℕ) (z : Sizes) (n w : ℕ) (a : Plain) : Type 0 where
-  pub is : (m : MapState) → m .records ≡ recordsOf rows (z .records) → m .slots ≡ slotsOf slots → lockTests m (keys (block us n)) w ≡ refusalIn a
+pub record Tested (rows : RecordRows) (slots : SlotRows) (us : WriteRows) (z : Sizes) (n w : ℕ) (a : Plain) : Type 0 where
+  pub is : (m : MapState) → m .records ≡ recordsIn rows (z .records) → m .slots ≡ slotsIn slots → lockTests m (keys (writesOf us n)) w ≡ refusalIn a
 
-module _ (rows slots us : List ℕ) (z : Sizes) (n w : ℕ) {b : Bool} (held : b ≡ any (λ (k : ℕ). heldByOther w (contentOf (slotsOf slots) k)) (keys (block us n))) where
-  in-map : (m : MapState) → m .slots ≡ slotsOf slots → any (λ (k : ℕ). heldByOther w (contentOf (m .slots) k)) (keys (block us n)) ≡ b
-  in-map m s = ap (λ (ss : List Slot). any (λ (k : ℕ). heldByOther w (contentOf ss k)) (keys (block us n))) s ∙ sym held
+module _ (rows : RecordRows) (slots : SlotRows) (us : WriteRows) (z : Sizes) (n w : ℕ) {b : Bool} (held : b ≡ any (λ (k : ℕ). heldByOther w (contentOf (slotsIn slots) k)) (keys (writesOf us n))) where
+  in-map : (m : MapState) → m .slots ≡ slotsIn slots → any (λ (k : ℕ). heldByOther w (contentOf (m .slots) k)) (keys (writesOf us n)) ≡ b
+  in-map m s = ap (λ (ss : List Slot). any (λ (k : ℕ). heldByOther w (contentOf ss k)) (keys (writesOf us n))) s ∙ sym held
 
   pub tested-held : b ≡ true → Tested rows slots us z n w (Refused Held)
   unfolding lockTests
   tested-held t = record { is = λ m e s. cause-holds _ Held _ (in-map m s ∙ t) }
 
   module _ (free : b ≡ false) {v : ℕ} (waits : Waits slots us n v) where
-    pub tested-full : 192 < v → Tested rows slots us z n w (Refused IndexletFull)
+    pub tested-full : standard .waitingLimit < v → Tested rows slots us z n w (Refused IndexletFull)
     unfolding lockTests
     tested-full l =
         record {
           is = λ m e s.
               cause-fails _ Held _ (in-map m s ∙ free)
-              ∙ cause-holds _ IndexletFull _ (ap (less (standard .waitingLimit)) (sym (waits .is m s)) ∙ less-yes {m = 192} {n = v} l);
+              ∙ cause-holds _ IndexletFull _ (ap (less (standard .waitingLimit)) (sym (waits .is m s)) ∙ less-yes {m = standard .waitingLimit} {n = v} l);
         }
 
-    module _ (few : v ≤ 192) {u : ℕ} (all : Addressed rows slots us z n u) where
-      past : (m : MapState) → m .slots ≡ slotsOf slots
-          → lockTests m (keys (block us n)) w ≡ firstCause (cause (less (standard .mapLimit) (addressesWith m (keys (block us n)))) MapFull ∷ [])
+    module _ (few : v ≤ standard .waitingLimit) {u : ℕ} (all : Addressed rows slots us z n u) where
+      past : (m : MapState) → m .slots ≡ slotsIn slots
+          → lockTests m (keys (writesOf us n)) w ≡ firstCause (cause (less (standard .mapLimit) (addressesWith m (keys (writesOf us n)))) MapFull ∷ [])
       unfolding lockTests
       past m s =
           cause-fails _ Held _ (in-map m s ∙ free)
-          ∙ cause-fails _ IndexletFull _ (ap (less (standard .waitingLimit)) (sym (waits .is m s)) ∙ less-no {m = 192} {n = v} few)
+          ∙ cause-fails _ IndexletFull _ (ap (less (standard .waitingLimit)) (sym (waits .is m s)) ∙ less-no {m = standard .waitingLimit} {n = v} few)
 
-      pub tested-map : 1024 < u → Tested rows slots us z n w (Refused MapFull)
+      pub tested-map : standard .mapLimit < u → Tested rows slots us z n w (Refused MapFull)
       tested-map l =
           record {
-            is = λ m e s. past m s ∙ cause-holds _ MapFull [] (ap (less (standard .mapLimit)) (sym (all .is m e s)) ∙ less-yes {m = 1024} {n = u} l);
+            is = λ m e s. past m s ∙ cause-holds _ MapFull [] (ap (less (standard .mapLimit)) (sym (all .is m e s)) ∙ less-yes {m = standard .mapLimit} {n = u} l);
           }
 
-      pub tested-passed : u ≤ 1024 → Tested rows slots us z n w Granted
+      pub tested-passed : u ≤ standard .mapLimit → Tested rows slots us z n w Granted
       unfolding firstCause
       tested-passed l =
           record {
-            is = λ m e s. past m s ∙ cause-fails _ MapFull [] (ap (less (standard .mapLimit)) (sym (all .is m e s)) ∙ less-no {m = 1024} {n = u} l);
+            is = λ m e s. past m s ∙ cause-fails _ MapFull [] (ap (less (standard .mapLimit)) (sym (all .is m e s)) ∙ less-no {m = standard .mapLimit} {n = u} l);
           }
 
 -- the tests are passed
@@ -113,66 +112,62 @@ tested-lockable m ks w e =
       addresses = less-false (standard .mapLimit) (addressesWith m ks) (c .0);
     }
 
-pub tested-can : (rows slots us : List ℕ) (z : Sizes) (n w : ℕ) (ls : List Leaf) (a : Plain) → Tested rows slots us z n w a → present (refusalIn a) ≡ false
-    → Lockable (record { records = recordsOf rows (z .records); leaves = ls; slots = slotsOf slots }) (keys (block us n))
-tested-can rows slots us z n w ls Granted t p = tested-lockable _ (keys (block us n)) w (t .is _ refl refl)
+pub tested-can : (rows : RecordRows) (slots : SlotRows) (us : WriteRows) (z : Sizes) (n w : ℕ) (ls : List Leaf) (a : Plain) → Tested rows slots us z n w a → present (refusalIn a) ≡ false
+    → Lockable (record { records = recordsIn rows (z .records); leaves = ls; slots = slotsIn slots }) (keys (writesOf us n))
+tested-can rows slots us z n w ls Granted t p = tested-lockable _ (keys (writesOf us n)) w (t .is _ refl refl)
 tested-can rows slots us z n w ls (Refused r) t p = clash refl p
 
 -- a worker's number and one more is a word
-pub worker-fits : (w : ℕ) → w < 8 → w + 1 < 2 ^ 64
+pub worker-fits : (w : ℕ) → w < standard .workers → w + 1 < 2 ^ 64
 worker-fits w h = omega arith
 
 -- ---- an open worker's lock
 
 -- What comes of it: the causes after the first three, the state, and the arrays.
-pub record LocksOpen (l : Lent) (ws : List ℕ) (c : Core) (w : ℕ) (l' : Lent) (c' : Core) (a : Plain) : Type 0 where
+pub record LocksOpen (l : Lent) (ws : List WriteRows) (c : Core) (w : ℕ) (l' : Lent) (c' : Core) (a : Plain) : Type 0 where
   pub tests : lockTests (mapOf l (c .sizes)) (keys (writesIn ws w (seat c w .writes))) w ≡ refusalIn a
   pub reaches : Reaches (λ (σ : State). maybe (refusalIn a) (effect σ (lock w)) (λ (r : Refusal). σ)) l ws c l' c'
 
-same-tests : (l : Lent) (ws us : List ℕ) (c : Core) (w : ℕ) (a : Plain) → seat c w .writes ≤ 16 → BlockOf ws w us
-    → Tested (l .rows) (l .slots) us (c .sizes) (seat c w .writes) w a
+same-tests : (l : Lent) (ws : List WriteRows) (c : Core) (w : ℕ) (a : Plain) → Tested (l .rows) (l .slots) (getD ws w []) (c .sizes) (seat c w .writes) w a
     → lockTests (mapOf l (c .sizes)) (keys (writesIn ws w (seat c w .writes))) w ≡ refusalIn a
-same-tests l ws us c w a few v t =
-    ap (λ (rs : List (Row Write)). lockTests (mapOf l (c .sizes)) (keys rs) w) (sym (v .view (seat c w .writes) few)) ∙ t .is (mapOf l (c .sizes)) refl refl
+same-tests l ws c w a t = t .is (mapOf l (c .sizes)) refl refl
 
-pub locks-refused : (l : Lent) (ws us : List ℕ) (c : Core) (w : ℕ) (a : Plain) → seat c w .writes ≤ 16 → BlockOf ws w us
-    → Tested (l .rows) (l .slots) us (c .sizes) (seat c w .writes) w a → present (refusalIn a) ≡ true → LocksOpen l ws c w l c a
-locks-refused l ws us c w Granted few v t p = clash p refl
-locks-refused l ws us c w (Refused r) few v t p =
-    record { tests = same-tests l ws us c w (Refused r) few v t; reaches = record { state = λ rs ls s. refl; stored = λ rs ls s. s } }
+pub locks-refused : (l : Lent) (ws : List WriteRows) (c : Core) (w : ℕ) (a : Plain)
+    → Tested (l .rows) (l .slots) (getD ws w []) (c .sizes) (seat c w .writes) w a → present (refusalIn a) ≡ true → LocksOpen l ws c w l c a
+locks-refused l ws c w Granted t p = clash p refl
+locks-refused l ws c w (Refused r) t p =
+    record { tests = same-tests l ws c w (Refused r) t; reaches = record { state = λ rs ls s. refl; stored = λ rs ls s. s } }
 
 lock-leaves : (w : ℕ) (m : MapState) (ks : List ℕ) → lockAll standard w m ks .leaves ≡ m .leaves
 unfolding lockAll withSlots
 lock-leaves w m ks = refl
 
--- y the worker after it, us the block of its writes
-locks : (l l' : Lent) (ws us : List ℕ) (c : Core) (w : ℕ) (y : Worker) (z : Sizes) → w < 8 → seat c w .writes ≤ 16
-    → BlockOf ws w us → y ≡ atLock (seat c w)
-    → Becomes l' z (c .counters .version) (lockAll standard w (mapOf l (c .sizes)) (keys (block us (seat c w .writes))))
+-- y the worker after it
+locks : (l l' : Lent) (ws : List WriteRows) (c : Core) (w : ℕ) (y : Worker) (z : Sizes) → w < standard .workers → y ≡ atLock (seat c w)
+    → Becomes l' z (c .counters .version) (lockAll standard w (mapOf l (c .sizes)) (keys (writesIn ws w (seat c w .writes))))
     → Reaches (λ (σ : State). effect σ (lock w)) l ws c l' (withBoth c w y z)
-locks l l' ws us c w y z h few v q b =
+locks l l' ws c w y z h q b =
     subst (λ (u : Worker). Reaches (λ (σ : State). effect σ (lock w)) l ws c l' (withBoth c w u z)) (sym q)
     (reached (λ (σ : State). effect σ (lock w)) l l' ws c w (atLock (seat c w)) z _ h b
-    (lock-leaves w (mapOf l (c .sizes)) (keys (block us (seat c w .writes)))) (inl refl)
+    (lock-leaves w (mapOf l (c .sizes)) (keys (writesIn ws w (seat c w .writes)))) (inl refl)
     (λ rs ls t. record { reads = t .counts w h .reads; leaves = t .counts w h .leaves; writes = t .counts w h .writes })
     (λ rs ls t.
     (λ i. withWorker (withMap (stateOf l (logs rs ls ws) c) (lockAll standard w (mapOf l (c .sizes)) (ks rs ls t i))) w (worker rs ls t i))
     ∙ (unfold effect stateOf in refl)))
   where
-    ks : (rs ls : List ℕ) → Stored l (logs rs ls ws) c → keys (block us (seat c w .writes)) ≡ writeKeys (stateOf l (logs rs ls ws) c) w
-    ks rs ls t = ap keys (v .view (seat c w .writes) few) ∙ sym (keys-are l (logs rs ls ws) c w (seat-inside t w h))
+    ks : (rs : List ReadRows) (ls : List LeafSetRows) → Stored l (logs rs ls ws) c → keys (writesIn ws w (seat c w .writes)) ≡ writeKeys (stateOf l (logs rs ls ws) c) w
+    ks rs ls t = sym (keys-are l (logs rs ls ws) c w (seat-inside t w h))
 
-    worker : (rs ls : List ℕ) → Stored l (logs rs ls ws) c
+    worker : (rs : List ReadRows) (ls : List LeafSetRows) → Stored l (logs rs ls ws) c
         → workerIn (atLock (seat c w)) rs ls ws w ≡ atStage Locked (workerOf (stateOf l (logs rs ls ws) c) w)
     worker rs ls t = lock-in rs ls ws w (seat c w) ∙ ap (atStage Locked) (sym (worker-at l (logs rs ls ws) c w (seat-inside t w h)))
 
-pub locks-granted : (l l' : Lent) (ws us : List ℕ) (c : Core) (w : ℕ) (y : Worker) (z : Sizes) (a : Plain) → w < 8 → seat c w .writes ≤ 16
-    → BlockOf ws w us → Tested (l .rows) (l .slots) us (c .sizes) (seat c w .writes) w a → present (refusalIn a) ≡ false → y ≡ atLock (seat c w)
-    → Becomes l' z (c .counters .version) (lockAll standard w (mapOf l (c .sizes)) (keys (block us (seat c w .writes))))
+pub locks-granted : (l l' : Lent) (ws : List WriteRows) (c : Core) (w : ℕ) (y : Worker) (z : Sizes) (a : Plain) → w < standard .workers
+    → Tested (l .rows) (l .slots) (getD ws w []) (c .sizes) (seat c w .writes) w a → present (refusalIn a) ≡ false → y ≡ atLock (seat c w)
+    → Becomes l' z (c .counters .version) (lockAll standard w (mapOf l (c .sizes)) (keys (writesIn ws w (seat c w .writes))))
     → LocksOpen l ws c w l' (withBoth c w y z) a
-locks-granted l l' ws us c w y z Granted h few v t p q b =
-    record { tests = same-tests l ws us c w Granted few v t; reaches = locks l l' ws us c w y z h few v q b }
-locks-granted l l' ws us c w y z (Refused r) h few v t p q b = clash refl p
+locks-granted l l' ws c w y z Granted h t p q b = record { tests = same-tests l ws c w Granted t; reaches = locks l l' ws c w y z h q b }
+locks-granted l l' ws c w y z (Refused r) h t p q b = clash refl p
 
 -- ---- the step
 
@@ -185,7 +180,7 @@ lock-mild : (σ : State) (w : ℕ) → any (λ (c : Cause). ends (c .refusal)) (
 unfolding causes noWorker workerFree wrongStage any
 lock-mild σ w = refl
 
-module _ {l : Lent} {rs ls ws : List ℕ} {c : Core} (w : ℕ) (k : Ready l (logs rs ls ws) c) where
+module _ {l : Lent} {rs : List ReadRows} {ls : List LeafSetRows} {ws : List WriteRows} {c : Core} (w : ℕ) (k : Ready l (logs rs ls ws) c) where
   -- the causes after the first three
   rest-tests : Option Refusal
   rest-tests = lockTests (mapOf l (c .sizes)) (writeKeys (stateOf l (logs rs ls ws) c) w) w
@@ -196,10 +191,6 @@ module _ {l : Lent} {rs ls ws : List ℕ} {c : Core} (w : ℕ) (k : Ready l (log
       let e : refusal (stateOf l (logs rs ls ws) c) (lock w) ≡ some r
       = lock-first l (logs rs ls ws) c w ∙ ap (λ (o : Option Refusal). maybe o rest-tests some) (t .front-is l (logs rs ls ws) c refl) in
       goes-refused k e (mild (stateOf l (logs rs ls ws) c) (lock w) r (lock-mild (stateOf l (logs rs ls ws) c) w) e)
-
-  pub lock-rising : (x : Worker) → Entered isOpen (c .seats) w x → Rising (writesIn ws w (seat c w .writes))
-  lock-rising x t =
-      subst Rising (writes-are l (logs rs ls ws) c w (seat-inside (k .stored) w (t .inside))) (k .kept .worker w .rising)
 
   tests-are : (x : Worker) → Entered isOpen (c .seats) w x
       → refusal (stateOf l (logs rs ls ws) c) (lock w) ≡ lockTests (mapOf l (c .sizes)) (keys (writesIn ws w (seat c w .writes))) w

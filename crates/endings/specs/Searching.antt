@@ -1,5 +1,4 @@
 -- A loop that looks for the first element that passes a test: what is left to test ≡ the whole.
--- Assumes nothing.
 use Prim.Native.Nat.{ℕ, suc, _+_, _<_, _≤_, zero-le}
 use native.Mathlib.Numerals.{add-one}
 use native.Mathlib.Omega.{arith}

@@ -1,20 +1,19 @@
 -- Validate, as it goes: refused by 1, 2 or 4; ended by 12, 13 or 14; refused by 15; or the worker has its commit number.
--- Assumes nothing.
-use Prim.Native.Nat.{ℕ, suc, _+_, _<_, _≤_}
+use Prim.Native.Nat.{ℕ, suc, _+_}
 use native.Mathlib.Numerals.{add-one}
 use mathlib.Core.Path.{_≡_, refl, sym, ap, _∙_, subst}
 use mathlib.Core.Logic.{⊎-elim}
 use mathlib.Core.Bool.{Bool, true, false, not}
 use mathlib.Core.List.{List, [], _∷_}
 use mathlib.Core.Option.{Option, none, some}
-use lib.ListN.{length}
+use lib.ListN.{getD}
 use Rattle.lists.specs.Tests.{pick, maybe, less, cases, less-true, less-false}
-use Rattle.lists.specs.Rows.{Row, keys, has, any, Rising}
+use Rattle.lists.specs.Rows.{Row, keys, has, any}
 use Rattle.spec.specs.declared.Refusal.{Refusal}
 use Rattle.spec.specs.declared.Refusal.the-variants.{Changed, UnderLock, Phantom, Spent}
 use Rattle.spec.specs.declared.Stage.{Stage}
 use Rattle.spec.specs.Refusals.{ends}
-use Rattle.spec.specs.Records.{Record, Write}
+use Rattle.spec.specs.Records.{standard, Record, Write}
 use Rattle.spec.specs.Slots.{contentOf}
 use Rattle.spec.specs.Maps.{current}
 use Rattle.spec.specs.Steps as model
@@ -23,13 +22,12 @@ use Rattle.laws.specs.WorkerLaws.{mild-cause, hasLocks, locked-locks}
 use Rattle.sets.specs.declared.workers.Worker.{Worker}
 use Rattle.sets.specs.Workers.{workerIn, atCheck}
 use Rattle.sets.specs.WorkerLaws.{check-in}
-use Rattle.sets.specs.Reads.{readsIn}
-use Rattle.sets.specs.Leaves.{versionsIn}
-use Rattle.sets.specs.Writes.{writesIn}
-use Rattle.indexlet.specs.Words.{slotsOf}
+use Rattle.sets.specs.Reads.{ReadRows, readsOf, readsIn}
+use Rattle.sets.specs.Leaves.{LeafSetRows, versionsOf, versionsIn}
+use Rattle.sets.specs.Writes.{WriteRows, writesIn}
 use Rattle.map.specs.declared.Sizes.{Sizes}
-use Rattle.map.specs.Views.{Lent, block}
-use Rattle.looks.specs.PhantomViews.{mapIn, phantomAt, Owns}
+use Rattle.map.specs.Views.{slotsIn, mapOf, SlotRows, RecordRows, Lent}
+use Rattle.looks.specs.PhantomViews.{phantomAt, Owns}
 use Rattle.transactions.specs.declared.Core.{Core}
 use Rattle.endings.specs.declared.validates.Verdict.{Verdict}
 use Rattle.endings.specs.declared.validates.Verdict.the-variants as verdict
@@ -38,11 +36,10 @@ use Rattle.endings.specs.declared.validates.ValidateAnswer.the-variants.
 use Rattle.endings.specs.declared.validates.ValidateDone.{ValidateDone}
 use Rattle.transactions.specs.Answering.{Comes, comes-granted, cause-holds, cause-fails, front, front-first}
 use Rattle.transactions.specs.Admits.{Turned, Entered}
-use Rattle.transactions.specs.Views.{logs, seatIn, stateOf, worker-at, state-with}
+use Rattle.transactions.specs.Views.{logs, seatIn, stateOf, same-logs, state-with}
 use Rattle.transactions.specs.Ready.{Within, Stored, Ready, Goes, goes, goes-refused}
-use Rattle.transactions.specs.SeatLaws.{stored-seat}
-use Rattle.endings.specs.WriteBlocks.{BlockOf}
-use Rattle.endings.specs.Commits.{Reaches}
+use Rattle.transactions.specs.SeatLaws.{ready-writable, seated, within, seat-writable, stored-seat}
+use Rattle.endings.specs.Commits.{Reaches, writing}
 use Rattle.endings.specs.Validates.{changedIn, lockedIn, LoggedAll, Examinable, firstOf, judged, verdictIn, validateIn, withNumber, numbering, number-spent, number-left}
 
 -- ---- the tests, in their order
@@ -117,52 +114,43 @@ comes-ended σ w r e t =
 
 -- ---- what the tests over the arrays say
 
-module _ (rows lows versions slots reads leaves : List ℕ) (z : Sizes) (x : Worker) (w : ℕ) where
+module _ (l : Lent) (reads : ReadRows) (leaves : LeafSetRows) (z : Sizes) (x : Worker) (w : ℕ) where
   abbrev changedNow : Bool
-  changedNow = any (changedIn rows (z .records) slots) (readsIn reads w (x .reads))
+  changedNow = any (changedIn (l .rows) (z .records) (l .slots)) (readsOf reads (x .reads))
 
   abbrev lockedNow : Bool
-  lockedNow = any (lockedIn slots w) (keys (readsIn reads w (x .reads)))
+  lockedNow = any (lockedIn (l .slots) w) (keys (readsOf reads (x .reads)))
 
   abbrev phantomNow : Bool
-  phantomNow = any (phantomAt (mapIn rows lows versions slots z) w) (versionsIn leaves w (x .leaves))
+  phantomNow = any (phantomAt (mapOf l z) w) (versionsOf leaves (x .leaves))
 
-  pub judge-changed : (a : Bool) → a ≡ changedNow → a ≡ true → some Changed ≡ judged rows lows versions slots reads leaves z x w
+  pub judge-changed : (a : Bool) → a ≡ changedNow → a ≡ true → some Changed ≡ judged l reads leaves z x w
   unfolding judged
   judge-changed a e t = first-changed changedNow lockedNow phantomNow (sym e ∙ t)
 
   pub judge-locked : (a b : Bool) → a ≡ changedNow → a ≡ false → b ≡ lockedNow → b ≡ true
-      → some UnderLock ≡ judged rows lows versions slots reads leaves z x w
+      → some UnderLock ≡ judged l reads leaves z x w
   unfolding judged
   judge-locked a b e t f u = first-locked changedNow lockedNow phantomNow (sym e ∙ t) (sym f ∙ u)
 
   pub judge-phantom : (a b c : Bool) → a ≡ changedNow → a ≡ false → b ≡ lockedNow → b ≡ false → c ≡ phantomNow → c ≡ true
-      → some Phantom ≡ judged rows lows versions slots reads leaves z x w
+      → some Phantom ≡ judged l reads leaves z x w
   unfolding judged
   judge-phantom a b c e t f u g v = first-phantom changedNow lockedNow phantomNow (sym e ∙ t) (sym f ∙ u) (sym g ∙ v)
 
   pub judge-passed : (a b c : Bool) → a ≡ changedNow → a ≡ false → b ≡ lockedNow → b ≡ false → c ≡ phantomNow → c ≡ false
-      → none ≡ judged rows lows versions slots reads leaves z x w
+      → none ≡ judged l reads leaves z x w
   unfolding judged
   judge-passed a b c e t f u g v = first-none changedNow lockedNow phantomNow (sym e ∙ t) (sym f ∙ u) (sym g ∙ v)
 
--- the write set in a block: the worker's locks are its addresses
-pub examined-owns : {rows lows versions outside slots reads leaves writes us : List ℕ} {z : Sizes} {x : Worker} {w : ℕ}
-    → Examinable rows lows versions outside slots reads leaves writes z x w → BlockOf writes w us → Owns slots us (x .writes) w
-examined-owns {rows} {lows} {versions} {outside} {slots} {reads} {leaves} {writes} {us} {z} {x} {w} e b =
-    let few : x .writes ≤ 16 = e .counts .writes in
-    let v : block us (x .writes) ≡ writesIn writes w (x .writes) = b .view (x .writes) few in
-    let n = b .narrow (x .writes) few in
-    record {
-      fitting = record { few = few; narrow = n .narrow };
-      rising = subst Rising (sym v) (e .rising);
-      mine = λ k h. e .mine k (subst (λ (rs : List (Row Write)). has k (keys rs) ≡ true) v h);
-      only = λ k h. subst (λ (rs : List (Row Write)). has k (keys rs) ≡ true) (sym v) (e .only k h);
-    }
+-- the worker's locks are the addresses of its write set
+pub examined-owns : {l : Lent} {reads : ReadRows} {leaves : LeafSetRows} {writes : WriteRows} {z : Sizes} {x : Worker} {w : ℕ}
+    → Examinable l reads leaves writes z x w → Owns (l .slots) writes (x .writes) w
+examined-owns e = record { fitting = writing (e .writes-set); rising = e .writes-set .rising; mine = e .mine; only = e .only }
 
 -- ---- the worker in the locked stage
 
-module _ {l : Lent} {rs ls ws : List ℕ} {c : Core} (w : ℕ) (k : Ready l (logs rs ls ws) c) where
+module _ {l : Lent} {rs : List ReadRows} {ls : List LeafSetRows} {ws : List WriteRows} {c : Core} (w : ℕ) (k : Ready l (logs rs ls ws) c) where
   abbrev now : State
   now = stateOf l (logs rs ls ws) c
 
@@ -175,46 +163,41 @@ module _ {l : Lent} {rs ls ws : List ℕ} {c : Core} (w : ℕ) (k : Ready l (log
       (front-mild isLocked now w r f)
 
   module _ (x : Worker) (t : Entered isLocked (c .seats) w x) where
-    inside : w < length (c .seats)
-    inside = subst (λ (n : ℕ). w < n) (sym (k .stored .seats)) (t .inside)
+    here : workerOf now w ≡ seatIn (logs rs ls ws) x w
+    here = seated isLocked l (logs rs ls ws) c w x k t
 
-    seated : workerOf now w ≡ seatIn (logs rs ls ws) x w
-    seated = worker-at l (logs rs ls ws) c w inside ∙ ap (λ (y : Worker). seatIn (logs rs ls ws) y w) (sym (t .is))
-
-    within : Within x
-    within = subst Within (sym (t .is)) (k .stored .counts w (t .inside))
+    counts : Within x
+    counts = within isLocked l (logs rs ls ws) c w x k t
 
     locks : hasLocks (workerOf now w .stage) ≡ true
-    locks = ap (λ (y : model.Worker). hasLocks (y .stage)) seated ∙ stage-locks
+    locks = ap (λ (y : model.Worker). hasLocks (y .stage)) here ∙ stage-locks
       where
         stage-locks : hasLocks (seatIn (logs rs ls ws) x w .stage) ≡ true
         stage-locks = unfold workerIn in locked-locks (x .stage) (t .stage)
 
     writes-of : workerOf now w .writes ≡ writesIn ws w (x .writes)
-    writes-of = ap (λ (y : model.Worker). y .writes) seated ∙ (unfold workerIn in refl)
+    writes-of = ap (λ (y : model.Worker). y .writes) here ∙ (unfold workerIn in refl)
 
-    pub examinable : Examinable (l .rows) (l .lows) (l .versions) (l .outside) (l .slots) rs ls ws (c .sizes) x w
+    pub examinable : Examinable l (getD rs w []) (getD ls w []) (getD ws w []) (c .sizes) x w
     unfolding writeKeys
     examinable =
         record {
-          worker = t .inside;
-          counts = within;
-          held = record { pending = l .pending; version = c .counters .version; held = k .stored .map };
-          reads-held = k .stored .reads;
-          leaves-held = k .stored .leaves;
-          writes-held = k .stored .writes;
+          counts = counts;
+          held = record { version = c .counters .version; held = k .stored .map };
+          reads-held = k .stored .reads .at w (t .inside);
+          leaves-held = k .stored .leaves .at w (t .inside);
+          writes-set = seat-writable (ready-writable k) t;
           logged-all =
-              subst (λ (y : Worker). LoggedAll (l .lows) (l .versions) ls (c .sizes) w (y .leaves)) (sym (t .is))
+              subst (λ (y : Worker). LoggedAll l (getD ls w []) (c .sizes) (y .leaves)) (sym (t .is))
               (record { at = λ i h. record { stays = k .stored .lows w (t .inside) i h } });
-          rising = subst Rising writes-of (k .kept .worker w .rising);
           mine = λ a h. slots-are a (k .kept .holds w a locks (subst (λ (us : List (Row Write)). has a (keys us) ≡ true) (sym writes-of) h));
           only = λ a h. subst (λ (us : List (Row Write)). has a (keys us) ≡ true) writes-of (k .kept .held-by w a (slots-from a h) .1);
         }
       where
-        slots-are : (a : ℕ) → contentOf (now .map .slots) a .holder ≡ some w → contentOf (slotsOf (l .slots)) a .holder ≡ some w
+        slots-are : (a : ℕ) → contentOf (now .map .slots) a .holder ≡ some w → contentOf (slotsIn (l .slots)) a .holder ≡ some w
         slots-are a h = unfold stateOf in h
 
-        slots-from : (a : ℕ) → contentOf (slotsOf (l .slots)) a .holder ≡ some w → contentOf (now .map .slots) a .holder ≡ some w
+        slots-from : (a : ℕ) → contentOf (slotsIn (l .slots)) a .holder ≡ some w → contentOf (now .map .slots) a .holder ≡ some w
         slots-from a h = unfold stateOf in h
 
     -- the arrays say what the model's tests say
@@ -227,17 +210,17 @@ module _ {l : Lent} {rs ls ws : List ℕ} {c : Core} (w : ℕ) (k : Ready l (log
     locked-same us = refl
 
     phantom-same : (us : List ℕ)
-        → any (phantomAt (mapIn (l .rows) (l .lows) (l .versions) (l .slots) (c .sizes)) w) us ≡ any (phantomIn now w) us
+        → any (phantomAt (mapOf l (c .sizes)) w) us ≡ any (phantomIn now w) us
     unfolding phantomAt phantomIn stateOf
     phantom-same us = refl
 
     reads-of : readsIn rs w (x .reads) ≡ workerOf now w .reads
-    reads-of = sym (ap (λ (y : model.Worker). y .reads) seated ∙ (unfold workerIn in refl))
+    reads-of = sym (ap (λ (y : model.Worker). y .reads) here ∙ (unfold workerIn in refl))
 
     versions-of : versionsIn ls w (x .leaves) ≡ workerOf now w .versions
-    versions-of = sym (ap (λ (y : model.Worker). y .versions) seated ∙ (unfold workerIn in refl))
+    versions-of = sym (ap (λ (y : model.Worker). y .versions) here ∙ (unfold workerIn in refl))
 
-    judged-is : judged (l .rows) (l .lows) (l .versions) (l .slots) rs ls (c .sizes) x w ≡ tested now w
+    judged-is : judged l (getD rs w []) (getD ls w []) (c .sizes) x w ≡ tested now w
     unfolding judged
     judged-is =
         λ i.
@@ -246,7 +229,7 @@ module _ {l : Lent} {rs ls ws : List ℕ} {c : Core} (w : ℕ) (k : Ready l (log
         ((locked-same (keys (readsIn rs w (x .reads))) ∙ ap (λ (us : List (Row (Option Record))). any (lockedByOther now w) (keys us)) reads-of) i)
         ((phantom-same (versionsIn ls w (x .leaves)) ∙ ap (any (phantomIn now w)) versions-of) i)
 
-    refusal-by : (o : Option Refusal) → o ≡ judged (l .rows) (l .lows) (l .versions) (l .slots) rs ls (c .sizes) x w
+    refusal-by : (o : Option Refusal) → o ≡ judged l (getD rs w []) (getD ls w []) (c .sizes) x w
         → refusal now (validate w) ≡ maybe o (spent now) some
     refusal-by o q =
         refusal-is now w
@@ -254,7 +237,7 @@ module _ {l : Lent} {rs ls ws : List ℕ} {c : Core} (w : ℕ) (k : Ready l (log
         ∙ ap (λ (p : Option Refusal). maybe p (spent now) some) (sym (q ∙ judged-is))
 
     pub validate-ended : {l' : Lent} {c' : Core} (v : Verdict) (r : Refusal) → v ≡ verdict.Refused r
-        → verdictIn v ≡ judged (l .rows) (l .lows) (l .versions) (l .slots) rs ls (c .sizes) x w
+        → verdictIn v ≡ judged l (getD rs w []) (getD ls w []) (c .sizes) x w
         → Reaches (λ (σ : State). dropped σ w) l ws c l' c'
         → Goes l (logs rs ls ws) c (validate w) l' (logs rs ls ws) c' (validateIn (Refused r))
     validate-ended v r e j d =
@@ -265,7 +248,7 @@ module _ {l : Lent} {rs ls ws : List ℕ} {c : Core} (w : ℕ) (k : Ready l (log
 
     -- ---- the next commit number
 
-    spent-is : (b : Bool) → less (c .counters .number) 1000000 ≡ b → spent now ≡ firstCause (cause (not b) Spent ∷ [])
+    spent-is : (b : Bool) → less (c .counters .number) (standard .lastNumber) ≡ b → spent now ≡ firstCause (cause (not b) Spent ∷ [])
     unfolding stateOf
     spent-is b e = ap (λ (u : Bool). firstCause (cause (not u) Spent ∷ [])) e
 
@@ -302,15 +285,15 @@ module _ {l : Lent} {rs ls ws : List ℕ} {c : Core} (w : ℕ) (k : Ready l (log
         ≡ withWorker (withCounters now n (c .counters .version)) w (checkedAs n (workerOf now w))
     checked-state n =
         state-with l (logs rs ls ws) (logs rs ls ws) (counted n) w (atCheck x n)
-        (record { reads = λ v m d. refl; leaves = λ v m d. refl; writes = λ v m d. refl })
+        (same-logs (logs rs ls ws) w)
         ∙ ap (λ (σ : State). withWorker σ w (seatIn (logs rs ls ws) (atCheck x n) w)) (counted-state n)
         ∙ ap (withWorker (withCounters now n (c .counters .version)) w)
-        (check-in rs ls ws w x n ∙ ap (checkedAs n) (sym seated))
+        (check-in rs ls ws w x n ∙ ap (checkedAs n) (sym here))
 
     checked-stored : (n : ℕ) → Stored l (logs rs ls ws) (withNumber c w (atCheck x n) n)
     checked-stored n =
         stored-seat l rs ls ws rs ws (counted n) w (atCheck x n) (t .inside) (counted-stored n) (k .stored .reads) (k .stored .writes)
-        (record { reads = within .reads; leaves = within .leaves; writes = within .writes })
+        (record { reads = counts .reads; leaves = counts .leaves; writes = counts .writes })
         (ap (λ (y : Worker). y .leaves) (t .is))
 
     numbered-goes : (n : ℕ) → n ≡ suc (c .counters .number) → refusal now (validate w) ≡ none
@@ -324,17 +307,17 @@ module _ {l : Lent} {rs ls ws : List ℕ} {c : Core} (w : ℕ) (k : Ready l (log
         (checked-stored (suc (c .counters .number))))
 
     pub validate-passed : (v : Verdict) (y : ValidateDone) → v ≡ Passed
-        → verdictIn v ≡ judged (l .rows) (l .lows) (l .versions) (l .slots) rs ls (c .sizes) x w → y ≡ numbering c w x
+        → verdictIn v ≡ judged l (getD rs w []) (getD ls w []) (c .sizes) x w → y ≡ numbering c w x
         → Goes l (logs rs ls ws) c (validate w) l (logs rs ls ws) (y .core) (validateIn (y .answer))
     validate-passed v y p j e =
         let q = sym (ap verdictIn p) ∙ j in
         ⊎-elim
-        (λ b. subst Taken (number-left c w x (less-true (c .counters .number) 1000000 b) ∙ sym e)
+        (λ b. subst Taken (number-left c w x (less-true (c .counters .number) (standard .lastNumber) b) ∙ sym e)
         (numbered-goes (c .counters .number + 1) (add-one (c .counters .number))
         (refusal-by none q ∙ spent-is true b ∙ cause-fails false Spent [] refl ∙ (unfold firstCause in refl))))
-        (λ b. subst Taken (number-spent c w x (less-false (c .counters .number) 1000000 b) ∙ sym e)
+        (λ b. subst Taken (number-spent c w x (less-false (c .counters .number) (standard .lastNumber) b) ∙ sym e)
         (goes-refused k (refusal-by none q ∙ spent-is false b ∙ cause-holds true Spent [] refl) refl))
-        (cases (less (c .counters .number) 1000000))
+        (cases (less (c .counters .number) (standard .lastNumber)))
       where
         Taken : ValidateDone → Type 0
         Taken r = Goes l (logs rs ls ws) c (validate w) l (logs rs ls ws) (r .core) (validateIn (r .answer))

@@ -1,68 +1,65 @@
 // The steps that end a transaction: lock, install and abort.
 use crate::drops;
+use map::Leaves;
+use map::Records;
 use map::Sizes;
-use sets::workers::Worker;
+use map::Slots;
+use sets::LeafSets;
+use sets::ReadSets;
+use sets::WriteSet;
+use sets::WriteSets;
+use spec::MAP_LIMIT;
 use spec::Refusal;
-use spec::Stage;
+use spec::WAITING_LIMIT;
 use transactions::Core;
 use transactions::admits;
 use transactions::admits::Admit;
 use transactions::begins::Done;
 use transactions::begins::Plain;
 ghost use mathlib.Core.Path.{_≡_};
-ghost use Prim.Native.Nat.{_<_, _≤_};
-ghost use lib.ListN.{length};
+ghost use mathlib.Core.List.{[]};
+ghost use Prim.Native.Nat.{_<_};
+ghost use lib.ListN.{length, getD};
 ghost use Rattle.lists.specs.Tests.{present};
-ghost use Rattle.lists.specs.Rows.{Rising};
+ghost use Rattle.spec.specs.Records.{standard};
 ghost use Rattle.spec.specs.Slots.{entries};
 ghost use Rattle.spec.specs.Steps as model;
 ghost use Rattle.spec.specs.Steps.{State, effect};
 ghost use Rattle.laws.specs.MapLaws.{Installable};
-ghost use Rattle.sets.specs.Writes.{WritesHeld, writesIn};
-ghost use Rattle.indexlet.specs.Words.{slotsOf};
-ghost use Rattle.map.specs.Views.{lent, block};
+ghost use Rattle.sets.specs.Writes.{writesIn, WriteSetOrdered};
+ghost use Rattle.map.specs.Views.{lent, slotsIn};
 ghost use Rattle.map.specs.Held as map;
-ghost use Rattle.map.specs.Blocks.{Narrow};
 ghost use Rattle.map.specs.AddressCounts.{Counted};
 ghost use Rattle.transactions.specs.Views.{logs};
 ghost use Rattle.transactions.specs.Ready.{seat, Ready, Goes};
-ghost use Rattle.transactions.specs.Admits.{Admitted};
 ghost use Rattle.transactions.specs.Begins.{plainIn};
 ghost use Rattle.endings.specs.Commits.{Reaches};
-ghost use Rattle.endings.specs.Finishes.{anyStage};
 ghost use Rattle.endings.specs.Locks.{refusalIn, Tested, LocksOpen};
 
 // The writes of worker w's transaction are pending from now on, under its commit number, and the worker is free.
 fn install_transaction(
-    outside: &mut [u64; 1025],
-    pending: &mut [u64; 1025],
-    slots: &mut [u64; 1536],
-    rows: &[u64; 3072],
-    lows: &[u64; 1025],
-    versions: &[u64; 1025],
-    writes: &[u64; 384],
+    leaves: &mut Leaves,
+    slots: &mut Slots,
+    rows: &Records,
+    writes: &WriteSets,
     c: Core,
     w: usize,
 ) -> Core
-    requires { ⌜ map.Held (lent (now rows) (now lows) (now versions) (now outside) (now pending) (now slots)) (c .sizes) (c .counters .version) ⌝ }
-    requires { ⌜ WritesHeld (now writes) ⌝ }
-    requires { ⌜ (w < 8) × (seat c w .writes ≤ 16) ⌝ }
-    requires { ⌜ Installable (slotsOf (now slots)) (writesIn (now writes) w (seat c w .writes)) ⌝ }
-    ensures { λ r. ⌜ Reaches (λ (σ : State). effect σ (model.install w)) (lent (now (rows .entry)) (now (lows .entry)) (now (versions .entry)) (now (outside .entry)) (now (pending .entry)) (now (slots .entry))) (now (writes .entry)) c (lent (now (rows .entry)) (now (lows .entry)) (now (versions .entry)) (now (outside .exit)) (now (pending .exit)) (now (slots .exit))) r ⌝ }
+    requires { ⌜ map.Held (lent (now rows) (now leaves) (now slots)) (c .sizes) (c .counters .version) ⌝ }
+    requires { ⌜ w < standard .workers ⌝ }
+    requires { ⌜ WriteSetOrdered (getD (now writes) w []) (seat c w .writes) ⌝ }
+    requires { ⌜ Installable (slotsIn (now slots)) (writesIn (now writes) w (seat c w .writes)) ⌝ }
+    ensures { λ r. ⌜ Reaches (λ (σ : State). effect σ (model.install w)) (lent (now (rows .entry)) (now (leaves .entry)) (now (slots .entry))) (now (writes .entry)) c (lent (now (rows .entry)) (now (leaves .exit)) (now (slots .exit))) r ⌝ }
 {
     let mut seats = c.seats;
     let sizes = c.sizes;
     let counters = c.counters;
     let x = seats[w];
-    let block = drops::block_of(writes, w);
     let z = map::locks::install_all(
-        outside,
-        pending,
+        leaves,
         slots,
         rows,
-        lows,
-        versions,
-        &block,
+        &writes[w],
         sizes,
         counters,
         x.writes as usize,
@@ -77,58 +74,30 @@ fn install_transaction(
     }
 }
 
-// A worker in any stage but the free one, for abort.
-fn busy(seats: [Worker; 8], w: u32) -> Admit
-    ensures { λ r. ⌜ Admitted anyStage seats w r ⌝ }
-{
-    if 8 <= w {
-        return Admit::Refused(Refusal::NoWorker);
-    }
-    let x = seats[w as usize];
-    let s = x.stage;
-    match s {
-        Stage::Free => Admit::Refused(Refusal::WorkerFree),
-        Stage::Open => Admit::Seat(x),
-        Stage::Locked => Admit::Seat(x),
-        Stage::Checked => Admit::Seat(x),
-    }
-}
-
 // Worker w gives its transaction up.
 pub fn abort(
-    outside: &mut [u64; 1025],
-    pending: &mut [u64; 1025],
-    slots: &mut [u64; 1536],
-    rows: &[u64; 3072],
-    lows: &[u64; 1025],
-    versions: &[u64; 1025],
-    reads: &[u64; 2048],
-    leaves: &[u64; 512],
-    writes: &[u64; 384],
+    leaves: &mut Leaves,
+    slots: &mut Slots,
+    rows: &Records,
+    reads: &ReadSets,
+    leafsets: &LeafSets,
+    writes: &WriteSets,
     c: Core,
     w: u32,
 ) -> Done
-    requires { ⌜ Ready (lent (now rows) (now lows) (now versions) (now outside) (now pending) (now slots)) (logs (now reads) (now leaves) (now writes)) c ⌝ }
-    ensures { λ r. ⌜ Goes (lent (now (rows .entry)) (now (lows .entry)) (now (versions .entry)) (now (outside .entry)) (now (pending .entry)) (now (slots .entry))) (logs (now (reads .entry)) (now (leaves .entry)) (now (writes .entry))) c (model.abort w) (lent (now (rows .entry)) (now (lows .entry)) (now (versions .entry)) (now (outside .exit)) (now (pending .exit)) (now (slots .exit))) (logs (now (reads .entry)) (now (leaves .entry)) (now (writes .entry))) (r .core) (plainIn (r .answer)) ⌝ }
+    requires { ⌜ Ready (lent (now rows) (now leaves) (now slots)) (logs (now reads) (now leafsets) (now writes)) c ⌝ }
+    ensures { λ r. ⌜ Goes (lent (now (rows .entry)) (now (leaves .entry)) (now (slots .entry)))
+        (logs (now (reads .entry)) (now (leafsets .entry)) (now (writes .entry))) c (model.abort w) (lent (now (rows .entry)) (now (leaves .exit)) (now (slots .exit)))
+        (logs (now (reads .entry)) (now (leafsets .entry)) (now (writes .entry))) (r .core) (plainIn (r .answer)) ⌝ }
 {
     let seats = c.seats;
-    match busy(seats, w) {
+    match admits::busy(seats, w) {
         Admit::Refused(r) => Done {
             core: c,
             answer: Plain::Refused(r),
         },
         Admit::Seat(_) => {
-            let core = drops::drop_transaction(
-                outside,
-                pending,
-                slots,
-                rows,
-                lows,
-                versions,
-                writes,
-                c,
-                w as usize,
-            );
+            let core = drops::drop_transaction(leaves, slots, rows, writes, c, w as usize);
             Done {
                 core,
                 answer: Plain::Granted,
@@ -139,20 +108,19 @@ pub fn abort(
 
 // Worker w's writes enter the map, under the commit number of its validation.
 pub fn install(
-    outside: &mut [u64; 1025],
-    pending: &mut [u64; 1025],
-    slots: &mut [u64; 1536],
-    rows: &[u64; 3072],
-    lows: &[u64; 1025],
-    versions: &[u64; 1025],
-    reads: &[u64; 2048],
-    leaves: &[u64; 512],
-    writes: &[u64; 384],
+    leaves: &mut Leaves,
+    slots: &mut Slots,
+    rows: &Records,
+    reads: &ReadSets,
+    leafsets: &LeafSets,
+    writes: &WriteSets,
     c: Core,
     w: u32,
 ) -> Done
-    requires { ⌜ Ready (lent (now rows) (now lows) (now versions) (now outside) (now pending) (now slots)) (logs (now reads) (now leaves) (now writes)) c ⌝ }
-    ensures { λ r. ⌜ Goes (lent (now (rows .entry)) (now (lows .entry)) (now (versions .entry)) (now (outside .entry)) (now (pending .entry)) (now (slots .entry))) (logs (now (reads .entry)) (now (leaves .entry)) (now (writes .entry))) c (model.install w) (lent (now (rows .entry)) (now (lows .entry)) (now (versions .entry)) (now (outside .exit)) (now (pending .exit)) (now (slots .exit))) (logs (now (reads .entry)) (now (leaves .entry)) (now (writes .entry))) (r .core) (plainIn (r .answer)) ⌝ }
+    requires { ⌜ Ready (lent (now rows) (now leaves) (now slots)) (logs (now reads) (now leafsets) (now writes)) c ⌝ }
+    ensures { λ r. ⌜ Goes (lent (now (rows .entry)) (now (leaves .entry)) (now (slots .entry)))
+        (logs (now (reads .entry)) (now (leafsets .entry)) (now (writes .entry))) c (model.install w) (lent (now (rows .entry)) (now (leaves .exit)) (now (slots .exit)))
+        (logs (now (reads .entry)) (now (leafsets .entry)) (now (writes .entry))) (r .core) (plainIn (r .answer)) ⌝ }
 {
     let seats = c.seats;
     match admits::checked(seats, w) {
@@ -161,17 +129,7 @@ pub fn install(
             answer: Plain::Refused(r),
         },
         Admit::Seat(_) => {
-            let core = install_transaction(
-                outside,
-                pending,
-                slots,
-                rows,
-                lows,
-                versions,
-                writes,
-                c,
-                w as usize,
-            );
+            let core = install_transaction(leaves, slots, rows, writes, c, w as usize);
             Done {
                 core,
                 answer: Plain::Granted,
@@ -181,18 +139,10 @@ pub fn install(
 }
 
 // The tests of a write set before its addresses are locked: refusals 9, 10 and 11.
-fn lock_tests(
-    rows: &[u64; 3072],
-    slots: &[u64; 1536],
-    ws: &[u64; 48],
-    z: Sizes,
-    n: usize,
-    w: u64,
-) -> Plain
+fn lock_tests(rows: &Records, slots: &Slots, ws: &WriteSet, z: Sizes, n: usize, w: u64) -> Plain
     requires { ⌜ Counted (now rows) (now slots) z ⌝ }
-    requires { ⌜ z .entries ≡ length (entries (slotsOf (now slots))) ⌝ }
-    requires { ⌜ Narrow (now ws) n ⌝ }
-    requires { ⌜ Rising (block (now ws) n) ⌝ }
+    requires { ⌜ z .entries ≡ length (entries (slotsIn (now slots))) ⌝ }
+    requires { ⌜ WriteSetOrdered (now ws) n ⌝ }
     ensures { λ r. ⌜ Tested (now (rows .entry)) (now (slots .entry)) (now (ws .entry)) z n w r ⌝ }
 {
     if map::locks::held(slots, ws, n, w) {
@@ -200,10 +150,10 @@ fn lock_tests(
     }
     let waiting = map::locks::waiting_with(slots, ws, n, z.entries);
     let addresses = map::locks::addresses_with(rows, slots, ws, n, z);
-    if 192 < waiting {
+    if WAITING_LIMIT < waiting {
         return Plain::Refused(Refusal::IndexletFull);
     }
-    if 1024 < addresses {
+    if MAP_LIMIT < addresses {
         return Plain::Refused(Refusal::MapFull);
     }
     Plain::Granted
@@ -221,29 +171,24 @@ fn refused(a: Plain) -> bool
 
 // The lock of worker w, which is open: all of its addresses, or none.
 fn lock_open(
-    outside: &mut [u64; 1025],
-    pending: &mut [u64; 1025],
-    slots: &mut [u64; 1536],
-    rows: &[u64; 3072],
-    lows: &[u64; 1025],
-    versions: &[u64; 1025],
-    writes: &[u64; 384],
+    leaves: &mut Leaves,
+    slots: &mut Slots,
+    rows: &Records,
+    writes: &WriteSets,
     c: Core,
     w: usize,
 ) -> Done
-    requires { ⌜ map.Held (lent (now rows) (now lows) (now versions) (now outside) (now pending) (now slots)) (c .sizes) (c .counters .version) ⌝ }
-    requires { ⌜ WritesHeld (now writes) ⌝ }
-    requires { ⌜ (w < 8) × (seat c w .writes ≤ 16) ⌝ }
-    requires { ⌜ Rising (writesIn (now writes) w (seat c w .writes)) ⌝ }
-    ensures { λ r. ⌜ LocksOpen (lent (now (rows .entry)) (now (lows .entry)) (now (versions .entry)) (now (outside .entry)) (now (pending .entry)) (now (slots .entry))) (now (writes .entry)) c w (lent (now (rows .entry)) (now (lows .entry)) (now (versions .entry)) (now (outside .exit)) (now (pending .exit)) (now (slots .exit))) (r .core) (r .answer) ⌝ }
+    requires { ⌜ map.Held (lent (now rows) (now leaves) (now slots)) (c .sizes) (c .counters .version) ⌝ }
+    requires { ⌜ w < standard .workers ⌝ }
+    requires { ⌜ WriteSetOrdered (getD (now writes) w []) (seat c w .writes) ⌝ }
+    ensures { λ r. ⌜ LocksOpen (lent (now (rows .entry)) (now (leaves .entry)) (now (slots .entry))) (now (writes .entry)) c w (lent (now (rows .entry)) (now (leaves .exit)) (now (slots .exit))) (r .core) (r .answer) ⌝ }
 {
     let mut seats = c.seats;
     let sizes = c.sizes;
     let counters = c.counters;
     let x = seats[w];
     let n = x.writes as usize;
-    let block = drops::block_of(writes, w);
-    let tested = lock_tests(rows, slots, &block, sizes, n, w as u64);
+    let tested = lock_tests(rows, slots, &writes[w], sizes, n, w as u64);
     if refused(tested) {
         return Done {
             core: c,
@@ -251,13 +196,10 @@ fn lock_open(
         };
     }
     let z = map::locks::lock_all(
-        outside,
-        pending,
+        leaves,
         slots,
         rows,
-        lows,
-        versions,
-        &block,
+        &writes[w],
         sizes,
         counters,
         n,
@@ -278,20 +220,19 @@ fn lock_open(
 
 // Worker w locks the addresses of its write set.
 pub fn lock(
-    outside: &mut [u64; 1025],
-    pending: &mut [u64; 1025],
-    slots: &mut [u64; 1536],
-    rows: &[u64; 3072],
-    lows: &[u64; 1025],
-    versions: &[u64; 1025],
-    reads: &[u64; 2048],
-    leaves: &[u64; 512],
-    writes: &[u64; 384],
+    leaves: &mut Leaves,
+    slots: &mut Slots,
+    rows: &Records,
+    reads: &ReadSets,
+    leafsets: &LeafSets,
+    writes: &WriteSets,
     c: Core,
     w: u32,
 ) -> Done
-    requires { ⌜ Ready (lent (now rows) (now lows) (now versions) (now outside) (now pending) (now slots)) (logs (now reads) (now leaves) (now writes)) c ⌝ }
-    ensures { λ r. ⌜ Goes (lent (now (rows .entry)) (now (lows .entry)) (now (versions .entry)) (now (outside .entry)) (now (pending .entry)) (now (slots .entry))) (logs (now (reads .entry)) (now (leaves .entry)) (now (writes .entry))) c (model.lock w) (lent (now (rows .entry)) (now (lows .entry)) (now (versions .entry)) (now (outside .exit)) (now (pending .exit)) (now (slots .exit))) (logs (now (reads .entry)) (now (leaves .entry)) (now (writes .entry))) (r .core) (plainIn (r .answer)) ⌝ }
+    requires { ⌜ Ready (lent (now rows) (now leaves) (now slots)) (logs (now reads) (now leafsets) (now writes)) c ⌝ }
+    ensures { λ r. ⌜ Goes (lent (now (rows .entry)) (now (leaves .entry)) (now (slots .entry)))
+        (logs (now (reads .entry)) (now (leafsets .entry)) (now (writes .entry))) c (model.lock w) (lent (now (rows .entry)) (now (leaves .exit)) (now (slots .exit)))
+        (logs (now (reads .entry)) (now (leafsets .entry)) (now (writes .entry))) (r .core) (plainIn (r .answer)) ⌝ }
 {
     let seats = c.seats;
     match admits::open(seats, w) {
@@ -299,16 +240,6 @@ pub fn lock(
             core: c,
             answer: Plain::Refused(r),
         },
-        Admit::Seat(_) => lock_open(
-            outside,
-            pending,
-            slots,
-            rows,
-            lows,
-            versions,
-            writes,
-            c,
-            w as usize,
-        ),
+        Admit::Seat(_) => lock_open(leaves, slots, rows, writes, c, w as usize),
     }
 }

@@ -1,12 +1,21 @@
 // Validate: the log is compared with what stands now, and the next commit number is taken.
 use crate::drops;
-use looks::Current;
+use map::Leaves;
+use map::Records;
 use map::Sizes;
+use map::Slots;
 use map::holders;
+use sets::LeafSet;
+use sets::LeafSets;
+use sets::ReadSet;
+use sets::ReadSets;
+use sets::WriteSet;
+use sets::WriteSets;
 use sets::leaves;
 use sets::reads;
-use sets::reads::Seen;
 use sets::workers::Worker;
+use spec::Current;
+use spec::LAST_NUMBER;
 use spec::Refusal;
 use transactions::Core;
 use transactions::admits;
@@ -15,15 +24,13 @@ ghost use mathlib.Core.Path.{_≡_};
 ghost use mathlib.Core.Bool.{not};
 ghost use Prim.Native.Nat.{_<_, _≤_};
 ghost use Rattle.lists.specs.Rows.{any, keys};
-ghost use Rattle.spec.specs.Records.{sameRecord};
+ghost use Rattle.spec.specs.Records.{standard, sameRecord};
 ghost use Rattle.spec.specs.Steps as model;
-ghost use Rattle.indexlet.specs.Held as indexlet;
-ghost use Rattle.index.specs.Views as index;
-ghost use Rattle.map.specs.Views.{lent};
-ghost use Rattle.looks.specs.LookViews as looked;
-ghost use Rattle.looks.specs.PhantomViews.{mapIn, HeldBut, Owns, phantomAt};
-ghost use Rattle.sets.specs.Reads as logged;
-ghost use Rattle.sets.specs.Leaves.{LeavesHeld, versionsIn};
+ghost use Rattle.map.specs.Parts.{RecordsHeld, SlotsHeld};
+ghost use Rattle.map.specs.Views.{lent, mapOf};
+ghost use Rattle.looks.specs.PhantomViews.{Holding, Owns, phantomAt};
+ghost use Rattle.sets.specs.Reads.{recordIn, readsOf, ReadSetHeld};
+ghost use Rattle.sets.specs.Leaves.{versionsOf, LeafSetHeld};
 ghost use Rattle.transactions.specs.Views.{logs};
 ghost use Rattle.transactions.specs.Ready.{Ready, Goes};
 ghost use Rattle.endings.specs.Validates.{changedIn, lockedIn, LoggedAll, Examinable, verdictIn, judged, numbering, validateIn};
@@ -47,8 +54,8 @@ enum Verdict {
 }
 
 // A logged record and the current one differ: in presence, value or commit number.
-fn differs(now: Current, then: Seen) -> bool
-    ensures { λ r. ⌜ r ≡ not (sameRecord (looked.recordIn now) (logged.recordIn then)) ⌝ }
+fn differs(now: Current, then: Current) -> bool
+    ensures { λ r. ⌜ r ≡ not (sameRecord (recordIn now) (recordIn then)) ⌝ }
 {
     if now.there {
         if then.there {
@@ -62,26 +69,19 @@ fn differs(now: Current, then: Seen) -> bool
     then.there
 }
 
-// A logged address of worker w now has another record (refusal 12).
-fn changed(
-    rows: &[u64; 3072],
-    slots: &[u64; 1536],
-    reads: &[u64; 2048],
-    n: usize,
-    w: usize,
-    k: usize,
-) -> bool
-    requires { ⌜ index.Held (now rows) n ⌝ }
-    requires { ⌜ indexlet.Held (now slots) ⌝ }
-    requires { ⌜ logged.ReadsHeld (now reads) ⌝ }
-    requires { ⌜ (w < 8) × (k ≤ 64) ⌝ }
-    ensures { λ r. ⌜ r ≡ any (changedIn (now (rows .entry)) n (now (slots .entry))) (logged.readsIn (now (reads .entry)) w k) ⌝ }
+// A logged address now has another record (refusal 12).
+fn changed(rows: &Records, slots: &Slots, reads: &ReadSet, n: usize, k: usize) -> bool
+    requires { ⌜ RecordsHeld (now rows) n ⌝ }
+    requires { ⌜ SlotsHeld (now slots) ⌝ }
+    requires { ⌜ ReadSetHeld (now reads) ⌝ }
+    requires { ⌜ k ≤ standard .readLimit ⌝ }
+    ensures { λ r. ⌜ r ≡ any (changedIn (now (rows .entry)) n (now (slots .entry))) (readsOf (now (reads .entry)) k) ⌝ }
 {
     let mut i = 0;
     while i < k {
-        let l = reads::read_at(reads, w, i);
+        let l = reads::read_at(reads, i);
         let now = looks::current_record(rows, slots, n, l.address);
-        let then = l.seen;
+        let then = l.current;
         if differs(now, then) {
             return true;
         }
@@ -90,16 +90,16 @@ fn changed(
     false
 }
 
-// Another worker has the lock of a logged address of worker w (refusal 13).
-fn under_lock(slots: &[u64; 1536], reads: &[u64; 2048], w: usize, k: usize) -> bool
-    requires { ⌜ indexlet.Held (now slots) ⌝ }
-    requires { ⌜ logged.ReadsHeld (now reads) ⌝ }
-    requires { ⌜ (w < 8) × (k ≤ 64) ⌝ }
-    ensures { λ r. ⌜ r ≡ any (lockedIn (now (slots .entry)) w) (keys (logged.readsIn (now (reads .entry)) w k)) ⌝ }
+// Another worker than w has the lock of a logged address (refusal 13).
+fn under_lock(slots: &Slots, reads: &ReadSet, w: usize, k: usize) -> bool
+    requires { ⌜ SlotsHeld (now slots) ⌝ }
+    requires { ⌜ ReadSetHeld (now reads) ⌝ }
+    requires { ⌜ k ≤ standard .readLimit ⌝ }
+    ensures { λ r. ⌜ r ≡ any (lockedIn (now (slots .entry)) w) (keys (readsOf (now (reads .entry)) k)) ⌝ }
 {
     let mut i = 0;
     while i < k {
-        let l = reads::read_at(reads, w, i);
+        let l = reads::read_at(reads, i);
         if holders::locked_by_other(slots, l.address, w as u64) {
             return true;
         }
@@ -108,43 +108,29 @@ fn under_lock(slots: &[u64; 1536], reads: &[u64; 2048], w: usize, k: usize) -> b
     false
 }
 
-// A logged leaf of worker w is gone or hides a key from it (refusal 14). The write set of n rows stands in ws.
+// A logged leaf is gone or hides a key from worker w (refusal 14), whose write set has n rows.
 fn phantoms(
-    rows: &[u64; 3072],
-    lows: &[u64; 1025],
-    versions: &[u64; 1025],
-    outside: &[u64; 1025],
-    slots: &[u64; 1536],
-    leaves: &[u64; 512],
-    ws: &[u64; 48],
+    rows: &Records,
+    leaves: &Leaves,
+    slots: &Slots,
+    leafset: &LeafSet,
+    ws: &WriteSet,
     z: Sizes,
     n: usize,
     w: usize,
     k: usize,
 ) -> bool
-    requires { ⌜ HeldBut (now rows) (now lows) (now versions) (now outside) (now slots) z ⌝ }
+    requires { ⌜ Holding (lent (now rows) (now leaves) (now slots)) z ⌝ }
     requires { ⌜ Owns (now slots) (now ws) n w ⌝ }
-    requires { ⌜ LeavesHeld (now leaves) ⌝ }
-    requires { ⌜ LoggedAll (now lows) (now versions) (now leaves) z w k ⌝ }
-    requires { ⌜ (w < 8) × (k ≤ 32) ⌝ }
-    ensures { λ r. ⌜ r ≡ any (phantomAt (mapIn (now (rows .entry)) (now (lows .entry)) (now (versions .entry)) (now (slots .entry)) z) w) (versionsIn (now (leaves .entry)) w k) ⌝ }
+    requires { ⌜ LeafSetHeld (now leafset) ⌝ }
+    requires { ⌜ LoggedAll (lent (now rows) (now leaves) (now slots)) (now leafset) z k ⌝ }
+    requires { ⌜ k ≤ standard .leafSetLimit ⌝ }
+    ensures { λ r. ⌜ r ≡ any (phantomAt (mapOf (lent (now (rows .entry)) (now (leaves .entry)) (now (slots .entry))) z) w) (versionsOf (now (leafset .entry)) k) ⌝ }
 {
     let mut i = 0;
     while i < k {
-        let m = leaves::leaf_at(leaves, w, i);
-        if looks::phantom(
-            rows,
-            lows,
-            versions,
-            outside,
-            slots,
-            ws,
-            z,
-            n,
-            w as u64,
-            m.version,
-            m.low,
-        ) {
+        let m = leaves::leaf_at(leafset, i);
+        if looks::phantom(rows, leaves, slots, ws, z, n, w as u64, m.version, m.low) {
             return true;
         }
         i += 1;
@@ -154,36 +140,31 @@ fn phantoms(
 
 // The log of worker w against the map: the whole read set for changes, then for locks, then the leaf set.
 fn judge(
-    rows: &[u64; 3072],
-    lows: &[u64; 1025],
-    versions: &[u64; 1025],
-    outside: &[u64; 1025],
-    slots: &[u64; 1536],
-    reads: &[u64; 2048],
-    leaves: &[u64; 512],
-    writes: &[u64; 384],
+    rows: &Records,
+    leaves: &Leaves,
+    slots: &Slots,
+    reads: &ReadSet,
+    leafset: &LeafSet,
+    writes: &WriteSet,
     z: Sizes,
     x: Worker,
     w: usize,
 ) -> Verdict
-    requires { ⌜ Examinable (now rows) (now lows) (now versions) (now outside) (now slots) (now reads) (now leaves) (now writes) z x w ⌝ }
-    ensures { λ r. ⌜ verdictIn r ≡ judged (now (rows .entry)) (now (lows .entry)) (now (versions .entry)) (now (slots .entry)) (now (reads .entry)) (now (leaves .entry)) z x w ⌝ }
+    requires { ⌜ Examinable (lent (now rows) (now leaves) (now slots)) (now reads) (now leafset) (now writes) z x w ⌝ }
+    ensures { λ r. ⌜ verdictIn r ≡ judged (lent (now (rows .entry)) (now (leaves .entry)) (now (slots .entry))) (now (reads .entry)) (now (leafset .entry)) z x w ⌝ }
 {
-    if changed(rows, slots, reads, z.records, w, x.reads as usize) {
+    if changed(rows, slots, reads, z.records, x.reads as usize) {
         return Verdict::Refused(Refusal::Changed);
     }
     if under_lock(slots, reads, w, x.reads as usize) {
         return Verdict::Refused(Refusal::UnderLock);
     }
-    let block = drops::block_of(writes, w);
     if phantoms(
         rows,
-        lows,
-        versions,
-        outside,
-        slots,
         leaves,
-        &block,
+        slots,
+        leafset,
+        writes,
         z,
         x.writes as usize,
         w,
@@ -196,13 +177,13 @@ fn judge(
 
 // Worker w, of a valid log, takes the next commit number, if one is left (refusal 15). No array is touched.
 fn take_number(c: Core, w: usize, x: Worker) -> ValidateDone
-    requires { ⌜ w < 8 ⌝ }
+    requires { ⌜ w < standard .workers ⌝ }
     ensures { λ r. ⌜ r ≡ numbering c w x ⌝ }
 {
     let mut seats = c.seats;
     let sizes = c.sizes;
     let last = c.counters;
-    if 1000000 <= last.number {
+    if LAST_NUMBER <= last.number {
         return ValidateDone {
             core: c,
             answer: ValidateAnswer::Refused(Refusal::Spent),
@@ -227,20 +208,19 @@ fn take_number(c: Core, w: usize, x: Worker) -> ValidateDone
 // Worker w's log is compared with what stands now. If it holds, the worker has its commit number; if it does not, the
 // transaction is over.
 pub fn validate(
-    outside: &mut [u64; 1025],
-    pending: &mut [u64; 1025],
-    slots: &mut [u64; 1536],
-    rows: &[u64; 3072],
-    lows: &[u64; 1025],
-    versions: &[u64; 1025],
-    reads: &[u64; 2048],
-    leaves: &[u64; 512],
-    writes: &[u64; 384],
+    leaves: &mut Leaves,
+    slots: &mut Slots,
+    rows: &Records,
+    reads: &ReadSets,
+    leafsets: &LeafSets,
+    writes: &WriteSets,
     c: Core,
     w: u32,
 ) -> ValidateDone
-    requires { ⌜ Ready (lent (now rows) (now lows) (now versions) (now outside) (now pending) (now slots)) (logs (now reads) (now leaves) (now writes)) c ⌝ }
-    ensures { λ r. ⌜ Goes (lent (now (rows .entry)) (now (lows .entry)) (now (versions .entry)) (now (outside .entry)) (now (pending .entry)) (now (slots .entry))) (logs (now (reads .entry)) (now (leaves .entry)) (now (writes .entry))) c (model.validate w) (lent (now (rows .exit)) (now (lows .exit)) (now (versions .exit)) (now (outside .exit)) (now (pending .exit)) (now (slots .exit))) (logs (now (reads .exit)) (now (leaves .exit)) (now (writes .exit))) (r .core) (validateIn (r .answer)) ⌝ }
+    requires { ⌜ Ready (lent (now rows) (now leaves) (now slots)) (logs (now reads) (now leafsets) (now writes)) c ⌝ }
+    ensures { λ r. ⌜ Goes (lent (now (rows .entry)) (now (leaves .entry)) (now (slots .entry)))
+        (logs (now (reads .entry)) (now (leafsets .entry)) (now (writes .entry))) c (model.validate w) (lent (now (rows .entry)) (now (leaves .exit)) (now (slots .exit)))
+        (logs (now (reads .entry)) (now (leafsets .entry)) (now (writes .entry))) (r .core) (validateIn (r .answer)) ⌝ }
 {
     let seats = c.seats;
     let sizes = c.sizes;
@@ -250,38 +230,27 @@ pub fn validate(
             answer: ValidateAnswer::Refused(r),
         },
         Admit::Seat(x) => {
+            let i = w as usize;
             let said = judge(
                 rows,
-                lows,
-                versions,
-                outside,
-                slots,
-                reads,
                 leaves,
-                writes,
+                slots,
+                &reads[i],
+                &leafsets[i],
+                &writes[i],
                 sizes,
                 x,
-                w as usize,
+                i,
             );
             match said {
                 Verdict::Refused(r) => {
-                    let core = drops::drop_transaction(
-                        outside,
-                        pending,
-                        slots,
-                        rows,
-                        lows,
-                        versions,
-                        writes,
-                        c,
-                        w as usize,
-                    );
+                    let core = drops::drop_transaction(leaves, slots, rows, writes, c, i);
                     ValidateDone {
                         core,
                         answer: ValidateAnswer::Refused(r),
                     }
                 }
-                Verdict::Passed => take_number(c, w as usize, x),
+                Verdict::Passed => take_number(c, i, x),
             }
         }
     }

@@ -10,7 +10,13 @@ use endings::commits;
 use endings::validates;
 use endings::validates::ValidateAnswer;
 use endings::validates::ValidateDone;
-use map::Address;
+use map::Leaves;
+use map::Records;
+use map::Slots;
+use sets::LeafSets;
+use sets::ReadSets;
+use sets::WriteSets;
+use spec::Address;
 use spec::Refusal;
 use transactions::Core;
 use transactions::begins;
@@ -151,32 +157,29 @@ fn of_merge(d: MergeDone) -> Performed
 fn take_access(
     addresses: &mut [u32],
     values: &mut [u64],
-    reads: &mut [u64; 2048],
-    leaves: &mut [u64; 512],
-    writes: &mut [u64; 384],
-    rows: &[u64; 3072],
-    lows: &[u64; 1025],
-    versions: &[u64; 1025],
-    outside: &[u64; 1025],
-    pending: &[u64; 1025],
-    slots: &[u64; 1536],
+    reads: &mut ReadSets,
+    leafsets: &mut LeafSets,
+    writes: &mut WriteSets,
+    rows: &Records,
+    leaves: &Leaves,
+    slots: &Slots,
     c: Core,
     w: u32,
     x: Access,
 ) -> Performed
-    requires { ⌜ Ready (lent (now rows) (now lows) (now versions) (now outside) (now pending) (now slots)) (logs (now reads) (now leaves) (now writes)) c ⌝ }
-    ensures { λ r. ⌜ Performs (lent (now (rows .entry)) (now (lows .entry)) (now (versions .entry)) (now (outside .entry)) (now (pending .entry)) (now (slots .entry))) (logs (now (reads .entry)) (now (leaves .entry)) (now (writes .entry))) c (Op.Access w x) (now (addresses .entry)) (now (values .entry)) (lent (now (rows .entry)) (now (lows .entry)) (now (versions .entry)) (now (outside .entry)) (now (pending .entry)) (now (slots .entry))) (logs (now (reads .exit)) (now (leaves .exit)) (now (writes .exit))) (now (addresses .exit)) (now (values .exit)) r ⌝ }
+    requires { ⌜ Ready (lent (now rows) (now leaves) (now slots)) (logs (now reads) (now leafsets) (now writes)) c ⌝ }
+    ensures { λ r. ⌜ Performs (lent (now (rows .entry)) (now (leaves .entry)) (now (slots .entry)))
+        (logs (now (reads .entry)) (now (leafsets .entry)) (now (writes .entry))) c (Op.Access w x) (now (addresses .entry)) (now (values .entry))
+        (lent (now (rows .entry)) (now (leaves .entry)) (now (slots .entry))) (logs (now (reads .exit)) (now (leafsets .exit)) (now (writes .exit)))
+        (now (addresses .exit)) (now (values .exit)) r ⌝ }
 {
     match x {
         Access::Read(a) => of_read(reads::read(
             reads,
             rows,
-            lows,
-            versions,
-            outside,
-            pending,
-            slots,
             leaves,
+            slots,
+            leafsets,
             writes,
             c,
             w,
@@ -186,12 +189,9 @@ fn take_access(
             addresses,
             values,
             reads,
-            leaves,
+            leafsets,
             rows,
-            lows,
-            versions,
-            outside,
-            pending,
+            leaves,
             slots,
             writes,
             c,
@@ -202,13 +202,10 @@ fn take_access(
         Access::Put(a, v) => of_plain(edits::put(
             writes,
             rows,
-            lows,
-            versions,
-            outside,
-            pending,
+            leaves,
             slots,
             reads,
-            leaves,
+            leafsets,
             c,
             w,
             a,
@@ -217,13 +214,10 @@ fn take_access(
         Access::Remove(a) => of_plain(edits::remove(
             writes,
             rows,
-            lows,
-            versions,
-            outside,
-            pending,
+            leaves,
             slots,
             reads,
-            leaves,
+            leafsets,
             c,
             w,
             a,
@@ -233,71 +227,49 @@ fn take_access(
 
 // A step towards a transaction's end.
 fn take_ending(
-    outside: &mut [u64; 1025],
-    pending: &mut [u64; 1025],
-    slots: &mut [u64; 1536],
-    rows: &[u64; 3072],
-    lows: &[u64; 1025],
-    versions: &[u64; 1025],
-    reads: &[u64; 2048],
-    leaves: &[u64; 512],
-    writes: &[u64; 384],
+    leaves: &mut Leaves,
+    slots: &mut Slots,
+    rows: &Records,
+    reads: &ReadSets,
+    leafsets: &LeafSets,
+    writes: &WriteSets,
     c: Core,
     w: u32,
     x: Ending,
 ) -> Performed
-    requires { ⌜ Ready (lent (now rows) (now lows) (now versions) (now outside) (now pending) (now slots)) (logs (now reads) (now leaves) (now writes)) c ⌝ }
-    ensures { λ r. ⌜ Quiet (lent (now (rows .entry)) (now (lows .entry)) (now (versions .entry)) (now (outside .entry)) (now (pending .entry)) (now (slots .entry))) (logs (now (reads .entry)) (now (leaves .entry)) (now (writes .entry))) c (Op.Ending w x) (lent (now (rows .entry)) (now (lows .entry)) (now (versions .entry)) (now (outside .exit)) (now (pending .exit)) (now (slots .exit))) (logs (now (reads .entry)) (now (leaves .entry)) (now (writes .entry))) r ⌝ }
+    requires { ⌜ Ready (lent (now rows) (now leaves) (now slots)) (logs (now reads) (now leafsets) (now writes)) c ⌝ }
+    ensures { λ r. ⌜ Quiet (lent (now (rows .entry)) (now (leaves .entry)) (now (slots .entry)))
+        (logs (now (reads .entry)) (now (leafsets .entry)) (now (writes .entry))) c (Op.Ending w x) (lent (now (rows .entry)) (now (leaves .exit)) (now (slots .exit)))
+        (logs (now (reads .entry)) (now (leafsets .entry)) (now (writes .entry))) r ⌝ }
 {
     match x {
-        Ending::Lock => of_plain(commits::lock(
-            outside,
-            pending,
-            slots,
-            rows,
-            lows,
-            versions,
-            reads,
-            leaves,
-            writes,
-            c,
-            w,
-        )),
+        Ending::Lock => of_plain(commits::lock(leaves, slots, rows, reads, leafsets, writes, c, w)),
         Ending::Validate => of_validate(validates::validate(
-            outside,
-            pending,
+            leaves,
             slots,
             rows,
-            lows,
-            versions,
             reads,
-            leaves,
+            leafsets,
             writes,
             c,
             w,
         )),
         Ending::Install => of_plain(commits::install(
-            outside,
-            pending,
+            leaves,
             slots,
             rows,
-            lows,
-            versions,
             reads,
-            leaves,
+            leafsets,
             writes,
             c,
             w,
         )),
         Ending::Abort => of_plain(commits::abort(
-            outside,
-            pending,
+            leaves,
             slots,
             rows,
-            lows,
-            versions,
             reads,
-            leaves,
+            leafsets,
             writes,
             c,
             w,
@@ -309,20 +281,20 @@ fn take_ending(
 pub fn perform(
     addresses: &mut [u32],
     values: &mut [u64],
-    rows: &mut [u64; 3072],
-    lows: &mut [u64; 1025],
-    versions: &mut [u64; 1025],
-    outside: &mut [u64; 1025],
-    pending: &mut [u64; 1025],
-    slots: &mut [u64; 1536],
-    reads: &mut [u64; 2048],
-    leaves: &mut [u64; 512],
-    writes: &mut [u64; 384],
+    rows: &mut Records,
+    leaves: &mut Leaves,
+    slots: &mut Slots,
+    reads: &mut ReadSets,
+    leafsets: &mut LeafSets,
+    writes: &mut WriteSets,
     c: Core,
     op: Op,
 ) -> Performed
-    requires { ⌜ Ready (lent (now rows) (now lows) (now versions) (now outside) (now pending) (now slots)) (logs (now reads) (now leaves) (now writes)) c ⌝ }
-    ensures { λ r. ⌜ Performs (lent (now (rows .entry)) (now (lows .entry)) (now (versions .entry)) (now (outside .entry)) (now (pending .entry)) (now (slots .entry))) (logs (now (reads .entry)) (now (leaves .entry)) (now (writes .entry))) c op (now (addresses .entry)) (now (values .entry)) (lent (now (rows .exit)) (now (lows .exit)) (now (versions .exit)) (now (outside .exit)) (now (pending .exit)) (now (slots .exit))) (logs (now (reads .exit)) (now (leaves .exit)) (now (writes .exit))) (now (addresses .exit)) (now (values .exit)) r ⌝ }
+    requires { ⌜ Ready (lent (now rows) (now leaves) (now slots)) (logs (now reads) (now leafsets) (now writes)) c ⌝ }
+    ensures { λ r. ⌜ Performs (lent (now (rows .entry)) (now (leaves .entry)) (now (slots .entry)))
+        (logs (now (reads .entry)) (now (leafsets .entry)) (now (writes .entry))) c op (now (addresses .entry)) (now (values .entry))
+        (lent (now (rows .exit)) (now (leaves .exit)) (now (slots .exit))) (logs (now (reads .exit)) (now (leafsets .exit)) (now (writes .exit)))
+        (now (addresses .exit)) (now (values .exit)) r ⌝ }
 {
     match op {
         Op::Begin(w) => of_plain(begins::begin(c, w)),
@@ -330,41 +302,22 @@ pub fn perform(
             addresses,
             values,
             reads,
-            leaves,
+            leafsets,
             writes,
             rows,
-            lows,
-            versions,
-            outside,
-            pending,
+            leaves,
             slots,
             c,
             w,
             x,
         ),
-        Op::Ending(w, x) => take_ending(
-            outside,
-            pending,
-            slots,
-            rows,
-            lows,
-            versions,
-            reads,
-            leaves,
-            writes,
-            c,
-            w,
-            x,
-        ),
+        Op::Ending(w, x) => take_ending(leaves, slots, rows, reads, leafsets, writes, c, w, x),
         Op::Merge(a) => of_merge(merges::merge_at(
             rows,
-            lows,
-            versions,
-            outside,
-            pending,
+            leaves,
             slots,
             reads,
-            leaves,
+            leafsets,
             writes,
             c,
             a,

@@ -1,5 +1,4 @@
 -- The place of an address among the lows of the leaves, and one step of the search for it.
--- Assumes nothing.
 use Prim.Native.Nat.{ℕ, zero, suc, _+_, _-_, _<_, _≤_, zero-le, suc-le-suc}
 use native.Mathlib.Nat.{le-refl, not-suc-le-zero}
 use native.Mathlib.Omega.{arith}
@@ -10,6 +9,7 @@ use lib.ListN.{length, take, getD}
 use lib.Seq.{length-take-le, getD-take}
 use Rattle.lists.specs.Tests.{pick, both, less, atMost, cases, less-true, less-false, less-yes, less-no, atMost-true, atMost-false, atMost-yes, atMost-no}
 use Rattle.lists.specs.Ascending.{Ascends, ascends-at}
+use Rattle.index.specs.Views.{leafPlaces}
 use Rattle.index.specs.Nearing.{Took}
 
 -- how many of the lows, from the first one on, are not above a
@@ -25,7 +25,7 @@ lowPlace a (l ∷ ls) = upTo a ls
 -- Lows of m leaves: there is one at least, and room for all; they rise.
 pub record Listed (lows : List ℕ) (m : ℕ) : Type 0 where
   pub some : 1 ≤ m
-  pub room : m ≤ 1025
+  pub room : m ≤ leafPlaces
   pub rising : Ascends 0 (take m lows)
 
 -- p is the place of the leaf of a.
@@ -110,7 +110,7 @@ low-took lo ls a base step s f h =
     record { led = inr (low-short ls a base step b, omega arith) })
     (cases (less (base + step) (length ls)))
 
--- ---- on words
+-- ---- on all lows
 
 module _ (lows : List ℕ) (m a base step : ℕ) (fits : m ≤ length lows) where
   few : length (take m lows) ≡ m

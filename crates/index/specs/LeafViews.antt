@@ -1,5 +1,4 @@
--- The leaves that two arrays hold, in parts; the leaf at a place is the leaf of the address that was searched for.
--- Assumes nothing.
+-- The leaves of lows and versions, in parts; the leaf at a place is the leaf of the address that was searched for.
 use Prim.Native.Nat.{ℕ, zero, suc, _+_, _-_, _<_, _≤_}
 use native.Mathlib.Nat.{not-suc-le-zero}
 use native.Mathlib.Omega.{arith}
@@ -72,8 +71,8 @@ paired-lows (x ∷ xs) (u ∷ us) e = ap (λ (ls : List ℕ). x ∷ ls) (paired-
 
 -- ---- the leaf of an address
 
-lowsOf : List Leaf → List ℕ
-lowsOf ls = map (λ (l : Leaf). l .low) ls
+lowsIn : List Leaf → List ℕ
+lowsIn ls = map (λ (l : Leaf). l .low) ls
 
 -- the parts around the leaf of an address are those around its place
 pub record Parted (a : ℕ) (ls : List Leaf) (p : ℕ) : Type 0 where
@@ -86,22 +85,22 @@ record FromParted (a : ℕ) (l : Leaf) (ls : List Leaf) (p : ℕ) : Type 0 where
   own : aroundFrom a l ls .own ≡ getD (l ∷ ls) p firstLeaf
   after : aroundFrom a l ls .after ≡ drop (suc p) (l ∷ ls)
 
-from-parted : (a : ℕ) (l : Leaf) (ls : List Leaf) → FromParted a l ls (upTo a (lowsOf ls))
-unfolding aroundFrom upTo lowsOf
+from-parted : (a : ℕ) (l : Leaf) (ls : List Leaf) → FromParted a l ls (upTo a (lowsIn ls))
+unfolding aroundFrom upTo lowsIn
 from-parted a l [] = record { before = refl; own = refl; after = refl }
 from-parted a l (m ∷ ms) =
     ⊎-elim
     (λ e. record { before = rw e; own = rw e; after = rw e })
     (λ e.
-    let r : FromParted a m ms (upTo a (lowsOf ms)) = from-parted a m ms in
+    let r : FromParted a m ms (upTo a (lowsIn ms)) = from-parted a m ms in
     record { before = rw e (ap (λ (zs : List Leaf). l ∷ zs) (r .before)); own = rw e (r .own); after = rw e (r .after) })
     (cases (less a (m .low)))
 
 pub parted : (a : ℕ) (ls : List Leaf) (p : ℕ) → 1 ≤ length ls → p ≡ lowPlace a (map (λ (l : Leaf). l .low) ls) → Parted a ls p
-unfolding around lowPlace lowsOf
+unfolding around lowPlace lowsIn
 parted a [] p h e = absurd (not-suc-le-zero h)
 parted a (l ∷ ls) p h e =
-    let r : FromParted a l ls (upTo a (lowsOf ls)) = from-parted a l ls in
+    let r : FromParted a l ls (upTo a (lowsIn ls)) = from-parted a l ls in
     record {
       before = r .before ∙ ap (λ (i : ℕ). take i (l ∷ ls)) (sym e);
       own = r .own ∙ ap (λ (i : ℕ). getD (l ∷ ls) i firstLeaf) (sym e);

@@ -4,5 +4,7 @@ pub mod Nearing
 pub mod Searches
 pub mod RecordLaws
 pub mod LeafPlaces
+pub mod LeafColumns
 pub mod LeafViews
 pub mod Settles
+pub mod SettleRows

@@ -1,5 +1,4 @@
 -- One step of the search among records and among leaves: tried, and taken if the place is not passed by it.
--- Assumes nothing.
 use Prim.Native.Nat.{ℕ, _+_, _-_, _<_, _≤_}
 use native.Mathlib.Omega.{arith}
 use mathlib.Core.Path.{_≡_, sym, ap, _∙_}
@@ -10,8 +9,8 @@ use Rattle.lists.specs.Tests.{pick, both, less, atMost, cases, less-true, less-
 use Rattle.lists.specs.Rows.{Row, Rising}
 use Rattle.lists.specs.Places.{place, place-most, place-below, place-above}
 use Rattle.spec.specs.Records.{Record}
-use Rattle.index.specs.Views.{noRow, rowsOf, recordsOf}
-use Rattle.index.specs.ViewLaws.{length-records, record-read}
+use Rattle.index.specs.Views.{recordPlaces, RecordRows, noRow, rowAt, recordsOf}
+use Rattle.index.specs.ViewLaws.{length-records, record-at}
 use Rattle.index.specs.Nearing.{Took}
 
 -- a step over records with smaller keys is taken
@@ -51,30 +50,30 @@ probe-took rs k base step f h =
     record { led = inr (probe-short rs k base step b, omega arith) })
     (cases (atMost (base + step) (length rs)))
 
--- ---- on words
+-- ---- on the lent rows
 
-module _ (ws : List ℕ) (n k base step : ℕ) (room : n ≤ 1024) (some : 0 < step) where
-  key-read : base + step ≤ n → getD (recordsOf ws n) (base + step - 1) noRow .key ≡ getD (rowsOf ws) (base + step - 1) noRow .key
-  key-read h = ap (λ (r : Row Record). r .key) (record-read ws n (base + step - 1) (omega arith))
+module _ (rows : RecordRows) (n k base step : ℕ) (room : n ≤ recordPlaces) (some : 0 < step) where
+  key-read : base + step ≤ n → getD (recordsOf rows n) (base + step - 1) noRow .key ≡ rowAt rows (base + step - 1) .key
+  key-read h = ap (λ (r : Row Record). r .key) (record-at rows n (base + step - 1) room (omega arith))
 
-  pub step-taken : (r : Row Record) → base + step ≤ n → r ≡ getD (rowsOf ws) (base + step - 1) noRow → r .key < k
-      → base + step ≡ probed (recordsOf ws n) k base step
+  pub step-taken : (r : Row Record) → base + step ≤ n → r ≡ rowAt rows (base + step - 1) → r .key < k
+      → base + step ≡ probed (recordsOf rows n) k base step
   step-taken r h e l =
-      let q : getD (recordsOf ws n) (base + step - 1) noRow .key ≡ r .key = key-read h ∙ sym (ap (λ (x : Row Record). x .key) e) in
-      let m : length (recordsOf ws n) ≡ n = length-records ws n room in
-      sym (probe-taken (recordsOf ws n) k base step (omega arith) (omega arith))
+      let q : getD (recordsOf rows n) (base + step - 1) noRow .key ≡ r .key = key-read h ∙ sym (ap (λ (x : Row Record). x .key) e) in
+      let m : length (recordsOf rows n) ≡ n = length-records rows n room in
+      sym (probe-taken (recordsOf rows n) k base step (omega arith) (omega arith))
 
-  pub step-short : n < base + step → base ≡ probed (recordsOf ws n) k base step
+  pub step-short : n < base + step → base ≡ probed (recordsOf rows n) k base step
   step-short h =
-      let m : length (recordsOf ws n) ≡ n = length-records ws n room in
-      sym (probe-short (recordsOf ws n) k base step (omega arith))
+      let m : length (recordsOf rows n) ≡ n = length-records rows n room in
+      sym (probe-short (recordsOf rows n) k base step (omega arith))
 
   -- the row is read whether it holds a record or not
-  pub step-passed : (r : Row Record) → r ≡ getD (rowsOf ws) (base + step - 1) noRow → k ≤ r .key → base ≡ probed (recordsOf ws n) k base step
+  pub step-passed : (r : Row Record) → r ≡ rowAt rows (base + step - 1) → k ≤ r .key → base ≡ probed (recordsOf rows n) k base step
   step-passed r e l = ⊎-elim (λ d. here (atMost-true (base + step) n d)) (λ d. step-short (atMost-false (base + step) n d)) (cases (atMost (base + step) n))
     where
-      here : base + step ≤ n → base ≡ probed (recordsOf ws n) k base step
+      here : base + step ≤ n → base ≡ probed (recordsOf rows n) k base step
       here h =
-          let q : getD (recordsOf ws n) (base + step - 1) noRow .key ≡ r .key = key-read h ∙ sym (ap (λ (x : Row Record). x .key) e) in
-          let m : length (recordsOf ws n) ≡ n = length-records ws n room in
-          sym (probe-passed (recordsOf ws n) k base step (omega arith) (omega arith))
+          let q : getD (recordsOf rows n) (base + step - 1) noRow .key ≡ r .key = key-read h ∙ sym (ap (λ (x : Row Record). x .key) e) in
+          let m : length (recordsOf rows n) ≡ n = length-records rows n room in
+          sym (probe-passed (recordsOf rows n) k base step (omega arith) (omega arith))

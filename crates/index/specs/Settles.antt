@@ -1,5 +1,4 @@
--- The leaves after a merge, as the arrays have them: a leaf kept, cut into runs, or joined to its left neighbour.
--- Assumes nothing.
+-- The lows and the versions of the leaves after a merge: a leaf kept, cut into runs, or joined to its left neighbour.
 use Prim.Native.Nat.{ℕ, suc, _+_, _*_, _-_, _/_, _^_, _<_, _≤_}
 use native.Mathlib.Nat.{not-suc-le-zero}
 use native.Mathlib.Omega.{arith}
@@ -7,13 +6,13 @@ use mathlib.Core.Path.{_≡_, refl, sym, ap, _∙_}
 use mathlib.Core.Logic.{_⊎_, inl, inr, ⊎-elim}
 use mathlib.Core.List.{List, [], _∷_, _++_, append-assoc}
 use lib.ListN.{length, take, drop, getD, set, length-drop, length-set}
-use lib.Seq.{length-take-le, take-suc, set-split, split-at, set-append-left, take-set-lt}
+use lib.Seq.{length-take-le, getD-take, set-split, split-at, set-append-left, take-set-lt}
 use Rattle.lists.specs.Shifts.{tab, tabFrom, tab-cons, tab-same, length-tab, over, moved, spread, taken-out}
 use Rattle.spec.specs.Records.{Settings, standard}
 use Rattle.spec.specs.Leaves.{Leaf, around, freshLeaves, newLows, widened, settled, settle, versionsTaken}
 use Rattle.laws.specs.LeafCuts.{taken-some}
 use Rattle.laws.specs.StandardCuts.{whole-lows, whole-taken, cut-lows, cut-taken}
-use Rattle.index.specs.Views.{noRow, rowsOf, keysBetween, paired, leavesOf}
+use Rattle.index.specs.Views.{recordPlaces, leafPlaces, RecordRows, rowAt, keysBetween, paired, leavesOf}
 use Rattle.index.specs.ViewLaws.{length-between, between-read}
 use Rattle.index.specs.LeafPlaces.{AtLeaf, lowPlace}
 use Rattle.index.specs.LeafViews.{leaf, paired-append, paired-take, paired-drop, paired-length, paired-getD, paired-lows, Parted, parted}
@@ -116,20 +115,20 @@ module _ (v a p : ℕ) (L W ks : List ℕ) (e : length L ≡ length W) (h : p < 
       ∙ ap (λ (zs : List Leaf). settled standard v (around a (paired L W) .before) (around a (paired L W) .own) ks ++ zs)
       (sym (here .after ∙ paired-drop (suc p) L W))
 
--- ---- on the arrays
+-- ---- on all lows and versions
 
 -- the low of run x + 1 of the rows from row i on
-abbrev pub runLow : List ℕ → ℕ → ℕ → ℕ
-runLow ws i x = getD (rowsOf ws) (i + (x + 1) * 8) noRow .key
+abbrev pub runLow : RecordRows → ℕ → ℕ → ℕ
+runLow rows i x = rowAt rows (i + (x + 1) * standard .run) .key
 
--- What settling the leaf at place p, left with the addresses `ks`, leaves in the arrays, whatever address it is for.
+-- What settling the leaf at place p, left with the addresses `ks`, leaves of them, whatever address it is for.
 pub record SettledAs (lows versions : List ℕ) (m p v : ℕ) (ks lows' versions' : List ℕ) (m' v' : ℕ) : Type 0 where
   pub leaves : (a : ℕ) → AtLeaf lows m a p → leavesOf lows' versions' m' ≡ settle standard v (leavesOf lows versions m) a ks
   pub version : v' ≡ v + versionsTaken standard ks
   pub some : 1 ≤ m'
-  pub room : m' ≤ 1025
+  pub room : m' ≤ leafPlaces
 
-module _ (lows versions : List ℕ) (m p v : ℕ) (ks : List ℕ) (al : length lows ≡ 1025) (av : length versions ≡ 1025) (mr : m ≤ 1025) (h : p < m) where
+module _ (lows versions : List ℕ) (m p v : ℕ) (ks : List ℕ) (al : length lows ≡ leafPlaces) (av : length versions ≡ leafPlaces) (mr : m ≤ leafPlaces) (h : p < m) where
   L : List ℕ
   L = take m lows
 
@@ -167,15 +166,15 @@ module _ (lows versions : List ℕ) (m p v : ℕ) (ks : List ℕ) (al : length l
   unfolding tab tabFrom
   one-fresh = let e : v + 1 + 0 ≡ v + 1 = omega arith in ap (λ (n : ℕ). n ∷ []) e
 
-  -- kept: up to 16 addresses, and not joined
-  pub kept : (versions' : List ℕ) → (p ≡ 0) ⊎ (1 ≤ length ks) → length ks ≤ 16 → versions' ≡ set versions p (v + 1)
-      → SettledAs lows versions m p v ks lows versions' m (v + 1)
+  -- kept: not too many addresses, and not joined
+  pub kept : (lows' versions' : List ℕ) → (p ≡ 0) ⊎ (1 ≤ length ks) → length ks ≤ standard .leafLimit → lows' ≡ lows → versions' ≡ set versions p (v + 1)
+      → SettledAs lows versions m p v ks lows' versions' m (v + 1)
   unfolding L W
-  kept versions' c k e =
+  kept lows' versions' c k d e =
       record {
         leaves =
-            replaced (getD L p 0 ∷ []) lows versions' m c (whole-lows (getD L p 0) ks k)
-            (split-at L p 0 inL)
+            replaced (getD L p 0 ∷ []) lows' versions' m c (whole-lows (getD L p 0) ks k)
+            (ap (take m) d ∙ split-at L p 0 inL)
             (ap (take m) e ∙ take-set-lt m versions p (v + 1) h ∙ set-split W p (v + 1) inW
             ∙ ap (λ (zs : List ℕ). take p W ++ (zs ++ drop (suc p) W)) (sym one-fresh));
         version = ap (λ (n : ℕ). v + n) (sym (whole-taken ks k));
@@ -203,32 +202,28 @@ module _ (lows versions : List ℕ) (m p v : ℕ) (ks : List ℕ) (al : length l
       }
 
   -- cut into t runs
-  pub cut : (ws : List ℕ) (i j t : ℕ) (lows' versions' : List ℕ) → ks ≡ keysBetween ws i j → i ≤ j → j ≤ 1024 → 17 ≤ j - i → t ≡ (j - i) / 8 → m + t ≤ 1026
-      → lows' ≡ over (moved lows (p + 1) (p + t) (m - p - 1)) (p + 1) (tab (runLow ws i) (t - 1))
+  pub cut : (rows : RecordRows) (i j t : ℕ) (lows' versions' : List ℕ) → ks ≡ keysBetween rows i j → i ≤ j → j ≤ recordPlaces → standard .leafLimit < j - i → t ≡ (j - i) / standard .run → m + t ≤ leafPlaces + 1
+      → lows' ≡ over (moved lows (p + 1) (p + t) (m - p - 1)) p (getD lows p 0 ∷ tab (runLow rows i) (t - 1))
       → versions' ≡ over (moved versions (p + 1) (p + t) (m - p - 1)) p (tab (fresh v) t)
       → SettledAs lows versions m p v ks lows' versions' (m + t - 1) (v + t)
   unfolding L W
-  cut ws i j t lows' versions' k b r c q l e f =
-      let n : length ks ≡ j - i = ap length k ∙ length-between ws i j b r in
-      let N : List ℕ = tab (runLow ws i) (t - 1) in
-      let ln : length N ≡ t - 1 = length-tab (runLow ws i) (t - 1) in
+  cut rows i j t lows' versions' k b r c q l e f =
+      let n : length ks ≡ j - i = ap length k ∙ length-between rows i j b r in
+      let N : List ℕ = tab (runLow rows i) (t - 1) in
+      let ln : length N ≡ t - 1 = length-tab (runLow rows i) (t - 1) in
       let lt : length (tab (fresh v) t) ≡ t = length-tab (fresh v) t in
-      let s : p + 1 ≡ suc p = omega arith in
       let z : length (getD L p 0 ∷ N) ≡ t = omega arith in
-      let d : length ks / 8 ≡ t = ap (λ (y : ℕ). y / 8) n ∙ sym q in
+      let d : length ks / standard .run ≡ t = ap (λ (y : ℕ). y / standard .run) n ∙ sym q in
       record {
         leaves =
             replaced (getD L p 0 ∷ N) lows' versions' (m + t - 1) (inr (omega arith))
             (cut-lows (getD L p 0) ks (omega arith)
-            ∙ ap (λ (y : ℕ). getD L p 0 ∷ tab (λ (x : ℕ). getD ks ((x + 1) * 8) 0) (y - 1)) d
+            ∙ ap (λ (y : ℕ). getD L p 0 ∷ tab (λ (x : ℕ). getD ks ((x + 1) * standard .run) 0) (y - 1)) d
             ∙ ap (λ (zs : List ℕ). getD L p 0 ∷ zs)
-            (tab-same (λ (x : ℕ). getD ks ((x + 1) * 8) 0) (runLow ws i) (t - 1)
-            (λ x w. ap (λ (zs : List ℕ). getD zs ((x + 1) * 8) 0) k ∙ between-read ws i j ((x + 1) * 8) (omega arith))))
-            (ap (take (m + t - 1)) e
-            ∙ spread lows m p t (p + 1) N h (omega arith) (omega arith) (omega arith) (omega arith)
-            ∙ ap (λ (y : ℕ). take y L ++ (N ++ drop (suc p) L)) s
-            ∙ ap (λ (zs : List ℕ). zs ++ (N ++ drop (suc p) L)) (take-suc L p 0 inL)
-            ∙ append-assoc (take p L) (getD L p 0 ∷ []) (N ++ drop (suc p) L))
+            (tab-same (λ (x : ℕ). getD ks ((x + 1) * standard .run) 0) (runLow rows i) (t - 1)
+            (λ x w. ap (λ (zs : List ℕ). getD zs ((x + 1) * standard .run) 0) k ∙ between-read rows i j ((x + 1) * standard .run) r (omega arith))))
+            (ap (take (m + t - 1)) (e ∙ ap (λ (y : ℕ). over (moved lows (p + 1) (p + t) (m - p - 1)) p (y ∷ N)) (sym (getD-take m lows p 0 h)))
+            ∙ spread lows m p t p (getD L p 0 ∷ N) h (omega arith) (omega arith) (omega arith) (omega arith))
             (ap (take (m + t - 1)) f
             ∙ spread versions m p t p (tab (fresh v) t) h (omega arith) (omega arith) (omega arith) (omega arith)
             ∙ ap (λ (y : ℕ). take p W ++ (tab (fresh v) y ++ drop (suc p) W)) (sym z));
@@ -240,10 +235,10 @@ module _ (lows versions : List ℕ) (m p v : ℕ) (ks : List ℕ) (al : length l
 -- What settling asks: the leaf is there, its rows are rows of the index, and there is room for the leaves and versions.
 pub record Settling (m p i j v : ℕ) (ks : List ℕ) : Type 0 where
   pub leaf-in : p < m
-  pub leaves-in : m ≤ 1025
+  pub leaves-in : m ≤ leafPlaces
   pub from-to : i ≤ j
-  pub rows-in : j ≤ 1024
-  pub room : m + versionsTaken standard ks ≤ 1026
+  pub rows-in : j ≤ recordPlaces
+  pub room : m + versionsTaken standard ks ≤ leafPlaces + 1
   pub next : v + versionsTaken standard ks < 2 ^ 64
 
 pub settling-next : {m p i j v : ℕ} {ks : List ℕ} → Settling m p i j v ks → v + 1 < 2 ^ 64
@@ -252,10 +247,10 @@ settling-next {m} {p} {i} {j} {v} {ks} s =
     let n : v + versionsTaken standard ks < 2 ^ 64 = s .next in
     omega arith
 
-pub settling-cut : {m p i j v : ℕ} (ws : List ℕ) → Settling m p i j v (keysBetween ws i j) → 17 ≤ j - i → (m + (j - i) / 8 ≤ 1026) × (v + (j - i) / 8 < 2 ^ 64)
-settling-cut {m} {p} {i} {j} {v} ws s h =
-    let l : length (keysBetween ws i j) ≡ j - i = length-between ws i j (s .from-to) (s .rows-in) in
-    let t : versionsTaken standard (keysBetween ws i j) ≡ (j - i) / 8 = cut-taken (keysBetween ws i j) (omega arith) ∙ ap (λ (n : ℕ). n / 8) l in
-    let r : m + versionsTaken standard (keysBetween ws i j) ≤ 1026 = s .room in
-    let n : v + versionsTaken standard (keysBetween ws i j) < 2 ^ 64 = s .next in
+pub settling-cut : {m p i j v : ℕ} (rows : RecordRows) → Settling m p i j v (keysBetween rows i j) → standard .leafLimit < j - i → (m + (j - i) / standard .run ≤ leafPlaces + 1) × (v + (j - i) / standard .run < 2 ^ 64)
+settling-cut {m} {p} {i} {j} {v} rows s h =
+    let l : length (keysBetween rows i j) ≡ j - i = length-between rows i j (s .from-to) (s .rows-in) in
+    let t : versionsTaken standard (keysBetween rows i j) ≡ (j - i) / standard .run = cut-taken (keysBetween rows i j) (omega arith) ∙ ap (λ (n : ℕ). n / standard .run) l in
+    let r : m + versionsTaken standard (keysBetween rows i j) ≤ leafPlaces + 1 = s .room in
+    let n : v + versionsTaken standard (keysBetween rows i j) < 2 ^ 64 = s .next in
     (omega arith, omega arith)

@@ -1,11 +1,26 @@
-// The index: sorted records, cut into leaves, in arrays that the caller lends.
+// The index: sorted records, cut into leaves, in arrays of rows that the caller lends.
 //
-// `rows` reads and writes the records' words, and nothing else touches them; `records` looks up, puts and drops;
-// `leaves` finds the leaf of an address and settles leaves after a merge; `shifts` moves words within an array.
+// `rows` reads and writes the records' words, and nothing else touches them; `records` looks up, puts and drops. `leaves`
+// reads and writes the leaves' words, and nothing else touches them, moves leaves, and finds the leaf of an address;
+// `settles` settles leaves after a merge.
+use spec::MAP_LIMIT;
+
 pub mod leaves;
 pub mod records;
 pub mod rows;
-pub mod shifts;
+pub mod settles;
 
-// An address of the map. Rows and leaves hold 64-bit words.
-pub type Address = u32;
+// How many words a record has: its address, its value, its commit number.
+pub const RECORD_WORDS: usize = 3;
+
+// The records, a row each.
+pub type Records = [[u64; RECORD_WORDS]; MAP_LIMIT];
+
+// How many leaves there is room for: the first, and one for each record.
+pub const LEAVES: usize = MAP_LIMIT + 1;
+
+// How many words a leaf has: its low, its version, two numbers of the phantomlet.
+pub const LEAF_WORDS: usize = 4;
+
+// The leaves, a row each.
+pub type Leaves = [[u64; LEAF_WORDS]; LEAVES];

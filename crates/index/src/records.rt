@@ -1,14 +1,16 @@
 // The records: look-up, put and drop by address.
-use crate::Address;
+use crate::Records;
 use crate::rows;
 use crate::rows::RecordRow;
+use spec::Address;
+use spec::MAP_LIMIT;
 ghost use mathlib.Core.Path.{_≡_};
 ghost use mathlib.Core.Option.{none, some};
 ghost use Prim.Native.Nat.{_+_, _<_, _≤_};
 ghost use mathlib.Core.List.{_∷_, _++_};
-ghost use lib.ListN.{length, getD, take, drop};
+ghost use lib.ListN.{length, take, drop};
 ghost use Rattle.lists.specs.Rows.{look, assign};
-ghost use Rattle.index.specs.Views.{Held, Holds, recordsOf, recordFrom, rowOf, noRow, foundOf, AtPlace};
+ghost use Rattle.index.specs.Views.{recordPlaces, Held, Holds, recordsOf, recordFrom, rowOf, foundOf, AtPlace};
 ghost use Rattle.index.specs.Searches.{probed};
 
 // What a look-up finds.
@@ -19,9 +21,9 @@ pub enum Found {
 
 // One step of the search: past `step` more records, if they are there and have smaller addresses. The row is read
 // first, whether it holds a record or not, so that no branch depends on what it holds.
-fn probe(rows: &[u64; 3072], n: usize, key: u64, base: usize, step: usize) -> usize
-    requires { ⌜ n ≤ 1024 ⌝ }
-    requires { ⌜ (0 < step) × (base + step ≤ 1024) ⌝ }
+fn probe(rows: &Records, n: usize, key: u64, base: usize, step: usize) -> usize
+    requires { ⌜ n ≤ recordPlaces ⌝ }
+    requires { ⌜ (0 < step) × (base + step ≤ recordPlaces) ⌝ }
     ensures { λ r. ⌜ r ≡ probed (recordsOf (now (rows .entry)) n) key base step ⌝ }
 {
     let end = base + step;
@@ -35,18 +37,18 @@ fn probe(rows: &[u64; 3072], n: usize, key: u64, base: usize, step: usize) -> us
 }
 
 // How many records have a smaller address: the place of the address, or where it would go. The end of a full index is
-// tried first; the other places are below 1,024, and the steps that find them are the same for every count.
-pub fn locate(rows: &[u64; 3072], n: usize, a: Address) -> usize
+// tried first; the steps that find the other places are the same for every count.
+pub fn locate(rows: &Records, n: usize, a: Address) -> usize
     requires { ⌜ Held (now rows) n ⌝ }
     ensures { λ r. ⌜ AtPlace (now (rows .entry)) n a r ⌝ }
 {
     let key = a as u64;
-    let end = probe(rows, n, key, 0, 1024);
+    let end = probe(rows, n, key, 0, MAP_LIMIT);
     if 0 < end {
         return end;
     }
     let mut base = 0;
-    let mut step = 512;
+    let mut step = MAP_LIMIT / 2;
     while 0 < step {
         base = probe(rows, n, key, base, step);
         step = step / 2;
@@ -55,7 +57,7 @@ pub fn locate(rows: &[u64; 3072], n: usize, a: Address) -> usize
 }
 
 // The record at an address.
-pub fn find(rows: &[u64; 3072], n: usize, a: Address) -> Found
+pub fn find(rows: &Records, n: usize, a: Address) -> Found
     requires { ⌜ Held (now rows) n ⌝ }
     ensures { λ r. ⌜ foundOf r ≡ look (recordsOf (now (rows .entry)) n) a ⌝ }
 {
@@ -74,21 +76,23 @@ pub fn find(rows: &[u64; 3072], n: usize, a: Address) -> Found
 }
 
 // Puts a row in at place p, before the records that stand there and after it. Answers how many records there are now.
-fn insert(rows: &mut [u64; 3072], n: usize, p: usize, r: RecordRow) -> usize
-    requires { ⌜ (p ≤ n) × (n < 1024) ⌝ }
+fn insert(rows: &mut Records, n: usize, p: usize, r: RecordRow) -> usize
+    requires { ⌜ (p ≤ n) × (n < recordPlaces) ⌝ }
     ensures { λ m. ⌜ (m ≡ n + 1) × (recordsOf (now (rows .exit)) (n + 1) ≡ take p (recordsOf (now (rows .entry)) n) ++ (rowOf r ∷ drop p (recordsOf (now (rows .entry)) n))) ⌝ }
 {
+    rows::record_places(rows);
     rows::raise(rows, p, p + 1, n - p);
     rows::store(rows, p, r);
     n + 1
 }
 
 // Puts a record at an address, in place of one that stands there. Answers how many records there are now.
-pub fn put(rows: &mut [u64; 3072], n: usize, a: Address, value: u64, commit: u64) -> usize
+pub fn put(rows: &mut Records, n: usize, a: Address, value: u64, commit: u64) -> usize
     requires { ⌜ Held (now rows) n ⌝ }
-    requires { ⌜ length (assign a (some (recordFrom value commit)) (recordsOf (now rows) n)) ≤ 1024 ⌝ }
+    requires { ⌜ length (assign a (some (recordFrom value commit)) (recordsOf (now rows) n)) ≤ recordPlaces ⌝ }
     ensures { λ r. ⌜ Holds (now (rows .exit)) r (assign a (some (recordFrom value commit)) (recordsOf (now (rows .entry)) n)) ⌝ }
 {
+    rows::record_places(rows);
     let p = locate(rows, n, a);
     let row = RecordRow {
         address: a as u64,
@@ -107,10 +111,11 @@ pub fn put(rows: &mut [u64; 3072], n: usize, a: Address, value: u64, commit: u64
 }
 
 // Drops the record at an address, if there is one. Answers how many records there are now.
-pub fn drop(rows: &mut [u64; 3072], n: usize, a: Address) -> usize
+pub fn drop(rows: &mut Records, n: usize, a: Address) -> usize
     requires { ⌜ Held (now rows) n ⌝ }
     ensures { λ r. ⌜ Holds (now (rows .exit)) r (assign a none (recordsOf (now (rows .entry)) n)) ⌝ }
 {
+    rows::record_places(rows);
     let p = locate(rows, n, a);
     if n <= p {
         return n;

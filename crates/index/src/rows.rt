@@ -1,9 +1,11 @@
-// Rows of three words: all that touches the words of records.
+// Rows of words: all that touches the words of records.
+use crate::RECORD_WORDS;
+use crate::Records;
 ghost use mathlib.Core.Path.{_≡_};
 ghost use Prim.Native.Nat.{_+_, _<_, _≤_};
-ghost use lib.ListN.{length, getD, set};
+ghost use lib.ListN.{length};
 ghost use Rattle.lists.specs.Shifts.{moved};
-ghost use Rattle.index.specs.Views.{rowOf, rowsOf, noRow};
+ghost use Rattle.index.specs.Views.{recordPlaces, rowOf, rowAt, stored};
 
 // A record in words.
 pub struct RecordRow {
@@ -12,67 +14,67 @@ pub struct RecordRow {
     pub commit: u64,
 }
 
-// An array has as many words as its type says.
-fn count(words: &[u64]) -> usize
-    ensures { λ r. ⌜ r ≡ length (now (words .entry)) ⌝ }
+// An array has as many rows as its type says.
+fn count(rows: &[[u64; RECORD_WORDS]]) -> usize
+    ensures { λ r. ⌜ r ≡ length (now (rows .entry)) ⌝ }
 {
-    words.len()
+    rows.len()
 }
 
-pub fn all(rows: &[u64; 3072])
-    ensures { λ _. ⌜ length (now (rows .entry)) ≡ 3072 ⌝ }
+pub fn record_places(rows: &Records)
+    ensures { λ _. ⌜ length (now (rows .entry)) ≡ recordPlaces ⌝ }
 {
     count(rows);
 }
 
 // Row i.
-pub fn get(rows: &[u64; 3072], i: usize) -> RecordRow
-    requires { ⌜ i < 1024 ⌝ }
-    ensures { λ r. ⌜ rowOf r ≡ getD (rowsOf (now (rows .entry))) i noRow ⌝ }
+pub fn get(rows: &Records, i: usize) -> RecordRow
+    requires { ⌜ i < recordPlaces ⌝ }
+    ensures { λ r. ⌜ rowOf r ≡ rowAt (now (rows .entry)) i ⌝ }
 {
     RecordRow {
-        address: rows[i * 3],
-        value: rows[i * 3 + 1],
-        commit: rows[i * 3 + 2],
+        address: rows[i][0],
+        value: rows[i][1],
+        commit: rows[i][2],
     }
 }
 
 // Writes row i.
-pub fn store(rows: &mut [u64; 3072], i: usize, r: RecordRow)
-    requires { ⌜ i < 1024 ⌝ }
-    ensures { λ _. ⌜ rowsOf (now (rows .exit)) ≡ set (rowsOf (now (rows .entry))) i (rowOf r) ⌝ }
+pub fn store(rows: &mut Records, i: usize, r: RecordRow)
+    requires { ⌜ i < recordPlaces ⌝ }
+    ensures { λ _. ⌜ now (rows .exit) ≡ stored (now (rows .entry)) i r ⌝ }
 {
-    all(rows);
-    rows[i * 3] = r.address;
-    rows[i * 3 + 1] = r.value;
-    rows[i * 3 + 2] = r.commit;
+    let row = [r.address, r.value, r.commit];
+    rows[i] = row;
 }
 
 // Copies n rows from row `from` on to the higher row `to`: the last one first, so that none is overwritten before it is
 // copied.
-pub fn raise(rows: &mut [u64; 3072], from: usize, to: usize, n: usize)
+pub fn raise(rows: &mut Records, from: usize, to: usize, n: usize)
     requires { ⌜ from ≤ to ⌝ }
-    requires { ⌜ to + n ≤ 1024 ⌝ }
-    ensures { λ _. ⌜ rowsOf (now (rows .exit)) ≡ moved (rowsOf (now (rows .entry))) from to n ⌝ }
+    requires { ⌜ to + n ≤ recordPlaces ⌝ }
+    ensures { λ _. ⌜ now (rows .exit) ≡ moved (now (rows .entry)) from to n ⌝ }
 {
+    record_places(rows);
     let mut i = n;
     while 0 < i {
         i -= 1;
-        let r = get(rows, from + i);
-        store(rows, to + i, r);
+        let row = rows[from + i];
+        rows[to + i] = row;
     }
 }
 
 // Copies n rows from row `from` on to the lower row `to`: the first one first.
-pub fn lower(rows: &mut [u64; 3072], from: usize, to: usize, n: usize)
+pub fn lower(rows: &mut Records, from: usize, to: usize, n: usize)
     requires { ⌜ to ≤ from ⌝ }
-    requires { ⌜ from + n ≤ 1024 ⌝ }
-    ensures { λ _. ⌜ rowsOf (now (rows .exit)) ≡ moved (rowsOf (now (rows .entry))) from to n ⌝ }
+    requires { ⌜ from + n ≤ recordPlaces ⌝ }
+    ensures { λ _. ⌜ now (rows .exit) ≡ moved (now (rows .entry)) from to n ⌝ }
 {
+    record_places(rows);
     let mut i = 0;
     while i < n {
-        let r = get(rows, from + i);
-        store(rows, to + i, r);
+        let row = rows[from + i];
+        rows[to + i] = row;
         i += 1;
     }
 }

@@ -4,7 +4,7 @@ use Prim.Native.Nat.{ℕ, _+_, _*_, _-_, _^_, _<_, _≤_}
 use native.Mathlib.Omega.{arith}
 use mathlib.Core.Path.{_≡_, refl, sym, ap, _∙_, subst}
 use mathlib.Core.Bool.{Bool, true, false}
-use mathlib.Core.List.{List}
+use mathlib.Core.List.{List, []}
 use mathlib.Core.Option.{Option, none, some}
 use lib.ListN.{length, getD, set, replicate, length-replicate, getD-replicate}
 use lib.Seq.{ext-getD}
@@ -18,7 +18,7 @@ use Rattle.laws.specs.Searches.{search-finds}
 use Rattle.indexlet.specs.declared.Content.{Content as ContentWords}
 use Rattle.indexlet.specs.declared.Slot.{Slot as SlotWords}
 use Rattle.indexlet.specs.declared.Sought.{Sought}
-use Rattle.indexlet.specs.Words.{wordCount, pendingIn, holderIn, contentIn, slotIn, rowAt, store, slotsOf}
+use Rattle.indexlet.specs.Words.{SlotRows, slotWords, pendingIn, holderIn, contentIn, slotIn, rowIn, rowAt, store, slotsOf}
 use Rattle.indexlet.specs.WordLaws.{length-slots, slots-at, slots-store, idle-zero}
 use Rattle.indexlet.specs.Held.{Sized, Held, Becomes, Fresh, Reads, lookedIn, Looks, Enters, sought}
 use Rattle.indexlet.specs.SeekLaws.{Ends, search-ends, sought-present, sought-absent, sought-holds}
@@ -26,7 +26,7 @@ use Rattle.indexlet.specs.WalkLaws.{sized-store}
 
 -- ---- reading
 
-pub reads-row : (ws : List ℕ) (i : ℕ) (s : SlotWords) → Held ws → i < slotCount → s ≡ rowAt ws i → Reads ws i s
+pub reads-row : (ws : SlotRows) (i : ℕ) (s : SlotWords) → Held ws → i < slotCount → s ≡ rowAt ws i → Reads ws i s
 reads-row ws i s z h e =
     record {
       slot = ap slotIn e ∙ sym (slots-at ws i h);
@@ -38,7 +38,7 @@ unfolding slotIn
 entry-slot s = refl
 
 -- the search ended at the entry
-pub look-hit : (ws : List ℕ) (a : ℕ) (r : Sought) (s : SlotWords) → Held ws → r ≡ sought (slotsOf ws) a → r .at < slotCount → s ≡ rowAt ws (r .at)
+pub look-hit : (ws : SlotRows) (a : ℕ) (r : Sought) (s : SlotWords) → Held ws → r ≡ sought (slotsOf ws) a → r .at < slotCount → s ≡ rowAt ws (r .at)
     → Looks ws a (record { content = s .content; examined = r .examined })
 unfolding lookedIn
 look-hit ws a r s z e b g =
@@ -69,7 +69,7 @@ look-hit ws a r s z e b g =
         }
 
 -- it ended with nothing
-pub look-miss : (ws : List ℕ) (a : ℕ) (r : Sought) → Held ws → r ≡ sought (slotsOf ws) a → slotCount ≤ r .at
+pub look-miss : (ws : SlotRows) (a : ℕ) (r : Sought) → Held ws → r ≡ sought (slotsOf ws) a → slotCount ≤ r .at
     → Looks ws a (record { content = record { kind = 0; value = 0; commit = 0; lock = 0 }; examined = r .examined })
 unfolding lookedIn contentIn pendingIn holderIn
 look-miss ws a r z e b =
@@ -90,9 +90,9 @@ look-miss ws a r z e b =
 
 -- ---- entering
 
-module _ (ws : List ℕ) (n a : ℕ) (c : ContentWords) (z : Held ws) (q : n ≡ length (entries (slotsOf ws))) (room : Room (slotsOf ws) a (contentIn c)) where
+module _ (ws : SlotRows) (n a : ℕ) (c : ContentWords) (z : Held ws) (q : n ≡ length (entries (slotsOf ws))) (room : Room (slotsOf ws) a (contentIn c)) where
   -- the words hold the slots that `enter` leaves, and the number of entries follows
-  enters : (us : List ℕ) (m : ℕ) → Becomes us (enter 4 (slotsOf ws) a (contentIn c)) → m ≡ length (entries (enter 4 (slotsOf ws) a (contentIn c)))
+  enters : (us : SlotRows) (m : ℕ) → Becomes us (enter 4 (slotsOf ws) a (contentIn c)) → m ≡ length (entries (enter 4 (slotsOf ws) a (contentIn c)))
       → Enters ws a c us m
   enters us m b e =
       record {
@@ -118,7 +118,7 @@ module _ (ws : List ℕ) (n a : ℕ) (c : ContentWords) (z : Held ws) (q : n ≡
 
   module _ (r : Sought) (e : r ≡ sought (slotsOf ws) a) where
     -- an entry that goes
-    pub enter-out : isIdle (contentIn c) ≡ true → r .at < slotCount → (us : List ℕ) → Becomes us (release 4 (slotsOf ws) a) → Enters ws a c us (n - 1)
+    pub enter-out : isIdle (contentIn c) ≡ true → r .at < slotCount → (us : SlotRows) → Becomes us (release 4 (slotsOf ws) a) → Enters ws a c us (n - 1)
     enter-out t b us u =
         enters us (n - 1) (subst (Becomes us) (sym (enter-idle 4 (slotsOf ws) a (contentIn c) t)) u)
         (let x : length (entries (enter 4 (slotsOf ws) a (contentIn c))) + 1 ≡ n + 0 = number true true
@@ -143,7 +143,7 @@ module _ (ws : List ℕ) (n a : ℕ) (c : ContentWords) (z : Held ws) (q : n ≡
         (ap present (sought-absent a (z .good) e b)) t in omega arith)
 
     -- an entry that says something else
-    pub enter-over : isIdle (contentIn c) ≡ false → r .at < slotCount → a < 2 ^ 32 → (s : SlotWords) → s ≡ rowAt ws (r .at) → (us : List ℕ)
+    pub enter-over : isIdle (contentIn c) ≡ false → r .at < slotCount → a < 2 ^ 32 → (s : SlotWords) → s ≡ rowAt ws (r .at) → (us : SlotRows)
         → us ≡ store ws (r .at) (record { key = a; content = c; overflow = s .overflow }) → Enters ws a c us n
     unfolding slotIn
     enter-over t b ab s g us u =
@@ -178,7 +178,7 @@ module _ (ws : List ℕ) (n a : ℕ) (c : ContentWords) (z : Held ws) (q : n ≡
         go (stands x) = clash x (ap present (sought-absent a (z .good) e b))
         go (fits x) = x
 
-    pub enter-new : isIdle (contentIn c) ≡ false → slotCount ≤ r .at → (us : List ℕ) → Becomes us
+    pub enter-new : isIdle (contentIn c) ≡ false → slotCount ≤ r .at → (us : SlotRows) → Becomes us
         (take 4 (slotsOf ws) a (contentIn c)) → Enters ws a c us (n + 1)
     enter-new t b us u =
         enters us (n + 1)
@@ -188,26 +188,11 @@ module _ (ws : List ℕ) (n a : ℕ) (c : ContentWords) (z : Held ws) (q : n ≡
 
 -- ---- all slots empty
 
-abbrev pub zeros : List ℕ
-zeros = replicate wordCount 0
+abbrev pub zeros : SlotRows
+zeros = replicate slotCount (replicate slotWords 0)
 
 zero-row : (i : ℕ) → i < slotCount → rowAt zeros i ≡ record { key = 0; content = record { kind = 0; value = 0; commit = 0; lock = 0 }; overflow = 0 }
-unfolding rowAt
-zero-row i h =
-    λ j. record {
-      key = word (i * 6) (omega arith) j;
-      content =
-          record {
-            kind = word (i * 6 + 1) (omega arith) j;
-            value = word (i * 6 + 2) (omega arith) j;
-            commit = word (i * 6 + 3) (omega arith) j;
-            lock = word (i * 6 + 4) (omega arith) j;
-          };
-      overflow = word (i * 6 + 5) (omega arith) j;
-    }
-  where
-    word : (m : ℕ) → m < wordCount → getD zeros m 0 ≡ 0
-    word m q = getD-replicate wordCount m 0 0 q
+zero-row i h = ap rowIn (getD-replicate slotCount i (replicate slotWords 0) [] h)
 
 zero-slot : slotIn (record { key = 0; content = record { kind = 0; value = 0; commit = 0; lock = 0 }; overflow = 0 }) ≡ emptySlot
 unfolding slotIn contentIn isIdle pendingIn holderIn
@@ -233,7 +218,7 @@ fresh-words =
           record {
             sized =
                 record {
-                  size = let e : length zeros ≡ wordCount = length-replicate {A = ℕ} wordCount 0 in e;
+                  size = let e : length zeros ≡ slotCount = length-replicate {A = List ℕ} slotCount (replicate slotWords 0) in e;
                   narrow = λ i h. subst (λ (x : SlotWords). x .key < 2 ^ 32) (sym (zero-row i h)) (omega arith);
                 };
             good = subst (Good 4) (sym zero-view) (fresh-good 4);

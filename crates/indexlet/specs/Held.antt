@@ -13,29 +13,29 @@ use Rattle.indexlet.specs.declared.Content.{Content as ContentWords}
 use Rattle.indexlet.specs.declared.Slot.{Slot as SlotWords}
 use Rattle.indexlet.specs.declared.Looked.{Looked}
 use Rattle.indexlet.specs.declared.Sought.{Sought}
-use Rattle.indexlet.specs.Words.{wordCount, contentIn, slotIn, rowAt, slotsOf}
+use Rattle.indexlet.specs.Words.{SlotRows, contentIn, slotIn, rowAt, slotsOf}
 
--- the words of 256 rows, whose keys are addresses
-pub record Sized (ws : List ℕ) : Type 0 where
-  pub size : length ws ≡ wordCount
+-- as many rows as there are slots, whose keys are addresses
+pub record Sized (ws : SlotRows) : Type 0 where
+  pub size : length ws ≡ slotCount
   pub narrow : (i : ℕ) → i < slotCount → rowAt ws i .key < 2 ^ 32
 
 -- The invariant of the lent words: every public function asks it, `fresh` and `enter` leave it.
-pub record Held (ws : List ℕ) : Type 0 where
+pub record Held (ws : SlotRows) : Type 0 where
   pub sized : Sized ws
   pub good : Good 4 (slotsOf ws)
 
 -- the words hold these slots
-pub record Becomes (ws : List ℕ) (ss : List Slot) : Type 0 where
+pub record Becomes (ws : SlotRows) (ss : List Slot) : Type 0 where
   pub sized : Sized ws
   pub view : slotsOf ws ≡ ss
 
-pub record Fresh (ws : List ℕ) : Type 0 where
+pub record Fresh (ws : SlotRows) : Type 0 where
   pub held : Held ws
   pub view : slotsOf ws ≡ emptySlots
 
 -- the row of slot i
-pub record Reads (ws : List ℕ) (i : ℕ) (r : SlotWords) : Type 0 where
+pub record Reads (ws : SlotRows) (i : ℕ) (r : SlotWords) : Type 0 where
   pub slot : slotIn r ≡ getD (slotsOf ws) i emptySlot
   pub narrow : r .key < 2 ^ 32
 
@@ -48,12 +48,12 @@ lookedIn r =
     }
 
 -- a search by the search rule, which finds what the indexlet says of the address
-pub record Looks (ws : List ℕ) (a : ℕ) (r : Looked) : Type 0 where
+pub record Looks (ws : SlotRows) (a : ℕ) (r : Looked) : Type 0 where
   pub searched : search 4 (slotsOf ws) a ≡ lookedIn r
   pub content : contentOf (slotsOf ws) a ≡ contentIn (r .content)
 
 -- the words after c was said of a, and the number of entries
-pub record Enters (ws : List ℕ) (a : ℕ) (c : ContentWords) (us : List ℕ) (n : ℕ) : Type 0 where
+pub record Enters (ws : SlotRows) (a : ℕ) (c : ContentWords) (us : SlotRows) (n : ℕ) : Type 0 where
   pub held : Held us
   pub view : slotsOf us ≡ enter 4 (slotsOf ws) a (contentIn c)
   pub number : n ≡ length (entries (slotsOf us))

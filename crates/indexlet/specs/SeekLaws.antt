@@ -17,18 +17,18 @@ use Rattle.laws.specs.SlotCounts.{Good, Place, entryAt, holds-entry, holds-yes}
 use Rattle.laws.specs.Searches.{search-here, search-stops, search-on, search-place, search-finds}
 use Rattle.indexlet.specs.declared.Slot.{Slot as SlotWords}
 use Rattle.indexlet.specs.declared.Sought.{Sought}
-use Rattle.indexlet.specs.Words.{slotIn, rowAt, slotsOf}
+use Rattle.indexlet.specs.Words.{SlotRows, slotIn, rowAt, slotsOf}
 use Rattle.indexlet.specs.WordLaws.{slot-there}
 use Rattle.indexlet.specs.Held.{soughtAt, soughtFrom, sought, Stands}
 
 -- ---- the loop
 
 -- the search has examined d slots from h
-pub record Seeking (ws : List ℕ) (k h d : ℕ) : Type 0 where
+pub record Seeking (ws : SlotRows) (k h d : ℕ) : Type 0 where
   pub bound : d ≤ slotCount
   pub rest : soughtFrom (slotsOf ws) k h (slotCount - d) d ≡ sought (slotsOf ws) k
 
-pub seek-start : (ws : List ℕ) (k h : ℕ) → h ≡ homeSlot 4 k → Seeking ws k h 0
+pub seek-start : (ws : SlotRows) (k h : ℕ) → h ≡ homeSlot 4 k → Seeking ws k h 0
 unfolding sought
 seek-start ws k h e =
     record { bound = omega arith; rest = ap (λ (n : ℕ). soughtFrom (slotsOf ws) k n slotCount 0) e }
@@ -39,14 +39,14 @@ unfolding soughtFrom
 sought-step ss k h n d = refl
 
 -- the slot that is examined
-pub examined-slot : (ws : List ℕ) (m : ℕ) (s : SlotWords) → s ≡ rowAt ws (m % slotCount) → slotIn s ≡ slotAt (slotsOf ws) m
+pub examined-slot : (ws : SlotRows) (m : ℕ) (s : SlotWords) → s ≡ rowAt ws (m % slotCount) → slotIn s ≡ slotAt (slotsOf ws) m
 examined-slot ws m s e = ap slotIn e ∙ sym (slot-there ws m)
 
 overflow-slot : (s : SlotWords) → slotIn s .overflow ≡ s .overflow
 unfolding slotIn
 overflow-slot s = refl
 
-module _ (ws : List ℕ) (k h d : ℕ) (g : Seeking ws k h d) (b : d < slotCount) (s : SlotWords) (e : s ≡ rowAt ws ((h + d) % slotCount)) where
+module _ (ws : SlotRows) (k h d : ℕ) (g : Seeking ws k h d) (b : d < slotCount) (s : SlotWords) (e : s ≡ rowAt ws ((h + d) % slotCount)) where
   rest-step : soughtAt k (slotIn s) ((h + d) % slotCount) d (soughtFrom (slotsOf ws) k h (slotCount - (d + 1)) (suc d)) ≡ sought (slotsOf ws) k
   rest-step =
       ap (λ (x : Slot). soughtAt k x ((h + d) % slotCount) d (soughtFrom (slotsOf ws) k h (slotCount - (d + 1)) (suc d)))
@@ -95,7 +95,7 @@ module _ (ws : List ℕ) (k h d : ℕ) (g : Seeking ws k h d) (b : d < slotCount
       }
 
 -- all slots were examined
-pub seek-end : (ws : List ℕ) (k h d : ℕ) → Seeking ws k h d → slotCount ≤ d → _≡_ {A = Sought}
+pub seek-end : (ws : SlotRows) (k h d : ℕ) → Seeking ws k h d → slotCount ≤ d → _≡_ {A = Sought}
     (record { at = slotCount; examined = slotCount }) (sought (slotsOf ws) k)
 unfolding soughtFrom
 seek-end ws k h d g q =

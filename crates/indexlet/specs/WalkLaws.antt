@@ -19,13 +19,13 @@ use Rattle.laws.specs.SlotChanges.{kept, vacancy, take-at, release-at, distance
 use Rattle.laws.specs.Searches.{passed-counts}
 use Rattle.indexlet.specs.declared.Content.{Content as ContentWords}
 use Rattle.indexlet.specs.declared.Slot.{Slot as SlotWords}
-use Rattle.indexlet.specs.Words.{contentIn, slotIn, rowAt, store, slotsOf}
+use Rattle.indexlet.specs.Words.{SlotRows, contentIn, slotIn, rowAt, store, slotsOf}
 use Rattle.indexlet.specs.WordLaws.{length-store, row-store-same, row-store-other, length-slots, slots-store, vacant-idle}
 use Rattle.indexlet.specs.Held.{Sized, Held, Becomes, Stands}
 use Rattle.indexlet.specs.SeekLaws.{examined-slot}
 
 -- a stored row whose key is an address
-pub sized-store : (ws : List ℕ) (i : ℕ) (s : SlotWords) → Sized ws → i < slotCount → s .key < 2 ^ 32 → Sized (store ws i s)
+pub sized-store : (ws : SlotRows) (i : ℕ) (s : SlotWords) → Sized ws → i < slotCount → s .key < 2 ^ 32 → Sized (store ws i s)
 sized-store ws i s z h n =
     record {
       size = length-store ws i s ∙ z .size;
@@ -38,15 +38,15 @@ sized-store ws i s z h n =
 -- ---- a walk that changes counts
 
 -- the counts of d slots from h on are changed
-pub record Going (f : ℕ → ℕ) (old : List ℕ) (h : ℕ) (ws : List ℕ) (d : ℕ) : Type 0 where
+pub record Going (f : ℕ → ℕ) (old : SlotRows) (h : ℕ) (ws : SlotRows) (d : ℕ) : Type 0 where
   pub sized : Sized ws
   pub view : slotsOf ws ≡ countPassed f (slotsOf old) h d
 
-pub going-start : (f : ℕ → ℕ) (ws : List ℕ) (h : ℕ) → Sized ws → Going f ws h ws 0
+pub going-start : (f : ℕ → ℕ) (ws : SlotRows) (h : ℕ) → Sized ws → Going f ws h ws 0
 unfolding countPassed
 going-start f ws h z = record { sized = z; view = refl }
 
-module _ (f : ℕ → ℕ) (old : List ℕ) (h : ℕ) (ws : List ℕ) (d : ℕ) (g : Going f old h ws d) (hb : h < slotCount) (s : SlotWords) (e : s ≡ rowAt ws ((h + d) % slotCount)) where
+module _ (f : ℕ → ℕ) (old : SlotRows) (h : ℕ) (ws : SlotRows) (d : ℕ) (g : Going f old h ws d) (hb : h < slotCount) (s : SlotWords) (e : s ≡ rowAt ws ((h + d) % slotCount)) where
   -- the row that is read is that of the slots at the start
   pub going-ahead : d < slotCount → slotIn s ≡ slotAt (slotsOf old) (h + d)
   going-ahead db =
@@ -58,7 +58,7 @@ module _ (f : ℕ → ℕ) (old : List ℕ) (h : ℕ) (ws : List ℕ) (d : ℕ) 
   own-key = subst (λ (x : SlotWords). x .key < 2 ^ 32) (sym e) (g .sized .narrow ((h + d) % slotCount) (omega arith))
 
   -- one slot more has its count changed
-  pub going-on : d < slotCount → (n : ℕ) → n ≡ f (s .overflow) → (us : List ℕ)
+  pub going-on : d < slotCount → (n : ℕ) → n ≡ f (s .overflow) → (us : SlotRows)
       → us ≡ store ws ((h + d) % slotCount) (record { key = s .key; content = s .content; overflow = n }) → Going f old h us (d + 1)
   unfolding setSlot slotIn
   going-on db n q us u =
@@ -84,7 +84,7 @@ module _ (f : ℕ → ℕ) (old : List ℕ) (h : ℕ) (ws : List ℕ) (d : ℕ) 
       new = record { key = s .key; content = s .content; overflow = n }
 
   -- the slot that is reached says something else
-  pub going-ends : (k : ℕ) (c : ContentWords) → k < 2 ^ 32 → (us : List ℕ)
+  pub going-ends : (k : ℕ) (c : ContentWords) → k < 2 ^ 32 → (us : SlotRows)
       → us ≡ store ws ((h + d) % slotCount) (record { key = k; content = c; overflow = s .overflow })
       → Becomes us (withEntry (countPassed f (slotsOf old) h d) (h + d) (kept k (contentIn c)))
   unfolding withEntry setSlot slotIn
@@ -110,17 +110,17 @@ module _ (f : ℕ → ℕ) (old : List ℕ) (h : ℕ) (ws : List ℕ) (d : ℕ) 
 -- ---- taking a slot
 
 -- d slots from h on, all with entries, were passed
-pub record Taking (old : List ℕ) (a h : ℕ) (ws : List ℕ) (d : ℕ) : Type 0 where
+pub record Taking (old : SlotRows) (a h : ℕ) (ws : SlotRows) (d : ℕ) : Type 0 where
   pub going : Going suc old h ws d
   pub home : h ≡ homeSlot 4 a
   pub bound : d ≤ slotCount
   pub before : (i : ℕ) → i < d → vacant (slotAt (slotsOf old) (h + i)) ≡ false
 
-pub take-start : (ws : List ℕ) (a h : ℕ) → Held ws → h ≡ homeSlot 4 a → Taking ws a h ws 0
+pub take-start : (ws : SlotRows) (a h : ℕ) → Held ws → h ≡ homeSlot 4 a → Taking ws a h ws 0
 take-start ws a h z e =
     record { going = going-start suc ws h (z .sized); home = e; bound = zero-le; before = λ i q. absurd (omega arith) }
 
-module _ (old : List ℕ) (a h : ℕ) (ws : List ℕ) (d : ℕ) (g : Taking old a h ws d) (db : d < slotCount) (s : SlotWords) (e : s ≡ rowAt ws ((h + d) % slotCount)) where
+module _ (old : SlotRows) (a h : ℕ) (ws : SlotRows) (d : ℕ) (g : Taking old a h ws d) (db : d < slotCount) (s : SlotWords) (e : s ≡ rowAt ws ((h + d) % slotCount)) where
   home-small : h < slotCount
   home-small = subst (λ (n : ℕ). n < slotCount) (sym (g .home)) (home-less 4 a)
 
@@ -134,7 +134,7 @@ module _ (old : List ℕ) (a h : ℕ) (ws : List ℕ) (d : ℕ) (g : Taking old 
       subst (λ (x : Slot). x .overflow ≤ slotCount) (sym here) (overflow-most (z .good) ((h + d) % slotCount) (omega arith))
 
   -- the slot is empty
-  pub take-ends : (c : ContentWords) → isIdle (contentIn (s .content)) ≡ true → isIdle (contentIn c) ≡ false → a < 2 ^ 32 → (us : List ℕ)
+  pub take-ends : (c : ContentWords) → isIdle (contentIn (s .content)) ≡ true → isIdle (contentIn c) ≡ false → a < 2 ^ 32 → (us : SlotRows)
       → us ≡ store ws ((h + d) % slotCount) (record { key = a; content = c; overflow = s .overflow })
       → Becomes us (take 4 (slotsOf old) a (contentIn c))
   take-ends c t busy ab us u =
@@ -156,7 +156,7 @@ module _ (old : List ℕ) (a h : ℕ) (ws : List ℕ) (d : ℕ) (g : Taking old 
           }
 
   -- the slot has an entry
-  pub take-on : isIdle (contentIn (s .content)) ≡ false → (us : List ℕ)
+  pub take-on : isIdle (contentIn (s .content)) ≡ false → (us : SlotRows)
       → us ≡ store ws ((h + d) % slotCount) (record { key = s .key; content = s .content; overflow = s .overflow + 1 })
       → Taking old a h us (d + 1)
   take-on t us u =
@@ -171,7 +171,7 @@ module _ (old : List ℕ) (a h : ℕ) (ws : List ℕ) (d : ℕ) (g : Taking old 
       }
 
 -- where there is room, the walk ends before it has passed all slots
-pub take-never {ℓ} : {A : Type ℓ} (old : List ℕ) (a h : ℕ) (ws : List ℕ) (d : ℕ) → Taking old a h ws d → slotCount ≤ d
+pub take-never {ℓ} : {A : Type ℓ} (old : SlotRows) (a h : ℕ) (ws : SlotRows) (d : ℕ) → Taking old a h ws d → slotCount ≤ d
     → length (entries (slotsOf old)) < slotCount → A
 take-never old a h ws d g q r =
     let v = vacancy (slotsOf old) h (length-slots old) (subst (λ (n : ℕ). n < slotCount) (sym (g .home)) (home-less 4 a)) r in
@@ -181,21 +181,21 @@ take-never old a h ws d g q r =
 -- ---- giving a slot back
 
 -- d of the slots passed have their counts changed
-pub record Releasing (old : List ℕ) (a m h : ℕ) (ws : List ℕ) (d : ℕ) : Type 0 where
+pub record Releasing (old : SlotRows) (a m h : ℕ) (ws : SlotRows) (d : ℕ) : Type 0 where
   pub going : Going pred old h ws d
   pub home : h ≡ homeSlot 4 a
   pub bound : d ≤ m
 
-pub release-start : (ws : List ℕ) (a m h : ℕ) → Held ws → h ≡ homeSlot 4 a → Releasing ws a m h ws 0
+pub release-start : (ws : SlotRows) (a m h : ℕ) → Held ws → h ≡ homeSlot 4 a → Releasing ws a m h ws 0
 release-start ws a m h z e = record { going = going-start pred ws h (z .sized); home = e; bound = zero-le }
 
 pub far-less : {ss : List Slot} {k d : ℕ} → Stands ss k d → d < slotCount
 far-less {ss} {k} {d} r = subst (λ (n : ℕ). n < slotCount) (r .far) (gap-less (homeSlot 4 k) (r .place .at))
 
-pub release-done : (old : List ℕ) (a m h : ℕ) (ws : List ℕ) (d : ℕ) → Releasing old a m h ws d → m ≤ d → Releasing old a m h ws m
+pub release-done : (old : SlotRows) (a m h : ℕ) (ws : SlotRows) (d : ℕ) → Releasing old a m h ws d → m ≤ d → Releasing old a m h ws m
 release-done old a m h ws d g q = subst (Releasing old a m h ws) (let z : d ≤ m = g .bound in omega arith) g
 
-module _ (old : List ℕ) (a m h : ℕ) (ws : List ℕ) (d : ℕ) (z : Held old) (r : Stands (slotsOf old) a m) (g : Releasing old a m h ws d) (s : SlotWords) (e : s ≡ rowAt ws ((h + d) % slotCount)) where
+module _ (old : SlotRows) (a m h : ℕ) (ws : SlotRows) (d : ℕ) (z : Held old) (r : Stands (slotsOf old) a m) (g : Releasing old a m h ws d) (s : SlotWords) (e : s ≡ rowAt ws ((h + d) % slotCount)) where
   home-low : h < slotCount
   home-low = subst (λ (n : ℕ). n < slotCount) (sym (g .home)) (home-less 4 a)
 
@@ -211,7 +211,7 @@ module _ (old : List ℕ) (a m h : ℕ) (ws : List ℕ) (d : ℕ) (z : Held old)
       ∙ ap (λ (x : Slot). x .overflow) (sym (going-ahead pred old h ws d (g .going) home-low s e low))
       ∙ q)
 
-  pub release-on : d < m → (us : List ℕ)
+  pub release-on : d < m → (us : SlotRows)
       → us ≡ store ws ((h + d) % slotCount) (record { key = s .key; content = s .content; overflow = s .overflow - 1 })
       → Releasing old a m h us (d + 1)
   release-on b us u =
@@ -222,7 +222,7 @@ module _ (old : List ℕ) (a m h : ℕ) (ws : List ℕ) (d : ℕ) (z : Held old)
       }
 
   -- all were passed, and the entry goes
-  pub release-ends : d ≡ m → (c : ContentWords) → isIdle (contentIn c) ≡ true → (us : List ℕ)
+  pub release-ends : d ≡ m → (c : ContentWords) → isIdle (contentIn c) ≡ true → (us : SlotRows)
       → us ≡ store ws ((h + d) % slotCount) (record { key = 0; content = c; overflow = s .overflow })
       → Becomes us (release 4 (slotsOf old) a)
   release-ends q c t us u =

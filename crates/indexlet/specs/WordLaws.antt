@@ -1,94 +1,56 @@
 -- The laws of words: what a store leaves in each row, and the view after it.
 -- Assumes nothing.
-use Prim.Native.Nat.{ℕ, zero, suc, _+_, _*_, _/_, _%_, _<_}
-use native.Mathlib.Nat.{add-zero}
+use Prim.Native.Nat.{ℕ, zero, suc, _+_, _%_, _<_}
 use native.Mathlib.Numerals.{add-one}
 use native.Mathlib.Omega.{arith}
 use mathlib.Core.Path.{_≡_, refl, sym, ap, _∙_}
 use mathlib.Core.Logic.{⊎-elim}
 use mathlib.Core.Bool.{Bool, true, false, not}
-use mathlib.Core.List.{List}
+use mathlib.Core.List.{[]}
 use mathlib.Core.Option.{none, some}
 use lib.Dec.{eqb}
 use lib.ListN.{length, getD, set, length-set}
-use lib.Seq.{getD-set-same, getD-set-other, ext-getD, length-sets}
+use lib.Seq.{getD-set-same, getD-set-other, ext-getD}
 use borrow.Author.Tests.{ne-eqb}
 use Rattle.lists.specs.Tests.{pick, both, maybe, present, same, cases, same-true, same-false, same-yes, same-no}
 use Rattle.lists.specs.Rows.{Row, row}
-use Rattle.lists.specs.Stores.{sets-away, sets-at}
 use Rattle.lists.specs.Shifts.{length-tab, getD-tab}
 use Rattle.spec.specs.Records.{written, deleted}
 use Rattle.spec.specs.Slots.{slotCount, Content, isIdle, emptySlot, slotAt, vacant, holds}
 use Rattle.indexlet.specs.declared.Content.{Content as ContentWords}
 use Rattle.indexlet.specs.declared.Slot.{Slot as SlotWords}
-use Rattle.indexlet.specs.Words.{wordCount, pendingIn, holderIn, contentIn, slotIn, rowAt, wordsOf, store, slotsOf}
+use Rattle.indexlet.specs.Words.{SlotRows, pendingIn, holderIn, contentIn, slotIn, rowIn, rowAt, wordsOf, store, slotsOf}
 
 -- ---- rows
 
-pub length-store : (ws : List ℕ) (i : ℕ) (s : SlotWords) → length (store ws i s) ≡ length ws
-unfolding store
-length-store ws i s = length-sets ws (i * 6) (wordsOf s)
-
--- a word of another row
-word-other : (ws : List ℕ) (i : ℕ) (s : SlotWords) (m : ℕ) → (m / 6 ≡ i → ⊥) → getD (store ws i s) m 0 ≡ getD ws m 0
-unfolding store
-word-other ws i s m n = sets-away (wordsOf s) ws (i * 6) m 0 (λ x q e. n (omega arith))
-
--- a word of the row
-word-own : (ws : List ℕ) (i : ℕ) (s : SlotWords) → length ws ≡ wordCount → i < slotCount → (x : ℕ) → x < 6
-    → getD (store ws i s) (i * 6 + x) 0 ≡ getD (wordsOf s) x 0
-unfolding store
-word-own ws i s l h x q = sets-at (wordsOf s) ws (i * 6) x 0 q (omega arith)
+pub length-store : (ts : SlotRows) (i : ℕ) (s : SlotWords) → length (store ts i s) ≡ length ts
+length-store ts i s = length-set ts i (wordsOf s)
 
 -- the row that was stored
-pub row-store-same : (ws : List ℕ) (i : ℕ) (s : SlotWords) → length ws ≡ wordCount → i < slotCount → rowAt (store ws i s) i ≡ s
-unfolding rowAt
-row-store-same ws i s l h =
-    λ j. record {
-      key = (ap (λ (n : ℕ). getD (store ws i s) n 0) (sym (add-zero (i * 6))) ∙ word-own ws i s l h 0 (omega arith)) j;
-      content =
-          record {
-            kind = word-own ws i s l h 1 (omega arith) j;
-            value = word-own ws i s l h 2 (omega arith) j;
-            commit = word-own ws i s l h 3 (omega arith) j;
-            lock = word-own ws i s l h 4 (omega arith) j;
-          };
-      overflow = word-own ws i s l h 5 (omega arith) j;
-    }
+pub row-store-same : (ts : SlotRows) (i : ℕ) (s : SlotWords) → length ts ≡ slotCount → i < slotCount → rowAt (store ts i s) i ≡ s
+row-store-same ts i s l h = ap rowIn (getD-set-same ts i (wordsOf s) [] (omega arith))
 
 -- and every other
-pub row-store-other : (ws : List ℕ) (i k : ℕ) (s : SlotWords) → (k ≡ i → ⊥) → rowAt (store ws i s) k ≡ rowAt ws k
-unfolding rowAt
-row-store-other ws i k s n =
-    λ j. record {
-      key = word-other ws i s (k * 6) (λ e. n (omega arith)) j;
-      content =
-          record {
-            kind = word-other ws i s (k * 6 + 1) (λ e. n (omega arith)) j;
-            value = word-other ws i s (k * 6 + 2) (λ e. n (omega arith)) j;
-            commit = word-other ws i s (k * 6 + 3) (λ e. n (omega arith)) j;
-            lock = word-other ws i s (k * 6 + 4) (λ e. n (omega arith)) j;
-          };
-      overflow = word-other ws i s (k * 6 + 5) (λ e. n (omega arith)) j;
-    }
+pub row-store-other : (ts : SlotRows) (i k : ℕ) (s : SlotWords) → (k ≡ i → ⊥) → rowAt (store ts i s) k ≡ rowAt ts k
+row-store-other ts i k s n = ap rowIn (getD-set-other ts i k (wordsOf s) [] n)
 
 -- ---- the view
 
-pub length-slots : (ws : List ℕ) → length (slotsOf ws) ≡ slotCount
+pub length-slots : (ws : SlotRows) → length (slotsOf ws) ≡ slotCount
 unfolding slotsOf
 length-slots ws = length-tab (λ (i : ℕ). slotIn (rowAt ws i)) slotCount
 
-pub slots-at : (ws : List ℕ) (i : ℕ) → i < slotCount → getD (slotsOf ws) i emptySlot ≡ slotIn (rowAt ws i)
+pub slots-at : (ws : SlotRows) (i : ℕ) → i < slotCount → getD (slotsOf ws) i emptySlot ≡ slotIn (rowAt ws i)
 unfolding slotsOf
 slots-at ws i h = getD-tab (λ (i : ℕ). slotIn (rowAt ws i)) slotCount i emptySlot h
 
 -- the slot after some slots from another
-pub slot-there : (ws : List ℕ) (i : ℕ) → slotAt (slotsOf ws) i ≡ slotIn (rowAt ws (i % slotCount))
+pub slot-there : (ws : SlotRows) (i : ℕ) → slotAt (slotsOf ws) i ≡ slotIn (rowAt ws (i % slotCount))
 unfolding slotAt
 slot-there ws i = slots-at ws (i % slotCount) (omega arith)
 
 -- a store of a row changes one slot
-pub slots-store : (ws : List ℕ) (i : ℕ) (s : SlotWords) → length ws ≡ wordCount → i < slotCount
+pub slots-store : (ws : SlotRows) (i : ℕ) (s : SlotWords) → length ws ≡ slotCount → i < slotCount
     → slotsOf (store ws i s) ≡ set (slotsOf ws) i (slotIn s)
 slots-store ws i s l h =
     ext-getD emptySlot (slotsOf (store ws i s)) (set (slotsOf ws) i (slotIn s))

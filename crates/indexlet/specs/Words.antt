@@ -1,11 +1,10 @@
--- How the indexlet's slots stand in words: six to a slot, its key, the kind of the pending write, its value, its commit
+-- How the indexlet's slots stand in rows of words: its key, the kind of the pending write, its value, its commit
 -- number, the lock, the overflow count.
 -- Assumes nothing.
-use Prim.Native.Nat.{ℕ, zero, suc, _+_, _*_}
+use Prim.Native.Nat.{ℕ, zero, suc}
 use mathlib.Core.List.{List, [], _∷_}
 use mathlib.Core.Option.{Option, none, some}
-use lib.ListN.{getD}
-use lib.Seq.{sets}
+use lib.ListN.{getD, set}
 use Rattle.lists.specs.Shifts.{tab}
 use Rattle.spec.specs.Records.{written, deleted}
 use Rattle.spec.specs.Slots.{slotCount, Pending, Content, Slot}
@@ -13,9 +12,13 @@ use Rattle.laws.specs.SlotChanges.{kept}
 use Rattle.indexlet.specs.declared.Content.{Content as ContentWords}
 use Rattle.indexlet.specs.declared.Slot.{Slot as SlotWords}
 
--- how many words there are
-abbrev pub wordCount : ℕ
-wordCount = 1536
+-- the lent rows, as lists of words
+abbrev pub SlotRows : Type 0
+SlotRows = List (List ℕ)
+
+-- how many words a row has
+abbrev pub slotWords : ℕ
+slotWords = 6
 
 -- the pending write with this kind, value and commit number
 unfoldable pub pendingIn : ℕ → ℕ → ℕ → Option Pending
@@ -36,29 +39,27 @@ contentIn c = record { pending = pendingIn (c .kind) (c .value) (c .commit); hol
 unfoldable pub slotIn : SlotWords → Slot
 slotIn s = record { entry = kept (s .key) (contentIn (s .content)); overflow = s .overflow }
 
--- the row of slot i
-unfoldable pub rowAt : List ℕ → ℕ → SlotWords
-rowAt ws i =
+-- the slot in words that a row says
+abbrev pub rowIn : List ℕ → SlotWords
+rowIn ws =
     record {
-      key = getD ws (i * 6) 0;
-      content =
-          record {
-            kind = getD ws (i * 6 + 1) 0;
-            value = getD ws (i * 6 + 2) 0;
-            commit = getD ws (i * 6 + 3) 0;
-            lock = getD ws (i * 6 + 4) 0;
-          };
-      overflow = getD ws (i * 6 + 5) 0;
+      key = getD ws 0 0;
+      content = record { kind = getD ws 1 0; value = getD ws 2 0; commit = getD ws 3 0; lock = getD ws 4 0 };
+      overflow = getD ws 5 0;
     }
+
+-- the row of slot i
+abbrev pub rowAt : SlotRows → ℕ → SlotWords
+rowAt ts i = rowIn (getD ts i [])
 
 -- the words of a row
 abbrev pub wordsOf : SlotWords → List ℕ
 wordsOf s = s .key ∷ s .content .kind ∷ s .content .value ∷ s .content .commit ∷ s .content .lock ∷ s .overflow ∷ []
 
--- the words with another row at slot i
-unfoldable pub store : List ℕ → ℕ → SlotWords → List ℕ
-store ws i s = sets ws (i * 6) (wordsOf s)
+-- the rows with another one at slot i
+abbrev pub store : SlotRows → ℕ → SlotWords → SlotRows
+store ts i s = set ts i (wordsOf s)
 
--- The model's slots in the words: the view.
-unfoldable pub slotsOf : List ℕ → List Slot
-slotsOf ws = tab (λ (i : ℕ). slotIn (rowAt ws i)) slotCount
+-- The model's slots in the rows: the view.
+unfoldable pub slotsOf : SlotRows → List Slot
+slotsOf ts = tab (λ (i : ℕ). slotIn (rowAt ts i)) slotCount

@@ -1,5 +1,6 @@
-// The indexlet: 256 slots in lent words. Each row of words is a slot: its key, what is said of the key, its overflow count.
+// The indexlet: 256 slots in lent rows. A row of words is a slot: its key, what is said of the key, its overflow count.
 // The promises speak of the model's slots (`slotsOf`, which reads the words) and of what the model does to them.
+use spec::Address;
 ghost use mathlib.Core.Path.{_≡_};
 ghost use mathlib.Core.Bool.{false};
 ghost use Prim.Native.Nat.{_<_};
@@ -10,8 +11,13 @@ ghost use Rattle.laws.specs.SlotLaws.{Room};
 ghost use Rattle.indexlet.specs.Words.{contentIn, slotIn, rowAt, store, slotsOf};
 ghost use Rattle.indexlet.specs.Held.{Held, Becomes, Fresh, Reads, Looks, Enters, Stands, sought};
 
-// An address: 4 bytes.
-pub type Address = u32;
+// How many slots there are, and how many words a slot has.
+pub const SLOTS: usize = 256;
+
+pub const SLOT_WORDS: usize = 6;
+
+// The slots, a row each.
+pub type Slots = [[u64; SLOT_WORDS]; SLOTS];
 
 // What is said of a key: a pending write (kind 0: none, 1: a put, else a deletion), its value and commit number, and the
 // lock (0: free, else its holder and one more).
@@ -345,49 +351,44 @@ fn holds_key(s: Slot, a: Address) -> bool
 }
 
 // The row of slot i. Only this function and the next touch words.
-fn get(t: &[u64; 1536], i: usize) -> Slot
+fn get(t: &Slots, i: usize) -> Slot
     requires { ⌜ i < slotCount ⌝ }
     ensures { λ r. ⌜ r ≡ rowAt (now (t .entry)) i ⌝ }
 {
-    let b = i * 6;
     let content = Content {
-        kind: t[b + 1],
-        value: t[b + 2],
-        commit: t[b + 3],
-        lock: t[b + 4],
+        kind: t[i][1],
+        value: t[i][2],
+        commit: t[i][3],
+        lock: t[i][4],
     };
     Slot {
-        key: t[b],
+        key: t[i][0],
         content,
-        overflow: t[b + 5],
+        overflow: t[i][5],
     }
 }
 
 // Another row at slot i.
-fn put(t: &mut [u64; 1536], i: usize, s: Slot)
+fn put(t: &mut Slots, i: usize, s: Slot)
     requires { ⌜ i < slotCount ⌝ }
     ensures { λ _. ⌜ now (t .exit) ≡ store (now (t .entry)) i s ⌝ }
 {
-    let b = i * 6;
     let c = s.content;
-    t[b] = s.key;
-    t[b + 1] = c.kind;
-    t[b + 2] = c.value;
-    t[b + 3] = c.commit;
-    t[b + 4] = c.lock;
-    t[b + 5] = s.overflow;
+    let row = [s.key, c.kind, c.value, c.commit, c.lock, s.overflow];
+    t[i] = row;
 }
 
 // All slots are empty.
-pub fn fresh(t: &mut [u64; 1536])
+pub fn fresh(t: &mut Slots)
     ensures { λ _. ⌜ Fresh (now (t .exit)) ⌝ }
 {
-    let zeros = [0u64; 1536];
-    *t = zeros;
+    let empty = [0; SLOT_WORDS];
+    let slots = [empty; SLOTS];
+    *t = slots;
 }
 
 // The row of slot i, for a walk over the slots.
-pub fn slot_at(t: &[u64; 1536], i: usize) -> Slot
+pub fn slot_at(t: &Slots, i: usize) -> Slot
     requires { ⌜ Held (now t) ⌝ }
     requires { ⌜ i < slotCount ⌝ }
     ensures { λ r. ⌜ Reads (now (t .entry)) i r ⌝ }
@@ -396,13 +397,13 @@ pub fn slot_at(t: &[u64; 1536], i: usize) -> Slot
 }
 
 // The search rule of document 01: from the home slot h on, up to the slot with the entry or a count of 0.
-fn seek(t: &[u64; 1536], a: Address, h: usize) -> Sought
+fn seek(t: &Slots, a: Address, h: usize) -> Sought
     requires { ⌜ h ≡ homeSlot 4 a ⌝ }
     ensures { λ r. ⌜ r ≡ sought (slotsOf (now (t .entry))) a ⌝ }
 {
     let mut d = 0;
-    while d < 256 {
-        let i = (h + d) % 256;
+    while d < SLOTS {
+        let i = (h + d) % SLOTS;
         let s = get(t, i);
         if holds_key(s, a) {
             return Sought {
@@ -412,27 +413,27 @@ fn seek(t: &[u64; 1536], a: Address, h: usize) -> Sought
         }
         if s.overflow == 0 {
             return Sought {
-                at: 256,
+                at: SLOTS,
                 examined: d + 1,
             };
         }
         d += 1;
     }
     Sought {
-        at: 256,
-        examined: 256,
+        at: SLOTS,
+        examined: SLOTS,
     }
 }
 
 // What is said of an address, and how many slots the search for it examined.
-pub fn look_up(t: &[u64; 1536], a: Address) -> Looked
+pub fn look_up(t: &Slots, a: Address) -> Looked
     requires { ⌜ Held (now t) ⌝ }
     ensures { λ r. ⌜ Looks (now (t .entry)) a r ⌝ }
 {
     let h = home(a);
     let f = seek(t, a, h);
     let at = f.at;
-    if at < 256 {
+    if at < SLOTS {
         let s = get(t, at);
         let content = s.content;
         return Looked {
@@ -453,7 +454,7 @@ pub fn look_up(t: &[u64; 1536], a: Address) -> Looked
 }
 
 // A new entry takes the first empty slot from the home slot h, and each slot passed adds one.
-fn take(t: &mut [u64; 1536], a: Address, h: usize, c: Content)
+fn take(t: &mut Slots, a: Address, h: usize, c: Content)
     requires { ⌜ Held (now t) ⌝ }
     requires { ⌜ h ≡ homeSlot 4 a ⌝ }
     requires { ⌜ length (entries (slotsOf (now t))) < slotCount ⌝ }
@@ -461,8 +462,8 @@ fn take(t: &mut [u64; 1536], a: Address, h: usize, c: Content)
     ensures { λ _. ⌜ Becomes (now (t .exit)) (model.take 4 (slotsOf (now (t .entry))) a (contentIn c)) ⌝ }
 {
     let mut d = 0;
-    while d < 256 {
-        let i = (h + d) % 256;
+    while d < SLOTS {
+        let i = (h + d) % SLOTS;
         let s = get(t, i);
         let said = s.content;
         if idle(said) {
@@ -486,7 +487,7 @@ fn take(t: &mut [u64; 1536], a: Address, h: usize, c: Content)
 
 // The entry of an address, which stands `passed` slots after the home slot h, is taken out, and each slot passed subtracts
 // one. Its key goes too, so that a later search for it is not led to look further here.
-fn release(t: &mut [u64; 1536], a: Address, h: usize, passed: usize)
+fn release(t: &mut Slots, a: Address, h: usize, passed: usize)
     requires { ⌜ Held (now t) ⌝ }
     requires { ⌜ h ≡ homeSlot 4 a ⌝ }
     requires { ⌜ Stands (slotsOf (now t)) a passed ⌝ }
@@ -494,7 +495,7 @@ fn release(t: &mut [u64; 1536], a: Address, h: usize, passed: usize)
 {
     let mut d = 0;
     while d < passed {
-        let i = (h + d) % 256;
+        let i = (h + d) % SLOTS;
         let s = get(t, i);
         let said = s.content;
         let less = Slot {
@@ -505,7 +506,7 @@ fn release(t: &mut [u64; 1536], a: Address, h: usize, passed: usize)
         put(t, i, less);
         d += 1;
     }
-    let i = (h + passed) % 256;
+    let i = (h + passed) % SLOTS;
     let s = get(t, i);
     let nothing = Content {
         kind: 0,
@@ -523,7 +524,7 @@ fn release(t: &mut [u64; 1536], a: Address, h: usize, passed: usize)
 
 // `c` is said of the address: its entry is written, taken or taken out. `n` is the number of entries; the new number is
 // returned.
-pub fn enter(t: &mut [u64; 1536], n: usize, a: Address, c: Content) -> usize
+pub fn enter(t: &mut Slots, n: usize, a: Address, c: Content) -> usize
     requires { ⌜ Held (now t) ⌝ }
     requires { ⌜ n ≡ length (entries (slotsOf (now t))) ⌝ }
     requires { ⌜ Room (slotsOf (now t)) a (contentIn c) ⌝ }
@@ -533,13 +534,13 @@ pub fn enter(t: &mut [u64; 1536], n: usize, a: Address, c: Content) -> usize
     let f = seek(t, a, h);
     let at = f.at;
     if idle(c) {
-        if at < 256 {
+        if at < SLOTS {
             release(t, a, h, f.examined - 1);
             return n - 1;
         }
         return n;
     }
-    if at < 256 {
+    if at < SLOTS {
         let s = get(t, at);
         let own = Slot {
             key: a as u64,

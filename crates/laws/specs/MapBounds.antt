@@ -3,7 +3,7 @@
 -- Lock (under the tests of those refusals), unlock, install and merge keep it. From it follow that the index has at most
 -- `mapLimit` records and that there is at most one leaf more: document 01's 1,025 leaves are proved, not refused.
 -- Assumes nothing.
-use Prim.Native.Nat.{ℕ, suc, _<_, _≤_, zero-le}
+use Prim.Native.Nat.{_+_, ℕ, suc, _<_, _≤_, zero-le}
 use native.Mathlib.Nat.{le-trans, le-of-eq, lt-of-le-of-lt}
 use native.Mathlib.Omega.{arith}
 use mathlib.Core.Path.{_≡_, refl, sym, ap, _∙_, subst}
@@ -59,7 +59,7 @@ leaf-limit {s} {v} {m} b =
     omega arith
 
 -- there are never more than 1,025 leaves
-pub standard-leaves : {v : ℕ} {m : MapState} → Bounded standard v m → length (m .leaves) ≤ 1025
+pub standard-leaves : {v : ℕ} {m : MapState} → Bounded standard v m → length (m .leaves) ≤ standard .mapLimit + 1
 standard-leaves {v} {m} b = leaf-limit b
 
 -- ---- an empty map

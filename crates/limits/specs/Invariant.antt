@@ -25,7 +25,7 @@ use Rattle.spec.specs.Slots.{emptySlots, entries, contentOf}
 use Rattle.spec.specs.Steps.{Worker, freeWorker, State, fresh, workerOf, writeKeys, isFree, isLocked, isChecked}
 use Rattle.laws.specs.MapBounds.{Bounded, fresh-bounded}
 use Rattle.laws.specs.PendingCounts.{pendingCount, none-pending}
-use Rattle.laws.specs.VersionBounds.{versionsPerMerge}
+use Rattle.laws.specs.VersionBounds.{standard-per, versionsPerMerge}
 use Rattle.laws.specs.WorkerLaws.{GoodSettings, worker-none, worker-fresh, hasLocks}
 
 -- A worker within the limits s, n the last commit number given.
@@ -84,16 +84,16 @@ version-limit {σ} h =
     omega arith
 
 -- under document 01's limits: 129 versions a merge, 16 writes a transaction, 1,000,000 commit numbers
-pub standard-version : {σ : State} → Kept σ → σ .settings ≡ standard → σ .counters .version ≤ 129 * 16 * 1000000
-unfolding versionsPerMerge
+pub standard-version : {σ : State} → Kept σ → σ .settings ≡ standard → σ .counters .version ≤ versionsPerMerge standard * standard .writeLimit * standard .lastNumber
 standard-version {σ} h e =
     subst (λ (s : Settings). σ .counters .version ≤ versionsPerMerge s * s .writeLimit * s .lastNumber) e (version-limit h)
 
 -- neither counter wraps
 pub standard-counters : {σ : State} → Kept σ → σ .settings ≡ standard → (σ .counters .number < 2 ^ 64) × (σ .counters .version < 2 ^ 64)
 standard-counters {σ} h e =
-    let n : σ .counters .number ≤ 1000000 = subst (λ (s : Settings). σ .counters .number ≤ s .lastNumber) e (h .numbers) in
-    let v : σ .counters .version ≤ 129 * 16 * 1000000 = standard-version h e in
+    let n : σ .counters .number ≤ standard .lastNumber = subst (λ (s : Settings). σ .counters .number ≤ s .lastNumber) e (h .numbers) in
+    let v : σ .counters .version ≤ versionsPerMerge standard * standard .writeLimit * standard .lastNumber = standard-version h e in
+    let p : versionsPerMerge standard ≡ 129 = standard-per in
     (omega arith, omega arith)
 
 -- ---- a fresh map

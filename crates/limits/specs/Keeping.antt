@@ -2,7 +2,7 @@
 -- document 01's limits no list of steps passes any of them (`every-run`): 1,024 records, 1,025 leaves, 192 waiting and
 -- locked addresses, a worker's 64, 32 and 16, 1,000,000 commit numbers, and the versions that these allow.
 -- Assumes nothing.
-use Prim.Native.Nat.{ℕ, suc, _*_, _≤_}
+use Prim.Native.Nat.{_+_, ℕ, suc, _*_, _≤_}
 use mathlib.Core.Path.{_≡_, refl, sym, ap, _∙_, subst}
 use mathlib.Core.Logic.{⊎-elim}
 use mathlib.Core.List.{List, [], _∷_, _++_}
@@ -23,6 +23,7 @@ use Rattle.limits.specs.Refusing.{ends-validation, next-granted, refused
 use Rattle.limits.specs.Opening.{begin-kept, logs-kept, read-kept, write-kept}
 use Rattle.limits.specs.Locking.{lock-kept, dropped-kept}
 use Rattle.limits.specs.Finishing.{validate-kept, install-kept, merge-kept}
+use Rattle.laws.specs.VersionBounds.{versionsPerMerge}
 
 module _ {σ : State} (h : Kept σ) where
   granted-kept : (s : Step) → refusal σ s ≡ none → Kept (effect σ s)
@@ -96,15 +97,15 @@ final-settings σ (s ∷ ss) = final-settings (next σ s) ss ∙ next-settings �
 
 -- What no list of steps passes.
 pub record WithinLimits (σ : State) : Type 0 where
-  pub records : length (σ .map .records) ≤ 1024
-  pub leaves : length (σ .map .leaves) ≤ 1025
-  pub waiting : length (entries (σ .map .slots)) ≤ 192
-  pub addresses : distinct (keys (σ .map .records) ++ keys (entries (σ .map .slots))) ≤ 1024
-  pub reads : (w : ℕ) → length (workerOf σ w .reads) ≤ 64
-  pub versions : (w : ℕ) → length (workerOf σ w .versions) ≤ 32
-  pub writes : (w : ℕ) → length (workerOf σ w .writes) ≤ 16
-  pub number : σ .counters .number ≤ 1000000
-  pub version : σ .counters .version ≤ 129 * 16 * 1000000
+  pub records : length (σ .map .records) ≤ standard .mapLimit
+  pub leaves : length (σ .map .leaves) ≤ standard .mapLimit + 1
+  pub waiting : length (entries (σ .map .slots)) ≤ standard .waitingLimit
+  pub addresses : distinct (keys (σ .map .records) ++ keys (entries (σ .map .slots))) ≤ standard .mapLimit
+  pub reads : (w : ℕ) → length (workerOf σ w .reads) ≤ standard .readLimit
+  pub versions : (w : ℕ) → length (workerOf σ w .versions) ≤ standard .leafSetLimit
+  pub writes : (w : ℕ) → length (workerOf σ w .writes) ≤ standard .writeLimit
+  pub number : σ .counters .number ≤ standard .lastNumber
+  pub version : σ .counters .version ≤ versionsPerMerge standard * standard .writeLimit * standard .lastNumber
 
 pub standard-limits : {σ : State} → Kept σ → σ .settings ≡ standard → WithinLimits σ
 standard-limits {σ} h e =

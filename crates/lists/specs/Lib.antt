@@ -10,6 +10,7 @@ pub mod Memberships
 pub mod Halving
 pub mod Places
 pub mod Shifts
+pub mod Mapped
 pub mod Stores
 pub mod Ranges
 pub mod Texts

@@ -115,6 +115,14 @@ module _ {A : Type 0} where
         ∙ getD-drop (at + length ys) xs (k - (at + length ys)) d
         ∙ ap (λ (n : ℕ). getD xs n d) e
 
+    -- in the part written
+    pub getD-over-in : (y : ℕ) (d : A) → y < length ys → getD (over xs at ys) (at + y) d ≡ getD ys y d
+    unfolding over
+    getD-over-in y d h =
+        sym (getD-drop at (over xs at ys) y d)
+        ∙ ap (λ (zs : List A). getD zs y d) (drop-at (take at xs) (ys ++ drop (at + length ys) xs) at front)
+        ∙ List·getD-append ys (drop (at + length ys) xs) d y h
+
   open-over : (xs : List A) (at : ℕ) (ys : List A) → over xs at ys ≡ take at xs ++ (ys ++ drop (at + length ys) xs)
   unfolding over
   open-over xs at ys = refl
@@ -177,6 +185,20 @@ module _ {A : Type 0} where
       let e : length (take n (drop from xs)) ≡ n = length-part xs from n h in
       length-over xs to (take n (drop from xs)) (omega arith)
 
+  module _ (xs : List A) (from to n : ℕ) (h : from + n ≤ length xs) (g : to + n ≤ length xs) where
+    -- before the elements that were moved, and one of them
+    pub getD-moved-left : (k : ℕ) (d : A) → k < to → getD (moved xs from to n) k d ≡ getD xs k d
+    unfolding moved
+    getD-moved-left k d l =
+        let e : length (take n (drop from xs)) ≡ n = length-part xs from n h in
+        getD-over-left xs to (take n (drop from xs)) (omega arith) k d l
+
+    pub getD-moved-in : (y : ℕ) (d : A) → y < n → getD (moved xs from to n) (to + y) d ≡ getD xs (from + y) d
+    unfolding moved
+    getD-moved-in y d l =
+        let e : length (take n (drop from xs)) ≡ n = length-part xs from n h in
+        getD-over-in xs to (take n (drop from xs)) (omega arith) y d (omega arith) ∙ getD-take n (drop from xs) y d l ∙ getD-drop from xs y d
+
   pub moved-none : (xs : List A) (from to : ℕ) → moved xs from to 0 ≡ xs
   unfolding moved
   moved-none xs from to = over-nil xs to
@@ -224,6 +246,16 @@ module _ {A : Type 0} where
       ap (λ (k : ℕ). set (over xs at (tab f i)) (at + k) (f i)) (sym e)
       ∙ over-snoc xs at (tab f i) (f i) (omega arith)
       ∙ ap (over xs at) (sym (tab-snoc f i))
+
+  -- one more value before them
+  pub filled-before : (xs : List A) (at : ℕ) (f g : ℕ → A) (n : ℕ) → at + suc n ≤ length xs → ((k : ℕ) → k < n → f (suc k) ≡ g k)
+      → set (over xs (at + 1) (tab g n)) at (f 0) ≡ over xs at (tab f (suc n))
+  filled-before xs at f g n h w =
+      let e : at + 1 ≡ suc at = omega arith in
+      let l : length (tab g n) ≡ n = length-tab g n in
+      ap (λ (k : ℕ). set (over xs k (tab g n)) at (f 0)) e
+      ∙ over-cons xs at (f 0) (tab g n) (omega arith)
+      ∙ ap (over xs at) (sym (tab-cons f g n w))
 
 -- ---- the two loops that shift, and the loop that fills
 

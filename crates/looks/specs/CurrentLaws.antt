@@ -18,8 +18,10 @@ use Rattle.indexlet.specs.Words.{pendingIn, contentIn, slotsOf}
 use Rattle.index.specs.declared.records.Found.{Found}
 use Rattle.index.specs.declared.records.Found.the-variants.{At, Nothing}
 use Rattle.index.specs.Views.{foundOf, recordsOf}
-use Rattle.looks.specs.declared.Current.{Current}
-use Rattle.looks.specs.LookViews.{recordIn, Sees}
+use Rattle.spec.specs.declared.Current.{Current}
+use Rattle.sets.specs.Reads.{recordIn}
+use Rattle.looks.specs.LookViews.{Sees}
+use Rattle.map.specs.Views.{SlotRows, RecordRows}
 
 -- a pending write, if there is one, in the words of the indexlet
 pending-of : (c : ContentWords) → contentIn c .pending ≡ pendingIn (c .kind) (c .value) (c .commit)
@@ -29,12 +31,12 @@ pending-of c = refl
 -- a write of kind k is seen as `current_record` reads it
 pending-seen : (k v n : ℕ) (o : Option Record) → (k ≡ 0 → ⊥)
     → recordIn (record { there = eqb k 1; value = v; commit = n }) ≡ maybe (pendingIn k v n) o outcomeOf
-unfolding recordIn pendingIn outcomeOf outcome
+unfolding pendingIn outcomeOf outcome
 pending-seen zero v n o h = absurd (h refl)
 pending-seen (suc zero) v n o h = refl
 pending-seen (suc (suc k)) v n o h = rw (ne-eqb (suc (suc k)) 1 (λ q. omega arith))
 
-module _ (rows : List ℕ) (n : ℕ) (slots : List ℕ) (a : ℕ) (c : ContentWords) (said : contentOf (slotsOf slots) a ≡ contentIn c) where
+module _ (rows : RecordRows) (n : ℕ) (slots : SlotRows) (a : ℕ) (c : ContentWords) (said : contentOf (slotsOf slots) a ≡ contentIn c) where
   pending-here : contentOf (slotsOf slots) a .pending ≡ pendingIn (c .kind) (c .value) (c .commit)
   pending-here = ap (λ (x : Content). x .pending) said ∙ pending-of c
 
@@ -51,12 +53,10 @@ module _ (rows : List ℕ) (n : ℕ) (slots : List ℕ) (a : ℕ) (c : ContentWo
   -- nothing is pending: the record of the index
   pub sees-found : (f : Found) (v u : ℕ) → c .kind ≡ 0 → f ≡ At v u → foundOf f ≡ look (recordsOf rows n) a
       → Sees rows n slots a (record { there = true; value = v; commit = u })
-  unfolding recordIn
   sees-found f v u k e g = in-index (record { there = true; value = v; commit = u }) k (ap foundOf (sym e) ∙ g)
 
   pub sees-nothing : (f : Found) → c .kind ≡ 0 → f ≡ Nothing → foundOf f ≡ look (recordsOf rows n) a
       → Sees rows n slots a (record { there = false; value = 0; commit = 0 })
-  unfolding recordIn
   sees-nothing f k e g = in-index (record { there = false; value = 0; commit = 0 }) k (ap foundOf (sym e) ∙ g)
 
   -- a write is pending: what it leaves

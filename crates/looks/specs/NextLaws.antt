@@ -23,17 +23,21 @@ use Rattle.laws.specs.SlotChanges.{kept}
 use Rattle.laws.specs.SlotLaws.{content-none, kept-entry}
 use Rattle.laws.specs.ContentLaws.{look-contents, rising-contents}
 use Rattle.indexlet.specs.declared.Slot.{Slot as SlotWords}
-use Rattle.indexlet.specs.Words.{contentIn, slotIn, rowAt, slotsOf}
+use Rattle.indexlet.specs.Words.{contentIn, slotIn, slotsOf}
+use Rattle.indexlet.specs.Words as words
 use Rattle.indexlet.specs.WordLaws.{slots-at}
 use Rattle.indexlet.specs.Held as indexlet
 use Rattle.index.specs.declared.rows.RecordRow.{RecordRow}
-use Rattle.index.specs.Views.{recordFrom, rowOf, noRow, rowsOf, recordsOf, Held, AtPlace}
-use Rattle.index.specs.ViewLaws.{length-records, record-read}
-use Rattle.looks.specs.declared.Current.{Current}
+use Rattle.index.specs.Views.{recordFrom, rowOf, noRow, rowAt, recordsOf, Held, AtPlace}
+use Rattle.index.specs.ViewLaws.{length-records, record-at}
+use Rattle.spec.specs.declared.Current.{Current}
 use Rattle.looks.specs.declared.Next.{Next}
 use Rattle.looks.specs.declared.Next.the-variants.{At, Done}
-use Rattle.looks.specs.LookViews.{mapWith, recordIn, Sees, Narrow}
+use Rattle.sets.specs.Reads.{recordIn}
+use Rattle.looks.specs.LookViews.{mapWith, Sees}
 use Rattle.looks.specs.NextViews.{end, firstFrom, rowsFrom, nextIn, Follows, Numbers, IndexFrom, SlotFrom, Nearer, Walked, Passed, Counted}
+use Rattle.map.specs.Views.{SlotRows, RecordRows}
+use Rattle.map.specs.Parts.{RecordsHeld}
 
 -- ---- rows from a key on
 
@@ -172,7 +176,7 @@ module _ {A : Type 0} where
 
 -- ---- candidates of the index
 
-module _ (rows : List ℕ) (n from p : ℕ) (held : Held rows n) (at : AtPlace rows n from p) where
+module _ (rows : RecordRows) (n from p : ℕ) (held : Held rows n) (at : AtPlace rows n from p) where
   pub index-past : n ≤ p → from ≤ end → IndexFrom rows n from end
   unfolding Rising
   index-past h l =
@@ -180,13 +184,13 @@ module _ (rows : List ℕ) (n from p : ℕ) (held : Held rows n) (at : AtPlace r
       let m : length (recordsOf rows n) ≡ n = length-records rows n (held .room) in
       record { low = l; clear = λ k g i. place-clear from 0 (recordsOf rows n) noRow k (held .rising) g (λ q. absurd (omega arith)) }
 
-  pub index-here : (r : RecordRow) → p < n → rowOf r ≡ getD (rowsOf rows) p noRow → IndexFrom rows n from (r .address)
+  pub index-here : (r : RecordRow) → p < n → rowOf r ≡ rowAt rows p → IndexFrom rows n from (r .address)
   unfolding Rising
   index-here r h g =
       let e : p ≡ place from (recordsOf rows n) = at .is in
       let m : length (recordsOf rows n) ≡ n = length-records rows n (held .room) in
       let a : r .address ≡ getD (recordsOf rows n) (place from (recordsOf rows n)) noRow .key
-      = ap (λ (x : Row Record). x .key) (g ∙ sym (record-read rows n p h)) ∙ ap (λ (i : ℕ). getD (recordsOf rows n) i noRow .key) e in
+      = ap (λ (x : Row Record). x .key) (g ∙ sym (record-at rows n p (held .room) h)) ∙ ap (λ (i : ℕ). getD (recordsOf rows n) i noRow .key) e in
       let l : from ≤ getD (recordsOf rows n) (place from (recordsOf rows n)) noRow .key = place-key from (recordsOf rows n) noRow (omega arith) in
       record { low = omega arith; clear = λ k i j. place-clear from 0 (recordsOf rows n) noRow k (held .rising) i (λ q. omega arith) }
 
@@ -217,7 +221,7 @@ module _ (s : SlotWords) (from best : ℕ) where
   nearer-here l g =
       record { most = omega arith; low = λ h. l; clear = λ e q h. let k : s .key ≡ e .key = of-row e q .1 in omega arith }
 
-module _ (slots : List ℕ) (from : ℕ) where
+module _ (slots : SlotRows) (from : ℕ) where
   pub walked-start : from ≤ end → Walked slots from 0 end
   walked-start h = record { low = h; clear = λ j e q. absurd (not-suc-le-zero q) }
 
@@ -256,7 +260,7 @@ module _ (slots : List ℕ) (from : ℕ) where
 
 -- ---- what the map has
 
-module _ (rows : List ℕ) (n : ℕ) (slots : List ℕ) where
+module _ (rows : RecordRows) (n : ℕ) (slots : SlotRows) where
   -- nothing said, and nothing in the index
   current-none : (k : ℕ) → look (recordsOf rows n) k ≡ none → look (entries (slotsOf slots)) k ≡ none → (ls : List Leaf)
       → current (mapWith rows n slots ls) k ≡ none
@@ -267,26 +271,26 @@ module _ (rows : List ℕ) (n : ℕ) (slots : List ℕ) where
   pub passed-start : (from : ℕ) → Passed rows n slots from from
   passed-start from = record { low = le-refl from; clear = λ j g h. absurd (let z : from ≤ j = g in omega arith) }
 
-  module _ (held : Held rows n) (narrow : Narrow rows n) (words : indexlet.Held slots) where
+  module _ (whole : RecordsHeld rows n) (sound : indexlet.Held slots) where
     -- no record has a key past all addresses
     beyond-index : (k : ℕ) → end ≤ k → look (recordsOf rows n) k ≡ none
     beyond-index k h =
-        let m : length (recordsOf rows n) ≡ n = length-records rows n (held .room) in
+        let m : length (recordsOf rows n) ≡ n = length-records rows n (whole .held .room) in
         look-bound end (recordsOf rows n) noRow k
-        (λ i q. let l : i < n = omega arith in subst (λ (x : Row Record). x .key < end) (sym (record-read rows n i l)) (narrow i l)) h
+        (λ i q. let l : i < n = omega arith in subst (λ (x : Row Record). x .key < end) (sym (record-at rows n i (whole .held .room) l)) (whole .narrow i l)) h
 
     beyond-slots : (k : ℕ) → end ≤ k → look (entries (slotsOf slots)) k ≡ none
-    beyond-slots k h = ⊎-elim (λ q. q .1) (λ q. absurd (far (q .0))) (lookup 4 (slotsOf slots) k (words .good))
+    beyond-slots k h = ⊎-elim (λ q. q .1) (λ q. absurd (far (q .0))) (lookup 4 (slotsOf slots) k (sound .good))
       where
         far : Place (slotsOf slots) k → ⊥
         far p =
-            let z : length (slotsOf slots) ≡ slotCount = words .good .size in
+            let z : length (slotsOf slots) ≡ slotCount = sound .good .size in
             let a : p .at < length (slotsOf slots) = p .inside in
             let i : p .at < slotCount = omega arith in
-            let r = of-row (rowAt slots (p .at)) 0 0 (p .content) (sym (ap (λ (y : Slot). y .entry) (slots-at slots (p .at) i)) ∙ p .here) in
+            let r = of-row (words.rowAt slots (p .at)) 0 0 (p .content) (sym (ap (λ (y : Slot). y .entry) (slots-at slots (p .at) i)) ∙ p .here) in
             let o : p .content .key ≡ k = p .own in
-            let b : rowAt slots (p .at) .key < end = words .sized .narrow (p .at) i in
-            let c : rowAt slots (p .at) .key ≡ p .content .key = r .1 in
+            let b : words.rowAt slots (p .at) .key < end = sound .sized .narrow (p .at) i in
+            let c : words.rowAt slots (p .at) .key ≡ p .content .key = r .1 in
             omega arith
 
     beyond : (k : ℕ) → end ≤ k → (ls : List Leaf) → current (mapWith rows n slots ls) k ≡ none
@@ -309,7 +313,6 @@ module _ (rows : List ℕ) (n : ℕ) (slots : List ℕ) where
         }
 
     pub passed-on : (from c : ℕ) (r : Current) → Passed rows n slots from c → Sees rows n slots c r → r .there ≡ false → Passed rows n slots from (c + 1)
-    unfolding recordIn
     passed-on from c r p s e =
         let l : from ≤ c = p .low in
         record {
@@ -323,11 +326,11 @@ module _ (rows : List ℕ) (n : ℕ) (slots : List ℕ) where
         }
 
     look-all : (ls : List Leaf) (k : ℕ) → look (contents (mapWith rows n slots ls)) k ≡ current (mapWith rows n slots ls) k
-    look-all ls k = look-contents (mapWith rows n slots ls) (words .good) k
+    look-all ls k = look-contents (mapWith rows n slots ls) (sound .good) k
 
     rising-all : (ls : List Leaf) → From 0 (contents (mapWith rows n slots ls))
     unfolding Rising
-    rising-all ls = rising-contents (mapWith rows n slots ls) (held .rising)
+    rising-all ls = rising-contents (mapWith rows n slots ls) (whole .held .rising)
 
     pub follows-done : (from k : ℕ) → Passed rows n slots from k → end ≤ k → Follows rows n slots from Done
     follows-done from k p h =
@@ -342,7 +345,6 @@ module _ (rows : List ℕ) (n : ℕ) (slots : List ℕ) where
 
     pub follows-at : (from c : ℕ) (r : Current) → Passed rows n slots from c → Sees rows n slots c r → r .there ≡ true
         → Follows rows n slots from (At c (r .value) (r .commit))
-    unfolding recordIn
     follows-at from c r p s e =
         record {
           next-is = λ ls.
@@ -360,7 +362,7 @@ module _ (rows : List ℕ) (n : ℕ) (slots : List ℕ) where
           small = le-refl 0;
           rest = λ ls.
               (let z : 0 + length (rowsFrom 0 (contents (mapWith rows n slots ls))) ≡ length (rowsFrom 0 (contents (mapWith rows n slots ls))) = omega arith in z)
-              ∙ ap (λ (rs : List (Row Record)). length rs) (from-all (contents (mapWith rows n slots ls)) (rising-contents (mapWith rows n slots ls) (held .rising)));
+              ∙ ap (λ (rs : List (Row Record)). length rs) (from-all (contents (mapWith rows n slots ls)) (rising-contents (mapWith rows n slots ls) (whole .held .rising)));
         }
 
     -- the next record, and how many there are after it

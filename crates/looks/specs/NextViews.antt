@@ -12,16 +12,18 @@ use Rattle.spec.specs.Leaves.{Leaf}
 use Rattle.spec.specs.Slots.{Content, entries}
 use Rattle.spec.specs.Maps.{current, contents}
 use Rattle.laws.specs.SlotCounts.{entryAt}
+use Rattle.sets.specs.Sets.{addresses}
 use Rattle.indexlet.specs.declared.Slot.{Slot as SlotWords}
 use Rattle.indexlet.specs.Words.{slotIn, slotsOf}
 use Rattle.index.specs.Views.{recordFrom, recordsOf}
 use Rattle.looks.specs.declared.Next.{Next}
 use Rattle.looks.specs.declared.Next.the-variants.{At, Done}
 use Rattle.looks.specs.LookViews.{mapWith}
+use Rattle.map.specs.Views.{SlotRows, RecordRows}
 
 -- past all addresses
 abbrev pub end : ℕ
-end = 4294967296
+end = addresses
 
 -- the first row with a key of k or more
 unfoldable pub firstFrom : {A : Type 0} → ℕ → List (Row A) → Option (Row A)
@@ -38,22 +40,22 @@ nextIn (At address value commit) = some (row address (recordFrom value commit))
 nextIn Done = none
 
 -- r is the first of the contents from an address on
-pub record Follows (rows : List ℕ) (n : ℕ) (slots : List ℕ) (from : ℕ) (r : Next) : Type 0 where
+pub record Follows (rows : RecordRows) (n : ℕ) (slots : SlotRows) (from : ℕ) (r : Next) : Type 0 where
   pub next-is : (ls : List Leaf) → nextIn r ≡ firstFrom from (contents (mapWith rows n slots ls))
 
 -- r is how many records the contents have
-pub record Numbers (rows : List ℕ) (n : ℕ) (slots : List ℕ) (r : ℕ) : Type 0 where
+pub record Numbers (rows : RecordRows) (n : ℕ) (slots : SlotRows) (r : ℕ) : Type 0 where
   pub number-is : (ls : List Leaf) → r ≡ length (contents (mapWith rows n slots ls))
 
 -- ---- candidates
 
 -- the index has no address from `from` up to, not including, r
-pub record IndexFrom (rows : List ℕ) (n from r : ℕ) : Type 0 where
+pub record IndexFrom (rows : RecordRows) (n from r : ℕ) : Type 0 where
   pub low : from ≤ r
   pub clear : (k : ℕ) → from ≤ k → k < r → look (recordsOf rows n) k ≡ none
 
 -- nothing is said of an address from `from` up to, not including, r
-pub record SlotFrom (slots : List ℕ) (from r : ℕ) : Type 0 where
+pub record SlotFrom (slots : SlotRows) (from r : ℕ) : Type 0 where
   pub low : from ≤ r
   pub clear : (k : ℕ) → from ≤ k → k < r → look (entries (slotsOf slots)) k ≡ none
 
@@ -64,17 +66,17 @@ pub record Nearer (s : SlotWords) (from best r : ℕ) : Type 0 where
   pub clear : (e : Row Content) → slotIn s .entry ≡ some e → from ≤ e .key → r ≤ e .key
 
 -- and of the entries of the first i slots
-pub record Walked (slots : List ℕ) (from i best : ℕ) : Type 0 where
+pub record Walked (slots : SlotRows) (from i best : ℕ) : Type 0 where
   pub low : from ≤ best
   pub clear : (j : ℕ) (e : Row Content) → j < i → entryAt (slotsOf slots) j ≡ some e → from ≤ e .key → best ≤ e .key
 
 -- no record stands from `from` up to, not including, k
-pub record Passed (rows : List ℕ) (n : ℕ) (slots : List ℕ) (from k : ℕ) : Type 0 where
+pub record Passed (rows : RecordRows) (n : ℕ) (slots : SlotRows) (from k : ℕ) : Type 0 where
   pub low : from ≤ k
   pub clear : (j : ℕ) → from ≤ j → j < k → (ls : List Leaf) → current (mapWith rows n slots ls) j ≡ none
 
 -- `count` records stand below the address k
-pub record Counted (rows : List ℕ) (n : ℕ) (slots : List ℕ) (k count : ℕ) : Type 0 where
+pub record Counted (rows : RecordRows) (n : ℕ) (slots : SlotRows) (k count : ℕ) : Type 0 where
   pub small : count ≤ k
   pub rest : (ls : List Leaf)
       → count + length (rowsFrom k (contents (mapWith rows n slots ls))) ≡ length (contents (mapWith rows n slots ls))

@@ -1,5 +1,4 @@
 -- The test for phantoms on words: counting the worker's own addresses in a leaf, and what the count says.
--- Assumes nothing.
 use Prim.Native.Nat.{ℕ, zero, suc, _+_, _*_, _-_, _<_, _≤_, zero-le}
 use native.Mathlib.Nat.{le-refl, not-suc-le-zero}
 use native.Mathlib.Omega.{arith}
@@ -28,17 +27,23 @@ use Rattle.index.specs.declared.records.Found.the-variants.{At, Nothing}
 use Rattle.index.specs.Views.{foundOf, recordsOf, leavesOf}
 use Rattle.index.specs.LeafPlaces.{lowPlace, place-inside, AtLeaf}
 use Rattle.map.specs.declared.Sizes.{Sizes}
+use Rattle.phantomlet.specs.LeafTests.{filter-same}
+use Rattle.phantomlet.specs.MergeCounts.{pick-most}
 use Rattle.phantomlet.specs.Phantoms.{howMany, outsideIn}
-use Rattle.map.specs.Views.{Lent, lent, block, blockFrom}
+use Rattle.map.specs.Views.{SlotRows, LeafRows, RecordRows, Lent, mapOf}
+use Rattle.index.specs.declared.leaves.Leaf.{Leaf as LeafWords}
+use Rattle.index.specs.LeafColumns.{lowsOf, versionsOf, outsideOf, leafAt, column-getD}
+use Rattle.map.specs.WriteWalks.{writeAt, restKeys, keys-all, keys-cons, keys-none}
+use Rattle.sets.specs.Writes.{WriteRows, writesOf}
 use Rattle.map.specs.Held.{Tables, Held}
 use Rattle.looks.specs.LookViews.{LeafAt}
 use Rattle.looks.specs.ScanLaws.{length-leaves, leaf-read, leaf-found}
 use Rattle.phantomlet.specs.HidingLaws.{length-filter, silentAt, Locking, hides-count, hides-none}
-use Rattle.looks.specs.PhantomViews.{mapIn, HeldBut, phantomAt, Owns, Logged, silentIn, silentOf, Counting}
+use Rattle.looks.specs.PhantomViews.{Holding, phantomAt, Owns, Logged, silentIn, silentOf, Counting}
 
 -- ---- one address
 
-module _ (rows lows slots : List ℕ) (n m i a : ℕ) where
+module _ (rows : RecordRows) (lows : List ℕ) (slots : SlotRows) (n m i a : ℕ) where
   place-other : (p : ℕ) → AtLeaf lows m a p → (p ≡ i → ⊥) → silentIn rows lows slots n m i a ≡ false
   unfolding silentIn
   place-other p at d = rw (same-no {m = lowPlace a (take m lows)} {n = i} (λ e. d (at .is ∙ e)))
@@ -98,46 +103,39 @@ module _ (rows lows slots : List ℕ) (n m i a : ℕ) where
 
 -- ---- the write set's addresses
 
-pick-most : (b : Bool) → pick b 1 0 ≤ 1
-pick-most true = le-refl 1
-pick-most false = zero-le
-
-module _ (rows lows slots : List ℕ) (n m i : ℕ) (ws : List ℕ) (count : ℕ) where
+module _ (rows : RecordRows) (lows : List ℕ) (slots : SlotRows) (n m i : ℕ) (ws : WriteRows) (count : ℕ) where
   pub counting-start : Counting rows lows slots n m i ws count 0 0
-  unfolding silentOf block
+  unfolding silentOf
   counting-start =
       record {
         within = zero-le;
         small = zero-le;
-        rest =
-            ap (λ (k : ℕ). 0 + length (filter (silentIn rows lows slots n m i) (keys (blockFrom ws 0 k)))) (let z : count - 0 ≡ count = omega arith in z)
-            ∙ (let z : 0 + length (filter (silentIn rows lows slots n m i) (keys (blockFrom ws 0 count))) ≡ length (filter (silentIn rows lows slots n m i) (keys (blockFrom ws 0 count))) = omega arith in z);
+        rest = ap (λ (ks : List ℕ). 0 + length (filter (silentIn rows lows slots n m i) ks)) (keys-all ws count) ∙ (let z : 0 + length (filter (silentIn rows lows slots n m i) (keys (writesOf ws count))) ≡ length (filter (silentIn rows lows slots n m i) (keys (writesOf ws count))) = omega arith in z);
       }
 
-  block-step : (x : ℕ) → x < count → length (filter (silentIn rows lows slots n m i) (keys (blockFrom ws x (count - x))))
-      ≡ pick (silentIn rows lows slots n m i (getD ws (x * 3) 0)) 1 0 + length (filter (silentIn rows lows slots n m i) (keys (blockFrom ws (x + 1) (count - (x + 1)))))
-  unfolding blockFrom keys
-  block-step x h =
-      ap (λ (k : ℕ). length (filter (silentIn rows lows slots n m i) (keys (blockFrom ws x k)))) (let z : count - x ≡ suc (count - (x + 1)) = omega arith in z)
-      ∙ length-filter (silentIn rows lows slots n m i) (getD ws (x * 3) 0) (keys (blockFrom ws (suc x) (count - (x + 1))))
-      ∙ ap (λ (j : ℕ). pick (silentIn rows lows slots n m i (getD ws (x * 3) 0)) 1 0 + length (filter (silentIn rows lows slots n m i) (keys (blockFrom ws j (count - (x + 1)))))) (sym (add-one x))
+  write-step : (x : ℕ) → x < count → length (filter (silentIn rows lows slots n m i) (restKeys ws x count))
+      ≡ pick (silentIn rows lows slots n m i (writeAt ws x .key)) 1 0 + length (filter (silentIn rows lows slots n m i) (restKeys ws (x + 1) count))
+  write-step x h =
+      ap (λ (ks : List ℕ). length (filter (silentIn rows lows slots n m i) ks)) (keys-cons ws x count h)
+      ∙ length-filter (silentIn rows lows slots n m i) (writeAt ws x .key) (restKeys ws (x + 1) count)
 
-  pub counting-on : (x own r : ℕ) → Counting rows lows slots n m i ws count x own → x < count → r ≡ pick (silentIn rows lows slots n m i (getD ws (x * 3) 0)) 1 0
-      → Counting rows lows slots n m i ws count (x + 1) (own + r)
-  counting-on x own r c h e =
-      let b : pick (silentIn rows lows slots n m i (getD ws (x * 3) 0)) 1 0 ≤ 1 = pick-most (silentIn rows lows slots n m i (getD ws (x * 3) 0)) in
+  pub counting-on : (x own r k : ℕ) → Counting rows lows slots n m i ws count x own → x < count → k ≡ writeAt ws x .key
+      → r ≡ pick (silentIn rows lows slots n m i k) 1 0 → Counting rows lows slots n m i ws count (x + 1) (own + r)
+  counting-on x own r k c h q d =
+      let e : r ≡ pick (silentIn rows lows slots n m i (writeAt ws x .key)) 1 0 = d ∙ ap (λ (a : ℕ). pick (silentIn rows lows slots n m i a) 1 0) q in
+      let b : pick (silentIn rows lows slots n m i (writeAt ws x .key)) 1 0 ≤ 1 = pick-most (silentIn rows lows slots n m i (writeAt ws x .key)) in
       let s : own ≤ x = c .small in
-      let f : own + length (filter (silentIn rows lows slots n m i) (keys (blockFrom ws x (count - x)))) ≡ silentOf rows lows slots n m i ws count = c .rest in
-      let g : length (filter (silentIn rows lows slots n m i) (keys (blockFrom ws x (count - x))))
-      ≡ pick (silentIn rows lows slots n m i (getD ws (x * 3) 0)) 1 0 + length (filter (silentIn rows lows slots n m i) (keys (blockFrom ws (x + 1) (count - (x + 1))))) = block-step x h in
+      let f : own + length (filter (silentIn rows lows slots n m i) (restKeys ws x count)) ≡ silentOf rows lows slots n m i ws count = c .rest in
+      let g : length (filter (silentIn rows lows slots n m i) (restKeys ws x count))
+      ≡ pick (silentIn rows lows slots n m i (writeAt ws x .key)) 1 0 + length (filter (silentIn rows lows slots n m i) (restKeys ws (x + 1) count)) = write-step x h in
       record { within = omega arith; small = omega arith; rest = omega arith }
 
   pub counting-end : (x own : ℕ) → Counting rows lows slots n m i ws count x own → count ≤ x → own ≡ silentOf rows lows slots n m i ws count
-  unfolding blockFrom keys filter
+  unfolding filter
   counting-end x own c h =
-      let f : own + length (filter (silentIn rows lows slots n m i) (keys (blockFrom ws x (count - x)))) ≡ silentOf rows lows slots n m i ws count = c .rest in
-      let g : length (filter (silentIn rows lows slots n m i) (keys (blockFrom ws x (count - x)))) ≡ 0
-      = ap (λ (k : ℕ). length (filter (silentIn rows lows slots n m i) (keys (blockFrom ws x k)))) (let z : count - x ≡ 0 = omega arith in z) in
+      let f : own + length (filter (silentIn rows lows slots n m i) (restKeys ws x count)) ≡ silentOf rows lows slots n m i ws count = c .rest in
+      let g : length (filter (silentIn rows lows slots n m i) (restKeys ws x count)) ≡ 0
+      = ap (λ (ks : List ℕ). length (filter (silentIn rows lows slots n m i) ks)) (keys-none ws x count h) in
       omega arith
 
 -- ---- places and versions
@@ -158,17 +156,32 @@ apart-places (l ∷ ls) zero (suc q) f h g e = clash (place-live ls q (l .versio
 apart-places (l ∷ ls) (suc p) zero f h g e = clash (place-live ls p (l .version) (omega arith) e) (f .0)
 apart-places (l ∷ ls) (suc p) (suc q) f h g e = ap suc (apart-places ls p q (f .1) (omega arith) (omega arith) e)
 
-filter-same : {A : Type 0} (p q : A → Bool) (xs : List A) → ((x : A) → p x ≡ q x) → filter p xs ≡ filter q xs
-unfolding filter
-filter-same p q [] h = refl
-filter-same {A} p q (x ∷ xs) h =
-    ap (λ (b : Bool). pick b (x ∷ filter p xs) (filter p xs)) (h x)
-    ∙ ap (λ (zs : List A). pick (q x) (x ∷ zs) zs) (filter-same p q xs h)
-
 -- ---- the test
 
-module _ (rows lows versions outside slots : List ℕ) (z : Sizes) (b : HeldBut rows lows versions outside slots z) where
-  tables : Tables (lent rows lows versions outside (b .pending) slots) z (b .version)
+-- the version and the number of a leaf that was read
+pub version-of : (ls : LeafRows) (i : ℕ) {l : LeafWords} → l ≡ leafAt ls i → l .version ≡ getD (versionsOf ls) i 0
+version-of ls i e = ap (λ (x : LeafWords). x .version) e ∙ sym (column-getD 1 ls i)
+
+pub outside-of : (ls : LeafRows) (i : ℕ) {l : LeafWords} → l ≡ leafAt ls i → l .outside ≡ getD (outsideOf ls) i 0
+outside-of ls i e = ap (λ (x : LeafWords). x .outside) e ∙ sym (column-getD 2 ls i)
+
+module _ (l : Lent) (z : Sizes) (b : Holding l z) where
+  abbrev rows : RecordRows
+  rows = l .rows
+
+  abbrev lows : List ℕ
+  lows = l .lows
+
+  abbrev versions : List ℕ
+  versions = l .versions
+
+  abbrev outside : List ℕ
+  outside = l .outside
+
+  abbrev slots : SlotRows
+  slots = l .slots
+
+  tables : Tables l z (b .version)
   tables = b .held .tables
 
   abbrev leaves : List Leaf
@@ -217,7 +230,7 @@ module _ (rows lows versions outside slots : List ℕ) (z : Sizes) (b : HeldBut 
   swap false p q = refl
 
   silent-same : (i v a : ℕ) → i < z .leaves → getD leaves i firstLeaf .version ≡ v
-      → silentIn rows lows slots (z .records) (z .leaves) i a ≡ silentAt (mapIn rows lows versions slots z) v a
+      → silentIn rows lows slots (z .records) (z .leaves) i a ≡ silentAt (mapOf l z) v a
   unfolding silentIn silentAt
   silent-same i v a h e =
       ap (λ (x : Bool). both x (both (not (present (contentOf (slotsOf slots) a .pending))) (not (present (look (recordsOf rows (z .records)) a))))) (same-place a i v h e)
@@ -225,20 +238,20 @@ module _ (rows lows versions outside slots : List ℕ) (z : Sizes) (b : HeldBut 
 
   -- the leaf that was logged is gone
   pub phantom-gone : (w v low i : ℕ) → LeafAt lows (z .leaves) low i → Logged leaves v low → (getD versions i 0 ≡ v → ⊥)
-      → true ≡ phantomAt (mapIn rows lows versions slots z) w v
+      → true ≡ phantomAt (mapOf l z) w v
   unfolding phantomAt
   phantom-gone w v low i at g d =
       ⊎-elim
       (λ t. absurd (d (version-here low i at ∙ g .stays t)))
-      (λ t. sym (ap (λ (x : Bool). either (not x) (hides (mapIn rows lows versions slots z) w v)) t))
+      (λ t. sym (ap (λ (x : Bool). either (not x) (hides (mapOf l z) w v)) t))
       (cases (live leaves v))
 
   -- it is there
   stays : (w v low i : ℕ) → LeafAt lows (z .leaves) low i → getD versions i 0 ≡ v
-      → phantomAt (mapIn rows lows versions slots z) w v ≡ hides (mapIn rows lows versions slots z) w v
+      → phantomAt (mapOf l z) w v ≡ hides (mapOf l z) w v
   unfolding phantomAt
   stays w v low i at e =
-      ap (λ (x : Bool). either (not x) (hides (mapIn rows lows versions slots z) w v))
+      ap (λ (x : Bool). either (not x) (hides (mapOf l z) w v))
       (ap (live leaves) (sym (sym (version-here low i at) ∙ e)) ∙ version-live (tables .leaves) low)
 
   version-there : (low i v : ℕ) → LeafAt lows (z .leaves) low i → getD versions i 0 ≡ v → getD leaves i firstLeaf .version ≡ v
@@ -246,35 +259,32 @@ module _ (rows lows versions outside slots : List ℕ) (z : Sizes) (b : HeldBut 
       ap (λ (l : Leaf). l .version) (leaf-read lows versions (z .leaves) (tables .lows .room) (tables .lows-size) (tables .versions-size) i (at .inside)) ∙ e
 
   outside-there : (low i v : ℕ) → LeafAt lows (z .leaves) low i → getD versions i 0 ≡ v
-      → getD outside i 0 ≡ howMany (outsideIn (mapIn rows lows versions slots z) v) (slotsOf slots)
+      → getD outside i 0 ≡ howMany (outsideIn (mapOf l z) v) (slotsOf slots)
   outside-there low i v at e =
       tables .phantoms .outside-is i (rw leaves-here (at .inside))
-      ∙ ap (λ (x : ℕ). howMany (outsideIn (mapIn rows lows versions slots z) x) (slotsOf slots)) (version-there low i v at e)
+      ∙ ap (λ (x : ℕ). howMany (outsideIn (mapOf l z) x) (slotsOf slots)) (version-there low i v at e)
 
-  module _ (ws : List ℕ) (n w : ℕ) (own : Owns slots ws n w) where
-    locking : Locking (slotsOf slots) w (keys (block ws n))
-    locking = record { once = rising-different (block ws n) (own .rising); mine = own .mine; only = own .only }
+  module _ (ws : WriteRows) (n w : ℕ) (own : Owns slots ws n w) where
+    locking : Locking (slotsOf slots) w (keys (writesOf ws n))
+    locking = record { once = rising-different (writesOf ws n) (own .rising); mine = own .mine; only = own .only }
 
     pub phantom-none : (v low i : ℕ) → LeafAt lows (z .leaves) low i → getD versions i 0 ≡ v → getD outside i 0 ≡ 0
-        → false ≡ phantomAt (mapIn rows lows versions slots z) w v
+        → false ≡ phantomAt (mapOf l z) w v
     phantom-none v low i at e o =
         sym
         (stays w v low i at e
-        ∙ hides-none (mapIn rows lows versions slots z) w v (keys (block ws n)) (tables .words .good) locking (sym o ∙ outside-there low i v at e))
+        ∙ hides-none (mapOf l z) w v (keys (writesOf ws n)) (tables .words .good) locking (sym o ∙ outside-there low i v at e))
 
-    pub phantom-count : (v low i mine : ℕ) → LeafAt lows (z .leaves) low i → getD versions i 0 ≡ v
+    pub phantom-count : (v low i mine out : ℕ) → out ≡ getD outside i 0 → LeafAt lows (z .leaves) low i → getD versions i 0 ≡ v
         → mine ≡ silentOf rows lows slots (z .records) (z .leaves) i ws n
-        → ltb mine (getD outside i 0) ≡ phantomAt (mapIn rows lows versions slots z) w v
+        → ltb mine out ≡ phantomAt (mapOf l z) w v
     unfolding silentOf less
-    phantom-count v low i mine at e c =
-        sym
+    phantom-count v low i mine out o at e c =
+        ap (ltb mine) o
+        ∙ sym
         (stays w v low i at e
-        ∙ hides-count (mapIn rows lows versions slots z) w v (keys (block ws n)) (tables .words .good) locking (getD outside i 0) mine (outside-there low i v at e)
-        (c ∙ ap (λ (ks : List ℕ). length ks) (filter-same (silentIn rows lows slots (z .records) (z .leaves) i) (silentAt (mapIn rows lows versions slots z) v) (keys (block ws n)) (λ a. silent-same i v a (at .inside) (version-there low i v at e)))))
-
--- all arrays hold a map
-pub held-but : {l : Lent} {z : Sizes} {v : ℕ} → Held l z v → HeldBut (l .rows) (l .lows) (l .versions) (l .outside) (l .slots) z
-held-but {l} {z} {v} h = record { pending = l .pending; version = v; held = h }
+        ∙ hides-count (mapOf l z) w v (keys (writesOf ws n)) (tables .words .good) locking (getD outside i 0) mine (outside-there low i v at e)
+        (c ∙ ap (λ (ks : List ℕ). length ks) (filter-same (silentIn rows lows slots (z .records) (z .leaves) i) (silentAt (mapOf l z) v) (keys (writesOf ws n)) (λ a. silent-same i v a (at .inside) (version-there low i v at e)))))
 
 -- ---- the model's test
 

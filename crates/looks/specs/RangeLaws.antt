@@ -132,8 +132,8 @@ module _ {A : Type 0} where
 
 -- ---- leaves
 
-abbrev lowsOf : List Leaf → List ℕ
-lowsOf ls = map (λ (l : Leaf). l .low) ls
+abbrev pub leafLows : List Leaf → List ℕ
+leafLows ls = map (λ (l : Leaf). l .low) ls
 
 up-past : (a l : ℕ) (ls : List ℕ) → l ≤ a → upTo a (l ∷ ls) ≡ suc (upTo a ls)
 unfolding upTo
@@ -143,10 +143,10 @@ up-stop : (a l : ℕ) (ls : List ℕ) → a < l → upTo a (l ∷ ls) ≡ 0
 unfolding upTo
 up-stop a l ls h = rw (less-yes {m = a} {n = l} h)
 
-up-low : (a b : ℕ) (ls : List Leaf) → LowsFrom b ls → a < b → upTo a (lowsOf ls) ≡ 0
+up-low : (a b : ℕ) (ls : List Leaf) → LowsFrom b ls → a < b → upTo a (leafLows ls) ≡ 0
 unfolding LowsFrom
 up-low a b [] f h = unfold upTo in refl
-up-low a b (l ∷ ls) f h = up-stop a (l .low) (lowsOf ls) (le-trans h (f .0))
+up-low a b (l ∷ ls) f h = up-stop a (l .low) (leafLows ls) (le-trans h (f .0))
 
 pub up-mono : (a b : ℕ) (ls : List ℕ) → a ≤ b → upTo a ls ≤ upTo b ls
 unfolding upTo
@@ -171,11 +171,11 @@ starts-after lo hi l ls h g = rw (less-yes {m = lo} {n = l .low} h, atMost-no {m
 
 -- the leaves that start above lo and not above hi
 pub starts-places : (lo hi b : ℕ) (ls : List Leaf) → LowsFrom b ls → lo ≤ hi
-    → filter (startsIn lo hi) ls ≡ take (upTo hi (lowsOf ls) - upTo lo (lowsOf ls)) (drop (upTo lo (lowsOf ls)) ls)
+    → filter (startsIn lo hi) ls ≡ take (upTo hi (leafLows ls) - upTo lo (leafLows ls)) (drop (upTo lo (leafLows ls)) ls)
 unfolding LowsFrom
 starts-places lo hi b [] f h = unfold filter upTo in refl
 starts-places lo hi b (l ∷ ls) f h =
-    let ih : filter (startsIn lo hi) ls ≡ take (upTo hi (lowsOf ls) - upTo lo (lowsOf ls)) (drop (upTo lo (lowsOf ls)) ls)
+    let ih : filter (startsIn lo hi) ls ≡ take (upTo hi (leafLows ls) - upTo lo (leafLows ls)) (drop (upTo lo (leafLows ls)) ls)
     = starts-places lo hi (suc (l .low)) ls (f .1) h in
     ⊎-elim
     (λ e. ⊎-elim (λ q. after ih (less-true lo (l .low) e) (less-true hi (l .low) q))
@@ -184,28 +184,28 @@ starts-places lo hi b (l ∷ ls) f h =
     (λ e. before ih (less-false lo (l .low) e))
     (cases (less lo (l .low)))
   where
-    low : (a : ℕ) → a < suc (l .low) → upTo a (lowsOf ls) ≡ 0
+    low : (a : ℕ) → a < suc (l .low) → upTo a (leafLows ls) ≡ 0
     low a g = up-low a (suc (l .low)) ls (f .1) g
 
-    before : filter (startsIn lo hi) ls ≡ take (upTo hi (lowsOf ls) - upTo lo (lowsOf ls)) (drop (upTo lo (lowsOf ls)) ls) → l .low ≤ lo
-        → filter (startsIn lo hi) (l ∷ ls) ≡ take (upTo hi (lowsOf (l ∷ ls)) - upTo lo (lowsOf (l ∷ ls))) (drop (upTo lo (lowsOf (l ∷ ls))) (l ∷ ls))
+    before : filter (startsIn lo hi) ls ≡ take (upTo hi (leafLows ls) - upTo lo (leafLows ls)) (drop (upTo lo (leafLows ls)) ls) → l .low ≤ lo
+        → filter (startsIn lo hi) (l ∷ ls) ≡ take (upTo hi (leafLows (l ∷ ls)) - upTo lo (leafLows (l ∷ ls))) (drop (upTo lo (leafLows (l ∷ ls))) (l ∷ ls))
     before ih g =
-        rw (up-past lo (l .low) (lowsOf ls) g, up-past hi (l .low) (lowsOf ls) (omega arith))
-        (starts-before lo hi l ls g ∙ ih ∙ sym (part l ls (upTo lo (lowsOf ls)) (upTo hi (lowsOf ls))))
+        rw (up-past lo (l .low) (leafLows ls) g, up-past hi (l .low) (leafLows ls) (omega arith))
+        (starts-before lo hi l ls g ∙ ih ∙ sym (part l ls (upTo lo (leafLows ls)) (upTo hi (leafLows ls))))
 
-    inside : filter (startsIn lo hi) ls ≡ take (upTo hi (lowsOf ls) - upTo lo (lowsOf ls)) (drop (upTo lo (lowsOf ls)) ls) → lo < l .low → l .low ≤ hi
-        → filter (startsIn lo hi) (l ∷ ls) ≡ take (upTo hi (lowsOf (l ∷ ls)) - upTo lo (lowsOf (l ∷ ls))) (drop (upTo lo (lowsOf (l ∷ ls))) (l ∷ ls))
+    inside : filter (startsIn lo hi) ls ≡ take (upTo hi (leafLows ls) - upTo lo (leafLows ls)) (drop (upTo lo (leafLows ls)) ls) → lo < l .low → l .low ≤ hi
+        → filter (startsIn lo hi) (l ∷ ls) ≡ take (upTo hi (leafLows (l ∷ ls)) - upTo lo (leafLows (l ∷ ls))) (drop (upTo lo (leafLows (l ∷ ls))) (l ∷ ls))
     inside ih g k =
-        rw (up-stop lo (l .low) (lowsOf ls) g, up-past hi (l .low) (lowsOf ls) k)
+        rw (up-stop lo (l .low) (leafLows ls) g, up-past hi (l .low) (leafLows ls) k)
         (starts-yes lo hi l ls g k
         ∙ ap (λ (zs : List Leaf). l ∷ zs)
-        (ih ∙ ap (λ (p : ℕ). take (upTo hi (lowsOf ls) - p) (drop p ls)) (low lo (omega arith)) ∙ start ls (upTo hi (lowsOf ls)))
-        ∙ sym (start (l ∷ ls) (suc (upTo hi (lowsOf ls)))))
+        (ih ∙ ap (λ (p : ℕ). take (upTo hi (leafLows ls) - p) (drop p ls)) (low lo (omega arith)) ∙ start ls (upTo hi (leafLows ls)))
+        ∙ sym (start (l ∷ ls) (suc (upTo hi (leafLows ls)))))
 
-    after : filter (startsIn lo hi) ls ≡ take (upTo hi (lowsOf ls) - upTo lo (lowsOf ls)) (drop (upTo lo (lowsOf ls)) ls) → lo < l .low → hi < l .low
-        → filter (startsIn lo hi) (l ∷ ls) ≡ take (upTo hi (lowsOf (l ∷ ls)) - upTo lo (lowsOf (l ∷ ls))) (drop (upTo lo (lowsOf (l ∷ ls))) (l ∷ ls))
+    after : filter (startsIn lo hi) ls ≡ take (upTo hi (leafLows ls) - upTo lo (leafLows ls)) (drop (upTo lo (leafLows ls)) ls) → lo < l .low → hi < l .low
+        → filter (startsIn lo hi) (l ∷ ls) ≡ take (upTo hi (leafLows (l ∷ ls)) - upTo lo (leafLows (l ∷ ls))) (drop (upTo lo (leafLows (l ∷ ls))) (l ∷ ls))
     after ih g k =
-        rw (up-stop lo (l .low) (lowsOf ls) g, up-stop hi (l .low) (lowsOf ls) k)
+        rw (up-stop lo (l .low) (leafLows ls) g, up-stop hi (l .low) (leafLows ls) k)
         (starts-after lo hi l ls g k ∙ ih
-        ∙ ap (λ (p : ℕ). take (upTo hi (lowsOf ls) - p) (drop p ls)) (low lo (omega arith))
+        ∙ ap (λ (p : ℕ). take (upTo hi (leafLows ls) - p) (drop p ls)) (low lo (omega arith))
         ∙ ap (λ (q : ℕ). take (q - 0) (drop 0 ls)) (low hi (omega arith)))

@@ -19,18 +19,23 @@ use Rattle.laws.specs.LeafParts.{LowsFrom, Covers}
 use Rattle.laws.specs.LeafVersions.{GoodLeaves}
 use Rattle.index.specs.declared.rows.RecordRow.{RecordRow}
 use Rattle.index.specs.declared.records.Found.the-variants.{At}
-use Rattle.index.specs.Views.{foundOf, rowOf, noRow, rowsOf, recordsOf, leavesOf, Held, AtPlace}
-use Rattle.index.specs.ViewLaws.{length-records, record-read}
+use Rattle.index.specs.declared.leaves.Leaf.{Leaf as LeafWords}
+use Rattle.index.specs.LeafColumns.{LeafRows, lowsOf, versionsOf, leafAt, column-getD, column-places}
+use Rattle.index.specs.Views.{leafPlaces, foundOf, rowOf, noRow, rowAt, recordsOf, leavesOf, Held, AtPlace}
+use Rattle.index.specs.ViewLaws.{length-records, record-at}
 use Rattle.index.specs.RecordLaws.{present-at, absent-at, absent-past}
 use Rattle.index.specs.LeafPlaces.{upTo, lowPlace, place-inside, AtLeaf}
 use Rattle.index.specs.LeafViews.{paired-length, paired-getD, paired-lows, parted, parted-leaf}
-use Rattle.looks.specs.declared.Current.{Current}
-use Rattle.looks.specs.LookViews.{mapWith, Sees, walk, Narrow, indexedAt, Spans, seenIn, SeenAt, versionIn, Meets, LeafAt, markIn, Marks}
-use Rattle.looks.specs.RangeLaws.{walk-map, place-mono, place-next, between-places, up-mono, starts-before, starts-places}
+use Rattle.spec.specs.declared.Current.{Current}
+use Rattle.sets.specs.Reads.{observedIn}
+use Rattle.looks.specs.LookViews.{mapWith, Sees, walk, indexedAt, Spans, SeenAt, versionIn, Meets, LeafAt, markIn, Marks}
+use Rattle.looks.specs.RangeLaws.{leafLows, walk-map, place-mono, place-next, between-places, up-mono, starts-before, starts-places}
+use Rattle.map.specs.Views.{SlotRows, RecordRows}
+use Rattle.map.specs.Parts.{RecordsHeld}
 
 -- ---- records
 
-module _ (rows : List ℕ) (n lo hi p : ℕ) (held : Held rows n) (fits : lo ≤ hi) (from : AtPlace rows n lo p) where
+module _ (rows : RecordRows) (n lo hi p : ℕ) (held : Held rows n) (fits : lo ≤ hi) (from : AtPlace rows n lo p) where
   span : (q : ℕ) → q ≡ place (suc hi) (recordsOf rows n) → take (q - p) (drop p (recordsOf rows n)) ≡ between lo hi (recordsOf rows n)
   unfolding Rising
   span q e =
@@ -73,12 +78,12 @@ module _ (rows : List ℕ) (n lo hi p : ℕ) (held : Held rows n) (fits : lo ≤
   spans-past q at h = without q at (absent-past rows n hi q (held .room) at h)
 
   -- or at another
-  pub spans-other : (q : ℕ) (r : RecordRow) → AtPlace rows n hi q → q < n → rowOf r ≡ getD (rowsOf rows) q noRow → (r .address ≡ hi → ⊥)
+  pub spans-other : (q : ℕ) (r : RecordRow) → AtPlace rows n hi q → q < n → rowOf r ≡ rowAt rows q → (r .address ≡ hi → ⊥)
       → Spans rows n lo hi (record { from = p; to = q })
   spans-other q r at h e d = without q at (absent-at rows n hi q (held .room) at (rowOf r) h e d)
 
   -- hi has a record
-  pub spans-last : (q : ℕ) (r : RecordRow) → AtPlace rows n hi q → q < n → rowOf r ≡ getD (rowsOf rows) q noRow → r .address ≡ hi
+  pub spans-last : (q : ℕ) (r : RecordRow) → AtPlace rows n hi q → q < n → rowOf r ≡ rowAt rows q → r .address ≡ hi
       → Spans rows n lo hi (record { from = p; to = q + 1 })
   spans-last q r at h e d =
       let f : place (suc hi) (recordsOf rows n) ≡ place hi (recordsOf rows n) + 1
@@ -88,17 +93,17 @@ module _ (rows : List ℕ) (n lo hi p : ℕ) (held : Held rows n) (fits : lo ≤
 
 -- ---- a record and its current record
 
-pub narrow-address : (rows : List ℕ) (n i : ℕ) (r : RecordRow) → Narrow rows n → i < n → rowOf r ≡ getD (rowsOf rows) i noRow → r .address < 2 ^ 32
-narrow-address rows n i r f h e = subst (λ (x : Row Record). x .key < 2 ^ 32) (sym e) (f i h)
+pub narrow-address : (rows : RecordRows) (n i : ℕ) (r : RecordRow) → RecordsHeld rows n → i < n → rowOf r ≡ rowAt rows i → r .address < 2 ^ 32
+narrow-address rows n i r f h e = subst (λ (x : Row Record). x .key < 2 ^ 32) (sym e) (f .narrow i h)
 
-pub seen-there : (rows : List ℕ) (n : ℕ) (slots : List ℕ) (i : ℕ) (r : RecordRow) (s : Current) → i < n → rowOf r ≡ getD (rowsOf rows) i noRow
+pub seen-there : (rows : RecordRows) (n : ℕ) (slots : SlotRows) (i : ℕ) (r : RecordRow) (s : Current) → Held rows n → i < n → rowOf r ≡ rowAt rows i
     → Sees rows n slots (r .address) s → SeenAt rows n slots i (record { address = r .address; current = s })
-unfolding seenIn indexedAt
-seen-there rows n slots i r s h e f =
+unfolding indexedAt
+seen-there rows n slots i r s g h e f =
     record {
       seen-is = λ ls.
           ap (λ (o : Option Record). row (r .address) o) (f .record-is ls)
-          ∙ ap (λ (k : ℕ). row k (current (mapWith rows n slots ls) k)) (ap (λ (x : Row Record). x .key) (e ∙ sym (record-read rows n i h)));
+          ∙ ap (λ (k : ℕ). row k (current (mapWith rows n slots ls) k)) (ap (λ (x : Row Record). x .key) (e ∙ sym (record-at rows n i (g .room) h)));
     }
 
 -- in a sorted list a look-up of a row's key finds the row
@@ -114,22 +119,19 @@ look-from lo (r ∷ rs) (suc i) d f h =
     (let z : lo ≤ getD rs i d .key = omega arith in z, look-there r rs (getD rs i d .key) (λ e. let z : ⊥ = omega arith in z) ∙ t .1)
 
 -- what the index has at the address of its row
-pub row-found : (rows : List ℕ) (n i : ℕ) (r : RecordRow) → Held rows n → i < n → rowOf r ≡ getD (rowsOf rows) i noRow
+pub row-found : (rows : RecordRows) (n i : ℕ) (r : RecordRow) → Held rows n → i < n → rowOf r ≡ rowAt rows i
     → foundOf (At (r .value) (r .commit)) ≡ look (recordsOf rows n) (r .address)
 unfolding Rising
 row-found rows n i r g h e =
-    let q : rowOf r ≡ getD (recordsOf rows n) i noRow = e ∙ sym (record-read rows n i h) in
+    let q : rowOf r ≡ getD (recordsOf rows n) i noRow = e ∙ sym (record-at rows n i (g .room) h) in
     let t = look-from 0 (recordsOf rows n) i noRow (g .rising) (subst (λ (x : ℕ). i < x) (sym (length-records rows n (g .room))) h) in
     ap (λ (x : Row Record). some (x .item)) q ∙ sym (t .1) ∙ ap (λ (x : Row Record). look (recordsOf rows n) (x .key)) (sym q)
 
 -- ---- leaves
 
-abbrev lowsOf : List Leaf → List ℕ
-lowsOf ls = map (λ (l : Leaf). l .low) ls
-
 -- the versions of the leaves that meet lo to hi
 meeting-places : (v : ℕ) (ls : List Leaf) (lo hi : ℕ) → GoodLeaves v ls → lo ≤ hi
-    → map (λ (l : Leaf). l .version) (take (suc (lowPlace hi (lowsOf ls)) - lowPlace lo (lowsOf ls)) (drop (lowPlace lo (lowsOf ls)) ls)) ≡ meeting ls lo hi
+    → map (λ (l : Leaf). l .version) (take (suc (lowPlace hi (leafLows ls)) - lowPlace lo (leafLows ls)) (drop (lowPlace lo (leafLows ls)) ls)) ≡ meeting ls lo hi
 unfolding Covers LowsFrom lowPlace meeting versionAt
 meeting-places v [] lo hi g h = absurd (g .covers)
 meeting-places v (l ∷ ms) lo hi g h =
@@ -138,24 +140,24 @@ meeting-places v (l ∷ ms) lo hi g h =
     ∙ ap (λ (x : Leaf). x .version ∷ map (λ (x : Leaf). x .version) (filter (startsIn lo hi) (l ∷ ms))) own
   where
     p : ℕ
-    p = upTo lo (lowsOf ms)
+    p = upTo lo (leafLows ms)
 
     q : ℕ
-    q = upTo hi (lowsOf ms)
+    q = upTo hi (leafLows ms)
 
     inside : p < suc (length ms)
     inside =
-        let a : lowPlace lo (lowsOf (l ∷ ms)) < length (lowsOf (l ∷ ms)) = place-inside lo (lowsOf (l ∷ ms)) (suc-le-suc zero-le) in
-        let b : length (lowsOf ms) ≡ length ms = length-map ms (λ (x : Leaf). x .low) in
-        let c : p < suc (length (lowsOf ms)) = a in
+        let a : lowPlace lo (leafLows (l ∷ ms)) < length (leafLows (l ∷ ms)) = place-inside lo (leafLows (l ∷ ms)) (suc-le-suc zero-le) in
+        let b : length (leafLows ms) ≡ length ms = length-map ms (λ (x : Leaf). x .low) in
+        let c : p < suc (length (leafLows ms)) = a in
         omega arith
 
-    parts : take (suc (lowPlace hi (lowsOf (l ∷ ms))) - lowPlace lo (lowsOf (l ∷ ms))) (drop (lowPlace lo (lowsOf (l ∷ ms))) (l ∷ ms))
+    parts : take (suc (lowPlace hi (leafLows (l ∷ ms))) - lowPlace lo (leafLows (l ∷ ms))) (drop (lowPlace lo (leafLows (l ∷ ms))) (l ∷ ms))
         ≡ getD (l ∷ ms) p firstLeaf ∷ take (q - p) (drop p ms)
     parts =
         ap (λ (zs : List Leaf). take (suc q - p) zs) (drop-cons (l ∷ ms) p firstLeaf inside)
         ∙ ap (λ (n : ℕ). take n (getD (l ∷ ms) p firstLeaf ∷ drop p ms))
-        (let m : p ≤ q = up-mono lo hi (lowsOf ms) h in let e : suc q - p ≡ suc (q - p) = omega arith in e)
+        (let m : p ≤ q = up-mono lo hi (leafLows ms) h in let e : suc q - p ≡ suc (q - p) = omega arith in e)
 
     later : take (q - p) (drop p ms) ≡ filter (startsIn lo hi) (l ∷ ms)
     later =
@@ -167,11 +169,11 @@ meeting-places v (l ∷ ms) lo hi g h =
     own = parted-leaf lo (l ∷ ms) p (parted lo (l ∷ ms) p (suc-le-suc zero-le) refl)
 
 -- leaves in words
-module _ (lows versions : List ℕ) (m : ℕ) (room : m ≤ 1025) (all : length lows ≡ 1025) (all' : length versions ≡ 1025) where
+module _ (lows versions : List ℕ) (m : ℕ) (room : m ≤ leafPlaces) (all : length lows ≡ leafPlaces) (all' : length versions ≡ leafPlaces) where
   alike : length (take m lows) ≡ length (take m versions)
   alike = length-take-le m lows (rw all room) ∙ sym (length-take-le m versions (rw all' room))
 
-  pub lows-read : lowsOf (leavesOf lows versions m) ≡ take m lows
+  pub lows-read : leafLows (leavesOf lows versions m) ≡ take m lows
   unfolding leavesOf
   lows-read = paired-lows (take m lows) (take m versions) alike
 
@@ -199,21 +201,21 @@ module _ (lows versions : List ℕ) (m : ℕ) (room : m ≤ 1025) (all : length 
   meets-versions lo hi p q v h f t g b =
       walk-map (λ (l : Leaf). l .version) ls firstLeaf p (q + 1 - p) (rw length-leaves b)
       ∙ ap (λ (i : ℕ). map (λ (l : Leaf). l .version) (take (q + 1 - i) (drop i ls))) (f .is ∙ ap (lowPlace lo) (sym lows-read))
-      ∙ ap (λ (i : ℕ). map (λ (l : Leaf). l .version) (take (i - lowPlace lo (lowsOf ls)) (drop (lowPlace lo (lowsOf ls)) ls))) last
+      ∙ ap (λ (i : ℕ). map (λ (l : Leaf). l .version) (take (i - lowPlace lo (leafLows ls)) (drop (lowPlace lo (leafLows ls)) ls))) last
       ∙ meeting-places v ls lo hi g h
     where
       ls : List Leaf
       ls = leavesOf lows versions m
 
-      last : q + 1 ≡ suc (lowPlace hi (lowsOf ls))
-      last = let e : q ≡ lowPlace hi (lowsOf ls) = t .is ∙ ap (lowPlace hi) (sym lows-read) in omega arith
+      last : q + 1 ≡ suc (lowPlace hi (leafLows ls))
+      last = let e : q ≡ lowPlace hi (leafLows ls) = t .is ∙ ap (lowPlace hi) (sym lows-read) in omega arith
 
 places-mono : (lo hi : ℕ) (ks : List ℕ) → lo ≤ hi → lowPlace lo ks ≤ lowPlace hi ks
 unfolding lowPlace
 places-mono lo hi [] h = le-refl 0
 places-mono lo hi (k ∷ ks) h = up-mono lo hi ks h
 
-pub meets : (lows : List ℕ) (m lo hi p q : ℕ) → m ≤ 1025 → length lows ≡ 1025 → lo ≤ hi → AtLeaf lows m lo p → AtLeaf lows m hi q
+pub meets : (lows : List ℕ) (m lo hi p q : ℕ) → m ≤ leafPlaces → length lows ≡ leafPlaces → lo ≤ hi → AtLeaf lows m lo p → AtLeaf lows m hi q
     → Meets lows m lo hi (record { from = p; to = q + 1 })
 meets lows m lo hi p q room all h f t =
     let a : p ≡ lowPlace lo (take m lows) = f .is in
@@ -226,12 +228,16 @@ meets lows m lo hi p q room all h f t =
       versions-are = λ versions v all' g. meets-versions lows versions m room all all' lo hi p q v h f t g (omega arith);
     }
 
-pub leaf-at : (lows : List ℕ) (m a p : ℕ) → m ≤ 1025 → length lows ≡ 1025 → AtLeaf lows m a p → LeafAt lows m a p
+pub leaf-at : (lows : List ℕ) (m a p : ℕ) → m ≤ leafPlaces → length lows ≡ leafPlaces → AtLeaf lows m a p → LeafAt lows m a p
 leaf-at lows m a p room all at =
     record { inside = at .inside; leaf-is = λ versions all'. leaf-found lows versions m room all all' a p at }
 
-pub marks : (lows versions : List ℕ) (i : ℕ) → length lows ≡ 1025 → length versions ≡ 1025
-    → Marks lows versions i (record { version = getD versions i 0; low = getD lows i 0 })
+pub marks : (ls : LeafRows) (i : ℕ) (l : LeafWords) → length ls ≡ leafPlaces → l ≡ leafAt ls i
+    → Marks (lowsOf ls) (versionsOf ls) i (record { version = l .version; low = l .low })
 unfolding markIn
-marks lows versions i all all' =
-    record { leaf-is = λ m h room. sym (leaf-read lows versions m room all all' i h) }
+marks ls i l all e =
+    record {
+      leaf-is = λ m h room.
+          (λ x. record { low = (ap (λ (y : LeafWords). y .low) e ∙ sym (column-getD 0 ls i)) x; version = (ap (λ (y : LeafWords). y .version) e ∙ sym (column-getD 1 ls i)) x })
+          ∙ sym (leaf-read (lowsOf ls) (versionsOf ls) m room (column-places 0 ls all) (column-places 1 ls all) i h);
+    }

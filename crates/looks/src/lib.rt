@@ -3,44 +3,35 @@ use index::leaves;
 use index::records;
 use index::records::Found;
 use index::rows;
-use index::shifts;
-use map::Address;
+use indexlet::SLOTS;
+use map::Leaves;
+use map::Records;
 use map::Sizes;
+use map::Slots;
+use sets::WriteSet;
+use sets::leaves::LoggedLeaf;
+use sets::reads::Observed;
+use sets::writes;
+use spec::ADDRESSES;
+use spec::Address;
+use spec::Current;
 ghost use mathlib.Core.Path.{_≡_};
-ghost use Prim.Native.Nat.{_^_, _<_, _≤_, min};
-ghost use lib.ListN.{getD};
+ghost use Prim.Native.Nat.{_<_, _≤_, min};
 ghost use Rattle.lists.specs.Tests.{pick};
-ghost use Rattle.index.specs.Views.{leavesOf};
 ghost use Rattle.indexlet.specs.Held as indexlet;
 ghost use Rattle.index.specs.Views as index;
 ghost use Rattle.index.specs.LeafPlaces.{Listed};
-ghost use Rattle.looks.specs.LookViews.{Sees, Narrow, Spans, SeenAt, Meets, LeafAt, Marks};
+ghost use Rattle.map.specs.Views.{lowsOf, versionsOf, lent, mapOf};
+ghost use Rattle.map.specs.Parts.{RecordsHeld, SlotsHeld, LeavesListed, LeafListed};
+ghost use Rattle.map.specs.WriteWalks.{Writing};
+ghost use Rattle.looks.specs.LookViews.{Sees, Spans, SeenAt, Meets, LeafAt, Marks};
 ghost use Rattle.looks.specs.NextViews.{IndexFrom, Nearer, SlotFrom, Follows, Numbers};
-ghost use Rattle.looks.specs.PhantomViews.{mapIn, HeldBut, phantomAt, Fitting, Owns, Logged, silentIn, silentOf};
-
-// A current record, or none there.
-pub struct Current {
-    pub there: bool,
-    pub value: u64,
-    pub commit: u64,
-}
+ghost use Rattle.looks.specs.PhantomViews.{Holding, phantomAt, Owns, Logged, silentIn, silentOf};
 
 // Places from one up to, not including, another.
 pub struct Range {
     pub from: usize,
     pub to: usize,
-}
-
-// An address of the index, with its current record.
-pub struct Seen {
-    pub address: Address,
-    pub current: Current,
-}
-
-// A leaf, as a log keeps it.
-pub struct Mark {
-    pub version: u64,
-    pub low: Address,
 }
 
 // The next record of the contents.
@@ -54,9 +45,9 @@ pub enum Next {
 }
 
 // The current record of an address: what a pending write leaves there, else what the index has.
-pub fn current_record(rows: &[u64; 3072], slots: &[u64; 1536], n: usize, a: Address) -> Current
-    requires { ⌜ index.Held (now rows) n ⌝ }
-    requires { ⌜ indexlet.Held (now slots) ⌝ }
+pub fn current_record(rows: &Records, slots: &Slots, n: usize, a: Address) -> Current
+    requires { ⌜ RecordsHeld (now rows) n ⌝ }
+    requires { ⌜ SlotsHeld (now slots) ⌝ }
     ensures { λ r. ⌜ Sees (now (rows .entry)) n (now (slots .entry)) a r ⌝ }
 {
     let looked = indexlet::look_up(slots, a);
@@ -88,8 +79,8 @@ pub fn current_record(rows: &[u64; 3072], slots: &[u64; 1536], n: usize, a: Addr
 }
 
 // The places of the records from lo to hi.
-pub fn records_between(rows: &[u64; 3072], n: usize, lo: Address, hi: Address) -> Range
-    requires { ⌜ index.Held (now rows) n ⌝ }
+pub fn records_between(rows: &Records, n: usize, lo: Address, hi: Address) -> Range
+    requires { ⌜ RecordsHeld (now rows) n ⌝ }
     requires { ⌜ lo ≤ hi ⌝ }
     ensures { λ r. ⌜ Spans (now (rows .entry)) n lo hi r ⌝ }
 {
@@ -107,10 +98,9 @@ pub fn records_between(rows: &[u64; 3072], n: usize, lo: Address, hi: Address) -
 
 // The record at place i of the index: its address, and its current record. With nothing pending there it is the row itself,
 // so nothing is searched in the index.
-pub fn seen_at(rows: &[u64; 3072], slots: &[u64; 1536], n: usize, i: usize) -> Seen
-    requires { ⌜ index.Held (now rows) n ⌝ }
-    requires { ⌜ Narrow (now rows) n ⌝ }
-    requires { ⌜ indexlet.Held (now slots) ⌝ }
+pub fn seen_at(rows: &Records, slots: &Slots, n: usize, i: usize) -> Observed
+    requires { ⌜ RecordsHeld (now rows) n ⌝ }
+    requires { ⌜ SlotsHeld (now slots) ⌝ }
     requires { ⌜ i < n ⌝ }
     ensures { λ r. ⌜ SeenAt (now (rows .entry)) n (now (slots .entry)) i r ⌝ }
 {
@@ -124,68 +114,66 @@ pub fn seen_at(rows: &[u64; 3072], slots: &[u64; 1536], n: usize, i: usize) -> S
             value: there.value,
             commit: there.commit,
         };
-        return Seen { address, current };
+        return Observed { address, current };
     }
     let current = Current {
         there: c.kind == 1,
         value: c.value,
         commit: c.commit,
     };
-    Seen { address, current }
+    Observed { address, current }
 }
 
 // The places of the leaves that meet lo to hi.
-pub fn leaves_meeting(lows: &[u64; 1025], m: usize, lo: Address, hi: Address) -> Range
-    requires { ⌜ Listed (now lows) m ⌝ }
+pub fn leaves_meeting(leaves: &Leaves, m: usize, lo: Address, hi: Address) -> Range
+    requires { ⌜ LeavesListed (lowsOf (now leaves)) m ⌝ }
     requires { ⌜ lo ≤ hi ⌝ }
-    ensures { λ r. ⌜ Meets (now (lows .entry)) m lo hi r ⌝ }
+    ensures { λ r. ⌜ Meets (lowsOf (now (leaves .entry))) m lo hi r ⌝ }
 {
-    shifts::all(lows);
-    let from = leaves::leaf_at(lows, m, lo);
-    let last = leaves::leaf_at(lows, m, hi);
+    leaves::leaf_places(leaves);
+    let from = leaves::find_leaf(leaves, m, lo);
+    let last = leaves::find_leaf(leaves, m, hi);
     Range { from, to: last + 1 }
 }
 
 // The place of the leaf that holds an address.
-fn place_of(lows: &[u64; 1025], m: usize, a: Address) -> usize
-    requires { ⌜ Listed (now lows) m ⌝ }
-    ensures { λ r. ⌜ LeafAt (now (lows .entry)) m a r ⌝ }
+fn place_of(leaves: &Leaves, m: usize, a: Address) -> usize
+    requires { ⌜ Listed (lowsOf (now leaves)) m ⌝ }
+    ensures { λ r. ⌜ LeafAt (lowsOf (now (leaves .entry))) m a r ⌝ }
 {
-    shifts::all(lows);
-    leaves::leaf_at(lows, m, a)
+    leaves::leaf_places(leaves);
+    leaves::find_leaf(leaves, m, a)
 }
 
 // The leaf at place i.
-pub fn leaf(lows: &[u64; 1025], versions: &[u64; 1025], i: usize) -> Mark
-    requires { ⌜ i < 1025 ⌝ }
-    requires { ⌜ getD (now lows) i 0 < 2 ^ 32 ⌝ }
-    ensures { λ r. ⌜ Marks (now (lows .entry)) (now (versions .entry)) i r ⌝ }
+pub fn leaf(leaves: &Leaves, i: usize) -> LoggedLeaf
+    requires { ⌜ LeafListed (lowsOf (now leaves)) i ⌝ }
+    ensures { λ r. ⌜ Marks (lowsOf (now (leaves .entry))) (versionsOf (now (leaves .entry))) i r ⌝ }
 {
-    shifts::all(lows);
-    shifts::all(versions);
-    let low = lows[i];
-    Mark {
-        version: versions[i],
-        low: low as Address,
+    leaves::leaf_places(leaves);
+    let l = leaves::leaf_at(leaves, i);
+    LoggedLeaf {
+        version: l.version,
+        low: l.low as Address,
     }
 }
 
 // 1 if the address lies in the leaf at place i, the index lacks it, and no write is pending there; else 0.
 fn silent_at(
-    rows: &[u64; 3072],
-    lows: &[u64; 1025],
-    slots: &[u64; 1536],
+    rows: &Records,
+    leaves: &Leaves,
+    slots: &Slots,
     n: usize,
     m: usize,
     i: usize,
     a: Address,
 ) -> usize
     requires { ⌜ index.Held (now rows) n ⌝ }
-    requires { ⌜ Listed (now lows) m ⌝ }
+    requires { ⌜ Listed (lowsOf (now leaves)) m ⌝ }
     requires { ⌜ indexlet.Held (now slots) ⌝ }
-    ensures { λ r. ⌜ r ≡ pick (silentIn (now (rows .entry)) (now (lows .entry)) (now (slots .entry)) n m i a) 1 0 ⌝ }
+    ensures { λ r. ⌜ r ≡ pick (silentIn (now (rows .entry)) (lowsOf (now (leaves .entry))) (now (slots .entry)) n m i a) 1 0 ⌝ }
 {
-    let p = leaves::leaf_at(lows, m, a);
+    let p = leaves::find_leaf(leaves, m, a);
     if p != i {
         return 0;
     }
@@ -206,26 +194,26 @@ fn silent_at(
 
 // How many of a write set's addresses are so.
 fn silent_of(
-    rows: &[u64; 3072],
-    lows: &[u64; 1025],
-    slots: &[u64; 1536],
-    ws: &[u64; 48],
+    rows: &Records,
+    leaves: &Leaves,
+    slots: &Slots,
+    ws: &WriteSet,
     n: usize,
     m: usize,
     i: usize,
     count: usize,
 ) -> usize
     requires { ⌜ index.Held (now rows) n ⌝ }
-    requires { ⌜ Listed (now lows) m ⌝ }
+    requires { ⌜ Listed (lowsOf (now leaves)) m ⌝ }
     requires { ⌜ indexlet.Held (now slots) ⌝ }
-    requires { ⌜ Fitting (now ws) count ⌝ }
-    ensures { λ r. ⌜ r ≡ silentOf (now (rows .entry)) (now (lows .entry)) (now (slots .entry)) n m i (now (ws .entry)) count ⌝ }
+    requires { ⌜ Writing (now ws) count ⌝ }
+    ensures { λ r. ⌜ r ≡ silentOf (now (rows .entry)) (lowsOf (now (leaves .entry))) (now (slots .entry)) n m i (now (ws .entry)) count ⌝ }
 {
     let mut x = 0;
     let mut own = 0;
     while x < count {
-        let key = ws[x * 3];
-        let one = silent_at(rows, lows, slots, n, m, i, key as Address);
+        let e = writes::write_at(ws, x);
+        let one = silent_at(rows, leaves, slots, n, m, i, e.address);
         own = own + one;
         x += 1;
     }
@@ -236,43 +224,42 @@ fn silent_of(
 // one of the low that was logged with it, or it is gone. Entries outside the index hide nothing if they are the
 // worker's own locks.
 pub fn phantom(
-    rows: &[u64; 3072],
-    lows: &[u64; 1025],
-    versions: &[u64; 1025],
-    outside: &[u64; 1025],
-    slots: &[u64; 1536],
-    ws: &[u64; 48],
+    rows: &Records,
+    leaves: &Leaves,
+    slots: &Slots,
+    ws: &WriteSet,
     z: Sizes,
     n: usize,
     w: u64,
     version: u64,
     low: Address,
 ) -> bool
-    requires { ⌜ HeldBut (now rows) (now lows) (now versions) (now outside) (now slots) z ⌝ }
+    requires { ⌜ Holding (lent (now rows) (now leaves) (now slots)) z ⌝ }
     requires { ⌜ Owns (now slots) (now ws) n w ⌝ }
-    requires { ⌜ Logged (leavesOf (now lows) (now versions) (z .leaves)) version low ⌝ }
-    ensures { λ r. ⌜ r ≡ phantomAt (mapIn (now (rows .entry)) (now (lows .entry)) (now (versions .entry)) (now (slots .entry)) z) w version ⌝ }
+    requires { ⌜ Logged (mapOf (lent (now rows) (now leaves) (now slots)) z .leaves) version low ⌝ }
+    ensures { λ r. ⌜ r ≡ phantomAt (mapOf (lent (now (rows .entry)) (now (leaves .entry)) (now (slots .entry))) z) w version ⌝ }
 {
-    let i = place_of(lows, z.leaves, low);
-    if versions[i] != version {
+    let i = place_of(leaves, z.leaves, low);
+    let l = leaves::leaf_at(leaves, i);
+    if l.version != version {
         return true;
     }
-    let out = outside[i];
+    let out = l.outside;
     if out == 0 {
         return false;
     }
-    let own = silent_of(rows, lows, slots, ws, z.records, z.leaves, i, n);
+    let own = silent_of(rows, leaves, slots, ws, z.records, z.leaves, i, n);
     (own as u64) < out
 }
 
 // The first address of the index from an address on, or 2 to the 32 if there is none.
-fn index_from(rows: &[u64; 3072], n: usize, from: Address) -> u64
+fn index_from(rows: &Records, n: usize, from: Address) -> u64
     requires { ⌜ index.Held (now rows) n ⌝ }
     ensures { λ r. ⌜ IndexFrom (now (rows .entry)) n from r ⌝ }
 {
     let p = records::locate(rows, n, from);
     if n <= p {
-        return 4294967296;
+        return ADDRESSES;
     }
     let r = rows::get(rows, p);
     r.address
@@ -296,14 +283,14 @@ fn nearer(s: indexlet::Slot, from: u64, best: u64) -> u64
 }
 
 // The first address from an address on of which the indexlet says something, or 2 to the 32 if there is none.
-fn slot_from(slots: &[u64; 1536], from: Address) -> u64
+fn slot_from(slots: &Slots, from: Address) -> u64
     requires { ⌜ indexlet.Held (now slots) ⌝ }
     ensures { λ r. ⌜ SlotFrom (now (slots .entry)) from r ⌝ }
 {
     let low = from as u64;
-    let mut best = 4294967296;
+    let mut best = ADDRESSES;
     let mut i = 0;
-    while i < 256 {
+    while i < SLOTS {
         let s = indexlet::slot_at(slots, i);
         best = nearer(s, low, best);
         i += 1;
@@ -322,19 +309,18 @@ fn least(a: u64, b: u64) -> u64
 
 // The first record of the contents from an address on. Candidates are the addresses of the index and of the indexlet;
 // one that has no current record is passed over.
-pub fn next_record(rows: &[u64; 3072], slots: &[u64; 1536], n: usize, from: u64) -> Next
-    requires { ⌜ index.Held (now rows) n ⌝ }
-    requires { ⌜ Narrow (now rows) n ⌝ }
-    requires { ⌜ indexlet.Held (now slots) ⌝ }
+pub fn next_record(rows: &Records, slots: &Slots, n: usize, from: u64) -> Next
+    requires { ⌜ RecordsHeld (now rows) n ⌝ }
+    requires { ⌜ SlotsHeld (now slots) ⌝ }
     ensures { λ r. ⌜ Follows (now (rows .entry)) n (now (slots .entry)) from r ⌝ }
 {
     let mut at = from;
-    while at < 4294967296 {
+    while at < ADDRESSES {
         let here = at as Address;
         let a = index_from(rows, n, here);
         let b = slot_from(slots, here);
         let c = least(a, b);
-        if 4294967296 <= c {
+        if ADDRESSES <= c {
             return Next::Done;
         }
         let address = c as Address;
@@ -352,15 +338,14 @@ pub fn next_record(rows: &[u64; 3072], slots: &[u64; 1536], n: usize, from: u64)
 }
 
 // How many records the contents have.
-pub fn count_records(rows: &[u64; 3072], slots: &[u64; 1536], n: usize) -> usize
-    requires { ⌜ index.Held (now rows) n ⌝ }
-    requires { ⌜ Narrow (now rows) n ⌝ }
-    requires { ⌜ indexlet.Held (now slots) ⌝ }
+pub fn count_records(rows: &Records, slots: &Slots, n: usize) -> usize
+    requires { ⌜ RecordsHeld (now rows) n ⌝ }
+    requires { ⌜ SlotsHeld (now slots) ⌝ }
     ensures { λ r. ⌜ Numbers (now (rows .entry)) n (now (slots .entry)) r ⌝ }
 {
     let mut at: u64 = 0;
     let mut count = 0;
-    while at < 4294967296 {
+    while at < ADDRESSES {
         let next = next_record(rows, slots, n, at);
         match next {
             Next::At {

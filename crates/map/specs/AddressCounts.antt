@@ -30,11 +30,13 @@ use Rattle.index.specs.Views as index
 use Rattle.index.specs.Views.{recordsOf}
 use Rattle.index.specs.ViewLaws.{length-records}
 use Rattle.map.specs.declared.Sizes.{Sizes}
-use Rattle.map.specs.Views.{Lent, blockFrom, block}
+use Rattle.map.specs.Views.{SlotRows, RecordRows, Lent}
+use Rattle.sets.specs.Writes.{WriteRows, writeIn, writesOf}
+use Rattle.sets.specs.SetLaws.{length-rows}
 use Rattle.phantomlet.specs.Phantoms.{weigh, howMany, outsideAny}
 use Rattle.map.specs.Held.{Tables}
 use Rattle.map.specs.SayLaws.{many-most}
-use Rattle.map.specs.Blocks.{blockAt, restKeys, keys-all, keys-none, keys-cons}
+use Rattle.map.specs.WriteWalks.{writeAt, restKeys, keys-all, keys-none, keys-cons}
 
 -- ---- lists without repeats
 
@@ -214,47 +216,38 @@ outside-length m (s ∷ ss) = ⊎-elim (idle (outside-length m ss)) (busy (outsi
 
 -- ---- the addresses of a write set that are new
 
-length-from : (ws : List ℕ) (i n : ℕ) → length (blockFrom ws i n) ≡ n
-unfolding blockFrom
-length-from ws i zero = refl
-length-from ws i (suc n) = ap suc (length-from ws (suc i) n)
-
-pub length-block : (ws : List ℕ) (n : ℕ) → length (block ws n) ≡ n
-unfolding block
-length-block ws n = length-from ws 0 n
-
 -- `sum` and what the rows from row i on add to it are `goal`
-pub record Counting (p : ℕ → Bool) (ws : List ℕ) (n i sum goal : ℕ) : Type 0 where
+pub record Counting (p : ℕ → Bool) (ws : WriteRows) (n i sum goal : ℕ) : Type 0 where
   pub is : sum + length (filter p (restKeys ws i n)) ≡ goal
   pub small : goal < 2 ^ 64
 
-module _ (p : ℕ → Bool) (ws : List ℕ) (n : ℕ) where
-  pub counting-start : (base : ℕ) → base + n < 2 ^ 64 → Counting p ws n 0 base (base + length (filter p (keys (block ws n))))
+module _ (p : ℕ → Bool) (ws : WriteRows) (n : ℕ) where
+  pub counting-start : (base : ℕ) → base + n < 2 ^ 64 → Counting p ws n 0 base (base + length (filter p (keys (writesOf ws n))))
   counting-start base h =
       record {
         is = ap (λ (ks : List ℕ). base + length (filter p ks)) (keys-all ws n);
         small =
-            let a : length (filter p (keys (block ws n))) ≤ length (keys (block ws n)) = filter-most p (keys (block ws n)) in
-            let b : length (keys (block ws n)) ≡ length (block ws n) = length-keys (block ws n) in
-            let c : length (block ws n) ≡ n = length-block ws n in
+            let a : length (filter p (keys (writesOf ws n))) ≤ length (keys (writesOf ws n)) = filter-most p (keys (writesOf ws n)) in
+            let b : length (keys (writesOf ws n)) ≡ length (writesOf ws n) = length-keys (writesOf ws n) in
+            let c : length (writesOf ws n) ≡ n = length-rows writeIn ws n in
             omega arith;
       }
 
-  here : (i : ℕ) → i < n → length (filter p (restKeys ws i n)) ≡ pick (p (blockAt ws i .key)) 1 0 + length (filter p (restKeys ws (i + 1) n))
-  here i h = ap (λ (ks : List ℕ). length (filter p ks)) (keys-cons ws i n h) ∙ filter-count p (blockAt ws i .key) (restKeys ws (i + 1) n)
+  here : (i : ℕ) → i < n → length (filter p (restKeys ws i n)) ≡ pick (p (writeAt ws i .key)) 1 0 + length (filter p (restKeys ws (i + 1) n))
+  here i h = ap (λ (ks : List ℕ). length (filter p ks)) (keys-cons ws i n h) ∙ filter-count p (writeAt ws i .key) (restKeys ws (i + 1) n)
 
-  pub counting-fits : {i sum goal r : ℕ} → i < n → Counting p ws n i sum goal → r ≡ pick (p (blockAt ws i .key)) 1 0 → sum + r < 2 ^ 64
+  pub counting-fits : {i sum goal r : ℕ} → i < n → Counting p ws n i sum goal → r ≡ pick (p (writeAt ws i .key)) 1 0 → sum + r < 2 ^ 64
   counting-fits {i} {sum} {goal} {r} h q e =
-      let a : length (filter p (restKeys ws i n)) ≡ pick (p (blockAt ws i .key)) 1 0 + length (filter p (restKeys ws (i + 1) n)) = here i h in
+      let a : length (filter p (restKeys ws i n)) ≡ pick (p (writeAt ws i .key)) 1 0 + length (filter p (restKeys ws (i + 1) n)) = here i h in
       let b : sum + length (filter p (restKeys ws i n)) ≡ goal = q .is in
       let c : goal < 2 ^ 64 = q .small in
       omega arith
 
-  pub counting-on : {i sum goal r : ℕ} → i < n → Counting p ws n i sum goal → r ≡ pick (p (blockAt ws i .key)) 1 0 → Counting p ws n (i + 1) (sum + r) goal
+  pub counting-on : {i sum goal r : ℕ} → i < n → Counting p ws n i sum goal → r ≡ pick (p (writeAt ws i .key)) 1 0 → Counting p ws n (i + 1) (sum + r) goal
   counting-on {i} {sum} {goal} {r} h q e =
       record {
         is =
-            let a : length (filter p (restKeys ws i n)) ≡ pick (p (blockAt ws i .key)) 1 0 + length (filter p (restKeys ws (i + 1) n)) = here i h in
+            let a : length (filter p (restKeys ws i n)) ≡ pick (p (writeAt ws i .key)) 1 0 + length (filter p (restKeys ws (i + 1) n)) = here i h in
             let b : sum + length (filter p (restKeys ws i n)) ≡ goal = q .is in
             omega arith;
         small = q .small;
@@ -269,14 +262,14 @@ module _ (p : ℕ → Bool) (ws : List ℕ) (n : ℕ) where
 -- ---- the counts behind refusals 10 and 11
 
 -- the address has no entry
-abbrev pub unsaid : List ℕ → ℕ → Bool
+abbrev pub unsaid : SlotRows → ℕ → Bool
 unsaid slots k = isIdle (contentOf (slotsOf slots) k)
 
 -- it has no entry, and the index lacks it
-abbrev pub unknown : List ℕ → ℕ → List ℕ → ℕ → Bool
+abbrev pub unknown : RecordRows → ℕ → SlotRows → ℕ → Bool
 unknown rows records slots k = both (lacking (recordsOf rows records) k) (unsaid slots k)
 
-module _ (slots : List ℕ) (a k : ℕ) (c : Content) (b : Bool) (e : a ≡ k) (o : contentOf (slotsOf slots) a ≡ c) (t : b ≡ isIdle c) where
+module _ (slots : SlotRows) (a k : ℕ) (c : Content) (b : Bool) (e : a ≡ k) (o : contentOf (slotsOf slots) a ≡ c) (t : b ≡ isIdle c) where
   unsaid-is : b ≡ unsaid slots k
   unsaid-is = t ∙ ap isIdle (sym o) ∙ ap (unsaid slots) e
 
@@ -286,7 +279,7 @@ module _ (slots : List ℕ) (a k : ℕ) (c : Content) (b : Bool) (e : a ≡ k) (
   pub unsaid-none : b ≡ false → _≡_ {A = ℕ} 0 (pick (unsaid slots k) 1 0)
   unsaid-none n = sym (ap (λ (x : Bool). pick x 1 0) (sym unsaid-is ∙ n))
 
-module _ (rows : List ℕ) (records : ℕ) (slots : List ℕ) (a k : ℕ) (b : Bool) (e : a ≡ k) (t : b ≡ lacking (recordsOf rows records) a) where
+module _ (rows : RecordRows) (records : ℕ) (slots : SlotRows) (a k : ℕ) (b : Bool) (e : a ≡ k) (t : b ≡ lacking (recordsOf rows records) a) where
   lacking-is : b ≡ lacking (recordsOf rows records) k
   lacking-is = t ∙ ap (lacking (recordsOf rows records)) e
 
@@ -297,15 +290,15 @@ module _ (rows : List ℕ) (records : ℕ) (slots : List ℕ) (a k : ℕ) (b : B
   unknown-none n = sym (ap (λ (x : Bool). pick (both x (unsaid slots k)) 1 0) (sym lacking-is ∙ n))
 
 -- r is the count that refusal 10 tests, of every map with these slots
-pub record Waits (slots ws : List ℕ) (n r : ℕ) : Type 0 where
-  pub is : (m : MapState) → m .slots ≡ slotsOf slots → r ≡ waitingWith m (keys (block ws n))
+pub record Waits (slots : SlotRows) (ws : WriteRows) (n r : ℕ) : Type 0 where
+  pub is : (m : MapState) → m .slots ≡ slotsOf slots → r ≡ waitingWith m (keys (writesOf ws n))
 
 -- and the one that refusal 11 tests, of every map with these records and slots
-pub record Addressed (rows slots ws : List ℕ) (z : Sizes) (n r : ℕ) : Type 0 where
-  pub is : (m : MapState) → m .records ≡ recordsOf rows (z .records) → m .slots ≡ slotsOf slots → r ≡ addressesWith m (keys (block ws n))
+pub record Addressed (rows : RecordRows) (slots : SlotRows) (ws : WriteRows) (z : Sizes) (n r : ℕ) : Type 0 where
+  pub is : (m : MapState) → m .records ≡ recordsOf rows (z .records) → m .slots ≡ slotsOf slots → r ≡ addressesWith m (keys (writesOf ws n))
 
 -- the sizes count the records, the entries, and the entries outside of the index
-pub record Counted (rows slots : List ℕ) (z : Sizes) : Type 0 where
+pub record Counted (rows : RecordRows) (slots : SlotRows) (z : Sizes) : Type 0 where
   pub rows-held : index.Held rows (z .records)
   pub slots-held : indexlet.Held slots
   pub outside-are : (m : MapState) → m .records ≡ recordsOf rows (z .records) → z .outside ≡ howMany (outsideAny m) (slotsOf slots)
@@ -324,30 +317,30 @@ not-not : (b : Bool) → not (not b) ≡ b
 not-not true = refl
 not-not false = refl
 
-unsaid-lacks : {slots : List ℕ} → indexlet.Held slots → (k : ℕ) → unsaid slots k ≡ not (has k (keys (entries (slotsOf slots))))
+unsaid-lacks : {slots : SlotRows} → indexlet.Held slots → (k : ℕ) → unsaid slots k ≡ not (has k (keys (entries (slotsOf slots))))
 unsaid-lacks {slots} h k = sym (ap not (entry-busy (h .good) k) ∙ not-not (unsaid slots k))
 
-entry-most : {slots : List ℕ} → indexlet.Held slots → length (entries (slotsOf slots)) ≤ slotCount
+entry-most : {slots : SlotRows} → indexlet.Held slots → length (entries (slotsOf slots)) ≤ slotCount
 entry-most {slots} h = le-trans (entries-most (slotsOf slots)) (le-of-eq (h .good .size))
 
-module _ (slots ws : List ℕ) (n : ℕ) (h : indexlet.Held slots) where
+module _ (slots : SlotRows) (ws : WriteRows) (n : ℕ) (h : indexlet.Held slots) where
   pub waits-start : (e : ℕ) → e ≡ length (entries (slotsOf slots)) → n ≤ 16
-      → Counting (unsaid slots) ws n 0 e (e + length (filter (unsaid slots) (keys (block ws n))))
+      → Counting (unsaid slots) ws n 0 e (e + length (filter (unsaid slots) (keys (writesOf ws n))))
   waits-start e q few =
       counting-start (unsaid slots) ws n e (let a : length (entries (slotsOf slots)) ≤ slotCount = entry-most h in omega arith)
 
-  pub waits : (e r : ℕ) → e ≡ length (entries (slotsOf slots)) → Rising (block ws n)
-      → r ≡ e + length (filter (unsaid slots) (keys (block ws n))) → Waits slots ws n r
+  pub waits : (e r : ℕ) → e ≡ length (entries (slotsOf slots)) → Rising (writesOf ws n)
+      → r ≡ e + length (filter (unsaid slots) (keys (writesOf ws n))) → Waits slots ws n r
   waits e r q rising t =
       record {
         is =
             λ m s. unfold waitingWith in
-            t ∙ ap (λ (x : ℕ). x + length (filter (unsaid slots) (keys (block ws n)))) (q ∙ sym (length-keys (entries (slotsOf slots))))
-            ∙ sym (joined-count (keys (entries (slotsOf slots))) (keys (block ws n)) (unsaid slots) (keys-differ (h .good)) (rising-different (block ws n) rising) (unsaid-lacks h))
-            ∙ ap (λ (ss : List Slot). distinct (keys (entries ss) ++ keys (block ws n))) (sym s);
+            t ∙ ap (λ (x : ℕ). x + length (filter (unsaid slots) (keys (writesOf ws n)))) (q ∙ sym (length-keys (entries (slotsOf slots))))
+            ∙ sym (joined-count (keys (entries (slotsOf slots))) (keys (writesOf ws n)) (unsaid slots) (keys-differ (h .good)) (rising-different (writesOf ws n) rising) (unsaid-lacks h))
+            ∙ ap (λ (ss : List Slot). distinct (keys (entries ss) ++ keys (writesOf ws n))) (sym s);
       }
 
-module _ (rows slots ws : List ℕ) (z : Sizes) (n : ℕ) (h : Counted rows slots z) where
+module _ (rows : RecordRows) (slots : SlotRows) (ws : WriteRows) (z : Sizes) (n : ℕ) (h : Counted rows slots z) where
   -- a map with these records and slots
   indexed : MapState
   indexed = record { records = recordsOf rows (z .records); leaves = []; slots = slotsOf slots }
@@ -363,7 +356,7 @@ module _ (rows slots ws : List ℕ) (z : Sizes) (n : ℕ) (h : Counted rows slot
   base-fits = let a = h .rows-held .room in let b = outside-most in omega arith
 
   pub addressed-start : n ≤ 16
-      → Counting (unknown rows (z .records) slots) ws n 0 (z .records + z .outside) (z .records + z .outside + length (filter (unknown rows (z .records) slots) (keys (block ws n))))
+      → Counting (unknown rows (z .records) slots) ws n 0 (z .records + z .outside) (z .records + z .outside + length (filter (unknown rows (z .records) slots) (keys (writesOf ws n))))
   addressed-start few =
       counting-start (unknown rows (z .records) slots) ws n (z .records + z .outside) (let a = h .rows-held .room in let b = outside-most in omega arith)
 
@@ -374,25 +367,25 @@ module _ (rows slots ws : List ℕ) (z : Sizes) (n : ℕ) (h : Counted rows slot
   unfolding indexed
   outside-number = outside-length indexed (slotsOf slots) ∙ sym (h .outside-are indexed refl)
 
-  pub addressed : (r : ℕ) → Rising (block ws n) → r ≡ z .records + z .outside + length (filter (unknown rows (z .records) slots) (keys (block ws n)))
+  pub addressed : (r : ℕ) → Rising (writesOf ws n) → r ≡ z .records + z .outside + length (filter (unknown rows (z .records) slots) (keys (writesOf ws n)))
       → Addressed rows slots ws z n r
   addressed r rising t =
       record {
         is =
             λ m e s. unfold addressesWith in
             total-is
-            ∙ (λ i. distinct (keys (sym e i) ++ (keys (entries (sym s i)) ++ keys (block ws n))));
+            ∙ (λ i. distinct (keys (sym e i) ++ (keys (entries (sym s i)) ++ keys (writesOf ws n))));
       }
     where
-      all : distinct (keys (recordsOf rows (z .records)) ++ (keys (entries (slotsOf slots)) ++ keys (block ws n)))
-          ≡ length (keys (recordsOf rows (z .records))) + (length (filter (lacking (recordsOf rows (z .records))) (keys (entries (slotsOf slots)))) + length (filter (unknown rows (z .records) slots) (keys (block ws n))))
+      all : distinct (keys (recordsOf rows (z .records)) ++ (keys (entries (slotsOf slots)) ++ keys (writesOf ws n)))
+          ≡ length (keys (recordsOf rows (z .records))) + (length (filter (lacking (recordsOf rows (z .records))) (keys (entries (slotsOf slots)))) + length (filter (unknown rows (z .records) slots) (keys (writesOf ws n))))
       all =
-          three-count (keys (recordsOf rows (z .records))) (keys (entries (slotsOf slots))) (keys (block ws n)) (lacking (recordsOf rows (z .records))) (unknown rows (z .records) slots)
-          (rising-different (recordsOf rows (z .records)) (h .rows-held .rising)) (keys-differ (h .slots-held .good)) (rising-different (block ws n) rising)
+          three-count (keys (recordsOf rows (z .records))) (keys (entries (slotsOf slots))) (keys (writesOf ws n)) (lacking (recordsOf rows (z .records))) (unknown rows (z .records) slots)
+          (rising-different (recordsOf rows (z .records)) (h .rows-held .rising)) (keys-differ (h .slots-held .good)) (rising-different (writesOf ws n) rising)
           (λ k. sym (ap not (has-keys (recordsOf rows (z .records)) k)))
           (λ k. ap (both (lacking (recordsOf rows (z .records)) k)) (unsaid-lacks (h .slots-held) k))
 
-      total-is : r ≡ distinct (keys (recordsOf rows (z .records)) ++ (keys (entries (slotsOf slots)) ++ keys (block ws n)))
+      total-is : r ≡ distinct (keys (recordsOf rows (z .records)) ++ (keys (entries (slotsOf slots)) ++ keys (writesOf ws n)))
       total-is =
           let a = record-number in
           let b = outside-number in

@@ -1,4 +1,4 @@
--- An empty map in the lent arrays: one leaf with version 0, no record, no entry.
+-- An empty map in the byColumns arrays: one leaf with version 0, no record, no entry.
 -- Assumes nothing.
 use Prim.Native.Nat.{ℕ, zero, suc, _<_, zero-le}
 use native.Mathlib.Nat.{not-suc-le-zero}
@@ -6,7 +6,8 @@ use native.Mathlib.Omega.{arith}
 use mathlib.Core.Path.{_≡_, refl, sym, ap, _∙_, subst}
 use mathlib.Core.Bool.{Bool}
 use mathlib.Core.List.{List, [], _∷_}
-use lib.ListN.{length, take, getD, replicate}
+use lib.ListN.{length, take, getD, set, replicate, length-set}
+use lib.Seq.{getD-set-same}
 use Rattle.lists.specs.Rows.{Row, Rising}
 use Rattle.lists.specs.RowLaws.{rising-nil}
 use Rattle.lists.specs.Ascending.{Ascends}
@@ -20,12 +21,14 @@ use Rattle.laws.specs.LeafVersions.{GoodLeaves, fresh-leaves}
 use Rattle.laws.specs.MapBounds.{Bounded, fresh-bounded}
 use Rattle.indexlet.specs.Words.{slotsOf}
 use Rattle.indexlet.specs.Held as indexlet
-use Rattle.index.specs.Views.{paired, recordsOf, leavesOf}
+use Rattle.index.specs.LeafColumns.{column, column-set, column-places}
+use Rattle.index.specs.Views.{leafPlaces, paired, recordsOf, leavesOf}
 use Rattle.map.specs.declared.Sizes.{Sizes}
-use Rattle.map.specs.Views.{lent, mapOf}
+use Rattle.map.specs.Views.{SlotRows, LeafRows, RecordRows, byColumns, mapOf}
 use Rattle.phantomlet.specs.Phantoms.{weigh, howMany, outsideAny}
 use Rattle.map.specs.Held.{Tables}
 use Rattle.map.specs.Says.{Becomes, Emptied}
+use Rattle.spec.specs.Slots.{slotCount}
 
 abbrev pub freshSizes : Sizes
 freshSizes = record { records = 0; leaves = 1; entries = 0; outside = 0 }
@@ -35,8 +38,8 @@ leaf-path p q = λ i. record { low = p i; version = q i } ∷ []
 
 first-leaf : (xs us : List ℕ) → Emptied xs → Emptied us → leavesOf xs us 1 ≡ firstLeaf ∷ []
 unfolding leavesOf paired
-first-leaf [] us p q = absurd (let e : 0 ≡ 1025 = p .size in omega arith)
-first-leaf (x ∷ xs) [] p q = absurd (let e : 0 ≡ 1025 = q .size in omega arith)
+first-leaf [] us p q = absurd (let e : 0 ≡ leafPlaces = p .size in omega arith)
+first-leaf (x ∷ xs) [] p q = absurd (let e : 0 ≡ leafPlaces = q .size in omega arith)
 first-leaf (x ∷ xs) (u ∷ us) p q = leaf-path (p .first) (q .first)
 
 first-low : (xs : List ℕ) → Emptied xs → Ascends 0 (take 1 xs)
@@ -44,7 +47,7 @@ unfolding Ascends
 first-low [] p = tt
 first-low (x ∷ xs) p = (zero-le, tt)
 
-no-records : (ws : List ℕ) → recordsOf ws 0 ≡ []
+no-records : (ws : RecordRows) → recordsOf ws 0 ≡ []
 unfolding recordsOf
 no-records ws = refl
 
@@ -57,17 +60,17 @@ at-first : (xs : List ℕ) (i : ℕ) → Emptied xs → i < 1 → getD xs i 0 �
 at-first xs zero p h = p .first
 at-first xs (suc i) p h = absurd (omega arith)
 
-module _ (rows lows versions outside pending slots : List ℕ) (lows-empty : Emptied lows) (versions-empty : Emptied versions) (outside-empty : Emptied outside) (pending-empty : Emptied pending) (words : indexlet.Fresh slots) where
-  fresh-view : mapOf (lent rows lows versions outside pending slots) freshSizes ≡ freshMap
+module _ (rows : RecordRows) (lows versions outside pending : List ℕ) (slots : SlotRows) (lows-empty : Emptied lows) (versions-empty : Emptied versions) (outside-empty : Emptied outside) (pending-empty : Emptied pending) (words : indexlet.Fresh slots) where
+  fresh-view : mapOf (byColumns rows lows versions outside pending slots) freshSizes ≡ freshMap
   fresh-view = λ i. record { records = no-records rows i; leaves = first-leaf lows versions lows-empty versions-empty i; slots = words .view i }
 
   one-leaf : length (leavesOf lows versions 1) ≡ 1
   one-leaf = ap length (first-leaf lows versions lows-empty versions-empty)
 
   nothing : (p : Row Content → Bool) → howMany p (slotsOf slots) ≡ 0
-  nothing p = ap (howMany p) (words .view) ∙ none-many p 256
+  nothing p = ap (howMany p) (words .view) ∙ none-many p slotCount
 
-  fresh-tables : Tables (lent rows lows versions outside pending slots) freshSizes 0
+  fresh-tables : Tables (byColumns rows lows versions outside pending slots) freshSizes 0
   fresh-tables =
       record {
         rows = record { room = zero-le; rising = subst Rising (sym (no-records rows)) (rising-nil Record) };
@@ -81,7 +84,7 @@ module _ (rows lows versions outside pending slots : List ℕ) (lows-empty : Emp
         entries-are = sym (ap (λ (ss : List Slot). length (entries ss)) (words .view) ∙ (unfold entries in refl));
         outside-size = outside-empty .size;
         pending-size = pending-empty .size;
-        outside-are = sym (nothing (outsideAny (mapOf (lent rows lows versions outside pending slots) freshSizes)));
+        outside-are = sym (nothing (outsideAny (mapOf (byColumns rows lows versions outside pending slots) freshSizes)));
         phantoms =
             record {
               outside-is = λ i h. at-first outside i outside-empty (let e = one-leaf in omega arith) ∙ sym (nothing _);
@@ -89,9 +92,19 @@ module _ (rows lows versions outside pending slots : List ℕ) (lows-empty : Emp
             };
       }
 
-  pub fresh-becomes : Becomes (lent rows lows versions outside pending slots) freshSizes 0 freshMap
+  pub fresh-becomes : Becomes (byColumns rows lows versions outside pending slots) freshSizes 0 freshMap
   fresh-becomes =
       record {
         map = fresh-view;
         held = record { tables = fresh-tables; bounded = subst (Bounded standard 0) (sym fresh-view) (fresh-bounded standard) };
       }
+
+-- the first leaf written, every column is empty
+pub emptied : (ls ls' : LeafRows) (k : ℕ) → length ls ≡ leafPlaces → ls' ≡ set ls 0 (0 ∷ 0 ∷ 0 ∷ 0 ∷ []) → getD {A = ℕ} (0 ∷ 0 ∷ 0 ∷ 0 ∷ []) k 0 ≡ 0 → Emptied (column k ls')
+emptied ls ls' k l e z =
+    let c : column k ls' ≡ set (column k ls) 0 (getD (0 ∷ 0 ∷ 0 ∷ 0 ∷ []) k 0) = ap (column k) e ∙ column-set k ls 0 (0 ∷ 0 ∷ 0 ∷ 0 ∷ []) in
+    let s : length (column k ls) ≡ leafPlaces = column-places k ls l in
+    record {
+      size = ap length c ∙ length-set (column k ls) 0 (getD (0 ∷ 0 ∷ 0 ∷ 0 ∷ []) k 0) ∙ s;
+      first = ap (λ (xs : List ℕ). getD xs 0 0) c ∙ getD-set-same (column k ls) 0 (getD (0 ∷ 0 ∷ 0 ∷ 0 ∷ []) k 0) 0 (omega arith) ∙ z;
+    }

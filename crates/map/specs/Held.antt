@@ -16,15 +16,15 @@ use Rattle.map.specs.declared.Sizes.{Sizes}
 use Rattle.phantomlet.specs.Phantoms.{howMany, outsideAny, Phantomlet}
 use Rattle.map.specs.Views.{Lent, mapOf}
 
--- an array with a word for each leaf
+-- how many leaves there is room for
 abbrev pub perLeaf : ℕ
-perLeaf = 1025
+perLeaf = index.leafPlaces
 
 -- v is the last version given
 pub record Tables (l : Lent) (z : Sizes) (v : ℕ) : Type 0 where
   -- the records: there is room for them, they rise, and their keys are addresses
   pub rows : index.Held (l .rows) (z .records)
-  pub rows-narrow : (i : ℕ) → i < z .records → getD (index.rowsOf (l .rows)) i index.noRow .key < 2 ^ 32
+  pub rows-narrow : (i : ℕ) → i < z .records → index.rowAt (l .rows) i .key < 2 ^ 32
   -- the leaves
   pub lows : Listed (l .lows) (z .leaves)
   pub lows-narrow : (i : ℕ) → i < z .leaves → getD (l .lows) i 0 < 2 ^ 32

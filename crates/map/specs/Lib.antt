@@ -1,9 +1,10 @@
 pub mod Views
 pub mod Held
+pub mod Parts
 pub mod Says
 pub mod SayLaws
 pub mod FreshLaws
-pub mod Blocks
+pub mod WriteWalks
 pub mod LockLaws
 pub mod AddressCounts
 pub mod MergeWalks

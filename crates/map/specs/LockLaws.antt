@@ -24,11 +24,13 @@ use Rattle.indexlet.specs.declared.Content.{Content as ContentWords}
 use Rattle.indexlet.specs.Words.{contentIn, holderIn, slotsOf}
 use Rattle.indexlet.specs.Words as words
 use Rattle.map.specs.declared.Sizes.{Sizes}
-use Rattle.map.specs.declared.locks.WriteRow.{WriteRow}
-use Rattle.map.specs.Views.{Lent, mapOf, writeIn, block}
+use Rattle.sets.specs.declared.writes.Entry.{Entry}
+use Rattle.sets.specs.Writes.{WriteRows, writeOf, entryIn, writesOf}
+use Rattle.sets.specs.WriteLaws.{put-kind, deletion-kind}
+use Rattle.map.specs.Views.{SlotRows, Lent, mapOf}
 use Rattle.map.specs.Held.{Tables, Held}
 use Rattle.map.specs.Says.{Becomes, Said}
-use Rattle.map.specs.Blocks.{blockAt, writeOf, rest, rest-all, rest-none, rest-cons, restKeys, keys-all, keys-none, keys-cons}
+use Rattle.map.specs.WriteWalks.{writeAt, rest, rest-all, rest-none, rest-cons, restKeys, keys-all, keys-none, keys-cons}
 
 -- ---- one address after the other
 
@@ -149,13 +151,12 @@ module _ (ss : List Slot) (a b : ℕ) (old c : Content) (e : a ≡ b) (o : conte
       room-old g a c
       (λ t. ap isIdle (q ∙ holding-none old ∙ ap withoutHolder (sym o)) ∙ (unfold isIdle in rw (idle-pending (contentOf ss a) t)))
 
-pub install-said : (ss : List Slot) (n : ℕ) (x : Row Write) (r : WriteRow) (c : Content) → writeOf r ≡ x → c ≡ installedAs n (writeOf r) c → enter 4 ss (r .address) c ≡ installRow 4 n ss x
-unfolding installRow writeOf
+pub install-said : (ss : List Slot) (n : ℕ) (x : Row Write) (r : Entry) (c : Content) → entryIn r ≡ x → c ≡ installedAs n (entryIn r) c → enter 4 ss (r .address) c ≡ installRow 4 n ss x
+unfolding installRow
 install-said ss n x r c e q =
     entered-as ss (ap (λ (y : Row Write). y .key) e) (q ∙ ap (λ (y : Row Write). installedAs n y c) e)
 
-pub install-room : (ss : List Slot) (x : Row Write) (r : WriteRow) (c : Content) → Good 4 ss → writeOf r ≡ x → isIdle (contentOf ss (x .key)) ≡ false → Room ss (r .address) c
-unfolding writeOf
+pub install-room : (ss : List Slot) (x : Row Write) (r : Entry) (c : Content) → Good 4 ss → entryIn r ≡ x → isIdle (contentOf ss (x .key)) ≡ false → Room ss (r .address) c
 install-room ss x r c g e b = stands (has-entry g (r .address) (ap (λ (y : Row Write). isIdle (contentOf ss (y .key))) e ∙ b))
 
 -- the kind of the pending write that a write of this kind leaves
@@ -174,15 +175,15 @@ kind-delete zero e = refl
 kind-delete (suc zero) e = absurd (e refl)
 kind-delete (suc (suc k)) e = refl
 
-pending-write : (k v n : ℕ) → words.pendingIn (pendingKind k) v n ≡ some (record { write = writeIn k v; commit = n })
-unfolding pendingKind words.pendingIn writeIn
-pending-write zero v n = refl
-pending-write (suc zero) v n = refl
-pending-write (suc (suc k)) v n = refl
+pending-write : (k v n : ℕ) → words.pendingIn (pendingKind k) v n ≡ some (record { write = writeOf k v; commit = n })
+unfolding pendingKind words.pendingIn
+pending-write zero v n = ap (λ (x : Write). some (record { write = x; commit = n })) (sym (deletion-kind 0 v (λ e. absurd (omega arith))))
+pending-write (suc zero) v n = ap (λ (x : Write). some (record { write = x; commit = n })) (sym (put-kind 1 v refl))
+pending-write (suc (suc k)) v n = ap (λ (x : Write). some (record { write = x; commit = n })) (sym (deletion-kind (suc (suc k)) v (λ e. absurd (omega arith))))
 
-pub installs : (r : WriteRow) (n k : ℕ) → k ≡ pendingKind (r .kind)
-    → contentIn (record { kind = k; value = r .value; commit = n; lock = 0 }) ≡ installedAs n (writeOf r) idle
-unfolding contentIn holderIn writeOf
+pub installs : (r : Entry) (n k : ℕ) → k ≡ pendingKind (r .kind)
+    → contentIn (record { kind = k; value = r .value; commit = n; lock = 0 }) ≡ installedAs n (entryIn r) idle
+unfolding contentIn holderIn
 installs r n k e =
     ap (λ (o : Option Pending). record { pending = o; holder = none })
     (ap (λ (x : ℕ). words.pendingIn x (r .value) n) e ∙ pending-write (r .kind) (r .value) n)
@@ -190,16 +191,16 @@ installs r n k e =
 -- ---- the whole write set
 
 -- another worker than w has the lock of k
-abbrev pub foreign : List ℕ → ℕ → ℕ → Bool
+abbrev pub foreign : SlotRows → ℕ → ℕ → Bool
 foreign slots w k = heldByOther w (contentOf (slotsOf slots) k)
 
-module _ (p : ℕ → Bool) (ws : List ℕ) (i n : ℕ) where
+module _ (p : ℕ → Bool) (ws : WriteRows) (i n : ℕ) where
   -- b is the test of row i
-  pub any-here : {b : Bool} → i < n → b ≡ p (blockAt ws i .key) → b ≡ true → any p (restKeys ws i n) ≡ true
+  pub any-here : {b : Bool} → i < n → b ≡ p (writeAt ws i .key) → b ≡ true → any p (restKeys ws i n) ≡ true
   unfolding any
   any-here h e t = ap (any p) (keys-cons ws i n h) ∙ (rw (sym e ∙ t))
 
-  pub any-later : {b : Bool} → i < n → b ≡ p (blockAt ws i .key) → b ≡ false → any p (restKeys ws (i + 1) n) ≡ any p (restKeys ws i n)
+  pub any-later : {b : Bool} → i < n → b ≡ p (writeAt ws i .key) → b ≡ false → any p (restKeys ws (i + 1) n) ≡ any p (restKeys ws i n)
   unfolding any
   any-later h e t = sym (ap (any p) (keys-cons ws i n h) ∙ (rw (sym e ∙ t)))
 
@@ -213,44 +214,44 @@ pub record Lockable (m : MapState) (ks : List ℕ) : Type 0 where
   pub addresses : addressesWith m ks ≤ standard .mapLimit
 
 -- what is left to lock, to unlock and to install
-abbrev pub Locking : ℕ → Lent → Sizes → ℕ → List ℕ → ℕ → ℕ → MapState → Type 0
+abbrev pub Locking : ℕ → Lent → Sizes → ℕ → WriteRows → ℕ → ℕ → MapState → Type 0
 Locking w l z v ws i n goal = Going (lockKey 4 w) LockRoom l z v (restKeys ws i n) goal
 
-abbrev pub Unlocking : ℕ → Lent → Sizes → ℕ → List ℕ → ℕ → ℕ → MapState → Type 0
+abbrev pub Unlocking : ℕ → Lent → Sizes → ℕ → WriteRows → ℕ → ℕ → MapState → Type 0
 Unlocking w l z v ws i n goal = Going (unlockKey 4 w) (Always {X = ℕ}) l z v (restKeys ws i n) goal
 
-abbrev pub Installing : ℕ → Lent → Sizes → ℕ → List ℕ → ℕ → ℕ → MapState → Type 0
+abbrev pub Installing : ℕ → Lent → Sizes → ℕ → WriteRows → ℕ → ℕ → MapState → Type 0
 Installing c l z v ws i n goal = Going (installRow 4 c) Installable l z v (rest ws i n) goal
 
 few-slots : standard .waitingLimit < slotCount
 few-slots = omega arith
 
-module _ (w : ℕ) (ws : List ℕ) (n v : ℕ) where
-  pub lock-start : (l : Lent) (z : Sizes) → Held l z v → Lockable (mapOf l z) (keys (block ws n))
-      → Locking w l z v ws 0 n (lockAll standard w (mapOf l z) (keys (block ws n)))
+module _ (w : ℕ) (ws : WriteRows) (n v : ℕ) where
+  pub lock-start : (l : Lent) (z : Sizes) → Held l z v → Lockable (mapOf l z) (keys (writesOf ws n))
+      → Locking w l z v ws 0 n (lockAll standard w (mapOf l z) (keys (writesOf ws n)))
   unfolding lockAll
   lock-start l z h t =
       record {
         tables = h .tables;
         run = ap (λ (ks : List ℕ). withSlots (mapOf l z) (each (lockKey 4 w) (slotsOf (l .slots)) ks)) (keys-all ws n);
-        inv = subst (LockRoom (slotsOf (l .slots))) (sym (keys-all ws n)) (lock-room standard (mapOf l z) (keys (block ws n)) few-slots (t .waiting));
+        inv = subst (LockRoom (slotsOf (l .slots))) (sym (keys-all ws n)) (lock-room standard (mapOf l z) (keys (writesOf ws n)) few-slots (t .waiting));
       }
 
   pub lock-fits : {l : Lent} {z : Sizes} {goal : MapState} (i : ℕ) → Locking w l z v ws i n goal → length (entries (slotsOf (l .slots))) < slotCount
   lock-fits i q = lt-of-le-of-lt (entry-count (q .tables .words .good) (restKeys ws i n)) (q .inv)
 
   pub lock-on : {l l' : Lent} {z r : Sizes} {goal : MapState} (i : ℕ) → i < n → Locking w l z v ws i n goal
-      → Said l l' z r v (lockKey 4 w (slotsOf (l .slots)) (blockAt ws i .key)) → Locking w l' r v ws (i + 1) n goal
-  lock-on i h q s = going-on (locking 4 w) (blockAt ws i .key) (restKeys ws i n) (restKeys ws (i + 1) n) (keys-cons ws i n h) q s
+      → Said l l' z r v (lockKey 4 w (slotsOf (l .slots)) (writeAt ws i .key)) → Locking w l' r v ws (i + 1) n goal
+  lock-on i h q s = going-on (locking 4 w) (writeAt ws i .key) (restKeys ws i n) (restKeys ws (i + 1) n) (keys-cons ws i n h) q s
 
-  pub lock-end : {l l' : Lent} {z r : Sizes} (i : ℕ) → n ≤ i → Held l z v → Lockable (mapOf l z) (keys (block ws n))
-      → Locking w l' r v ws i n (lockAll standard w (mapOf l z) (keys (block ws n)))
-      → Becomes l' r v (lockAll standard w (mapOf l z) (keys (block ws n)))
+  pub lock-end : {l l' : Lent} {z r : Sizes} (i : ℕ) → n ≤ i → Held l z v → Lockable (mapOf l z) (keys (writesOf ws n))
+      → Locking w l' r v ws i n (lockAll standard w (mapOf l z) (keys (writesOf ws n)))
+      → Becomes l' r v (lockAll standard w (mapOf l z) (keys (writesOf ws n)))
   lock-end i e h t q =
       becomes (q .tables) (going-end (keys-none ws i n e) q)
-      (lock-bounded (h .bounded) few-slots w (keys (block ws n)) (t .waiting) (t .addresses))
+      (lock-bounded (h .bounded) few-slots w (keys (writesOf ws n)) (t .waiting) (t .addresses))
 
-  pub unlock-start : (l : Lent) (z : Sizes) → Held l z v → Unlocking w l z v ws 0 n (unlockAll standard w (mapOf l z) (keys (block ws n)))
+  pub unlock-start : (l : Lent) (z : Sizes) → Held l z v → Unlocking w l z v ws 0 n (unlockAll standard w (mapOf l z) (keys (writesOf ws n)))
   unfolding unlockAll
   unlock-start l z h =
       record {
@@ -260,16 +261,16 @@ module _ (w : ℕ) (ws : List ℕ) (n v : ℕ) where
       }
 
   pub unlock-on : {l l' : Lent} {z r : Sizes} {goal : MapState} (i : ℕ) → i < n → Unlocking w l z v ws i n goal
-      → Said l l' z r v (unlockKey 4 w (slotsOf (l .slots)) (blockAt ws i .key)) → Unlocking w l' r v ws (i + 1) n goal
-  unlock-on i h q s = going-on (unlocking 4 w) (blockAt ws i .key) (restKeys ws i n) (restKeys ws (i + 1) n) (keys-cons ws i n h) q s
+      → Said l l' z r v (unlockKey 4 w (slotsOf (l .slots)) (writeAt ws i .key)) → Unlocking w l' r v ws (i + 1) n goal
+  unlock-on i h q s = going-on (unlocking 4 w) (writeAt ws i .key) (restKeys ws i n) (restKeys ws (i + 1) n) (keys-cons ws i n h) q s
 
-  pub unlock-end : {l l' : Lent} {z r : Sizes} (i : ℕ) → n ≤ i → Held l z v → Unlocking w l' r v ws i n (unlockAll standard w (mapOf l z) (keys (block ws n)))
-      → Becomes l' r v (unlockAll standard w (mapOf l z) (keys (block ws n)))
-  unlock-end i e h q = becomes (q .tables) (going-end (keys-none ws i n e) q) (unlock-bounded (h .bounded) w (keys (block ws n)))
+  pub unlock-end : {l l' : Lent} {z r : Sizes} (i : ℕ) → n ≤ i → Held l z v → Unlocking w l' r v ws i n (unlockAll standard w (mapOf l z) (keys (writesOf ws n)))
+      → Becomes l' r v (unlockAll standard w (mapOf l z) (keys (writesOf ws n)))
+  unlock-end i e h q = becomes (q .tables) (going-end (keys-none ws i n e) q) (unlock-bounded (h .bounded) w (keys (writesOf ws n)))
 
   -- w is the commit number
-  pub install-start : (l : Lent) (z : Sizes) → Held l z v → Installable (slotsOf (l .slots)) (block ws n)
-      → Installing w l z v ws 0 n (installAll standard w (mapOf l z) (block ws n))
+  pub install-start : (l : Lent) (z : Sizes) → Held l z v → Installable (slotsOf (l .slots)) (writesOf ws n)
+      → Installing w l z v ws 0 n (installAll standard w (mapOf l z) (writesOf ws n))
   unfolding installAll
   install-start l z h t =
       record {
@@ -279,17 +280,17 @@ module _ (w : ℕ) (ws : List ℕ) (n v : ℕ) where
       }
 
   pub install-busy : {l : Lent} {z : Sizes} {goal : MapState} (i : ℕ) → i < n → Installing w l z v ws i n goal
-      → isIdle (contentOf (slotsOf (l .slots)) (blockAt ws i .key)) ≡ false
+      → isIdle (contentOf (slotsOf (l .slots)) (writeAt ws i .key)) ≡ false
   install-busy i h q =
-      q .inv .held (blockAt ws i .key)
-      (ap (λ (rs : List (Row Write)). present (look rs (blockAt ws i .key))) (rest-cons ws i n h)
-      ∙ ap present (look-here (blockAt ws i) (rest ws (i + 1) n) (blockAt ws i .key) refl))
+      q .inv .held (writeAt ws i .key)
+      (ap (λ (rs : List (Row Write)). present (look rs (writeAt ws i .key))) (rest-cons ws i n h)
+      ∙ ap present (look-here (writeAt ws i) (rest ws (i + 1) n) (writeAt ws i .key) refl))
 
   pub install-on : {l l' : Lent} {z r : Sizes} {goal : MapState} (i : ℕ) → i < n → Installing w l z v ws i n goal
-      → Said l l' z r v (installRow 4 w (slotsOf (l .slots)) (blockAt ws i)) → Installing w l' r v ws (i + 1) n goal
-  install-on i h q s = going-on (installing 4 w) (blockAt ws i) (rest ws i n) (rest ws (i + 1) n) (rest-cons ws i n h) q s
+      → Said l l' z r v (installRow 4 w (slotsOf (l .slots)) (writeAt ws i)) → Installing w l' r v ws (i + 1) n goal
+  install-on i h q s = going-on (installing 4 w) (writeAt ws i) (rest ws i n) (rest ws (i + 1) n) (rest-cons ws i n h) q s
 
-  pub install-end : {l l' : Lent} {z r : Sizes} (i : ℕ) → n ≤ i → Held l z v → Installable (slotsOf (l .slots)) (block ws n)
-      → Installing w l' r v ws i n (installAll standard w (mapOf l z) (block ws n))
-      → Becomes l' r v (installAll standard w (mapOf l z) (block ws n))
-  install-end i e h t q = becomes (q .tables) (going-end (rest-none ws i n e) q) (install-bounded (h .bounded) w (block ws n) t)
+  pub install-end : {l l' : Lent} {z r : Sizes} (i : ℕ) → n ≤ i → Held l z v → Installable (slotsOf (l .slots)) (writesOf ws n)
+      → Installing w l' r v ws i n (installAll standard w (mapOf l z) (writesOf ws n))
+      → Becomes l' r v (installAll standard w (mapOf l z) (writesOf ws n))
+  install-end i e h t q = becomes (q .tables) (going-end (rest-none ws i n e) q) (install-bounded (h .bounded) w (writesOf ws n) t)

@@ -22,12 +22,13 @@ use Rattle.laws.specs.LeafParts.{Covers}
 use Rattle.laws.specs.LeafVersions.{GoodLeaves}
 use Rattle.indexlet.specs.Words.{contentIn, slotIn, rowAt, slotsOf}
 use Rattle.indexlet.specs.Held as indexlet
-use Rattle.index.specs.Views.{noRow, rowsOf, recordsOf, leavesOf}
+use Rattle.index.specs.Views.{leafPlaces, noRow, recordsOf, leavesOf}
 use Rattle.index.specs.Views as index
-use Rattle.index.specs.ViewLaws.{length-records, record-read}
+use Rattle.index.specs.ViewLaws.{length-records, record-at}
 use Rattle.index.specs.LeafViews.{paired-getD}
 use Rattle.map.specs.Held.{Held}
 use Rattle.phantomlet.specs.LeafTests.{lows-are}
+use Rattle.map.specs.Views.{SlotRows, RecordRows}
 
 -- where a member stands
 mem-place : {A : Type 0} {x : A} (xs : List A) (d : A) → List·Memᴰ x xs → (i : ℕ) × (i < length xs) × (getD xs i d ≡ x)
@@ -39,7 +40,7 @@ unfolding Covers
 covers-first [] c = refl
 covers-first (l ∷ ls) c = c
 
-pub entry-narrow : (ws : List ℕ) → indexlet.Held ws → (k : ℕ) → has k (keys (entries (slotsOf ws))) ≡ true → k < 2 ^ 32
+pub entry-narrow : (ws : SlotRows) → indexlet.Held ws → (k : ℕ) → has k (keys (entries (slotsOf ws))) ≡ true → k < 2 ^ 32
 unfolding slotsOf slotIn
 entry-narrow ws h k e =
     let q = mem-keys (entries (slotsOf ws)) (has-member k (keys (entries (slotsOf ws))) e) in
@@ -51,23 +52,23 @@ entry-narrow ws h k e =
     let t : row (rowAt ws (r .0) .key) (contentIn (rowAt ws (r .0) .content)) ≡ q .0 = kept-entry (rowAt ws (r .0) .key) (contentIn (rowAt ws (r .0) .content)) (q .0) s .1 in
     subst (λ (x : ℕ). x < 2 ^ 32) (ap (λ (x : Row Content). x .key) t ∙ q .2) (h .sized .narrow (r .0) b)
 
-pub record-narrow : (ws : List ℕ) (n : ℕ) → index.Held ws n → ((i : ℕ) → i < n → getD (rowsOf ws) i noRow .key < 2 ^ 32)
+pub record-narrow : (ws : RecordRows) (n : ℕ) → index.Held ws n → ((i : ℕ) → i < n → index.rowAt ws i .key < 2 ^ 32)
     → (k : ℕ) → has k (keys (recordsOf ws n)) ≡ true → k < 2 ^ 32
 record-narrow ws n held h k e =
     let q = mem-keys (recordsOf ws n) (has-member k (keys (recordsOf ws n)) e) in
     let r = mem-place (recordsOf ws n) noRow (q .1) in
     let f : length (recordsOf ws n) ≡ n = length-records ws n (held .room) in
     let b : r .0 < n = (let g : r .0 < length (recordsOf ws n) = r .1 in omega arith) in
-    subst (λ (x : ℕ). x < 2 ^ 32) (ap (λ (x : Row Record). x .key) (sym (record-read ws n (r .0) b) ∙ r .2) ∙ q .2) (h (r .0) b)
+    subst (λ (x : ℕ). x < 2 ^ 32) (ap (λ (x : Row Record). x .key) (sym (record-at ws n (r .0) (held .room) b) ∙ r .2) ∙ q .2) (h (r .0) b)
 
-pub rows-narrow : (ws : List ℕ) (n : ℕ) → index.Held ws n → ((k : ℕ) → has k (keys (recordsOf ws n)) ≡ true → k < 2 ^ 32)
-    → (i : ℕ) → i < n → getD (rowsOf ws) i noRow .key < 2 ^ 32
+pub rows-narrow : (ws : RecordRows) (n : ℕ) → index.Held ws n → ((k : ℕ) → has k (keys (recordsOf ws n)) ≡ true → k < 2 ^ 32)
+    → (i : ℕ) → i < n → index.rowAt ws i .key < 2 ^ 32
 rows-narrow ws n held h i b =
     let f : length (recordsOf ws n) ≡ n = length-records ws n (held .room) in
-    subst (λ (x : Row Record). x .key < 2 ^ 32) (record-read ws n i b)
+    subst (λ (x : Row Record). x .key < 2 ^ 32) (record-at ws n i (held .room) b)
     (h (getD (recordsOf ws n) i noRow .key) (member-has (keys-mem (getD (recordsOf ws n) i noRow) (recordsOf ws n) (mem-getD (recordsOf ws n) i noRow (omega arith)))))
 
-pub low-at : (lows versions : List ℕ) (m i : ℕ) → length lows ≡ 1025 → length versions ≡ 1025 → m ≤ 1025 → i < m
+pub low-at : (lows versions : List ℕ) (m i : ℕ) → length lows ≡ leafPlaces → length versions ≡ leafPlaces → m ≤ leafPlaces → i < m
     → getD (leavesOf lows versions m) i firstLeaf .low ≡ getD lows i 0
 unfolding leavesOf
 low-at lows versions m i al av mr h =
@@ -75,7 +76,7 @@ low-at lows versions m i al av mr h =
     let y : length (take m versions) ≡ m = length-take-le m versions (omega arith) in
     ap (λ (l : Leaf). l .low) (paired-getD (take m lows) (take m versions) i (x ∙ sym y) (omega arith)) ∙ getD-take m lows i 0 h
 
-pub first-low : {v : ℕ} (lows versions : List ℕ) (m : ℕ) → length lows ≡ 1025 → length versions ≡ 1025 → 1 ≤ m → m ≤ 1025 → GoodLeaves v (leavesOf lows versions m) → getD lows 0 0 ≡ 0
+pub first-low : {v : ℕ} (lows versions : List ℕ) (m : ℕ) → length lows ≡ leafPlaces → length versions ≡ leafPlaces → 1 ≤ m → m ≤ leafPlaces → GoodLeaves v (leavesOf lows versions m) → getD lows 0 0 ≡ 0
 first-low lows versions m al av s mr g =
     sym (getD-take m lows 0 0 s)
     ∙ ap (λ (xs : List ℕ). getD xs 0 0) (sym (lows-are lows versions m al av mr g))

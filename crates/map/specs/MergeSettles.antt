@@ -18,45 +18,60 @@ use Rattle.spec.specs.Leaves.{Leaf, firstLeaf, cuts, starts, newLows, freshLeav
 use Rattle.laws.specs.LeafParts.{LowsFrom, Covers}
 use Rattle.laws.specs.LeafCuts.{taken-none, lows-taken}
 use Rattle.laws.specs.SettleLaws.{around-parts}
-use Rattle.index.specs.Views.{recordsOf, keysBetween}
+use Rattle.index.specs.Views.{leafPlaces, recordPlaces, recordsOf, keysBetween}
 use Rattle.index.specs.Views as index
-use Rattle.index.specs.Settles.{Settling, SettledAs}
+use Rattle.index.specs.declared.leaves.Leaf.{Leaf as LeafWords}
+use Rattle.index.specs.LeafColumns.{lowsOf, pendingOf, leafAt, column-getD}
+use Rattle.index.specs.Settles.{Settling}
+use Rattle.index.specs.SettleRows.{SettledRows}
 use Rattle.phantomlet.specs.LeafTests.{placed}
 use Rattle.phantomlet.specs.LeafRows.{Lows, Spans}
+use Rattle.map.specs.Views.{LeafRows, RecordRows}
 
 -- the addresses of the records of the leaf at place i
-unfoldable pub leafKeys : List ℕ → List ℕ → ℕ → ℕ → ℕ → List ℕ
+unfoldable pub leafKeys : List ℕ → RecordRows → ℕ → ℕ → ℕ → List ℕ
 leafKeys lows rows n m i = keys (filter (λ (r : Row Record). placed lows m i (r .key)) (recordsOf rows n))
 
+-- the place of an address that is a leaf's low
+pub at-low : {rows : RecordRows} {n k low p : ℕ} → k ≡ low → index.AtPlace rows n k p → index.AtPlace rows n low p
+at-low {rows} {n} {k} {low} {p} e a = subst (λ (x : ℕ). index.AtPlace rows n x p) e a
+
+-- the number of pending writes of a leaf that was read
+pub pending-of : (ls : LeafRows) (i : ℕ) {l : LeafWords} → l ≡ leafAt ls i → getD (pendingOf ls) i 0 ≡ l .pending
+pending-of ls i e = column-getD 3 ls i ∙ ap (λ (x : LeafWords). x .pending) (sym e)
+
+pub pending-some : (ls : LeafRows) (i : ℕ) {l : LeafWords} → l ≡ leafAt ls i → (l .pending ≡ 0 → ⊥) → getD (pendingOf ls) i 0 ≡ 0 → ⊥
+pending-some ls i e n z = n (sym (pending-of ls i e) ∙ z)
+
 -- what settling the leaf at place i asks
-pub record Resettling (lows rows : List ℕ) (n m i v : ℕ) : Type 0 where
+pub record Resettling (lows : List ℕ) (rows : RecordRows) (n m i v : ℕ) : Type 0 where
   pub rows-held : index.Held rows n
   pub lows-are : Lows lows m
   pub leaf-in : i < m
-  pub room : m + versionsTaken standard (leafKeys lows rows n m i) ≤ 1026
+  pub room : m + versionsTaken standard (leafKeys lows rows n m i) ≤ leafPlaces + 1
   pub next : v + versionsTaken standard (leafKeys lows rows n m i) < 2 ^ 64
 
-pub settling : {lows rows : List ℕ} {n m i v from to : ℕ} → Resettling lows rows n m i v → Spans (placed lows m i) rows n from to
+pub settling : {lows : List ℕ} {rows : RecordRows} {n m i v from to : ℕ} → Resettling lows rows n m i v → Spans (placed lows m i) rows n from to
     → Settling m i from to v (keysBetween rows from to)
 unfolding leafKeys
 settling {lows} {rows} {n} {m} {i} {v} {from} {to} r s =
     let w : to ≤ n = s .within in
-    let h : n ≤ 1024 = r .rows-held .room in
+    let h : n ≤ recordPlaces = r .rows-held .room in
     record {
       leaf-in = r .leaf-in;
       leaves-in = r .lows-are .listed .room;
       from-to = s .from-to;
       rows-in = omega arith;
-      room = subst (λ (ks : List ℕ). m + versionsTaken standard ks ≤ 1026) (sym (s .keys-are)) (r .room);
+      room = subst (λ (ks : List ℕ). m + versionsTaken standard ks ≤ leafPlaces + 1) (sym (s .keys-are)) (r .room);
       next = subst (λ (ks : List ℕ). v + versionsTaken standard ks < 2 ^ 64) (sym (s .keys-are)) (r .next);
     }
 
 -- the rows of the leaf hold its records
-pub resettled : {lows versions rows : List ℕ} {n m i v from to : ℕ} {lows' versions' : List ℕ} {m' v' : ℕ} → Spans (placed lows m i) rows n from to
-    → SettledAs lows versions m i v (keysBetween rows from to) lows' versions' m' v' → SettledAs lows versions m i v (leafKeys lows rows n m i) lows' versions' m' v'
+pub resettled : {ls ls' : LeafRows} {rows : RecordRows} {n m i v from to m' v' : ℕ} → Spans (placed (lowsOf ls) m i) rows n from to
+    → SettledRows ls m i v (keysBetween rows from to) ls' m' v' → SettledRows ls m i v (leafKeys (lowsOf ls) rows n m i) ls' m' v'
 unfolding leafKeys
-resettled {lows} {versions} {rows} {n} {m} {i} {v} {from} {to} {lows'} {versions'} {m'} {v'} s r =
-    subst (λ (ks : List ℕ). SettledAs lows versions m i v ks lows' versions' m' v') (s .keys-are) r
+resettled {ls} {ls'} {rows} {n} {m} {i} {v} {from} {to} {m'} {v'} s r =
+    subst (λ (ks : List ℕ). SettledRows ls m i v ks ls' m' v') (s .keys-are) r
 
 -- ---- how many leaves there are then
 
@@ -82,8 +97,8 @@ taken-empty [] h = taken-none standard
 taken-empty (k ∷ ks) h = absurd (let q : ⊥ = omega arith in q)
 
 -- where the leaves after a merge are at most 1,025, there is room
-pub settle-room : (v : ℕ) (ls : List Leaf) (a : ℕ) (ks : List ℕ) → Covers ls → length ls ≤ 1025 → length (settle standard v ls a ks) ≤ 1025
-    → length ls + versionsTaken standard ks ≤ 1026
+pub settle-room : (v : ℕ) (ls : List Leaf) (a : ℕ) (ks : List ℕ) → Covers ls → length ls ≤ leafPlaces → length (settle standard v ls a ks) ≤ leafPlaces
+    → length ls + versionsTaken standard ks ≤ leafPlaces + 1
 unfolding settle
 settle-room v ls a ks c h l =
     let p : Around = around a ls in
@@ -92,7 +107,7 @@ settle-room v ls a ks c h l =
     ⊎-elim
     (λ z. let t : versionsTaken standard ks ≡ 1 = taken-empty ks z in omega arith)
     (λ z. let q : length (settled standard v (around a ls .before) (around a ls .own) ks) ≡ length (around a ls .before) + versionsTaken standard ks = z in
-    let y : length (settled standard v (around a ls .before) (around a ls .own) ks ++ around a ls .after) ≤ 1025 = l in omega arith)
+    let y : length (settled standard v (around a ls .before) (around a ls .own) ks ++ around a ls .after) ≤ leafPlaces = l in omega arith)
     (length-settled standard v (p .before) (p .own) ks)
 
 -- ---- lows are addresses

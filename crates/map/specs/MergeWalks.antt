@@ -34,11 +34,12 @@ use Rattle.indexlet.specs.declared.Content.{Content as ContentWords}
 use Rattle.indexlet.specs.declared.Slot.{Slot as SlotWords}
 use Rattle.indexlet.specs.Held as indexlet
 use Rattle.index.specs.Views as index
-use Rattle.index.specs.Views.{recordFrom, recordsOf}
+use Rattle.index.specs.Views.{recordPlaces, recordFrom, recordsOf}
 use Rattle.map.specs.declared.merge.Walk.{Walk}
 use Rattle.phantomlet.specs.Phantoms.{weigh, howMany, many-change, weigh-kept}
 use Rattle.phantomlet.specs.LeafTests.{takes}
 use Rattle.phantomlet.specs.MergeCounts.{pick-most}
+use Rattle.map.specs.Views.{SlotRows, RecordRows}
 
 -- a map of its three parts
 abbrev pub parts : List (Row Record) → List Leaf → List Slot → MapState
@@ -172,7 +173,7 @@ entry-inside rs ss j e q = has-right (e .key) (keys rs) (keys (entries ss)) (mem
 -- ---- the walk
 
 -- The walk stands before slot j. It began with the records rs and the slots ss.
-pub record Walking (p : ℕ → Bool) (rs : List (Row Record)) (ss : List Slot) (rows slots : List ℕ) (w : Walk) (j : ℕ) : Type 0 where
+pub record Walking (p : ℕ → Bool) (rs : List (Row Record)) (ss : List Slot) (rows : RecordRows) (slots : SlotRows) (w : Walk) (j : ℕ) : Type 0 where
   pub rows-held : index.Held rows (w .records)
   pub words : indexlet.Held slots
   pub number : w .entries ≡ length (entries (slotsOf slots))
@@ -196,25 +197,25 @@ pub record Walking (p : ℕ → Bool) (rs : List (Row Record)) (ss : List Slot) 
   pub cleared : w .left ≡ 0 → (i : ℕ) → i < j → (e : Row Content) → entryAt (slotsOf slots) i ≡ some e → p (e .key) ≡ false
 
 -- what a walk begins with: as many addresses as the index has room for
-pub record Starting (rows slots : List ℕ) (n e : ℕ) : Type 0 where
+pub record Starting (rows : RecordRows) (slots : SlotRows) (n e : ℕ) : Type 0 where
   pub rows-held : index.Held rows n
   pub words : indexlet.Held slots
   pub number : e ≡ length (entries (slotsOf slots))
-  pub bound : distinct (keys (recordsOf rows n) ++ keys (entries (slotsOf slots))) ≤ 1024
+  pub bound : distinct (keys (recordsOf rows n) ++ keys (entries (slotsOf slots))) ≤ recordPlaces
 
 -- a walk that began with as many addresses as the index has room for
-pub record Underway (p : ℕ → Bool) (rows slots : List ℕ) (w : Walk) (j : ℕ) : Type 0 where
+pub record Underway (p : ℕ → Bool) (rows : RecordRows) (slots : SlotRows) (w : Walk) (j : ℕ) : Type 0 where
   pub records : List (Row Record)
   pub begun : List Slot
   pub walking : Walking p records begun rows slots w j
-  pub bound : distinct (keys records ++ keys (entries begun)) ≤ 1024
+  pub bound : distinct (keys records ++ keys (entries begun)) ≤ recordPlaces
 
 -- one slot on, wherever the walk began
-pub record Steps (p : ℕ → Bool) (rows slots : List ℕ) (w : Walk) (j : ℕ) (rows' slots' : List ℕ) (w' : Walk) : Type 0 where
+pub record Steps (p : ℕ → Bool) (rows : RecordRows) (slots : SlotRows) (w : Walk) (j : ℕ) (rows' : RecordRows) (slots' : SlotRows) (w' : Walk) : Type 0 where
   pub on : {rs : List (Row Record)} {ss : List Slot} → Walking p rs ss rows slots w j → Walking p rs ss rows' slots' w' (j + 1)
 
 -- what a walk leaves
-pub record Took (p : ℕ → Bool) (rows slots : List ℕ) (n : ℕ) (rows' slots' : List ℕ) (w : Walk) : Type 0 where
+pub record Took (p : ℕ → Bool) (rows : RecordRows) (slots : SlotRows) (n : ℕ) (rows' : RecordRows) (slots' : SlotRows) (w : Walk) : Type 0 where
   pub rows-held : index.Held rows' (w .records)
   pub words : indexlet.Held slots'
   pub number : w .entries ≡ length (entries (slotsOf slots'))
@@ -230,7 +231,7 @@ pub record Took (p : ℕ → Bool) (rows slots : List ℕ) (n : ℕ) (rows' slot
 abbrev pub walk : ℕ → ℕ → ℕ → ℕ → Walk
 walk n e c f = record { records = n; entries = e; count = c; left = f }
 
-pub walk-start : {rows slots : List ℕ} {n e : ℕ} (p : ℕ → Bool) → Starting rows slots n e → Walking p (recordsOf rows n) (slotsOf slots) rows slots (walk n e 0 0) 0
+pub walk-start : {rows : RecordRows} {slots : SlotRows} {n e : ℕ} (p : ℕ → Bool) → Starting rows slots n e → Walking p (recordsOf rows n) (slotsOf slots) rows slots (walk n e 0 0) 0
 walk-start {rows} {slots} {n} {e} p s =
     record {
       rows-held = s .rows-held;
@@ -249,7 +250,7 @@ walk-start {rows} {slots} {n} {e} p s =
       cleared = λ z i l. absurd (not-suc-le-zero l);
     }
 
-pub walk-end : {p : ℕ → Bool} {rows slots : List ℕ} {n : ℕ} {rows' slots' : List ℕ} {w : Walk} {j : ℕ} → Walking p (recordsOf rows n) (slotsOf slots) rows' slots' w j → 256 ≤ j
+pub walk-end : {p : ℕ → Bool} {rows : RecordRows} {slots : SlotRows} {n : ℕ} {rows' : RecordRows} {slots' : SlotRows} {w : Walk} {j : ℕ} → Walking p (recordsOf rows n) (slotsOf slots) rows' slots' w j → slotCount ≤ j
     → Took p rows slots n rows' slots' w
 unfolding each
 walk-end {p} {rows} {slots} {n} {rows'} {slots'} {w} {j} r h =
@@ -269,12 +270,12 @@ walk-end {p} {rows} {slots} {n} {rows'} {slots'} {w} {j} r h =
 
 -- ---- one slot
 
-entry-in : (slots : List ℕ) (j : ℕ) (r : SlotWords) → slotIn r ≡ getD (slotsOf slots) j emptySlot → entryAt (slotsOf slots) j ≡ kept (r .key) (contentIn (r .content))
+entry-in : (slots : SlotRows) (j : ℕ) (r : SlotWords) → slotIn r ≡ getD (slotsOf slots) j emptySlot → entryAt (slotsOf slots) j ≡ kept (r .key) (contentIn (r .content))
 unfolding slotIn
 entry-in slots j r e = sym (ap (λ (s : Slot). s .entry) e)
 
 -- an entry that is not taken, or none; the count of locks becomes f
-walk-past : {p : ℕ → Bool} {rows slots : List ℕ} {w : Walk} {j : ℕ} (r : SlotWords) (f : ℕ) → indexlet.Reads slots j r → j < 256
+walk-past : {p : ℕ → Bool} {rows : RecordRows} {slots : SlotRows} {w : Walk} {j : ℕ} (r : SlotWords) (f : ℕ) → indexlet.Reads slots j r → j < slotCount
     → takes p (row (r .key) (contentIn (r .content))) ≡ false → w .left ≤ f → f ≤ w .left + 1
     → (f ≡ 0 → (e : Row Content) → entryAt (slotsOf slots) j ≡ some e → p (e .key) ≡ false) → Steps p rows slots w j rows slots (walk (w .records) (w .entries) (w .count) f)
 walk-past {p} {rows} {slots} {w} {j} r f reads h t least most gone =
@@ -320,12 +321,12 @@ unfolding takes
 takes-other p k c e = ap (both (present (contentIn c .pending))) e ∙ both-false (present (contentIn c .pending))
 
 -- what stands there
-stands-as : (slots : List ℕ) (j : ℕ) (r : SlotWords) → indexlet.Reads slots j r → (e : Row Content) → entryAt (slotsOf slots) j ≡ some e
+stands-as : (slots : SlotRows) (j : ℕ) (r : SlotWords) → indexlet.Reads slots j r → (e : Row Content) → entryAt (slotsOf slots) j ≡ some e
     → (isIdle (contentIn (r .content)) ≡ false) × (row (r .key) (contentIn (r .content)) ≡ e)
 stands-as slots j r reads e q = kept-entry (r .key) (contentIn (r .content)) e (sym (entry-in slots j r (reads .slot)) ∙ q)
 
 -- an address that does not pass
-pub walk-outside : {p : ℕ → Bool} {rows slots : List ℕ} {w : Walk} {j : ℕ} (r : SlotWords) → indexlet.Reads slots j r → j < 256 → p (r .key) ≡ false → Steps p rows slots w j rows slots w
+pub walk-outside : {p : ℕ → Bool} {rows : RecordRows} {slots : SlotRows} {w : Walk} {j : ℕ} (r : SlotWords) → indexlet.Reads slots j r → j < slotCount → p (r .key) ≡ false → Steps p rows slots w j rows slots w
 walk-outside {p} {rows} {slots} {w} {j} r reads h f =
     walk-past r (w .left) reads h (takes-other p (r .key) (r .content) f) (le-refl (w .left)) (omega arith)
     (λ z e q. ap (λ (x : Row Content). p (x .key)) (sym (stands-as slots j r reads e q .1)) ∙ f)
@@ -340,7 +341,7 @@ unlocked c x a b z =
     (cases (present (c .holder)))
 
 -- one lock more fits
-pub left-fits : {p : ℕ → Bool} {rs : List (Row Record)} {ss : List Slot} {rows slots : List ℕ} {w : Walk} {j : ℕ} → Walking p rs ss rows slots w j → j < 256
+pub left-fits : {p : ℕ → Bool} {rs : List (Row Record)} {ss : List Slot} {rows : RecordRows} {slots : SlotRows} {w : Walk} {j : ℕ} → Walking p rs ss rows slots w j → j < slotCount
     → (c : Content) (x : ℕ) → x ≡ pick (present (c .holder)) 1 0 → w .left + x < 2 ^ 64
 left-fits {w = w} {j} g h c x b =
     let y : w .left ≤ j = g .few-left in
@@ -348,7 +349,7 @@ left-fits {w = w} {j} g h c x b =
     omega arith
 
 -- nothing is pending: a lock counts
-pub walk-lock : {p : ℕ → Bool} {rows slots : List ℕ} {w : Walk} {j : ℕ} (r : SlotWords) (x : ℕ) → indexlet.Reads slots j r → j < 256 → r .content .kind ≡ 0
+pub walk-lock : {p : ℕ → Bool} {rows : RecordRows} {slots : SlotRows} {w : Walk} {j : ℕ} (r : SlotWords) (x : ℕ) → indexlet.Reads slots j r → j < slotCount → r .content .kind ≡ 0
     → x ≡ pick (present (contentIn (r .content) .holder)) 1 0 → Steps p rows slots w j rows slots (walk (w .records) (w .entries) (w .count) (w .left + x))
 unfolding contentIn pendingIn
 walk-lock {p} {rows} {slots} {w} {j} r x reads h k b =
@@ -363,7 +364,7 @@ weigh-nothing q k c e =
     weigh-kept q k c ∙ ap (λ (b : Bool). pick (isIdle c) 0 (pick b 1 0)) e ∙ ⊎-elim (λ t. rw t) (λ t. rw t) (cases (isIdle c))
 
 -- an entry with a pending write
-module _ {slots : List ℕ} {j : ℕ} (r : SlotWords) (held : indexlet.Held slots) (reads : indexlet.Reads slots j r) (kind : r .content .kind ≡ 0 → ⊥) where
+module _ {slots : SlotRows} {j : ℕ} (r : SlotWords) (held : indexlet.Held slots) (reads : indexlet.Reads slots j r) (kind : r .content .kind ≡ 0 → ⊥) where
   said : Pending
   said = kind-pending (r .content .kind) (r .content .value) (r .content .commit) kind .0
 
@@ -416,8 +417,8 @@ module _ {slots : List ℕ} {j : ℕ} (r : SlotWords) (held : indexlet.Held slot
   other p t x f = same-no {m = r .key} {n = x} (λ e. clash (ap p (sym e) ∙ t) f)
 
   -- there is room in the index for the entry
-  pub write-room : {p : ℕ → Bool} {rows : List ℕ} {w : Walk} → Underway p rows slots w j → j < 256 → (x : Record)
-      → length (assign (r .key) (some x) (recordsOf rows (w .records))) ≤ 1024
+  pub write-room : {p : ℕ → Bool} {rows : RecordRows} {w : Walk} → Underway p rows slots w j → j < slotCount → (x : Record)
+      → length (assign (r .key) (some x) (recordsOf rows (w .records))) ≤ recordPlaces
   write-room {p} {rows} {w} u h x =
       let g = u .walking in
       le-trans
@@ -427,7 +428,7 @@ module _ {slots : List ℕ} {j : ℕ} (r : SlotWords) (held : indexlet.Held slot
       (entry-inside (u .records) (u .begun) j (row (r .key) (contentIn (r .content))) (sym (g .untouched j (le-refl j) h) ∙ entry-is))))
       (u .bound)
 
-  pub walk-on : {p : ℕ → Bool} {rows : List ℕ} {w : Walk} (rows' slots' : List ℕ) (n e x : ℕ) (c : ContentWords) → j < 256 → p (r .key) ≡ true
+  pub walk-on : {p : ℕ → Bool} {rows : RecordRows} {w : Walk} (rows' : RecordRows) (slots' : SlotRows) (n e x : ℕ) (c : ContentWords) → j < slotCount → p (r .key) ≡ true
       → x ≡ pick (present (contentIn (r .content) .holder)) 1 0
       → index.Holds rows' n (assign (r .key) (leaving (r .content .kind) (r .content .value) (r .content .commit)) (recordsOf rows (w .records)))
       → contentIn c ≡ withoutPending (contentIn (r .content)) → indexlet.Enters slots (r .key) c slots' e

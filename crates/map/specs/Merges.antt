@@ -1,6 +1,5 @@
 -- What a merge promises, and why its parts keep it: the walk takes the leaf's pending writes in, the leaf settles, and the
 -- phantomlet is worked out.
--- Assumes nothing.
 use Prim.Native.Nat.{ℕ, suc, _+_, _-_, _^_, _<_, _≤_, zero-le}
 use native.Mathlib.Nat.{not-suc-le-zero}
 use native.Mathlib.Omega.{arith}
@@ -17,7 +16,7 @@ use Rattle.lists.specs.Ascending.{Ascends}
 use Rattle.lists.specs.Memberships.{has-parts}
 use Rattle.spec.specs.Records.{Settings, Record, standard}
 use Rattle.spec.specs.Leaves.{Leaf, firstLeaf, versionAt, settle, versionsTaken}
-use Rattle.spec.specs.Slots.{slotCount, Content, entries}
+use Rattle.spec.specs.Slots.{slotCount, Content, Slot, entries}
 use Rattle.spec.specs.Maps.{MapState, current, each, mergesAt, merging, mergeEntry, recordsIn, settleMap, mergeAll, mergeAt}
 use Rattle.spec.specs.Maps as model
 use Rattle.laws.specs.LeafVersions.{GoodLeaves}
@@ -27,23 +26,25 @@ use Rattle.laws.specs.LeafCuts.{standard-cut, taken-bound}
 use Rattle.laws.specs.MergeLaws.{merges}
 use Rattle.laws.specs.MapBounds.{Bounded, standard-leaves, merge-bounded}
 use Rattle.indexlet.specs.Words.{slotsOf}
-use Rattle.index.specs.Views.{recordsOf, leavesOf}
+use Rattle.index.specs.Views.{leafPlaces, recordPlaces, recordsOf, leavesOf}
 use Rattle.index.specs.ViewLaws.{length-records}
 use Rattle.index.specs.LeafPlaces.{lowPlace, AtLeaf, Listed}
 use Rattle.index.specs.LeafViews.{parted}
+use Rattle.index.specs.LeafColumns.{lowsOf, versionsOf, outsideOf, pendingOf, column-places}
 use Rattle.index.specs.Settles.{SettledAs}
+use Rattle.index.specs.SettleRows.{Shifted}
 use Rattle.map.specs.declared.Sizes.{Sizes}
 use Rattle.counters.specs.declared.Counters.{Counters}
 use Rattle.counters.specs.Taking.{versioned}
 use Rattle.map.specs.declared.merge.Walk.{Walk}
 use Rattle.map.specs.declared.merge.Merged.{Merged}
 use Rattle.phantomlet.specs.Phantoms.{howMany, outsideAny, outsideIn, pendingIn, versionOf, Phantomlet}
-use Rattle.map.specs.Views.{Lent, lent, mapOf}
+use Rattle.map.specs.Views.{SlotRows, LeafRows, RecordRows, Lent, byColumns, lent, mapOf}
 use Rattle.map.specs.Held.{Tables, Held}
 use Rattle.phantomlet.specs.LeafTests.{none-left, placed, takes, filter-same, many-same, pending-merging, lows-are, leaves-count, live-at, placed-version, at-version, placed-own}
 use Rattle.map.specs.MergeWalks.{parts, Starting, Took}
-use Rattle.phantomlet.specs.MergeCounts.{Recounting, Counting}
-use Rattle.phantomlet.specs.LeafCounts.{Ranging, Bare, lacking, waiting, inLeaf, many-zero}
+use Rattle.phantomlet.specs.MergeCounts.{Recounting, Counting, Recounted}
+use Rattle.phantomlet.specs.LeafCounts.{Ranging, Keeping, Bare, lacking, waiting, inLeaf, many-zero}
 use Rattle.phantomlet.specs.LeafRows.{low-inside}
 use Rattle.map.specs.MergeKeys.{entry-narrow, record-narrow, rows-narrow, low-at, first-low}
 use Rattle.map.specs.MergeKeeps.{Shape, settle-shape, shape-length, shape-early, shape-unjoined, shape-after, kept-test}
@@ -100,6 +101,29 @@ unfolding placed
 placed-one lows m i o k n t =
     same-no {m = lowPlace k (take m lows)} {n = o} (λ e. n (sym e ∙ same-true (lowPlace k (take m lows)) i t))
 
+-- ---- numbers that moved along with their leaves
+
+module _ (lows : List ℕ) (m : ℕ) (t : Row Content → Bool) (ss : List Slot) {xs xs' : List ℕ} {i old : ℕ} (s : Shifted xs xs' old i m) where
+  kept-numbers : i < old → old ≤ m + 1 → ((j : ℕ) → j + 1 < i → getD xs j 0 ≡ howMany (inLeaf lows m t j) ss)
+      → ((y : ℕ) → i + 1 + y < old → getD xs (i + 1 + y) 0 ≡ howMany (inLeaf lows m t (i + 1 + m - old + y)) ss) → Keeping lows m t ss xs' i (i + 1 + m - old)
+  kept-numbers b d before after =
+      record {
+        before = λ j g. s .before j (omega arith) ∙ before j g;
+        after =
+            λ j g f.
+            let y : i + 1 + m - old + (j - (i + 1 + m - old)) ≡ j = omega arith in
+            ap (λ (n : ℕ). getD xs' n 0) (sym y) ∙ s .after (j - (i + 1 + m - old)) (omega arith) ∙ after (j - (i + 1 + m - old)) (omega arith)
+            ∙ ap (λ (n : ℕ). howMany (inLeaf lows m t n) ss) y;
+      }
+
+  made-numbers : ((j : ℕ) → j < i → getD xs j 0 ≡ howMany (inLeaf lows m t j) ss) → ((j : ℕ) → i ≤ j → j < i + 1 + m - old → howMany (inLeaf lows m t j) ss ≡ 0)
+      → Bare lows m t ss xs' (i + 1 + m - old)
+  made-numbers before made j h =
+      ⊎-elim
+      (λ c. let g : j < i = less-true j i c in s .before j g ∙ before j g)
+      (λ c. let g : i ≤ j = less-false j i c in s .zeros j g h ∙ sym (made j g h))
+      (cases (less j i))
+
 -- ---- a merge
 
 module _ {l : Lent} {z : Sizes} (k : Counters) (h : Held l z (k .version)) (a i : ℕ) (at : AtLeaf (l .lows) (z .leaves) a i) where
@@ -154,7 +178,7 @@ module _ {l : Lent} {z : Sizes} (k : Counters) (h : Held l z (k .version)) (a i 
       }
 
   -- something is pending, and was taken in
-  module _ (some-pending : getD (l .pending) i 0 ≡ 0 → ⊥) (rows slots : List ℕ) (w : Walk)
+  module _ (some-pending : getD (l .pending) i 0 ≡ 0 → ⊥) (rows : RecordRows) (slots : SlotRows) (w : Walk)
       (took : Took (placed (l .lows) (z .leaves) i) (l .rows) (l .slots) (z .records) rows slots w) where
     ks : List ℕ
     ks = leafKeys (l .lows) rows (w .records) (z .leaves) i
@@ -190,12 +214,12 @@ module _ {l : Lent} {z : Sizes} (k : Counters) (h : Held l z (k .version)) (a i 
     bounded : Bounded standard (mergeAt standard (k .version) (mapOf l z) a .version) (mergeAt standard (k .version) (mapOf l z) a .map)
     bounded = merge-bounded a standard-cut (h .bounded)
 
-    ks-short : length ks ≤ 1024
+    ks-short : length ks ≤ recordPlaces
     unfolding ks leafKeys
     ks-short =
         let p : Row Record → Bool = λ (r : Row Record). placed (l .lows) (z .leaves) i (r .key) in
         let x : length (recordsOf rows (w .records)) ≡ w .records = length-records rows (w .records) (took .rows-held .room) in
-        let y : w .records ≤ 1024 = took .rows-held .room in
+        let y : w .records ≤ recordPlaces = took .rows-held .room in
         let s : length (filter (λ (r : Row Record). placed (l .lows) (z .leaves) i (r .key)) (recordsOf rows (w .records))) ≤ length (recordsOf rows (w .records)) = filter-short (λ (r : Row Record). placed (l .lows) (z .leaves) i (r .key)) (recordsOf rows (w .records)) in
         let t : length (keys (filter (λ (r : Row Record). placed (l .lows) (z .leaves) i (r .key)) (recordsOf rows (w .records)))) ≡ length (filter (λ (r : Row Record). placed (l .lows) (z .leaves) i (r .key)) (recordsOf rows (w .records))) = length-keys (filter (λ (r : Row Record). placed (l .lows) (z .leaves) i (r .key)) (recordsOf rows (w .records))) in
         omega arith
@@ -203,17 +227,17 @@ module _ {l : Lent} {z : Sizes} (k : Counters) (h : Held l z (k .version)) (a i 
     pub resettling : k .version + 129 < 2 ^ 64 → Resettling (l .lows) rows (w .records) (z .leaves) i (k .version)
     unfolding ks settledTo
     resettling room =
-        let b : length (settle standard (k .version) (mapOf l z .leaves) a ks) ≤ 1025
-        = subst (λ (x : model.Merged). length (x .map .leaves) ≤ 1025) merged-is (standard-leaves bounded) in
+        let b : length (settle standard (k .version) (mapOf l z .leaves) a ks) ≤ leafPlaces
+        = subst (λ (x : model.Merged). length (x .map .leaves) ≤ leafPlaces) merged-is (standard-leaves bounded) in
         let c : length (mapOf l z .leaves) ≡ z .leaves = many-leaves in
-        let d : z .leaves ≤ 1025 = h .tables .lows .room in
-        let e : length (mapOf l z .leaves) + versionsTaken standard ks ≤ 1026 = settle-room (k .version) (mapOf l z .leaves) a ks (good .covers) (omega arith) b in
+        let d : z .leaves ≤ leafPlaces = h .tables .lows .room in
+        let e : length (mapOf l z .leaves) + versionsTaken standard ks ≤ leafPlaces + 1 = settle-room (k .version) (mapOf l z .leaves) a ks (good .covers) (omega arith) b in
         let f : versionsTaken standard ks ≤ 129 = taken-bound ks ks-short in
         record {
           rows-held = took .rows-held;
           lows-are = record { listed = h .tables .lows; first = first-low (l .lows) (l .versions) (z .leaves) (h .tables .lows-size) (h .tables .versions-size) (h .tables .lows .some) (h .tables .lows .room) good; narrow = h .tables .lows-narrow };
           leaf-in = at .inside;
-          room = subst (λ (n : ℕ). n + versionsTaken standard ks ≤ 1026) c e;
+          room = subst (λ (n : ℕ). n + versionsTaken standard ks ≤ leafPlaces + 1) c e;
           next = omega arith;
         }
 
@@ -232,8 +256,21 @@ module _ {l : Lent} {z : Sizes} (k : Counters) (h : Held l z (k .version)) (a i 
         subst (λ (x : ℕ). x < 2 ^ 32) (sym (low-at (l .lows) (l .versions) (z .leaves) j (h .tables .lows-size) (h .tables .versions-size) (h .tables .lows .room) g)) (h .tables .lows-narrow j g))
 
     -- the leaf has settled
-    module _ (lows versions : List ℕ) (m v : ℕ) (al : length lows ≡ 1025) (av : length versions ≡ 1025)
-        (settled : SettledAs (l .lows) (l .versions) (z .leaves) i (k .version) (leafKeys (l .lows) rows (w .records) (z .leaves) i) lows versions m v) where
+    module _ (ls : LeafRows) (m v : ℕ) (all : length ls ≡ leafPlaces)
+        (settled : SettledAs (l .lows) (l .versions) (z .leaves) i (k .version) (leafKeys (l .lows) rows (w .records) (z .leaves) i) (lowsOf ls) (versionsOf ls) m v)
+        (outside-shifts : Shifted (l .outside) (outsideOf ls) (z .leaves) i m) (pending-shifts : Shifted (l .pending) (pendingOf ls) (z .leaves) i m) where
+      abbrev lows : List ℕ
+      lows = lowsOf ls
+
+      abbrev versions : List ℕ
+      versions = versionsOf ls
+
+      al : length lows ≡ leafPlaces
+      al = column-places 0 ls all
+
+      av : length versions ≡ leafPlaces
+      av = column-places 1 ls all
+
       now : MapState
       now = parts (recordsOf rows (w .records)) (leavesOf lows versions m) (slotsOf slots)
 
@@ -426,23 +463,19 @@ module _ {l : Lent} {z : Sizes} (k : Counters) (h : Held l z (k .version)) (a i 
             ap (λ (c : Bool). both c (t e))
             (elsewhere (e .key) (took .cleared unlocked y (let s : length (slotsOf slots) ≡ slotCount = took .words .good .size in omega arith) e q) j a b))
 
-        outside-bare : Bare lows m (lacking (recordsOf rows (w .records))) (slotsOf slots) (l .outside) i (i + 1 + m - z .leaves)
+        outside-bare : Bare lows m (lacking (recordsOf rows (w .records))) (slotsOf slots) (outsideOf ls) (i + 1 + m - z .leaves)
         outside-bare =
             let b : i < z .leaves = at .inside in
-            record {
-              before = λ j g. outside-kept j j (omega arith) (omega arith) (λ x. let y : ⊥ = omega arith in y) (unmoved j g);
-              made = none-made (lacking (recordsOf rows (w .records)));
-            }
+            made-numbers lows m (lacking (recordsOf rows (w .records))) (slotsOf slots) outside-shifts (λ j g. outside-kept j j (omega arith) (omega arith) (λ x. let y : ⊥ = omega arith in y) (unmoved j g))
+            (none-made (lacking (recordsOf rows (w .records))))
 
-        pending-bare : Bare lows m waiting (slotsOf slots) (l .pending) i (i + 1 + m - z .leaves)
+        pending-bare : Bare lows m waiting (slotsOf slots) (pendingOf ls) (i + 1 + m - z .leaves)
         pending-bare =
             let b : i < z .leaves = at .inside in
-            record {
-              before = λ j g. pending-kept j j (omega arith) (omega arith) (λ x. let y : ⊥ = omega arith in y) (unmoved j g);
-              made = none-made waiting;
-            }
+            made-numbers lows m waiting (slotsOf slots) pending-shifts (λ j g. pending-kept j j (omega arith) (omega arith) (λ x. let y : ⊥ = omega arith in y) (unmoved j g))
+            (none-made waiting)
 
-      pub recounting : Recounting rows lows slots (w .records) m (l .outside) (l .pending) i (z .leaves) (w .left)
+      pub recounting : Recounting rows ls slots (w .records) m i (z .leaves) (w .left)
       recounting =
           let e : length (leavesOf lows versions m) ≡ length (shape .front) + (length (mapOf l z .leaves) - suc i) = shape-length shape in
           let f : length (leavesOf lows versions m) ≡ m = count-is in
@@ -460,21 +493,28 @@ module _ {l : Lent} {z : Sizes} (k : Counters) (h : Held l z (k .version)) (a i 
             some-made = omega arith;
             one-less = omega arith;
             outside-kept =
-                record {
-                  before = λ j g. outside-kept j j (early-leaf j g) (omega arith) (λ x. let y : ⊥ = omega arith in y) (shape-early shape j g);
-                  after = λ y g. outside-kept (i + 1 + m - z .leaves + y) (i + 1 + y) (later-leaf y g) g (λ x. let u : ⊥ = omega arith in u) (later-is y);
-                };
+                kept-numbers lows m (lacking (recordsOf rows (w .records))) (slotsOf slots) outside-shifts (at .inside) (omega arith)
+                (λ j g. outside-kept j j (early-leaf j g) (omega arith) (λ x. let y : ⊥ = omega arith in y) (shape-early shape j g))
+                (λ y g. outside-kept (i + 1 + m - z .leaves + y) (i + 1 + y) (later-leaf y g) g (λ x. let u : ⊥ = omega arith in u) (later-is y));
             pending-kept =
-                record {
-                  before = λ j g. pending-kept j j (early-leaf j g) (omega arith) (λ x. let y : ⊥ = omega arith in y) (shape-early shape j g);
-                  after = λ y g. pending-kept (i + 1 + m - z .leaves + y) (i + 1 + y) (later-leaf y g) g (λ x. let u : ⊥ = omega arith in u) (later-is y);
-                };
+                kept-numbers lows m waiting (slotsOf slots) pending-shifts (at .inside) (omega arith)
+                (λ j g. pending-kept j j (early-leaf j g) (omega arith) (λ x. let y : ⊥ = omega arith in y) (shape-early shape j g))
+                (λ y g. pending-kept (i + 1 + m - z .leaves + y) (i + 1 + y) (later-leaf y g) g (λ x. let u : ⊥ = omega arith in u) (later-is y));
             outside-bare = outside-bare;
             pending-bare = pending-bare;
           }
 
       -- the phantomlet is worked out
-      module _ (outside pending : List ℕ) (out : ℕ) (counting : Counting rows lows slots (w .records) m outside pending out) where
+      module _ (ls' : LeafRows) (out : ℕ) (recounted : Recounted rows ls ls' slots (w .records) m out) where
+        abbrev outside : List ℕ
+        outside = outsideOf ls'
+
+        abbrev pending : List ℕ
+        pending = pendingOf ls'
+
+        counting : Counting rows lows slots (w .records) m outside pending out
+        counting = subst (λ (x : List ℕ). Counting rows x slots (w .records) m outside pending out) (recounted .same .lows) (recounted .counting)
+
         now-phantoms : Phantomlet now outside pending
         unfolding now
         now-phantoms =
@@ -494,7 +534,7 @@ module _ {l : Lent} {z : Sizes} (k : Counters) (h : Held l z (k .version)) (a i 
         unfolding now lacking outsideAny
         outside-all = counting .total-is
 
-        now-tables : Tables (lent rows lows versions outside pending slots) (record { records = w .records; leaves = m; entries = w .entries; outside = out })
+        now-tables : Tables (byColumns rows lows versions outside pending slots) (record { records = w .records; leaves = m; entries = w .entries; outside = out })
             (mergeAt standard (k .version) (mapOf l z) a .version)
         unfolding now
         now-tables =
@@ -516,15 +556,14 @@ module _ {l : Lent} {z : Sizes} (k : Counters) (h : Held l z (k .version)) (a i 
               phantoms = now-phantoms;
             }
 
+        -- what the merge leaves
+        abbrev leaving : Counters → Merged
+        leaving n = record { sizes = record { records = w .records; leaves = m; entries = w .entries; outside = out }; counters = n; count = w .count }
+
         -- the versions that settling used are taken
-        pub merges-some : {n : Counters} → n ≡ versioned k (v - k .version) → Merges l z k a (lent rows lows versions outside pending slots)
-            (record {
-              sizes = record { records = w .records; leaves = m; entries = w .entries; outside = out };
-              counters = n;
-              count = w .count;
-            })
+        merges-columns : {n : Counters} → n ≡ versioned k (v - k .version) → Merges l z k a (byColumns rows lows versions outside pending slots) (leaving n)
         unfolding now
-        merges-some taken =
+        merges-columns taken =
             record {
               map = map-is;
               version = ap (λ (x : Counters). x .version) taken ∙ all-taken ∙ version-is;
@@ -536,3 +575,8 @@ module _ {l : Lent} {z : Sizes} (k : Counters) (h : Held l z (k .version)) (a i 
                   ap (λ (x : MapState). current x j) map-is
                   ∙ merges a standard-cut (h .bounded .slots) (h .bounded .records) (h .bounded .leaves) .same-current j;
             }
+
+        pub merges-some : {n : Counters} → n ≡ versioned k (v - k .version) → Merges l z k a (lent rows ls' slots) (leaving n)
+        merges-some {n} taken =
+            subst (λ (x : List ℕ). Merges l z k a (byColumns rows x (versionsOf ls') outside pending slots) (leaving n)) (sym (recounted .same .lows))
+            (subst (λ (x : List ℕ). Merges l z k a (byColumns rows lows x outside pending slots) (leaving n)) (sym (recounted .same .versions)) (merges-columns taken))

@@ -9,7 +9,7 @@ use mathlib.Core.Logic.{⊎-elim}
 use mathlib.Core.Bool.{Bool, true, false, not, Bool·beq}
 use mathlib.Core.List.{List, [], _∷_, map}
 use mathlib.Core.Option.{Option, none, some}
-use lib.ListN.{length, take, getD, length-set}
+use lib.ListN.{set, length, take, getD, length-set}
 use lib.Seq.{length-take-le, getD-set-same, getD-set-other}
 use Rattle.lists.specs.Tests.{pick, both, present, same, cases, clash, same-true, same-false, same-yes, same-no}
 use Rattle.lists.specs.Rows.{Row, row, look}
@@ -31,10 +31,12 @@ use Rattle.index.specs.LeafPlaces.{AtLeaf, lowPlace}
 use Rattle.index.specs.LeafViews.{paired-length, paired-lows, parted, parted-leaf}
 use Rattle.map.specs.declared.Sizes.{Sizes}
 use Rattle.map.specs.declared.say.Change.{Change}
-use Rattle.map.specs.Views.{Lent, lent, mapOf}
+use Rattle.index.specs.LeafColumns.{lowsOf, versionsOf, outsideOf, pendingOf, leafAt, column-getD}
+use Rattle.phantomlet.specs.LeafWrites.{Renumbered, numbered, numbered-same, numbered-outside, numbered-pending}
+use Rattle.map.specs.Views.{RecordRows, LeafRows, SlotRows, Lent, byColumns, mapOf}
 use Rattle.phantomlet.specs.Phantoms.{weigh, howMany, outsideAny, outsideIn, pendingIn, versionOf, Phantomlet, many-change, weigh-kept}
 use Rattle.map.specs.Held.{perLeaf, Tables}
-use Rattle.map.specs.Says.{Said, Adjustable, adjusted, pendingTerm, outsideTerm, Terms}
+use Rattle.map.specs.Says.{Adjusts, Said, Adjustable, adjusted, pendingTerm, outsideTerm, Terms}
 
 -- ---- counts
 
@@ -105,7 +107,6 @@ module _ (l : Lent) (z : Sizes) (v : ℕ) (t : Tables l z v) where
 -- ---- the terms of an address
 
 pending-idle : (x : Content) → pick (isIdle x) 0 (pick (present (x .pending)) 1 0) ≡ pendingTerm x
-unfolding pendingTerm
 pending-idle x =
     ⊎-elim
     (λ e. ap (λ (b : Bool). pick b 0 (pick (present (x .pending)) 1 0)) e ∙ sym (ap (λ (o : Option Pending). pick (present o) 1 0) (idle-pending x e)))
@@ -332,8 +333,8 @@ module _ (l : Lent) (z : Sizes) (v : ℕ) (t : Tables l z v) (a : ℕ) (c : Cont
   unfolding among outsideAny
   any-among ss ts = refl
 
-  module _ (os ps us : List ℕ) (n : ℕ) (ox : os ≡ adjusted (l .outside) (r .at) (r .join) (r .leave)) (px : ps ≡ adjusted (l .pending) (r .at) (r .pend) (r .unpend)) (held : indexlet.Held us) (view : slotsOf us ≡ enter 4 (slotsOf (l .slots)) a c) (number : n ≡ length (entries (slotsOf us))) where
-    tables-now : Tables (lent (l .rows) (l .lows) (l .versions) os ps us) (sizesWith z n (z .outside + r .join - r .leave)) v
+  module _ (os ps : List ℕ) (us : SlotRows) (n : ℕ) (ox : os ≡ adjusted (l .outside) (r .at) (r .join) (r .leave)) (px : ps ≡ adjusted (l .pending) (r .at) (r .pend) (r .unpend)) (held : indexlet.Held us) (view : slotsOf us ≡ enter 4 (slotsOf (l .slots)) a c) (number : n ≡ length (entries (slotsOf us))) where
+    tables-now : Tables (byColumns (l .rows) (l .lows) (l .versions) os ps us) (sizesWith z n (z .outside + r .join - r .leave)) v
     unfolding among
     tables-now =
         record {
@@ -360,7 +361,7 @@ module _ (l : Lent) (z : Sizes) (v : ℕ) (t : Tables l z v) (a : ℕ) (c : Cont
         seen : slotsOf us ≡ after
         seen = unfold after in view
 
-    pub say-said : Said l (lent (l .rows) (l .lows) (l .versions) os ps us) z (sizesWith z n (z .outside + r .join - r .leave)) v (enter 4 (slotsOf (l .slots)) a c)
+    pub say-said : Said l (byColumns (l .rows) (l .lows) (l .versions) os ps us) z (sizesWith z n (z .outside + r .join - r .leave)) v (enter 4 (slotsOf (l .slots)) a c)
     unfolding withSlots
     say-said =
         record {
@@ -371,20 +372,31 @@ module _ (l : Lent) (z : Sizes) (v : ℕ) (t : Tables l z v) (a : ℕ) (c : Cont
           leaves = refl;
         }
 
+-- ---- the rows of leaves
+
+-- the same promise, of leaves that have the same lows and versions
+pub said-rows : {l : Lent} {rows : RecordRows} {ls ls' : LeafRows} {os ps : List ℕ} {us : SlotRows} {z r : Sizes} {v : ℕ} {ss : List Slot} → Renumbered ls ls'
+    → Said l (byColumns rows (lowsOf ls) (versionsOf ls) os ps us) z r v ss → Said l (byColumns rows (lowsOf ls') (versionsOf ls') os ps us) z r v ss
+said-rows {l} {rows} {ls} {ls'} {os} {ps} {us} {z} {r} {v} {ss} e s =
+    subst (λ (x : List ℕ). Said l (byColumns rows x (versionsOf ls') os ps us) z r v ss) (sym (e .lows))
+    (subst (λ (x : List ℕ). Said l (byColumns rows (lowsOf ls) x os ps us) z r v ss) (sym (e .versions)) s)
+
+-- one leaf's numbers written
+pub adjusts : (ls : LeafRows) (t : Change) (ls' : LeafRows)
+    → ls' ≡ numbered ls (t .at) (leafAt ls (t .at) .outside + t .join - t .leave) (leafAt ls (t .at) .pending + t .pend - t .unpend) → Adjusts ls t ls'
+unfolding adjusted
+adjusts ls t ls' e =
+    record {
+      same = subst (Renumbered ls) (sym e) (numbered-same ls (t .at) (leafAt ls (t .at) .outside + t .join - t .leave) (leafAt ls (t .at) .pending + t .pend - t .unpend));
+      outside =
+          ap outsideOf e ∙ numbered-outside ls (t .at) (leafAt ls (t .at) .outside + t .join - t .leave) (leafAt ls (t .at) .pending + t .pend - t .unpend)
+          ∙ ap (λ (n : ℕ). set (outsideOf ls) (t .at) (n + t .join - t .leave)) (sym (column-getD 2 ls (t .at)));
+      pending =
+          ap pendingOf e ∙ numbered-pending ls (t .at) (leafAt ls (t .at) .outside + t .join - t .leave) (leafAt ls (t .at) .pending + t .pend - t .unpend)
+          ∙ ap (λ (n : ℕ). set (pendingOf ls) (t .at) (n + t .pend - t .unpend)) (sym (column-getD 3 ls (t .at)));
+    }
+
 -- ---- the code's tests
-
-pub term-none : (c : ContentWords) → c .kind ≡ 0 → 0 ≡ pendingTerm (contentIn c)
-unfolding pendingTerm contentIn words.pendingIn
-term-none c e = sym (ap (λ (k : ℕ). pick (present (words.pendingIn k (c .value) (c .commit))) 1 0) e)
-
-pub term-some : (c : ContentWords) → (c .kind ≡ 0 → ⊥) → 1 ≡ pendingTerm (contentIn c)
-unfolding pendingTerm contentIn words.pendingIn
-term-some c n = go (c .kind) n
-  where
-    go : (k : ℕ) → (k ≡ 0 → ⊥) → _≡_ {A = ℕ} 1 (pick (present (words.pendingIn k (c .value) (c .commit))) 1 0)
-    go zero n = absurd (n refl)
-    go (suc zero) n = refl
-    go (suc (suc k)) n = refl
 
 module _ (b lacks : Bool) (c : ContentWords) (e : b ≡ isIdle (contentIn c)) where
   pub term-idle : b ≡ true → 0 ≡ outsideTerm lacks (contentIn c)

@@ -12,9 +12,11 @@ use Rattle.spec.specs.Maps.{MapState, withSlots}
 use Rattle.indexlet.specs.Words.{slotsOf}
 use Rattle.index.specs.Views.{recordsOf}
 use Rattle.index.specs.LeafPlaces.{AtLeaf}
+use Rattle.index.specs.LeafColumns.{LeafRows, outsideOf, pendingOf}
+use Rattle.phantomlet.specs.LeafWrites.{Renumbered}
 use Rattle.map.specs.declared.Sizes.{Sizes}
 use Rattle.map.specs.declared.say.Change.{Change}
-use Rattle.map.specs.Views.{Lent, mapOf}
+use Rattle.map.specs.Views.{SlotRows, RecordRows, Lent, mapOf}
 use Rattle.map.specs.Held.{perLeaf, Tables, Held}
 
 -- The arrays hold the map m, v the last version given.
@@ -30,7 +32,7 @@ pub record Said (before after : Lent) (z r : Sizes) (v : ℕ) (ss : List Slot) :
   pub records : r .records ≡ z .records
   pub leaves : r .leaves ≡ z .leaves
 
--- one word for each leaf, and that of the first leaf is 0
+-- a number for each leaf, and that of the first leaf is 0
 pub record Emptied (xs : List ℕ) : Type 0 where
   pub size : length xs ≡ perLeaf
   pub first : getD xs 0 0 ≡ 0
@@ -47,8 +49,14 @@ pub record Adjustable (xs : List ℕ) (i up down : ℕ) : Type 0 where
   pub fits : getD xs i 0 + up < 2 ^ 64
   pub enough : down ≤ getD xs i 0 + up
 
+-- the numbers of a leaf after a change
+pub record Adjusts (ls : LeafRows) (t : Change) (ls' : LeafRows) : Type 0 where
+  pub same : Renumbered ls ls'
+  pub outside : outsideOf ls' ≡ adjusted (outsideOf ls) (t .at) (t .join) (t .leave)
+  pub pending : pendingOf ls' ≡ adjusted (pendingOf ls) (t .at) (t .pend) (t .unpend)
+
 -- what content adds to the number of pending writes
-unfoldable pub pendingTerm : Content → ℕ
+abbrev pub pendingTerm : Content → ℕ
 pendingTerm c = pick (present (c .pending)) 1 0
 
 -- what it adds to the number of entries outside of the index, where the index lacks its address or not
@@ -57,7 +65,7 @@ outsideTerm lacks c = pick (isIdle c) 0 (pick lacks 1 0)
 
 -- The place of the address's leaf; what the address adds to the number of pending writes there by c, and what it took
 -- till now; and of the entries outside of the index what comes and what goes, of which only the balance counts.
-pub record Terms (slots rows lows : List ℕ) (z : Sizes) (a : ℕ) (c : Content) (r : Change) : Type 0 where
+pub record Terms (slots : SlotRows) (rows : RecordRows) (lows : List ℕ) (z : Sizes) (a : ℕ) (c : Content) (r : Change) : Type 0 where
   pub place : AtLeaf lows (z .leaves) a (r .at)
   pub pend : r .pend ≡ pendingTerm c
   pub unpend : r .unpend ≡ pendingTerm (contentOf (slotsOf slots) a)

@@ -1,28 +1,66 @@
--- How the lent arrays are read: six lists of words and four sizes are the model's map.
--- Assumes nothing.
-use Prim.Native.Nat.{ℕ, zero, suc, _+_, _*_}
-use mathlib.Core.List.{List, [], _∷_}
-use lib.ListN.{getD}
-use Rattle.lists.specs.Rows.{Row, row}
-use Rattle.spec.specs.Records.{Write, written, deleted}
+-- How the lent arrays are read: three arrays of rows and four sizes are the model's map.
+use Prim.Native.Nat.{ℕ}
+use mathlib.Core.List.{List}
+use Rattle.lists.specs.Rows.{Row}
+use Rattle.spec.specs.Records.{Record}
+use Rattle.spec.specs.Leaves.{Leaf}
+use Rattle.spec.specs.Slots.{Slot}
 use Rattle.spec.specs.Maps.{MapState}
+use Rattle.indexlet.specs.Words as indexlet
 use Rattle.indexlet.specs.Words.{slotsOf}
+use Rattle.index.specs.Views as index
+use Rattle.index.specs.LeafColumns as columns
 use Rattle.index.specs.Views.{recordsOf, leavesOf}
+use Rattle.counters.specs.declared.Counters.{Counters}
+use Rattle.counters.specs.Taking as taking
 use Rattle.map.specs.declared.Sizes.{Sizes}
 
--- The words that a caller lends: rows of records, lows and versions of leaves, the phantomlet's two numbers for each
--- leaf, and the slots.
+-- The lent rows of records, of leaves and of slots, as lists of words.
+abbrev pub RecordRows : Type 0
+RecordRows = index.RecordRows
+
+abbrev pub LeafRows : Type 0
+LeafRows = columns.LeafRows
+
+abbrev pub SlotRows : Type 0
+SlotRows = indexlet.SlotRows
+
+-- the lows and the versions of the leaves
+abbrev pub lowsOf : LeafRows → List ℕ
+lowsOf leaves = columns.lowsOf leaves
+
+abbrev pub versionsOf : LeafRows → List ℕ
+versionsOf leaves = columns.versionsOf leaves
+
+-- What a caller lends, as the laws look at it: the rows of records and of slots, and the leaves by columns.
 pub record Lent : Type 0 where
-  pub rows : List ℕ
+  pub rows : RecordRows
   pub lows : List ℕ
   pub versions : List ℕ
   pub outside : List ℕ
   pub pending : List ℕ
-  pub slots : List ℕ
+  pub slots : SlotRows
 
-abbrev pub lent : List ℕ → List ℕ → List ℕ → List ℕ → List ℕ → List ℕ → Lent
-lent rows lows versions outside pending slots =
+abbrev pub byColumns : RecordRows → List ℕ → List ℕ → List ℕ → List ℕ → SlotRows → Lent
+byColumns rows lows versions outside pending slots =
     record { rows = rows; lows = lows; versions = versions; outside = outside; pending = pending; slots = slots }
+
+abbrev pub lent : RecordRows → LeafRows → SlotRows → Lent
+lent rows leaves slots = byColumns rows (lowsOf leaves) (versionsOf leaves) (columns.outsideOf leaves) (columns.pendingOf leaves) slots
+
+-- a record of its value and its commit number
+abbrev pub recordFrom : ℕ → ℕ → Record
+recordFrom value commit = index.recordFrom value commit
+
+-- the records, the leaves and the slots that they hold
+abbrev pub recordsIn : RecordRows → ℕ → List (Row Record)
+recordsIn rows n = recordsOf rows n
+
+abbrev pub leavesIn : List ℕ → List ℕ → ℕ → List Leaf
+leavesIn lows versions m = leavesOf lows versions m
+
+abbrev pub slotsIn : SlotRows → List Slot
+slotsIn slots = slotsOf slots
 
 -- the map that they hold
 abbrev pub mapOf : Lent → Sizes → MapState
@@ -33,18 +71,6 @@ mapOf l z =
       slots = slotsOf (l .slots);
     }
 
--- ---- a write set in a block of 48 words: rows of address, kind (1 a put, else a deletion) and value
-
-unfoldable pub writeIn : ℕ → ℕ → Write
-writeIn zero v = deleted
-writeIn (suc zero) v = written (record { value = v })
-writeIn (suc (suc k)) v = deleted
-
--- the rows from row i on, n of them
-unfoldable pub blockFrom : List ℕ → ℕ → ℕ → List (Row Write)
-blockFrom ws i zero = []
-blockFrom ws i (suc n) = row (getD ws (i * 3) 0) (writeIn (getD ws (i * 3 + 1) 0) (getD ws (i * 3 + 2) 0)) ∷ blockFrom ws (suc i) n
-
--- the first n rows
-unfoldable pub block : List ℕ → ℕ → List (Row Write)
-block ws n = blockFrom ws 0 n
+-- the counters once the next commit number is given
+abbrev pub numbered : Counters → Counters
+numbered k = taking.numbered k

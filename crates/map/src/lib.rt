@@ -9,8 +9,12 @@ pub mod locks;
 pub mod merge;
 pub mod say;
 
-// An address of the map.
-pub type Address = u32;
+// What the layers below keep the map in, for those who lend it.
+pub type Records = index::Records;
+
+pub type Leaves = index::Leaves;
+
+pub type Slots = indexlet::Slots;
 
 // How much the arrays hold: records of the index, leaves, entries of the indexlet, and entries at addresses that the
 // index lacks.

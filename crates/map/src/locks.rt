@@ -1,8 +1,16 @@
 // A write set's locks: tests, lock, unlock and install, one address after the other.
-use crate::Address;
+use crate::Leaves;
+use crate::Records;
 use crate::Sizes;
+use crate::Slots;
+use crate::holders;
 use crate::say;
 use counters::Counters;
+use phantomlet::recount;
+use sets::WriteSet;
+use sets::writes;
+use sets::writes::Entry;
+use spec::Address;
 ghost use mathlib.Core.Path.{_≡_};
 ghost use mathlib.Core.Bool.{false};
 ghost use Prim.Native.Nat.{ℕ, _+_, _^_, _<_};
@@ -14,55 +22,25 @@ ghost use Rattle.spec.specs.Slots.{slotCount, idle, isIdle, entries, contentOf}
 ghost use Rattle.spec.specs.Slots as model;
 ghost use Rattle.spec.specs.Maps.{heldByOther, lockKey, unlockKey, installRow, lockAll, unlockAll, installAll};
 ghost use Rattle.laws.specs.MapLaws.{Installable, installedAs};
+ghost use Rattle.sets.specs.Writes.{entryIn, writesOf};
 ghost use Rattle.indexlet.specs.Words.{contentIn, slotsOf};
 ghost use Rattle.indexlet.specs.Held as indexlet;
 ghost use Rattle.index.specs.Views as index;
-ghost use Rattle.map.specs.Views.{lent, mapOf, block};
+ghost use Rattle.map.specs.Views.{lent, mapOf};
 ghost use Rattle.map.specs.Held.{Tables, Held};
 ghost use Rattle.map.specs.Says.{Becomes, Said};
-ghost use Rattle.map.specs.Blocks.{Narrow, blockAt, writeOf};
+ghost use Rattle.map.specs.WriteWalks.{Writing, writeAt};
 ghost use Rattle.map.specs.LockLaws.{heldBy, holding, pendingKind, Lockable};
 ghost use Rattle.map.specs.AddressCounts.{unsaid, unknown, Waits, Addressed, Counted};
 
-// A write of a write set, in words: kind 1 is a put of the value, any other a deletion.
-struct WriteRow {
-    address: Address,
-    kind: u64,
-    value: u64,
-}
-
-// Row i of a write set.
-fn row_at(ws: &[u64; 48], n: usize, i: usize) -> WriteRow
-    requires { ⌜ Narrow (now ws) n ⌝ }
-    requires { ⌜ i < n ⌝ }
-    ensures { λ r. ⌜ writeOf r ≡ blockAt (now (ws .entry)) i ⌝ }
-{
-    WriteRow {
-        address: ws[i * 3] as Address,
-        kind: ws[i * 3 + 1],
-        value: ws[i * 3 + 2],
-    }
-}
-
 // The address of row i.
-fn key_at(ws: &[u64; 48], n: usize, i: usize) -> Address
-    requires { ⌜ Narrow (now ws) n ⌝ }
+fn key_at(ws: &WriteSet, n: usize, i: usize) -> Address
+    requires { ⌜ Writing (now ws) n ⌝ }
     requires { ⌜ i < n ⌝ }
-    ensures { λ r. ⌜ r ≡ blockAt (now (ws .entry)) i .key ⌝ }
+    ensures { λ r. ⌜ r ≡ writeAt (now (ws .entry)) i .key ⌝ }
 {
-    let r = row_at(ws, n, i);
+    let r = writes::write_at(ws, i);
     r.address
-}
-
-// Another worker than w has the lock.
-pub fn by_other(c: indexlet::Content, w: u64) -> bool
-    ensures { λ r. ⌜ r ≡ heldByOther w (contentIn c) ⌝ }
-{
-    let lock = c.lock;
-    if lock == 0 {
-        return false;
-    }
-    lock - 1 != w
 }
 
 // Worker w has the lock.
@@ -77,23 +55,21 @@ fn by_own(c: indexlet::Content, w: u64) -> bool
 }
 
 // Another worker has the lock of the address in row i.
-fn held_at(slots: &[u64; 1536], ws: &[u64; 48], n: usize, i: usize, w: u64) -> bool
+fn held_at(slots: &Slots, ws: &WriteSet, n: usize, i: usize, w: u64) -> bool
     requires { ⌜ indexlet.Held (now slots) ⌝ }
-    requires { ⌜ Narrow (now ws) n ⌝ }
+    requires { ⌜ Writing (now ws) n ⌝ }
     requires { ⌜ i < n ⌝ }
-    ensures { λ r. ⌜ r ≡ heldByOther w (contentOf (slotsOf (now (slots .entry))) (blockAt (now (ws .entry)) i .key)) ⌝ }
+    ensures { λ r. ⌜ r ≡ heldByOther w (contentOf (slotsOf (now (slots .entry))) (writeAt (now (ws .entry)) i .key)) ⌝ }
 {
     let a = key_at(ws, n, i);
-    let found = indexlet::look_up(slots, a);
-    let c = found.content;
-    by_other(c, w)
+    holders::locked_by_other(slots, a, w)
 }
 
 // Another worker has the lock of an address of the write set (refusal 9).
-pub fn held(slots: &[u64; 1536], ws: &[u64; 48], n: usize, w: u64) -> bool
+pub fn held(slots: &Slots, ws: &WriteSet, n: usize, w: u64) -> bool
     requires { ⌜ indexlet.Held (now slots) ⌝ }
-    requires { ⌜ Narrow (now ws) n ⌝ }
-    ensures { λ r. ⌜ r ≡ any (λ (k : ℕ). heldByOther w (contentOf (slotsOf (now (slots .entry))) k)) (keys (block (now (ws .entry)) n)) ⌝ }
+    requires { ⌜ Writing (now ws) n ⌝ }
+    ensures { λ r. ⌜ r ≡ any (λ (k : ℕ). heldByOther w (contentOf (slotsOf (now (slots .entry))) k)) (keys (writesOf (now (ws .entry)) n)) ⌝ }
 {
     let mut i = 0;
     while i < n {
@@ -119,57 +95,51 @@ fn with_lock(c: indexlet::Content, lock: u64) -> indexlet::Content
 
 // Worker w locks the address in row i.
 fn lock_one(
-    outside: &mut [u64; 1025],
-    pending: &mut [u64; 1025],
-    slots: &mut [u64; 1536],
-    rows: &[u64; 3072],
-    lows: &[u64; 1025],
-    versions: &[u64; 1025],
-    ws: &[u64; 48],
+    leaves: &mut Leaves,
+    slots: &mut Slots,
+    rows: &Records,
+    ws: &WriteSet,
     z: Sizes,
     k: Counters,
     n: usize,
     i: usize,
     w: u64,
 ) -> Sizes
-    requires { ⌜ Tables (lent (now rows) (now lows) (now versions) (now outside) (now pending) (now slots)) z (k .version) ⌝ }
-    requires { ⌜ Narrow (now ws) n ⌝ }
+    requires { ⌜ Tables (lent (now rows) (now leaves) (now slots)) z (k .version) ⌝ }
+    requires { ⌜ Writing (now ws) n ⌝ }
     requires { ⌜ (i < n) × (w + 1 < 2 ^ 64) × (length (entries (slotsOf (now slots))) < slotCount) ⌝ }
-    ensures { λ r. ⌜ Said (lent (now (rows .entry)) (now (lows .entry)) (now (versions .entry)) (now (outside .entry)) (now (pending .entry)) (now (slots .entry))) (lent (now (rows .entry)) (now (lows .entry)) (now (versions .entry)) (now (outside .exit)) (now (pending .exit)) (now (slots .exit))) z r (k .version) (lockKey 4 w (slotsOf (now (slots .entry))) (blockAt (now (ws .entry)) i .key)) ⌝ }
+    ensures { λ r. ⌜ Said (lent (now (rows .entry)) (now (leaves .entry)) (now (slots .entry))) (lent (now (rows .entry)) (now (leaves .exit)) (now (slots .exit))) z r (k .version) (lockKey 4 w (slotsOf (now (slots .entry))) (writeAt (now (ws .entry)) i .key)) ⌝ }
 {
     let a = key_at(ws, n, i);
     let found = indexlet::look_up(slots, a);
     let old = found.content;
     let c = with_lock(old, w + 1);
-    say::say(outside, pending, slots, rows, lows, versions, z, k, a, c)
+    say::say(leaves, slots, rows, z, k, a, c)
 }
 
 // Worker w's lock on the address in row i goes, if w has it.
 fn unlock_one(
-    outside: &mut [u64; 1025],
-    pending: &mut [u64; 1025],
-    slots: &mut [u64; 1536],
-    rows: &[u64; 3072],
-    lows: &[u64; 1025],
-    versions: &[u64; 1025],
-    ws: &[u64; 48],
+    leaves: &mut Leaves,
+    slots: &mut Slots,
+    rows: &Records,
+    ws: &WriteSet,
     z: Sizes,
     k: Counters,
     n: usize,
     i: usize,
     w: u64,
 ) -> Sizes
-    requires { ⌜ Tables (lent (now rows) (now lows) (now versions) (now outside) (now pending) (now slots)) z (k .version) ⌝ }
-    requires { ⌜ Narrow (now ws) n ⌝ }
+    requires { ⌜ Tables (lent (now rows) (now leaves) (now slots)) z (k .version) ⌝ }
+    requires { ⌜ Writing (now ws) n ⌝ }
     requires { ⌜ i < n ⌝ }
-    ensures { λ r. ⌜ Said (lent (now (rows .entry)) (now (lows .entry)) (now (versions .entry)) (now (outside .entry)) (now (pending .entry)) (now (slots .entry))) (lent (now (rows .entry)) (now (lows .entry)) (now (versions .entry)) (now (outside .exit)) (now (pending .exit)) (now (slots .exit))) z r (k .version) (unlockKey 4 w (slotsOf (now (slots .entry))) (blockAt (now (ws .entry)) i .key)) ⌝ }
+    ensures { λ r. ⌜ Said (lent (now (rows .entry)) (now (leaves .entry)) (now (slots .entry))) (lent (now (rows .entry)) (now (leaves .exit)) (now (slots .exit))) z r (k .version) (unlockKey 4 w (slotsOf (now (slots .entry))) (writeAt (now (ws .entry)) i .key)) ⌝ }
 {
     let a = key_at(ws, n, i);
     let found = indexlet::look_up(slots, a);
     let old = found.content;
     if by_own(old, w) {
         let c = with_lock(old, 0);
-        return say::say(outside, pending, slots, rows, lows, versions, z, k, a, c);
+        return say::say(leaves, slots, rows, z, k, a, c);
     }
     z
 }
@@ -185,8 +155,8 @@ fn pending_kind(kind: u64) -> u64
 }
 
 // What an installed write says of its address: it is pending under the commit number, and no lock is left.
-fn installed(r: WriteRow, number: u64) -> indexlet::Content
-    ensures { λ c. ⌜ contentIn c ≡ installedAs number (writeOf r) idle ⌝ }
+fn installed(r: Entry, number: u64) -> indexlet::Content
+    ensures { λ c. ⌜ contentIn c ≡ installedAs number (entryIn r) idle ⌝ }
 {
     indexlet::Content {
         kind: pending_kind(r.kind),
@@ -198,77 +168,47 @@ fn installed(r: WriteRow, number: u64) -> indexlet::Content
 
 // The write of row i is installed under the commit number.
 fn install_one(
-    outside: &mut [u64; 1025],
-    pending: &mut [u64; 1025],
-    slots: &mut [u64; 1536],
-    rows: &[u64; 3072],
-    lows: &[u64; 1025],
-    versions: &[u64; 1025],
-    ws: &[u64; 48],
+    leaves: &mut Leaves,
+    slots: &mut Slots,
+    rows: &Records,
+    ws: &WriteSet,
     z: Sizes,
     k: Counters,
     n: usize,
     i: usize,
     number: u64,
 ) -> Sizes
-    requires { ⌜ Tables (lent (now rows) (now lows) (now versions) (now outside) (now pending) (now slots)) z (k .version) ⌝ }
-    requires { ⌜ Narrow (now ws) n ⌝ }
-    requires { ⌜ (i < n) × (isIdle (contentOf (slotsOf (now slots)) (blockAt (now ws) i .key)) ≡ false) ⌝ }
-    ensures { λ r. ⌜ Said (lent (now (rows .entry)) (now (lows .entry)) (now (versions .entry)) (now (outside .entry)) (now (pending .entry)) (now (slots .entry))) (lent (now (rows .entry)) (now (lows .entry)) (now (versions .entry)) (now (outside .exit)) (now (pending .exit)) (now (slots .exit))) z r (k .version) (installRow 4 number (slotsOf (now (slots .entry))) (blockAt (now (ws .entry)) i)) ⌝ }
+    requires { ⌜ Tables (lent (now rows) (now leaves) (now slots)) z (k .version) ⌝ }
+    requires { ⌜ Writing (now ws) n ⌝ }
+    requires { ⌜ (i < n) × (isIdle (contentOf (slotsOf (now slots)) (writeAt (now ws) i .key)) ≡ false) ⌝ }
+    ensures { λ r. ⌜ Said (lent (now (rows .entry)) (now (leaves .entry)) (now (slots .entry))) (lent (now (rows .entry)) (now (leaves .exit)) (now (slots .exit))) z r (k .version) (installRow 4 number (slotsOf (now (slots .entry))) (writeAt (now (ws .entry)) i)) ⌝ }
 {
-    let row = row_at(ws, n, i);
+    let row = writes::write_at(ws, i);
     let c = installed(row, number);
-    say::say(
-        outside,
-        pending,
-        slots,
-        rows,
-        lows,
-        versions,
-        z,
-        k,
-        row.address,
-        c,
-    )
+    say::say(leaves, slots, rows, z, k, row.address, c)
 }
 
 // Worker w locks the addresses of the write set, by rising address. The tests of refusals 9 to 11 come before.
 pub fn lock_all(
-    outside: &mut [u64; 1025],
-    pending: &mut [u64; 1025],
-    slots: &mut [u64; 1536],
-    rows: &[u64; 3072],
-    lows: &[u64; 1025],
-    versions: &[u64; 1025],
-    ws: &[u64; 48],
+    leaves: &mut Leaves,
+    slots: &mut Slots,
+    rows: &Records,
+    ws: &WriteSet,
     z: Sizes,
     k: Counters,
     n: usize,
     w: u64,
 ) -> Sizes
-    requires { ⌜ Held (lent (now rows) (now lows) (now versions) (now outside) (now pending) (now slots)) z (k .version) ⌝ }
-    requires { ⌜ Narrow (now ws) n ⌝ }
+    requires { ⌜ Held (lent (now rows) (now leaves) (now slots)) z (k .version) ⌝ }
+    requires { ⌜ Writing (now ws) n ⌝ }
     requires { ⌜ w + 1 < 2 ^ 64 ⌝ }
-    requires { ⌜ Lockable (mapOf (lent (now rows) (now lows) (now versions) (now outside) (now pending) (now slots)) z) (keys (block (now ws) n)) ⌝ }
-    ensures { λ r. ⌜ Becomes (lent (now (rows .entry)) (now (lows .entry)) (now (versions .entry)) (now (outside .exit)) (now (pending .exit)) (now (slots .exit))) r (k .version) (lockAll standard w (mapOf (lent (now (rows .entry)) (now (lows .entry)) (now (versions .entry)) (now (outside .entry)) (now (pending .entry)) (now (slots .entry))) z) (keys (block (now (ws .entry)) n))) ⌝ }
+    requires { ⌜ Lockable (mapOf (lent (now rows) (now leaves) (now slots)) z) (keys (writesOf (now ws) n)) ⌝ }
+    ensures { λ r. ⌜ Becomes (lent (now (rows .entry)) (now (leaves .exit)) (now (slots .exit))) r (k .version) (lockAll standard w (mapOf (lent (now (rows .entry)) (now (leaves .entry)) (now (slots .entry))) z) (keys (writesOf (now (ws .entry)) n))) ⌝ }
 {
     let mut sizes = z;
     let mut i = 0;
     while i < n {
-        sizes = lock_one(
-            outside,
-            pending,
-            slots,
-            rows,
-            lows,
-            versions,
-            ws,
-            sizes,
-            k,
-            n,
-            i,
-            w,
-        );
+        sizes = lock_one(leaves, slots, rows, ws, sizes, k, n, i, w);
         i += 1;
     }
     sizes
@@ -276,39 +216,23 @@ pub fn lock_all(
 
 // The locks that worker w has on the addresses of the write set go.
 pub fn unlock_all(
-    outside: &mut [u64; 1025],
-    pending: &mut [u64; 1025],
-    slots: &mut [u64; 1536],
-    rows: &[u64; 3072],
-    lows: &[u64; 1025],
-    versions: &[u64; 1025],
-    ws: &[u64; 48],
+    leaves: &mut Leaves,
+    slots: &mut Slots,
+    rows: &Records,
+    ws: &WriteSet,
     z: Sizes,
     k: Counters,
     n: usize,
     w: u64,
 ) -> Sizes
-    requires { ⌜ Held (lent (now rows) (now lows) (now versions) (now outside) (now pending) (now slots)) z (k .version) ⌝ }
-    requires { ⌜ Narrow (now ws) n ⌝ }
-    ensures { λ r. ⌜ Becomes (lent (now (rows .entry)) (now (lows .entry)) (now (versions .entry)) (now (outside .exit)) (now (pending .exit)) (now (slots .exit))) r (k .version) (unlockAll standard w (mapOf (lent (now (rows .entry)) (now (lows .entry)) (now (versions .entry)) (now (outside .entry)) (now (pending .entry)) (now (slots .entry))) z) (keys (block (now (ws .entry)) n))) ⌝ }
+    requires { ⌜ Held (lent (now rows) (now leaves) (now slots)) z (k .version) ⌝ }
+    requires { ⌜ Writing (now ws) n ⌝ }
+    ensures { λ r. ⌜ Becomes (lent (now (rows .entry)) (now (leaves .exit)) (now (slots .exit))) r (k .version) (unlockAll standard w (mapOf (lent (now (rows .entry)) (now (leaves .entry)) (now (slots .entry))) z) (keys (writesOf (now (ws .entry)) n))) ⌝ }
 {
     let mut sizes = z;
     let mut i = 0;
     while i < n {
-        sizes = unlock_one(
-            outside,
-            pending,
-            slots,
-            rows,
-            lows,
-            versions,
-            ws,
-            sizes,
-            k,
-            n,
-            i,
-            w,
-        );
+        sizes = unlock_one(leaves, slots, rows, ws, sizes, k, n, i, w);
         i += 1;
     }
     sizes
@@ -316,51 +240,35 @@ pub fn unlock_all(
 
 // The writes of the write set are pending from now on, under the commit number, and its locks go.
 pub fn install_all(
-    outside: &mut [u64; 1025],
-    pending: &mut [u64; 1025],
-    slots: &mut [u64; 1536],
-    rows: &[u64; 3072],
-    lows: &[u64; 1025],
-    versions: &[u64; 1025],
-    ws: &[u64; 48],
+    leaves: &mut Leaves,
+    slots: &mut Slots,
+    rows: &Records,
+    ws: &WriteSet,
     z: Sizes,
     k: Counters,
     n: usize,
     number: u64,
 ) -> Sizes
-    requires { ⌜ Held (lent (now rows) (now lows) (now versions) (now outside) (now pending) (now slots)) z (k .version) ⌝ }
-    requires { ⌜ Narrow (now ws) n ⌝ }
-    requires { ⌜ Installable (slotsOf (now slots)) (block (now ws) n) ⌝ }
-    ensures { λ r. ⌜ Becomes (lent (now (rows .entry)) (now (lows .entry)) (now (versions .entry)) (now (outside .exit)) (now (pending .exit)) (now (slots .exit))) r (k .version) (installAll standard number (mapOf (lent (now (rows .entry)) (now (lows .entry)) (now (versions .entry)) (now (outside .entry)) (now (pending .entry)) (now (slots .entry))) z) (block (now (ws .entry)) n)) ⌝ }
+    requires { ⌜ Held (lent (now rows) (now leaves) (now slots)) z (k .version) ⌝ }
+    requires { ⌜ Writing (now ws) n ⌝ }
+    requires { ⌜ Installable (slotsOf (now slots)) (writesOf (now ws) n) ⌝ }
+    ensures { λ r. ⌜ Becomes (lent (now (rows .entry)) (now (leaves .exit)) (now (slots .exit))) r (k .version) (installAll standard number (mapOf (lent (now (rows .entry)) (now (leaves .entry)) (now (slots .entry))) z) (writesOf (now (ws .entry)) n)) ⌝ }
 {
     let mut sizes = z;
     let mut i = 0;
     while i < n {
-        sizes = install_one(
-            outside,
-            pending,
-            slots,
-            rows,
-            lows,
-            versions,
-            ws,
-            sizes,
-            k,
-            n,
-            i,
-            number,
-        );
+        sizes = install_one(leaves, slots, rows, ws, sizes, k, n, i, number);
         i += 1;
     }
     sizes
 }
 
 // 1 if the address in row i has no entry.
-fn unsaid_at(slots: &[u64; 1536], ws: &[u64; 48], n: usize, i: usize) -> usize
+fn unsaid_at(slots: &Slots, ws: &WriteSet, n: usize, i: usize) -> usize
     requires { ⌜ indexlet.Held (now slots) ⌝ }
-    requires { ⌜ Narrow (now ws) n ⌝ }
+    requires { ⌜ Writing (now ws) n ⌝ }
     requires { ⌜ i < n ⌝ }
-    ensures { λ r. ⌜ r ≡ pick (unsaid (now (slots .entry)) (blockAt (now (ws .entry)) i .key)) 1 0 ⌝ }
+    ensures { λ r. ⌜ r ≡ pick (unsaid (now (slots .entry)) (writeAt (now (ws .entry)) i .key)) 1 0 ⌝ }
 {
     let a = key_at(ws, n, i);
     let found = indexlet::look_up(slots, a);
@@ -373,11 +281,11 @@ fn unsaid_at(slots: &[u64; 1536], ws: &[u64; 48], n: usize, i: usize) -> usize
 
 // How many addresses are waiting or locked, those of the write set included (refusal 10); `entries` is the number of
 // entries.
-pub fn waiting_with(slots: &[u64; 1536], ws: &[u64; 48], n: usize, entries: usize) -> usize
+pub fn waiting_with(slots: &Slots, ws: &WriteSet, n: usize, entries: usize) -> usize
     requires { ⌜ indexlet.Held (now slots) ⌝ }
     requires { ⌜ entries ≡ length (model.entries (slotsOf (now slots))) ⌝ }
-    requires { ⌜ Narrow (now ws) n ⌝ }
-    requires { ⌜ Rising (block (now ws) n) ⌝ }
+    requires { ⌜ Writing (now ws) n ⌝ }
+    requires { ⌜ Rising (writesOf (now ws) n) ⌝ }
     ensures { λ r. ⌜ Waits (now (slots .entry)) (now (ws .entry)) n r ⌝ }
 {
     let mut sum = entries;
@@ -391,37 +299,31 @@ pub fn waiting_with(slots: &[u64; 1536], ws: &[u64; 48], n: usize, entries: usiz
 
 // 1 if the address in row i has no entry and the index lacks it.
 fn unknown_at(
-    rows: &[u64; 3072],
-    slots: &[u64; 1536],
-    ws: &[u64; 48],
+    rows: &Records,
+    slots: &Slots,
+    ws: &WriteSet,
     records: usize,
     n: usize,
     i: usize,
 ) -> usize
     requires { ⌜ index.Held (now rows) records ⌝ }
     requires { ⌜ indexlet.Held (now slots) ⌝ }
-    requires { ⌜ Narrow (now ws) n ⌝ }
+    requires { ⌜ Writing (now ws) n ⌝ }
     requires { ⌜ i < n ⌝ }
-    ensures { λ r. ⌜ r ≡ pick (unknown (now (rows .entry)) records (now (slots .entry)) (blockAt (now (ws .entry)) i .key)) 1 0 ⌝ }
+    ensures { λ r. ⌜ r ≡ pick (unknown (now (rows .entry)) records (now (slots .entry)) (writeAt (now (ws .entry)) i .key)) 1 0 ⌝ }
 {
     let a = key_at(ws, n, i);
-    if say::lacks(rows, records, a) {
+    if recount::lacks(rows, records, a) {
         return unsaid_at(slots, ws, n, i);
     }
     0
 }
 
 // How many addresses the index, the indexlet and the write set have together (refusal 11).
-pub fn addresses_with(
-    rows: &[u64; 3072],
-    slots: &[u64; 1536],
-    ws: &[u64; 48],
-    n: usize,
-    z: Sizes,
-) -> usize
+pub fn addresses_with(rows: &Records, slots: &Slots, ws: &WriteSet, n: usize, z: Sizes) -> usize
     requires { ⌜ Counted (now rows) (now slots) z ⌝ }
-    requires { ⌜ Narrow (now ws) n ⌝ }
-    requires { ⌜ Rising (block (now ws) n) ⌝ }
+    requires { ⌜ Writing (now ws) n ⌝ }
+    requires { ⌜ Rising (writesOf (now ws) n) ⌝ }
     ensures { λ r. ⌜ Addressed (now (rows .entry)) (now (slots .entry)) (now (ws .entry)) z n r ⌝ }
 {
     let records = z.records;

@@ -3,20 +3,29 @@
 // `take_all` walks the slots, takes the leaf's pending writes in and counts the entries that stay for their lock;
 // `resettle` settles the leaf; `recount` brings the phantomlet up to date. Nearly always no lock stays, and then `recount`
 // needs no walk of its own.
-use crate::Address;
+use crate::Leaves;
+use crate::Records;
 use crate::Sizes;
+use crate::Slots;
 use counters::Counters;
+use index::leaves;
+use index::settles;
+use index::settles::Settled;
+use indexlet::SLOTS;
 use phantomlet::recount;
 use phantomlet::recount::Reach;
+use spec::Address;
 ghost use mathlib.Core.Path.{_≡_};
 ghost use mathlib.Core.Option.{some};
 ghost use Prim.Native.Nat.{_+_, _^_, _<_, _≤_};
 ghost use lib.ListN.{length};
 ghost use Rattle.lists.specs.Tests.{pick, present};
 ghost use Rattle.lists.specs.Rows.{assign};
+ghost use Rattle.spec.specs.Slots.{slotCount};
 ghost use Rattle.indexlet.specs.Words.{contentIn};
 ghost use Rattle.index.specs.Views as index-views;
-ghost use Rattle.index.specs.Settles.{SettledAs};
+ghost use Rattle.index.specs.LeafColumns.{lowsOf};
+ghost use Rattle.index.specs.SettleRows.{SettledRows};
 ghost use Rattle.map.specs.Views.{lent};
 ghost use Rattle.map.specs.Held.{Held};
 ghost use Rattle.phantomlet.specs.LeafTests.{placed};
@@ -49,16 +58,9 @@ pub struct Merged {
 }
 
 // A pending write enters the index: kind 1 puts a record, any other drops it. Answers how many records there are now.
-fn take_write(
-    rows: &mut [u64; 3072],
-    n: usize,
-    a: Address,
-    kind: u64,
-    value: u64,
-    commit: u64,
-) -> usize
+fn take_write(rows: &mut Records, n: usize, a: Address, kind: u64, value: u64, commit: u64) -> usize
     requires { ⌜ index-views.Held (now rows) n ⌝ }
-    requires { ⌜ length (assign a (some (index-views.recordFrom value commit)) (index-views.recordsOf (now rows) n)) ≤ 1024 ⌝ }
+    requires { ⌜ length (assign a (some (index-views.recordFrom value commit)) (index-views.recordsOf (now rows) n)) ≤ index-views.recordPlaces ⌝ }
     ensures { λ r. ⌜ index-views.Holds (now (rows .exit)) r (assign a (leaving kind value commit) (index-views.recordsOf (now (rows .entry)) n)) ⌝ }
 {
     if kind == 1 {
@@ -80,19 +82,19 @@ fn locked(c: indexlet::Content) -> usize
 // The walk at slot j: a write that is pending there, in the leaf at place i, whose addresses are r, enters the index; a lock
 // stays.
 fn take_slot(
-    rows: &mut [u64; 3072],
-    slots: &mut [u64; 1536],
-    lows: &[u64; 1025],
+    rows: &mut Records,
+    slots: &mut Slots,
+    leaves: &Leaves,
     w: Walk,
     r: Reach,
     m: usize,
     i: usize,
     j: usize,
 ) -> Walk
-    requires { ⌜ Underway (placed (now lows) m i) (now rows) (now slots) w j ⌝ }
-    requires { ⌜ OneLeaf (now lows) m i r ⌝ }
-    requires { ⌜ j < 256 ⌝ }
-    ensures { λ r. ⌜ Steps (placed (now (lows .entry)) m i) (now (rows .entry)) (now (slots .entry)) w j (now (rows .exit)) (now (slots .exit)) r ⌝ }
+    requires { ⌜ Underway (placed (lowsOf (now leaves)) m i) (now rows) (now slots) w j ⌝ }
+    requires { ⌜ OneLeaf (lowsOf (now leaves)) m i r ⌝ }
+    requires { ⌜ j < slotCount ⌝ }
+    ensures { λ r. ⌜ Steps (placed (lowsOf (now (leaves .entry))) m i) (now (rows .entry)) (now (slots .entry)) w j (now (rows .exit)) (now (slots .exit)) r ⌝ }
 {
     let s = indexlet::slot_at(slots, j);
     let key = s.key;
@@ -109,7 +111,7 @@ fn take_slot(
             left,
         };
     }
-    let a = key as u32;
+    let a = key as Address;
     let n = take_write(rows, w.records, a, c.kind, c.value, c.commit);
     let rest = indexlet::Content {
         kind: 0,
@@ -129,9 +131,9 @@ fn take_slot(
 // All pending writes of the leaf at place i enter the index. The walk goes on behind the last of them, since any slot can
 // have a lock that stays.
 fn take_all(
-    rows: &mut [u64; 3072],
-    slots: &mut [u64; 1536],
-    lows: &[u64; 1025],
+    rows: &mut Records,
+    slots: &mut Slots,
+    leaves: &Leaves,
     n: usize,
     e: usize,
     m: usize,
@@ -139,8 +141,8 @@ fn take_all(
     r: Reach,
 ) -> Walk
     requires { ⌜ Starting (now rows) (now slots) n e ⌝ }
-    requires { ⌜ OneLeaf (now lows) m i r ⌝ }
-    ensures { λ r. ⌜ Took (placed (now (lows .entry)) m i) (now (rows .entry)) (now (slots .entry)) n (now (rows .exit)) (now (slots .exit)) r ⌝ }
+    requires { ⌜ OneLeaf (lowsOf (now leaves)) m i r ⌝ }
+    ensures { λ r. ⌜ Took (placed (lowsOf (now (leaves .entry))) m i) (now (rows .entry)) (now (slots .entry)) n (now (rows .exit)) (now (slots .exit)) r ⌝ }
 {
     let mut w = Walk {
         records: n,
@@ -149,91 +151,70 @@ fn take_all(
         left: 0,
     };
     let mut j = 0;
-    while j < 256 {
-        w = take_slot(rows, slots, lows, w, r, m, i, j);
+    while j < SLOTS {
+        w = take_slot(rows, slots, leaves, w, r, m, i, j);
         j += 1;
     }
     w
 }
 
 // The rows of the leaf at place i.
-fn leaf_rows(rows: &[u64; 3072], lows: &[u64; 1025], n: usize, m: usize, i: usize) -> Span
+fn leaf_rows(rows: &Records, leaves: &Leaves, n: usize, m: usize, i: usize) -> Span
     requires { ⌜ index-views.Held (now rows) n ⌝ }
-    requires { ⌜ Lows (now lows) m ⌝ }
+    requires { ⌜ Lows (lowsOf (now leaves)) m ⌝ }
     requires { ⌜ i < m ⌝ }
-    ensures { λ r. ⌜ Spans (placed (now (lows .entry)) m i) (now (rows .entry)) n (r .from) (r .to) ⌝ }
+    ensures { λ r. ⌜ Spans (placed (lowsOf (now (leaves .entry))) m i) (now (rows .entry)) n (r .from) (r .to) ⌝ }
 {
-    index::shifts::all(lows);
-    let low = lows[i] as u32;
+    leaves::leaf_places(leaves);
+    let own = leaves::leaf_at(leaves, i);
+    let low = own.low as Address;
     let from = index::records::locate(rows, n, low);
     if i + 1 < m {
-        let next = lows[i + 1] as u32;
-        let to = index::records::locate(rows, n, next);
+        let next = leaves::leaf_at(leaves, i + 1);
+        let high = next.low as Address;
+        let to = index::records::locate(rows, n, high);
         return Span { from, to };
     }
     Span { from, to: n }
 }
 
 // The leaf at place i settles around the records that it has now; v is the last version given.
-fn resettle(
-    lows: &mut [u64; 1025],
-    versions: &mut [u64; 1025],
-    rows: &[u64; 3072],
-    n: usize,
-    m: usize,
-    i: usize,
-    v: u64,
-) -> index::leaves::Settled
-    requires { ⌜ Resettling (now lows) (now rows) n m i v ⌝ }
-    ensures { λ r. ⌜ SettledAs (now (lows .entry)) (now (versions .entry)) m i v (leafKeys (now (lows .entry)) (now (rows .entry)) n m i) (now (lows .exit)) (now (versions .exit)) (r .leaves) (r .version) ⌝ }
+fn resettle(leaves: &mut Leaves, rows: &Records, n: usize, m: usize, i: usize, v: u64) -> Settled
+    requires { ⌜ Resettling (lowsOf (now leaves)) (now rows) n m i v ⌝ }
+    ensures { λ r. ⌜ SettledRows (now (leaves .entry)) m i v (leafKeys (lowsOf (now (leaves .entry))) (now (rows .entry)) n m i) (now (leaves .exit)) (r .leaves) (r .version) ⌝ }
 {
-    let s = leaf_rows(rows, lows, n, m, i);
-    index::leaves::settle(lows, versions, rows, m, i, s.from, s.to, v)
+    let s = leaf_rows(rows, leaves, n, m, i);
+    settles::settle(leaves, rows, m, i, s.from, s.to, v)
 }
 
 // A merge at an address: all pending writes of the leaf that holds it enter the index. With none, nothing changes.
 pub fn merge(
-    rows: &mut [u64; 3072],
-    lows: &mut [u64; 1025],
-    versions: &mut [u64; 1025],
-    outside: &mut [u64; 1025],
-    pending: &mut [u64; 1025],
-    slots: &mut [u64; 1536],
+    rows: &mut Records,
+    leaves: &mut Leaves,
+    slots: &mut Slots,
     z: Sizes,
     k: Counters,
     a: Address,
 ) -> Merged
-    requires { ⌜ Held (lent (now rows) (now lows) (now versions) (now outside) (now pending) (now slots)) z (k .version) ⌝ }
+    requires { ⌜ Held (lent (now rows) (now leaves) (now slots)) z (k .version) ⌝ }
     requires { ⌜ k .version + 129 < 2 ^ 64 ⌝ }
-    ensures { λ r. ⌜ Merges (lent (now (rows .entry)) (now (lows .entry)) (now (versions .entry)) (now (outside .entry)) (now (pending .entry)) (now (slots .entry))) z k a (lent (now (rows .exit)) (now (lows .exit)) (now (versions .exit)) (now (outside .exit)) (now (pending .exit)) (now (slots .exit))) r ⌝ }
+    ensures { λ r. ⌜ Merges (lent (now (rows .entry)) (now (leaves .entry)) (now (slots .entry))) z k a (lent (now (rows .exit)) (now (leaves .exit)) (now (slots .exit))) r ⌝ }
 {
     let m = z.leaves;
-    let i = index::leaves::leaf_at(lows, m, a);
-    let waiting = pending[i];
-    if waiting == 0 {
+    let i = leaves::find_leaf(leaves, m, a);
+    let own = leaves::leaf_at(leaves, i);
+    if own.pending == 0 {
         return Merged {
             sizes: z,
             counters: k,
             count: 0,
         };
     }
-    let r = recount::addresses_of(lows, m, i, i + 1);
-    let w = take_all(rows, slots, lows, z.records, z.entries, m, i, r);
-    let s = resettle(lows, versions, rows, w.records, m, i, k.version);
-    index::shifts::all(lows);
-    index::shifts::all(versions);
-    let out = recount::recount(
-        outside,
-        pending,
-        rows,
-        lows,
-        slots,
-        w.records,
-        s.leaves,
-        i,
-        m,
-        w.left,
-    );
+    let r = recount::addresses_of(leaves, m, i, i + 1);
+    let w = take_all(rows, slots, leaves, z.records, z.entries, m, i, r);
+    let s = resettle(leaves, rows, w.records, m, i, k.version);
+    leaves::leaf_places(leaves);
+    let out = recount::recount(leaves, rows, slots, w.records, s.leaves, i, m, w.left);
     let sizes = Sizes {
         records: w.records,
         leaves: s.leaves,

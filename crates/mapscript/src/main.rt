@@ -2,8 +2,27 @@
 use console::closing;
 use console::session;
 use console::session::Session;
+use index::LEAF_WORDS;
+use index::LEAVES;
+use index::RECORD_WORDS;
+use indexlet::SLOT_WORDS;
+use indexlet::SLOTS;
 use libc::STDIN_FILENO;
 use libc::STDOUT_FILENO;
+use map::Leaves;
+use map::Records;
+use map::Slots;
+use sets::LEAF_SET_WORDS;
+use sets::LeafSets;
+use sets::READ_WORDS;
+use sets::ReadSets;
+use sets::WRITE_WORDS;
+use sets::WriteSets;
+use spec::LEAF_SET_LIMIT;
+use spec::MAP_LIMIT;
+use spec::READ_LIMIT;
+use spec::WORKERS;
+use spec::WRITE_LIMIT;
 ghost use Prim.Native.Nat.{_≤_};
 ghost use lib.ListN.{length};
 ghost use Rattle.map.specs.Views.{lent};
@@ -94,19 +113,16 @@ fn settle(out: &[u8], x: Session, count: usize) -> Work
 fn turn(
     input: &mut [u8],
     out: &mut [u8],
-    rows: &mut [u64; 3072],
-    lows: &mut [u64; 1025],
-    versions: &mut [u64; 1025],
-    outside: &mut [u64; 1025],
-    pending: &mut [u64; 1025],
-    slots: &mut [u64; 1536],
-    reads: &mut [u64; 2048],
-    leaves: &mut [u64; 512],
-    writes: &mut [u64; 384],
+    rows: &mut Records,
+    leaves: &mut Leaves,
+    slots: &mut Slots,
+    reads: &mut ReadSets,
+    leafsets: &mut LeafSets,
+    writes: &mut WriteSets,
     w: Work,
 ) -> Work
-    requires { ⌜ Holds (lent (now rows) (now lows) (now versions) (now outside) (now pending) (now slots)) (logs (now reads) (now leaves) (now writes)) w (length (now out)) (length (now input)) ⌝ }
-    ensures { λ r. ⌜ Holds (lent (now (rows .exit)) (now (lows .exit)) (now (versions .exit)) (now (outside .exit)) (now (pending .exit)) (now (slots .exit))) (logs (now (reads .exit)) (now (leaves .exit)) (now (writes .exit))) r (length (now (out .exit))) (length (now (input .exit))) ⌝ }
+    requires { ⌜ Holds (lent (now rows) (now leaves) (now slots)) (logs (now reads) (now leafsets) (now writes)) w (length (now out)) (length (now input)) ⌝ }
+    ensures { λ r. ⌜ Holds (lent (now (rows .exit)) (now (leaves .exit)) (now (slots .exit))) (logs (now (reads .exit)) (now (leafsets .exit)) (now (writes .exit))) r (length (now (out .exit))) (length (now (input .exit))) ⌝ }
 {
     let x = w.session;
     let count = w.count;
@@ -116,13 +132,10 @@ fn turn(
     let y = session::feed(
         out,
         rows,
-        lows,
-        versions,
-        outside,
-        pending,
+        leaves,
         slots,
         reads,
-        leaves,
+        leafsets,
         writes,
         &input[..count],
         x,
@@ -133,18 +146,15 @@ fn turn(
 // The end: the output so far, and the last line.
 fn close(
     out: &mut [u8],
-    rows: &[u64; 3072],
-    lows: &[u64; 1025],
-    versions: &[u64; 1025],
-    outside: &[u64; 1025],
-    pending: &[u64; 1025],
-    slots: &[u64; 1536],
-    reads: &[u64; 2048],
-    leaves: &[u64; 512],
-    writes: &[u64; 384],
+    rows: &Records,
+    leaves: &Leaves,
+    slots: &Slots,
+    reads: &ReadSets,
+    leafsets: &LeafSets,
+    writes: &WriteSets,
     w: Work,
 )
-    requires { ⌜ Ready (lent (now rows) (now lows) (now versions) (now outside) (now pending) (now slots)) (logs (now reads) (now leaves) (now writes)) (w .session .core) ⌝ }
+    requires { ⌜ Ready (lent (now rows) (now leaves) (now slots)) (logs (now reads) (now leafsets) (now writes)) (w .session .core) ⌝ }
     requires { ⌜ Started (w .session .parser) ⌝ }
     requires { ⌜ (w .session .at ≤ length (now out)) × (longestEnd ≤ length (now out)) ⌝ }
 {
@@ -156,43 +166,25 @@ fn close(
         return;
     }
     let y = session::at_places(x, x.next, 0);
-    let last = closing::finish(
-        out,
-        rows,
-        lows,
-        versions,
-        outside,
-        pending,
-        slots,
-        reads,
-        leaves,
-        writes,
-        y,
-    );
+    let last = closing::finish(out, rows, leaves, slots, reads, leafsets, writes, y);
     write_first(out, last);
 }
 
 fn main() {
     let mut input = io::large_buffer();
     let mut out = io::large_buffer();
-    let mut rows = [0u64; 3072];
-    let mut lows = [0u64; 1025];
-    let mut versions = [0u64; 1025];
-    let mut outside = [0u64; 1025];
-    let mut pending = [0u64; 1025];
-    let mut slots = [0u64; 1536];
-    let mut reads = [0u64; 2048];
-    let mut leaves = [0u64; 512];
-    let mut writes = [0u64; 384];
+    let mut rows = [[0u64; RECORD_WORDS]; MAP_LIMIT];
+    let mut leaves = [[0u64; LEAF_WORDS]; LEAVES];
+    let mut slots = [[0u64; SLOT_WORDS]; SLOTS];
+    let mut reads = [[[0u64; READ_WORDS]; READ_LIMIT]; WORKERS];
+    let mut leafsets = [[[0u64; LEAF_SET_WORDS]; LEAF_SET_LIMIT]; WORKERS];
+    let mut writes = [[[0u64; WRITE_WORDS]; WRITE_LIMIT]; WORKERS];
     let start = session::fresh(
         &mut rows,
-        &mut lows,
-        &mut versions,
-        &mut outside,
-        &mut pending,
+        &mut leaves,
         &mut slots,
         &mut reads,
-        &mut leaves,
+        &mut leafsets,
         &mut writes,
     );
     let mut w = Work {
@@ -208,13 +200,10 @@ fn main() {
             &mut input,
             &mut out,
             &mut rows,
-            &mut lows,
-            &mut versions,
-            &mut outside,
-            &mut pending,
+            &mut leaves,
             &mut slots,
             &mut reads,
-            &mut leaves,
+            &mut leafsets,
             &mut writes,
             w,
         );
@@ -223,13 +212,10 @@ fn main() {
     close(
         &mut out,
         &rows,
-        &lows,
-        &versions,
-        &outside,
-        &pending,
+        &leaves,
         &slots,
         &reads,
-        &leaves,
+        &leafsets,
         &writes,
         w,
     );

@@ -1,6 +1,5 @@
 -- Counts of entries leaf by leaf, in an array with a number for each leaf: a walk over the slots adds each entry's number
 -- at the place of its leaf. What a place has, and what the slots from the walk's place on still add there, is the whole.
--- Assumes nothing.
 use Prim.Native.Nat.{ℕ, suc, _+_, _-_, _%_, _^_, _<_, _≤_, zero-le}
 use native.Mathlib.Omega.{arith}
 use mathlib.Core.Path.{_≡_, refl, sym, ap, _∙_}
@@ -18,12 +17,16 @@ use Rattle.lists.specs.Options.{options}
 use Rattle.spec.specs.Records.{Record}
 use Rattle.spec.specs.Slots.{slotCount, Content, Slot, emptySlot}
 use Rattle.laws.specs.SlotCounts.{entryAt, tally, count, count-cons}
+use Rattle.sets.specs.Sets.{addresses}
+use Rattle.index.specs.Views.{leafPlaces}
+use Rattle.index.specs.declared.leaves.Leaf.{Leaf as LeafWords}
+use Rattle.index.specs.LeafColumns.{LeafRows, lowsOf, leafAt, column-getD}
 use Rattle.index.specs.LeafPlaces.{lowPlace, AtLeaf, Listed}
 use Rattle.phantomlet.specs.Phantoms.{weigh, howMany}
 use Rattle.phantomlet.specs.LeafRows.{low-from, low-before, low-below, low-inside}
 use Rattle.phantomlet.specs.LeafTests.{placed}
 use Rattle.phantomlet.specs.declared.recount.Reach.{Reach}
-use Rattle.phantomlet.specs.LeafNumbers.{Prepared}
+use Rattle.phantomlet.specs.LeafNumbers.{Clearing}
 
 -- the entry lies at an address that the records lack
 unfoldable pub lacking : List (Row Record) → Row Content → Bool
@@ -138,30 +141,36 @@ pub record Ranging (lows : List ℕ) (m from to : ℕ) : Type 0 where
   pub inside : from < m
   pub some : from < to
 
-module _ (lows : List ℕ) (m from to : ℕ) (al : length lows ≡ 1025) (r : Ranging lows m from to) where
+module _ (lows : List ℕ) (m from to : ℕ) (al : length lows ≡ leafPlaces) (r : Ranging lows m from to) where
   -- up to the next leaf
-  pub range-next : (s : ℕ) → s ≡ getD lows to 0 - getD lows from 0 → to < m → Range lows m (record { from = from; to = to; low = getD lows from 0; high = getD lows to 0; span = s })
-  range-next s e n =
+  pub range-next : (low high s : ℕ) → low ≡ getD lows from 0 → high ≡ getD lows to 0 → s ≡ high - low → to < m
+      → Range lows m (record { from = from; to = to; low = low; high = high; span = s })
+  range-next low high s x y e n =
       let g : from < to = r .some in
       record {
-        below = λ k l. low-below lows m (r .listed) al from k (r .first) (r .inside) l;
-        above = λ k l b. low-from lows m (r .listed) al to k n l;
-        inside = λ k l b. (low-from lows m (r .listed) al from k (r .inside) l, low-before lows m (r .listed) al to k (omega arith) n b);
+        below = λ k l. low-below lows m (r .listed) al from k (r .first) (r .inside) (omega arith);
+        above = λ k l b. low-from lows m (r .listed) al to k n (omega arith);
+        inside = λ k l b. (low-from lows m (r .listed) al from k (r .inside) (omega arith), low-before lows m (r .listed) al to k (omega arith) n (omega arith));
         span = e;
       }
 
   -- up to the last address
-  pub range-last : (s : ℕ) → s ≡ 4294967296 - getD lows from 0 → m ≤ to → Range lows m (record { from = from; to = to; low = getD lows from 0; high = 4294967296; span = s })
-  range-last s e n =
+  pub range-last : (low s : ℕ) → low ≡ getD lows from 0 → s ≡ addresses - low → m ≤ to
+      → Range lows m (record { from = from; to = to; low = low; high = addresses; span = s })
+  range-last low s x e n =
       record {
-        below = λ k l. low-below lows m (r .listed) al from k (r .first) (r .inside) l;
+        below = λ k l. low-below lows m (r .listed) al from k (r .first) (r .inside) (omega arith);
         above = λ k l b. absurd (let q : ⊥ = omega arith in q);
         inside =
             λ k l b.
-            let x : lowPlace k (take m lows) < m = low-inside lows m (r .listed) al k in
-            (low-from lows m (r .listed) al from k (r .inside) l, omega arith);
+            let y : lowPlace k (take m lows) < m = low-inside lows m (r .listed) al k in
+            (low-from lows m (r .listed) al from k (r .inside) (omega arith), omega arith);
         span = e;
       }
+
+-- the low of a leaf that was read
+pub low-of : (ls : LeafRows) (i : ℕ) {l : LeafWords} → l ≡ leafAt ls i → l .low ≡ getD (lowsOf ls) i 0
+low-of ls i e = ap (λ (x : LeafWords). x .low) e ∙ sym (column-getD 0 ls i)
 
 -- The leaf at place i holds the addresses of r.
 pub record OneLeaf (lows : List ℕ) (m i : ℕ) (r : Reach) : Type 0 where
@@ -202,51 +211,35 @@ module _ {lows : List ℕ} {m i : ℕ} {r : Reach} (h : OneLeaf lows m i r) wher
 -- An array with a number for each leaf: at the places from `from` up to `to`, what it has and what the slots from j on
 -- add is the whole; elsewhere it has the whole.
 pub record Adding (lows : List ℕ) (m : ℕ) (t : Row Content → Bool) (ss : List Slot) (from to : ℕ) (xs : List ℕ) (j : ℕ) : Type 0 where
-  pub size : length xs ≡ 1025
+  pub size : length xs ≡ leafPlaces
   pub sum : (i : ℕ) → from ≤ i → i < to → getD xs i 0 + howMany (inLeaf lows m t i) (drop j ss) ≡ howMany (inLeaf lows m t i) ss
   pub rest : (i : ℕ) → (i < from) ⊎ (to ≤ i) → i < m → getD xs i 0 ≡ howMany (inLeaf lows m t i) ss
 
--- the numbers of the leaves that a merge at place i of `old` leaves does not make; those after it now stand from `to` on
-pub record Keeping (lows : List ℕ) (m : ℕ) (t : Row Content → Bool) (ss : List Slot) (xs : List ℕ) (i old to : ℕ) : Type 0 where
+-- the numbers of the leaves that a merge at place i does not make: those after the ones that it made stand from `to` on
+pub record Keeping (lows : List ℕ) (m : ℕ) (t : Row Content → Bool) (ss : List Slot) (xs : List ℕ) (i to : ℕ) : Type 0 where
   pub before : (j : ℕ) → j + 1 < i → getD xs j 0 ≡ howMany (inLeaf lows m t j) ss
-  pub after : (y : ℕ) → i + 1 + y < old → getD xs (i + 1 + y) 0 ≡ howMany (inLeaf lows m t (to + y)) ss
+  pub after : (j : ℕ) → to ≤ j → j < m → getD xs j 0 ≡ howMany (inLeaf lows m t j) ss
 
--- The leaves at the places from i up to `to` have no entry, and the numbers before place i stay.
-pub record Bare (lows : List ℕ) (m : ℕ) (t : Row Content → Bool) (ss : List Slot) (xs : List ℕ) (i to : ℕ) : Type 0 where
-  pub before : (j : ℕ) → j < i → getD xs j 0 ≡ howMany (inLeaf lows m t j) ss
-  pub made : (j : ℕ) → i ≤ j → j < to → howMany (inLeaf lows m t j) ss ≡ 0
+-- the numbers before place `to`, where the merge left no entry and joined no leaf
+abbrev pub Bare : List ℕ → ℕ → (Row Content → Bool) → List Slot → List ℕ → ℕ → Type 0
+Bare lows m t ss xs to = (j : ℕ) → j < to → getD xs j 0 ≡ howMany (inLeaf lows m t j) ss
 
 -- so each number is known without a walk
-pub bare-numbers : {lows : List ℕ} {m : ℕ} {t : Row Content → Bool} {ss : List Slot} {xs cur : List ℕ} {i old to : ℕ} → to + old ≡ i + 1 + m → i < old
-    → Bare lows m t ss xs i to → Keeping lows m t ss xs i old to → Prepared xs cur i old i to → (j : ℕ) → j < m → getD cur j 0 ≡ howMany (inLeaf lows m t j) ss
-bare-numbers {lows} {m} {t} {ss} {xs} {cur} {i} {old} {to} o l b k p j h =
-    ⊎-elim
-    (λ c. let g : j < i = less-true j i c in p .before j g ∙ b .before j g)
-    (λ c. let g : i ≤ j = less-false j i c in
-    ⊎-elim
-    (λ d. let f : j < to = less-true j to d in p .zeros j g f ∙ sym (b .made j g f))
-    (λ d. let f : to ≤ j = less-false j to d in
-    let y : to + (j - to) ≡ j = omega arith in
-    ap (λ (n : ℕ). getD cur n 0) (sym y) ∙ p .after (j - to) (omega arith) ∙ k .after (j - to) (omega arith) ∙ ap (λ (n : ℕ). howMany (inLeaf lows m t n) ss) y)
-    (cases (less j to)))
-    (cases (less j i))
+pub bare-numbers : {lows : List ℕ} {m : ℕ} {t : Row Content → Bool} {ss : List Slot} {xs : List ℕ} {i to : ℕ}
+    → Bare lows m t ss xs to → Keeping lows m t ss xs i to → (j : ℕ) → j < m → getD xs j 0 ≡ howMany (inLeaf lows m t j) ss
+bare-numbers {lows} {m} {t} {ss} {xs} {i} {to} b k j h =
+    ⊎-elim (λ d. b j (less-true j to d)) (λ d. k .after j (less-false j to d) h) (cases (less j to))
 
 module _ {lows : List ℕ} {m : ℕ} {t : Row Content → Bool} {ss : List Slot} {from to : ℕ} (full : length ss ≡ slotCount) where
-  pub adding-start : {xs cur : List ℕ} {i old : ℕ} → from ≡ i - 1 → to + old ≡ i + 1 + m → i < old → Keeping lows m t ss xs i old to → Prepared xs cur i old from to → Adding lows m t ss from to cur 0
-  adding-start {xs} {cur} {i} {old} f o l k p =
+  pub adding-start : {xs cur : List ℕ} {i : ℕ} → length xs ≡ leafPlaces → from ≡ i - 1 → Keeping lows m t ss xs i to → Clearing xs cur from to → Adding lows m t ss from to cur 0
+  adding-start {xs} {cur} {i} l f k c =
       record {
-        size = p .size;
-        sum = λ j a b. let z : getD cur j 0 ≡ 0 = p .zeros j a b in omega arith;
-        rest =
-            λ j c b.
-            ⊎-elim
-            (λ d. p .before j d ∙ k .before j (omega arith))
-            (λ d. let y : to + (j - to) ≡ j = omega arith in
-            ap (λ (n : ℕ). getD cur n 0) (sym y) ∙ p .after (j - to) (omega arith) ∙ k .after (j - to) (omega arith) ∙ ap (λ (n : ℕ). howMany (inLeaf lows m t n) ss) y)
-            c;
+        size = c .size ∙ l;
+        sum = λ j a b. let z : getD cur j 0 ≡ 0 = c .zeros j a b in omega arith;
+        rest = λ j d b. c .others j d ∙ ⊎-elim (λ g. k .before j (omega arith)) (λ g. k .after j g b) d;
       }
 
-  pub adding-end : {xs : List ℕ} {j : ℕ} → Adding lows m t ss from to xs j → 256 ≤ j → (i : ℕ) → i < m → getD xs i 0 ≡ howMany (inLeaf lows m t i) ss
+  pub adding-end : {xs : List ℕ} {j : ℕ} → Adding lows m t ss from to xs j → slotCount ≤ j → (i : ℕ) → i < m → getD xs i 0 ≡ howMany (inLeaf lows m t i) ss
   adding-end {xs} {j} a h i l =
       ⊎-elim
       (λ c. a .rest i (inl (less-true i from c)) l)
@@ -258,14 +251,14 @@ module _ {lows : List ℕ} {m : ℕ} {t : Row Content → Bool} {ss : List Slot}
       (cases (less i to)))
       (cases (less i from))
 
-  pub adding-small : {xs : List ℕ} {j : ℕ} → Adding lows m t ss from to xs j → (i : ℕ) → from ≤ i → i < to → getD xs i 0 ≤ 256
+  pub adding-small : {xs : List ℕ} {j : ℕ} → Adding lows m t ss from to xs j → (i : ℕ) → from ≤ i → i < to → getD xs i 0 ≤ slotCount
   adding-small {xs} {j} a i f l =
       let y : getD xs i 0 + howMany (inLeaf lows m t i) (drop j ss) ≡ howMany (inLeaf lows m t i) ss = a .sum i f l in
       let x : howMany (inLeaf lows m t i) ss ≤ length ss = many-most (inLeaf lows m t i) ss in
       omega arith
 
   -- an entry that adds nothing to these leaves, or none
-  pub adding-past : {xs : List ℕ} {j : ℕ} → Adding lows m t ss from to xs j → j < 256
+  pub adding-past : {xs : List ℕ} {j : ℕ} → Adding lows m t ss from to xs j → j < slotCount
       → ((i : ℕ) → from ≤ i → i < to → weigh (inLeaf lows m t i) (entryAt ss j) ≡ 0) → Adding lows m t ss from to xs (j + 1)
   adding-past {xs} {j} a h e =
       record {
@@ -281,8 +274,8 @@ module _ {lows : List ℕ} {m : ℕ} {t : Row Content → Bool} {ss : List Slot}
       }
 
   -- an entry: it is added at the place of its leaf
-  pub adding-some : {xs : List ℕ} {j : ℕ} (x : Row Content) (at by : ℕ) (xs' : List ℕ) → Adding lows m t ss from to xs j → j < 256 → entryAt ss j ≡ some x
-      → m ≤ 1025 → AtLeaf lows m (x .key) at → from ≤ at → at < to → by ≡ weigh t (some x) → xs' ≡ set xs at (getD xs at 0 + by) → Adding lows m t ss from to xs' (j + 1)
+  pub adding-some : {xs : List ℕ} {j : ℕ} (x : Row Content) (at by : ℕ) (xs' : List ℕ) → Adding lows m t ss from to xs j → j < slotCount → entryAt ss j ≡ some x
+      → m ≤ leafPlaces → AtLeaf lows m (x .key) at → from ≤ at → at < to → by ≡ weigh t (some x) → xs' ≡ set xs at (getD xs at 0 + by) → Adding lows m t ss from to xs' (j + 1)
   unfolding placed
   adding-some {xs} {j} x at by xs' a h e mr l u n b f =
       record {
@@ -295,7 +288,7 @@ module _ {lows : List ℕ} {m : ℕ} {t : Row Content → Bool} {ss : List Slot}
             let q : howMany (inLeaf lows m t i) (drop (j + 1) ss) ≡ howMany (inLeaf lows m t i) (drop (suc j) ss) = ap (λ (n : ℕ). howMany (inLeaf lows m t i) (drop n ss)) s in
             let p : at ≡ lowPlace (x .key) (take m lows) = l .is in
             let v : at < m = l .inside in
-            let d : length xs ≡ 1025 = a .size in
+            let d : length xs ≡ leafPlaces = a .size in
             ⊎-elim
             (λ c. let k : at ≡ i = p ∙ same-true (lowPlace (x .key) (take m lows)) i c in
             let n : weigh (inLeaf lows m t i) (entryAt ss j) ≡ weigh t (some x) = w ∙ ap (λ (b : Bool). pick b (weigh t (some x)) 0) c in

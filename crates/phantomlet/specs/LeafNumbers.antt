@@ -1,46 +1,14 @@
--- The numbers of leaves in an array, when leaves come and go: those after a place shift, those of the new leaves are
--- cleared; and the sum of all.
--- Assumes nothing.
+-- The numbers of leaves, when leaves come and go: those of some places are cleared; and the sum of all.
 use Prim.Native.Nat.{ℕ, zero, suc, _+_, _-_, _*_, _<_, _≤_, zero-le}
 use native.Mathlib.Omega.{arith}
 use mathlib.Core.Path.{_≡_, refl, sym, ap, _∙_}
 use mathlib.Core.Logic.{_⊎_, inl, inr, ⊎-elim}
 use mathlib.Core.Bool.{Bool}
-use mathlib.Core.List.{List, _++_}
-use lib.ListN.{length, take, drop, getD, set, length-set, length-drop, take-append-drop, List·getD-append}
-use lib.Seq.{length-take-le, getD-take, getD-drop, drop-drop, getD-set-same, getD-set-other}
+use mathlib.Core.List.{List}
+use lib.ListN.{length, getD, set, length-set}
+use lib.Seq.{getD-set-same, getD-set-other}
 use Rattle.lists.specs.Tests.{pick, same, cases, same-true, same-false}
-use Rattle.lists.specs.Shifts.{over, moved, length-moved, getD-over-left, drop-over-at}
-
--- ---- shifting
-
-module _ (xs : List ℕ) (from to n : ℕ) (h : from + n ≤ length xs) (g : to + n ≤ length xs) where
-  part : length (take n (drop from xs)) ≡ n
-  part = let e : length (drop from xs) ≡ length xs - from = length-drop from xs in length-take-le n (drop from xs) (omega arith)
-
-  moved-left : (k : ℕ) → k < to → getD (moved xs from to n) k 0 ≡ getD xs k 0
-  unfolding moved
-  moved-left k l = let e : length (take n (drop from xs)) ≡ n = part in getD-over-left xs to (take n (drop from xs)) (omega arith) k 0 l
-
-  moved-in : (y : ℕ) → y < n → getD (moved xs from to n) (to + y) 0 ≡ getD xs (from + y) 0
-  unfolding moved
-  moved-in y l =
-      let e : length (take n (drop from xs)) ≡ n = part in
-      sym (getD-drop to (over xs to (take n (drop from xs))) y 0)
-      ∙ ap (λ (zs : List ℕ). getD zs y 0) (drop-over-at xs to (take n (drop from xs)) (omega arith))
-      ∙ List·getD-append (take n (drop from xs)) (drop (to + length (take n (drop from xs))) xs) 0 y (omega arith)
-      ∙ getD-take n (drop from xs) y 0 l
-      ∙ getD-drop from xs y 0
-
--- to the same place
-pub moved-same : (xs : List ℕ) (from n : ℕ) → from + n ≤ length xs → moved xs from from n ≡ xs
-unfolding moved over
-moved-same xs from n h =
-    let e : length (take n (drop from xs)) ≡ n = part xs from from n h h in
-    ap (λ (k : ℕ). take from xs ++ (take n (drop from xs) ++ drop (from + k) xs)) e
-    ∙ ap (λ (zs : List ℕ). take from xs ++ (take n (drop from xs) ++ zs)) (sym (drop-drop n from xs))
-    ∙ ap (λ (zs : List ℕ). take from xs ++ zs) (take-append-drop n (drop from xs))
-    ∙ take-append-drop from xs
+use Rattle.spec.specs.Slots.{slotCount}
 
 -- ---- clearing
 
@@ -71,30 +39,6 @@ clear-on {xs} {cur} {from} {x} cur' r f h e =
           ap (λ (zs : List ℕ). getD zs j 0) e
           ∙ getD-set-other cur x j 0 0 (λ q. ⊎-elim (λ w. let u : ⊥ = omega arith in u) (λ w. let u : ⊥ = omega arith in u) b)
           ∙ r .others j (⊎-elim (λ w. inl w) (λ w. inr (omega arith)) b);
-    }
-
--- ---- room for new leaves
-
--- The numbers after place i, of `old` leaves, stand from place `to` on, and those from `from` up to there are 0.
-pub record Prepared (xs cur : List ℕ) (i old from to : ℕ) : Type 0 where
-  pub size : length cur ≡ 1025
-  pub before : (j : ℕ) → j < from → getD cur j 0 ≡ getD xs j 0
-  pub zeros : (j : ℕ) → from ≤ j → j < to → getD cur j 0 ≡ 0
-  pub after : (y : ℕ) → i + 1 + y < old → getD cur (to + y) 0 ≡ getD xs (i + 1 + y) 0
-
-pub prepared : {xs ys cur : List ℕ} {i old from to : ℕ} → length xs ≡ 1025 → i < old → old ≤ 1025 → from ≤ to → to + (old - i - 1) ≤ 1025
-    → ys ≡ moved xs (i + 1) to (old - i - 1) → Clearing ys cur from to → Prepared xs cur i old from to
-prepared {xs} {ys} {cur} {i} {old} {from} {to} l h o f r e c =
-    record {
-      size = c .size ∙ ap length e ∙ length-moved xs (i + 1) to (old - i - 1) (omega arith) (omega arith) ∙ l;
-      before =
-          λ j b.
-          c .others j (inl b) ∙ ap (λ (zs : List ℕ). getD zs j 0) e ∙ moved-left xs (i + 1) to (old - i - 1) (omega arith) (omega arith) j (omega arith);
-      zeros = c .zeros;
-      after =
-          λ y b.
-          c .others (to + y) (inr (omega arith)) ∙ ap (λ (zs : List ℕ). getD zs (to + y) 0) e
-          ∙ moved-in xs (i + 1) to (old - i - 1) (omega arith) (omega arith) y (omega arith);
     }
 
 -- ---- sums
@@ -137,10 +81,10 @@ sum-one p x (suc n) h =
     omega arith)
     (cases (same p n))
 
-sum-most : (f : ℕ → ℕ) (n : ℕ) → ((i : ℕ) → i < n → f i ≤ 256) → sumTo f n ≤ 256 * n
+sum-most : (f : ℕ → ℕ) (n : ℕ) → ((i : ℕ) → i < n → f i ≤ slotCount) → sumTo f n ≤ slotCount * n
 unfolding sumTo
 sum-most f zero h = zero-le
-sum-most f (suc n) h = let a : sumTo f n ≤ 256 * n = sum-most f n (λ i l. h i (omega arith)) in let b : f n ≤ 256 = h n (omega arith) in omega arith
+sum-most f (suc n) h = let a : sumTo f n ≤ slotCount * n = sum-most f n (λ i l. h i (omega arith)) in let b : f n ≤ slotCount = h n (omega arith) in omega arith
 
 -- the sum so far
 pub record Summing (xs : List ℕ) (m total i : ℕ) : Type 0 where
@@ -165,9 +109,9 @@ summing-end {xs} {m} {total} {i} r h =
     let e : i ≡ m = (let t : i ≤ m = r .there in omega arith) in
     r .is ∙ ap (sumTo (λ (j : ℕ). getD xs j 0)) e
 
-pub summing-small : {xs : List ℕ} {m total i : ℕ} → Summing xs m total i → ((j : ℕ) → j < m → getD xs j 0 ≤ 256) → i < m → total + getD xs i 0 ≤ 256 * m
+pub summing-small : {xs : List ℕ} {m total i : ℕ} → Summing xs m total i → ((j : ℕ) → j < m → getD xs j 0 ≤ slotCount) → i < m → total + getD xs i 0 ≤ slotCount * m
 summing-small {xs} {m} {total} {i} r h l =
-    let a : sumTo (λ (j : ℕ). getD xs j 0) i ≤ 256 * i = sum-most (λ (j : ℕ). getD xs j 0) i (λ j g. h j (omega arith)) in
+    let a : sumTo (λ (j : ℕ). getD xs j 0) i ≤ slotCount * i = sum-most (λ (j : ℕ). getD xs j 0) i (λ j g. h j (omega arith)) in
     let b : total ≡ sumTo (λ (j : ℕ). getD xs j 0) i = r .is in
-    let c : getD xs i 0 ≤ 256 = h i l in
+    let c : getD xs i 0 ≤ slotCount = h i l in
     omega arith

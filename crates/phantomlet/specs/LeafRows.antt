@@ -15,7 +15,7 @@ use Rattle.lists.specs.Ascending.{Ascends, ascends-at, ascends-drop}
 use Rattle.lists.specs.Places.{place, place-most, place-below, place-above}
 use Rattle.lists.specs.Shifts.{drop-take}
 use Rattle.spec.specs.Records.{Record}
-use Rattle.index.specs.Views.{noRow, rowsOf, recordsOf, keysBetween, Held, AtPlace}
+use Rattle.index.specs.Views.{leafPlaces, RecordRows, noRow, rowsOf, recordsOf, keysBetween, Held, AtPlace}
 use Rattle.index.specs.ViewLaws.{length-records}
 use Rattle.index.specs.LeafPlaces.{lowPlace, place-inside, leaf-below, leaf-above, Listed}
 use Rattle.phantomlet.specs.LeafTests.{placed}
@@ -64,9 +64,9 @@ from-place k rs y r h l =
 
 -- ---- an address and the low at place i
 
-module _ (lows : List ℕ) (m : ℕ) (listed : Listed lows m) (al : length lows ≡ 1025) where
+module _ (lows : List ℕ) (m : ℕ) (listed : Listed lows m) (al : length lows ≡ leafPlaces) where
   few : length (take m lows) ≡ m
-  few = length-take-le m lows (let r : m ≤ 1025 = listed .room in omega arith)
+  few = length-take-le m lows (let r : m ≤ leafPlaces = listed .room in omega arith)
 
   pub low-from : (i k : ℕ) → i < m → getD lows i 0 ≤ k → i ≤ lowPlace k (take m lows)
   low-from i k h l = leaf-below k 0 (take m lows) i (listed .rising) (rw few h) (rw (getD-take m lows i 0 h) l)
@@ -92,7 +92,7 @@ module _ (lows : List ℕ) (m : ℕ) (listed : Listed lows m) (al : length lows 
 
 -- ---- an address and the leaf at place i
 
-module _ (lows : List ℕ) (m i : ℕ) (listed : Listed lows m) (al : length lows ≡ 1025) (h : i < m) where
+module _ (lows : List ℕ) (m i : ℕ) (listed : Listed lows m) (al : length lows ≡ leafPlaces) (h : i < m) where
   place-low : (k : ℕ) → getD lows 0 0 ≡ 0 → k < getD lows i 0 → placed lows m i k ≡ false
   unfolding placed
   place-low k z l =
@@ -134,18 +134,18 @@ pub record Lows (lows : List ℕ) (m : ℕ) : Type 0 where
   pub narrow : (i : ℕ) → i < m → getD lows i 0 < 2 ^ 32
 
 -- the records at addresses that pass the test stand in the rows from `from` up to `to`
-pub record Spans (p : ℕ → Bool) (ws : List ℕ) (n from to : ℕ) : Type 0 where
+pub record Spans (p : ℕ → Bool) (ws : RecordRows) (n from to : ℕ) : Type 0 where
   pub from-to : from ≤ to
   pub within : to ≤ n
   pub keys-are : keysBetween ws from to ≡ keys (filter (λ (r : Row Record). p (r .key)) (recordsOf ws n))
 
-between-part : (ws : List ℕ) (n i j : ℕ) → i ≤ j → j ≤ n → keysBetween ws i j ≡ keys (take (j - i) (drop i (recordsOf ws n)))
+between-part : (ws : RecordRows) (n i j : ℕ) → i ≤ j → j ≤ n → keysBetween ws i j ≡ keys (take (j - i) (drop i (recordsOf ws n)))
 unfolding keysBetween recordsOf
 between-part ws n i j h l =
     ap keys
     (sym (ap (take (j - i)) (drop-take i n (rowsOf ws) (omega arith)) ∙ take-take (j - i) (n - i) (drop i (rowsOf ws)) (omega arith)))
 
-module _ (lows ws : List ℕ) (n m i : ℕ) (listed : Listed lows m) (al : length lows ≡ 1025) (h : i < m) (held : Held ws n) (first : getD lows 0 0 ≡ 0) where
+module _ (lows : List ℕ) (ws : RecordRows) (n m i : ℕ) (listed : Listed lows m) (al : length lows ≡ leafPlaces) (h : i < m) (held : Held ws n) (first : getD lows 0 0 ≡ 0) where
   size : length (recordsOf ws n) ≡ n
   size = length-records ws n (held .room)
 

@@ -19,7 +19,7 @@ use Rattle.spec.specs.Maps.{MapState, mergesAt, merging}
 use Rattle.laws.specs.LeafParts.{Covers, Apart, live-head, live-later}
 use Rattle.laws.specs.LeafVersions.{GoodLeaves}
 use Rattle.laws.specs.SlotCounts.{tally, count, count-cons, entries-some, entries-none}
-use Rattle.index.specs.Views.{leavesOf}
+use Rattle.index.specs.Views.{leafPlaces, leavesOf}
 use Rattle.index.specs.LeafPlaces.{lowPlace, place-inside, AtLeaf}
 use Rattle.index.specs.LeafViews.{paired-lows, paired-length, parted, parted-leaf}
 use Rattle.phantomlet.specs.Phantoms.{weigh, howMany, pendingIn}
@@ -78,7 +78,7 @@ module _ {v : ℕ} {ls : List Leaf} (g : GoodLeaves v ls) where
       (apart-places ls (lowPlace k (map (λ (l : Leaf). l .low) ls)) i (g .apart) (place-within k) h (sym (version-place k) ∙ e))) ∙ sym f)
       (cases (same (lowPlace k (map (λ (l : Leaf). l .low) ls)) i))
 
-module _ {v : ℕ} (lows versions : List ℕ) (m : ℕ) (al : length lows ≡ 1025) (av : length versions ≡ 1025) (mr : m ≤ 1025)
+module _ {v : ℕ} (lows versions : List ℕ) (m : ℕ) (al : length lows ≡ leafPlaces) (av : length versions ≡ leafPlaces) (mr : m ≤ leafPlaces)
     (g : GoodLeaves v (leavesOf lows versions m)) where
   same-length : length (take m lows) ≡ length (take m versions)
   same-length = length-take-le m lows (omega arith) ∙ sym (length-take-le m versions (omega arith))

@@ -1,6 +1,5 @@
 -- The phantomlet after a merge: the numbers of leaves that the merge did not make stay; those of the others are 0 if these
 -- have no entry, and are worked out anew by a walk over the slots otherwise; all are added up.
--- Assumes nothing.
 use Prim.Native.Nat.{ℕ, zero, suc, _+_, _-_, _^_, _<_, _≤_, zero-le}
 use native.Mathlib.Omega.{arith}
 use mathlib.Core.Path.{_≡_, refl, sym, ap, _∙_, subst}
@@ -16,40 +15,42 @@ use Rattle.lists.specs.Sums.{total}
 use Rattle.spec.specs.Slots.{slotCount, Content, isIdle, Slot}
 use Rattle.laws.specs.SlotCounts.{entryAt, tally, count-cons}
 use Rattle.laws.specs.SlotChanges.{kept}
-use Rattle.indexlet.specs.Words.{pendingIn, contentIn, slotIn, slotsOf}
+use Rattle.indexlet.specs.Words.{SlotRows, pendingIn, contentIn, slotIn, slotsOf}
 use Rattle.indexlet.specs.declared.Content.{Content as ContentWords}
 use Rattle.indexlet.specs.declared.Slot.{Slot as SlotWords}
 use Rattle.indexlet.specs.Held as indexlet
-use Rattle.index.specs.Views.{recordsOf}
+use Rattle.index.specs.Views.{leafPlaces, RecordRows, recordsOf}
+use Rattle.index.specs.LeafColumns.{LeafRows, lowsOf, outsideOf, pendingOf, column-places}
 use Rattle.index.specs.Views as index
 use Rattle.index.specs.LeafPlaces.{lowPlace, place-inside, AtLeaf, Listed}
 use Rattle.phantomlet.specs.Phantoms.{weigh, howMany}
 use Rattle.phantomlet.specs.LeafTests.{placed}
 use Rattle.phantomlet.specs.declared.recount.Reach.{Reach}
-use Rattle.phantomlet.specs.LeafNumbers.{Prepared, sumTo, sum-same, sum-add, sum-none, sum-one}
-use Rattle.phantomlet.specs.LeafCounts.{lacking, waiting, inLeaf, many-most, weigh-none, weigh-leaf, Range, reached, reached-no, Adding, Keeping, Bare, bare-numbers, adding-start, adding-end, adding-small, adding-past, adding-some}
+use Rattle.phantomlet.specs.LeafNumbers.{Clearing, sumTo, sum-same, sum-add, sum-none, sum-one}
+use Rattle.phantomlet.specs.LeafWrites.{Renumbered, same-leaves, renumbered-on, Cleared, Raised}
+use Rattle.phantomlet.specs.LeafCounts.{Ranging, lacking, waiting, inLeaf, many-most, weigh-none, weigh-leaf, Range, reached, reached-no, Adding, Keeping, Bare, bare-numbers, adding-start, adding-end, adding-small, adding-past, adding-some}
 
 -- ---- the walk
 
--- What a merge at place i of `old` leaves, now m, that left `left` entries there, asks of the arrays and of the
--- phantomlet's kept numbers.
-pub record Recounting (rows lows slots : List ℕ) (n m : ℕ) (outside pending : List ℕ) (i old left : ℕ) : Type 0 where
+-- What a merge at place i of `old` leaves, now m, that left `left` entries there, asks of the leaves that have settled, and of
+-- the phantomlet's numbers that were kept.
+pub record Recounting (rows : RecordRows) (ls : LeafRows) (slots : SlotRows) (n m i old left : ℕ) : Type 0 where
   pub rows-held : index.Held rows n
-  pub listed : Listed lows m
-  pub first : getD lows 0 0 ≡ 0
+  pub listed : Listed (lowsOf ls) m
+  pub first : getD (lowsOf ls) 0 0 ≡ 0
   pub words : indexlet.Held slots
   pub leaf-in : i < old
-  pub old-in : old ≤ 1025
+  pub old-in : old ≤ leafPlaces
   pub some-made : old ≤ i + m
   pub one-less : old ≤ m + 1
-  pub outside-kept : Keeping lows m (lacking (recordsOf rows n)) (slotsOf slots) outside i old (i + 1 + m - old)
-  pub pending-kept : Keeping lows m waiting (slotsOf slots) pending i old (i + 1 + m - old)
-  -- with no entry left and no leaf joined, the leaves that it made have none
-  pub outside-bare : left ≡ 0 → old ≤ m → Bare lows m (lacking (recordsOf rows n)) (slotsOf slots) outside i (i + 1 + m - old)
-  pub pending-bare : left ≡ 0 → old ≤ m → Bare lows m waiting (slotsOf slots) pending i (i + 1 + m - old)
+  pub outside-kept : Keeping (lowsOf ls) m (lacking (recordsOf rows n)) (slotsOf slots) (outsideOf ls) i (i + 1 + m - old)
+  pub pending-kept : Keeping (lowsOf ls) m waiting (slotsOf slots) (pendingOf ls) i (i + 1 + m - old)
+  -- with no entry left and no leaf joined, the numbers of the leaves that it made are right too
+  pub outside-bare : left ≡ 0 → old ≤ m → Bare (lowsOf ls) m (lacking (recordsOf rows n)) (slotsOf slots) (outsideOf ls) (i + 1 + m - old)
+  pub pending-bare : left ≡ 0 → old ≤ m → Bare (lowsOf ls) m waiting (slotsOf slots) (pendingOf ls) (i + 1 + m - old)
 
 -- The walk stands before slot j.
-pub record Tallying (rows lows slots : List ℕ) (n m : ℕ) (r : Reach) (outside pending : List ℕ) (j : ℕ) : Type 0 where
+pub record Tallying (rows : RecordRows) (lows : List ℕ) (slots : SlotRows) (n m : ℕ) (r : Reach) (outside pending : List ℕ) (j : ℕ) : Type 0 where
   pub rows-held : index.Held rows n
   pub listed : Listed lows m
   pub words : indexlet.Held slots
@@ -59,42 +60,63 @@ pub record Tallying (rows lows slots : List ℕ) (n m : ℕ) (r : Reach) (outsid
   pub pending-adds : Adding lows m waiting (slotsOf slots) (r .from) (r .to) pending j
 
 -- the numbers of all leaves
-pub record Numbers (rows lows slots : List ℕ) (n m : ℕ) (outside pending : List ℕ) : Type 0 where
-  pub outside-size : length outside ≡ 1025
-  pub pending-size : length pending ≡ 1025
+pub record Numbers (rows : RecordRows) (lows : List ℕ) (slots : SlotRows) (n m : ℕ) (outside pending : List ℕ) : Type 0 where
+  pub outside-size : length outside ≡ leafPlaces
+  pub pending-size : length pending ≡ leafPlaces
   pub outside-is : (i : ℕ) → i < m → getD outside i 0 ≡ howMany (inLeaf lows m (lacking (recordsOf rows n)) i) (slotsOf slots)
   pub pending-is : (i : ℕ) → i < m → getD pending i 0 ≡ howMany (inLeaf lows m waiting i) (slotsOf slots)
 
-pub record Counting (rows lows slots : List ℕ) (n m : ℕ) (outside pending : List ℕ) (total : ℕ) : Type 0 where
+pub record Counting (rows : RecordRows) (lows : List ℕ) (slots : SlotRows) (n m : ℕ) (outside pending : List ℕ) (total : ℕ) : Type 0 where
   pub numbers : Numbers rows lows slots n m outside pending
   pub total-is : total ≡ howMany (lacking (recordsOf rows n)) (slotsOf slots)
 
-pub tally-start : {rows lows slots : List ℕ} {n m : ℕ} {outside pending outside' pending' : List ℕ} {i old left from to : ℕ} (r : Reach)
-    → Recounting rows lows slots n m outside pending i old left → Range lows m r → r .from ≡ from → from ≡ i - 1 → r .to ≡ to → to ≡ i + 1 + m - old
-    → Prepared outside outside' i old from to → Prepared pending pending' i old from to → Tallying rows lows slots n m r outside' pending' 0
-tally-start {rows} {lows} {slots} {n} {m} {outside} {pending} {outside'} {pending'} {i} {old} {left} {from} {to} r c g a f b t p q =
-    let l : i < old = c .leaf-in in
-    let o : old ≤ m + 1 = c .one-less in
-    let s : to + old ≡ i + 1 + m = omega arith in
+-- The walk has come to slot j, from these leaves on.
+pub record Tallied (rows : RecordRows) (ls : LeafRows) (slots : SlotRows) (n m : ℕ) (r : Reach) (j : ℕ) (ls' : LeafRows) : Type 0 where
+  pub same : Renumbered ls ls'
+  pub tallying : Tallying rows (lowsOf ls') slots n m r (outsideOf ls') (pendingOf ls') j
+
+-- It has come to the end.
+pub record Numbering (rows : RecordRows) (ls : LeafRows) (slots : SlotRows) (n m : ℕ) (ls' : LeafRows) : Type 0 where
+  pub same : Renumbered ls ls'
+  pub numbers : Numbers rows (lowsOf ls') slots n m (outsideOf ls') (pendingOf ls')
+
+pub tally-start : {rows : RecordRows} {ls ls' : LeafRows} {slots : SlotRows} {n m i old left from to : ℕ} (r : Reach)
+    → Recounting rows ls slots n m i old left → length ls ≡ leafPlaces → Range (lowsOf ls') m r → r .from ≡ from → from ≡ i - 1 → r .to ≡ to → to ≡ i + 1 + m - old
+    → Cleared ls ls' from to → Tallying rows (lowsOf ls') slots n m r (outsideOf ls') (pendingOf ls') 0
+tally-start {rows} {ls} {ls'} {slots} {n} {m} {i} {old} {left} {from} {to} r c z g a f b t p =
     record {
       rows-held = c .rows-held;
-      listed = c .listed;
+      listed = subst (λ (x : List ℕ). Listed x m) (sym (p .same .lows)) (c .listed);
       words = c .words;
       range = g;
       there = zero-le;
-      outside-adds =
-          subst (λ (x : ℕ). Adding lows m (lacking (recordsOf rows n)) (slotsOf slots) x (r .to) outside' 0) (sym a)
-          (subst (λ (x : ℕ). Adding lows m (lacking (recordsOf rows n)) (slotsOf slots) from x outside' 0) (sym b)
-          (adding-start (c .words .good .size) f s l
-          (subst (λ (x : ℕ). Keeping lows m (lacking (recordsOf rows n)) (slotsOf slots) outside i old x) (sym t) (c .outside-kept)) p));
-      pending-adds =
-          subst (λ (x : ℕ). Adding lows m waiting (slotsOf slots) x (r .to) pending' 0) (sym a)
-          (subst (λ (x : ℕ). Adding lows m waiting (slotsOf slots) from x pending' 0) (sym b)
-          (adding-start (c .words .good .size) f s l
-          (subst (λ (x : ℕ). Keeping lows m waiting (slotsOf slots) pending i old x) (sym t) (c .pending-kept)) q));
+      outside-adds = start (lacking (recordsOf rows n)) (column-places 2 ls z) (c .outside-kept) (p .outside);
+      pending-adds = start waiting (column-places 3 ls z) (c .pending-kept) (p .pending);
+    }
+  where
+    start : (q : Row Content → Bool) {xs cur : List ℕ} → length xs ≡ leafPlaces → Keeping (lowsOf ls) m q (slotsOf slots) xs i (i + 1 + m - old) → Clearing xs cur from to
+        → Adding (lowsOf ls') m q (slotsOf slots) (r .from) (r .to) cur 0
+    start q {xs} {cur} l k d =
+        subst (λ (x : List ℕ). Adding x m q (slotsOf slots) (r .from) (r .to) cur 0) (sym (p .same .lows))
+        (subst (λ (x : ℕ). Adding (lowsOf ls) m q (slotsOf slots) x (r .to) cur 0) (sym a)
+        (subst (λ (x : ℕ). Adding (lowsOf ls) m q (slotsOf slots) from x cur 0) (sym b)
+        (adding-start (c .words .good .size) l f (subst (λ (x : ℕ). Keeping (lowsOf ls) m q (slotsOf slots) xs i x) (sym t) k) d)))
+
+-- the addresses of the leaves that are counted can be found
+pub ranging : {rows : RecordRows} {ls ls' : LeafRows} {slots : SlotRows} {n m i old left from to : ℕ} → Recounting rows ls slots n m i old left → from ≡ i - 1 → to ≡ i + 1 + m - old
+    → Cleared ls ls' from to → Ranging (lowsOf ls') m from to
+ranging {rows} {ls} {ls'} {slots} {n} {m} {i} {old} {left} {from} {to} c f t p =
+    let a : i < old = c .leaf-in in
+    let b : old ≤ i + m = c .some-made in
+    let d : old ≤ m + 1 = c .one-less in
+    record {
+      listed = subst (λ (x : List ℕ). Listed x m) (sym (p .same .lows)) (c .listed);
+      first = ap (λ (x : List ℕ). getD x 0 0) (p .same .lows) ∙ c .first;
+      inside = omega arith;
+      some = omega arith;
     }
 
-pub tally-end : {rows lows slots : List ℕ} {n m : ℕ} {r : Reach} {outside pending : List ℕ} {j : ℕ} → Tallying rows lows slots n m r outside pending j → 256 ≤ j
+pub tally-end : {rows : RecordRows} {lows : List ℕ} {slots : SlotRows} {n m : ℕ} {r : Reach} {outside pending : List ℕ} {j : ℕ} → Tallying rows lows slots n m r outside pending j → slotCount ≤ j
     → Numbers rows lows slots n m outside pending
 tally-end {rows} {lows} {slots} {n} {m} {r} {outside} {pending} {j} g h =
     let f : length (slotsOf slots) ≡ slotCount = g .words .good .size in
@@ -105,7 +127,7 @@ tally-end {rows} {lows} {slots} {n} {m} {r} {outside} {pending} {j} g h =
       pending-is = adding-end f (g .pending-adds) h;
     }
 
-module _ {rows lows slots : List ℕ} {n m : ℕ} {z : Reach} {outside pending : List ℕ} {j : ℕ} (g : Tallying rows lows slots n m z outside pending j) (h : j < 256) where
+module _ {rows : RecordRows} {lows : List ℕ} {slots : SlotRows} {n m : ℕ} {z : Reach} {outside pending : List ℕ} {j : ℕ} (g : Tallying rows lows slots n m z outside pending j) (h : j < slotCount) where
   full : length (slotsOf slots) ≡ slotCount
   full = g .words .good .size
 
@@ -176,6 +198,33 @@ module _ {rows lows slots : List ℕ} {n m : ℕ} {z : Reach} {outside pending :
           pending-adds = adding-some full (row (r .key) (contentIn (r .content))) at w pending' (g .pending-adds) h e (g .listed .room) l (omega arith) (omega arith) b q;
         }
 
+-- ---- the walk, with the leaves that it changes
+
+module _ {rows : RecordRows} {ls : LeafRows} {slots : SlotRows} {n m : ℕ} {r : Reach} where
+  pub tallied-start : Tallying rows (lowsOf ls) slots n m r (outsideOf ls) (pendingOf ls) 0 → Tallied rows ls slots n m r 0 ls
+  tallied-start t = record { same = same-leaves ls; tallying = t }
+
+  pub tallied-same : {j : ℕ} → Tallying rows (lowsOf ls) slots n m r (outsideOf ls) (pendingOf ls) j → Tallied rows ls slots n m r j ls
+  tallied-same t = record { same = same-leaves ls; tallying = t }
+
+  pub tallied-on : {mid ls' : LeafRows} {j k : ℕ} → Tallied rows ls slots n m r j mid → Tallied rows mid slots n m r k ls' → Tallied rows ls slots n m r k ls'
+  tallied-on a b = record { same = renumbered-on (a .same) (b .same); tallying = b .tallying }
+
+  pub tallied-end : {ls' : LeafRows} {j : ℕ} → Tallied rows ls slots n m r j ls' → slotCount ≤ j → Numbering rows ls slots n m ls'
+  tallied-end t h = record { same = t .same; numbers = tally-end (t .tallying) h }
+
+  pub tallied-some : {ls' : LeafRows} {j : ℕ} (g : Tallying rows (lowsOf ls) slots n m r (outsideOf ls) (pendingOf ls) j) → j < slotCount → (s : SlotWords) → indexlet.Reads slots j s
+      → (at x w : ℕ) → isIdle (contentIn (s .content)) ≡ false → r .low ≤ s .key → s .key < r .high → AtLeaf (lowsOf ls) m (s .key) at
+      → x ≡ pick (not (present (look (recordsOf rows n) (s .key)))) 1 0 → w ≡ pick (present (contentIn (s .content) .pending)) 1 0
+      → Raised ls ls' at x w → Tallied rows ls slots n m r (j + 1) ls'
+  tallied-some {ls'} {j} g h s reads at x w t u v l a b q =
+      record {
+        same = q .same;
+        tallying =
+            subst (λ (lows : List ℕ). Tallying rows lows slots n m r (outsideOf ls') (pendingOf ls') (j + 1)) (sym (q .same .lows))
+            (tally-some g h s reads at x w (outsideOf ls') (pendingOf ls') t u v l a b (q .outside) (q .pending));
+      }
+
 -- ---- no walk
 
 pub bare-none : (left m old : ℕ) (b : Bool) → (left ≡ 0 → ⊥) → b ≡ false → b ≡ both (same left 0) (atMost old m)
@@ -191,20 +240,23 @@ bare-yes left m old e =
     (λ a. clash e (ap (λ (x : Bool). both x (atMost old m)) a))
     (cases (same left 0))
 
-pub carried : {rows lows slots : List ℕ} {n m : ℕ} {outside pending outside' pending' : List ℕ} {i old left to : ℕ} (b : Bool)
-    → Recounting rows lows slots n m outside pending i old left → to ≡ i + 1 + m - old → b ≡ both (same left 0) (atMost old m) → b ≡ true
-    → Prepared outside outside' i old i to → Prepared pending pending' i old i to → Numbers rows lows slots n m outside' pending'
-carried {rows} {lows} {slots} {n} {m} {outside} {pending} {outside'} {pending'} {i} {old} {left} {to} b c t e y p q =
-    let z = bare-yes left m old (sym e ∙ y) in
-    let l : i < old = c .leaf-in in
-    let o : old ≤ m + 1 = c .one-less in
-    let s : i + 1 + m - old + old ≡ i + 1 + m = omega arith in
+pub carried : {rows : RecordRows} {ls : LeafRows} {slots : SlotRows} {n m i old left : ℕ} (b : Bool)
+    → Recounting rows ls slots n m i old left → length ls ≡ leafPlaces → b ≡ both (same left 0) (atMost old m) → b ≡ true
+    → Numbers rows (lowsOf ls) slots n m (outsideOf ls) (pendingOf ls)
+carried {rows} {ls} {slots} {n} {m} {i} {old} {left} b c z e y =
+    let q = bare-yes left m old (sym e ∙ y) in
     record {
-      outside-size = p .size;
-      pending-size = q .size;
-      outside-is = bare-numbers s l (c .outside-bare (z .0) (z .1)) (c .outside-kept) (subst (Prepared outside outside' i old i) t p);
-      pending-is = bare-numbers s l (c .pending-bare (z .0) (z .1)) (c .pending-kept) (subst (Prepared pending pending' i old i) t q);
+      outside-size = column-places 2 ls z;
+      pending-size = column-places 3 ls z;
+      outside-is = bare-numbers (c .outside-bare (q .0) (q .1)) (c .outside-kept);
+      pending-is = bare-numbers (c .pending-bare (q .0) (q .1)) (c .pending-kept);
     }
+
+-- ---- the leaves and their number of entries outside of the index, after it
+
+pub record Recounted (rows : RecordRows) (ls ls' : LeafRows) (slots : SlotRows) (n m total : ℕ) : Type 0 where
+  pub same : Renumbered ls ls'
+  pub counting : Counting rows (lowsOf ls') slots n m (outsideOf ls') (pendingOf ls') total
 
 -- ---- numbers that fit
 
@@ -212,25 +264,25 @@ pub pick-most : (b : Bool) → pick b 1 0 ≤ 1
 pick-most true = omega arith
 pick-most false = omega arith
 
-module _ {rows lows slots : List ℕ} {n m : ℕ} {z : Reach} {outside pending : List ℕ} {j : ℕ} (g : Tallying rows lows slots n m z outside pending j) (h : j < 256)
+module _ {rows : RecordRows} {lows : List ℕ} {slots : SlotRows} {n m : ℕ} {z : Reach} {outside pending : List ℕ} {j : ℕ} (g : Tallying rows lows slots n m z outside pending j) (h : j < slotCount)
     {k at : ℕ} (l : AtLeaf lows m k at) (u : z .low ≤ k) (v : k < z .high) (x : ℕ) (b : Bool) (e : x ≡ pick b 1 0) where
-  pub outside-fits : (at < 1025) × (getD outside at 0 + x < 2 ^ 64)
+  pub outside-fits : (at < leafPlaces) × (getD outside at 0 + x < 2 ^ 64)
   outside-fits =
       let i : at < m = l .inside in
       let y : at ≡ lowPlace k (take m lows) = l .is in
       let w = g .range .inside k u v in
-      let r : m ≤ 1025 = g .listed .room in
-      let s : getD outside at 0 ≤ 256 = adding-small (g .words .good .size) (g .outside-adds) at (omega arith) (omega arith) in
+      let r : m ≤ leafPlaces = g .listed .room in
+      let s : getD outside at 0 ≤ slotCount = adding-small (g .words .good .size) (g .outside-adds) at (omega arith) (omega arith) in
       let p : pick b 1 0 ≤ 1 = pick-most b in
       (omega arith, omega arith)
 
-  pub pending-fits : (at < 1025) × (getD pending at 0 + x < 2 ^ 64)
+  pub pending-fits : (at < leafPlaces) × (getD pending at 0 + x < 2 ^ 64)
   pending-fits =
       let i : at < m = l .inside in
       let y : at ≡ lowPlace k (take m lows) = l .is in
       let w = g .range .inside k u v in
-      let r : m ≤ 1025 = g .listed .room in
-      let s : getD pending at 0 ≤ 256 = adding-small (g .words .good .size) (g .pending-adds) at (omega arith) (omega arith) in
+      let r : m ≤ leafPlaces = g .listed .room in
+      let s : getD pending at 0 ≤ slotCount = adding-small (g .words .good .size) (g .pending-adds) at (omega arith) (omega arith) in
       let p : pick b 1 0 ≤ 1 = pick-most b in
       (omega arith, omega arith)
 
@@ -262,7 +314,7 @@ many-sum lows m t (x ∷ ss) s f =
     ∙ ap (λ (n : ℕ). weigh t (x .entry) + n) (many-sum lows m t ss s f)
     ∙ sym (many-cons t x ss)
 
-pub counting : {rows lows slots : List ℕ} {n m : ℕ} {outside pending : List ℕ} {total : ℕ} → Listed lows m → length lows ≡ 1025
+pub counting : {rows : RecordRows} {lows : List ℕ} {slots : SlotRows} {n m : ℕ} {outside pending : List ℕ} {total : ℕ} → Listed lows m → length lows ≡ leafPlaces
     → Numbers rows lows slots n m outside pending → total ≡ sumTo (λ (i : ℕ). getD outside i 0) m → Counting rows lows slots n m outside pending total
 counting {rows} {lows} {slots} {n} {m} {outside} {pending} {total} l al c e =
     record {
@@ -270,11 +322,11 @@ counting {rows} {lows} {slots} {n} {m} {outside} {pending} {total} l al c e =
       total-is =
           e
           ∙ sum-same (λ (i : ℕ). getD outside i 0) (λ (i : ℕ). howMany (inLeaf lows m (lacking (recordsOf rows n)) i) (slotsOf slots)) m (c .outside-is)
-          ∙ many-sum lows m (lacking (recordsOf rows n)) (slotsOf slots) (l .some) (length-take-le m lows (let r : m ≤ 1025 = l .room in omega arith));
+          ∙ many-sum lows m (lacking (recordsOf rows n)) (slotsOf slots) (l .some) (length-take-le m lows (let r : m ≤ leafPlaces = l .room in omega arith));
     }
 
 -- each number is at most the number of slots
-pub numbers-small : {rows lows slots : List ℕ} {n m : ℕ} {outside pending : List ℕ} → indexlet.Held slots → Numbers rows lows slots n m outside pending → (i : ℕ) → i < m → getD outside i 0 ≤ 256
+pub numbers-small : {rows : RecordRows} {lows : List ℕ} {slots : SlotRows} {n m : ℕ} {outside pending : List ℕ} → indexlet.Held slots → Numbers rows lows slots n m outside pending → (i : ℕ) → i < m → getD outside i 0 ≤ slotCount
 numbers-small {rows} {lows} {slots} {n} {m} {outside} {pending} w c i h =
     let e : getD outside i 0 ≡ howMany (inLeaf lows m (lacking (recordsOf rows n)) i) (slotsOf slots) = c .outside-is i h in
     let f : length (slotsOf slots) ≡ slotCount = w .good .size in

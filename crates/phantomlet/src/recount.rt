@@ -1,19 +1,29 @@
-// The phantomlet after a merge. The numbers of leaves that the merge did not make move with their leaves. In nearly every
-// merge no lock stays in its leaf, and the leaf is not joined to the one before: then the leaves that the merge made have no
-// entry, and their numbers are 0. Otherwise these, and that of the leaf before them, are counted by one walk over the slots.
-use index::Address;
+// The phantomlet after a merge. The leaves have settled: the numbers of those that the merge did not make moved along with
+// them, those of the others are 0. In nearly every merge no lock stays in its leaf, and the leaf is not joined to the one
+// before: then the leaves that the merge made have no entry, and 0 is right. Otherwise their numbers, and that of the leaf
+// before them, are counted by one walk over the slots.
+use index::Leaves;
+use index::Records;
+use index::leaves;
+use index::leaves::Leaf;
+use indexlet::SLOTS;
+use indexlet::Slots;
+use spec::ADDRESSES;
+use spec::Address;
 ghost use mathlib.Core.Path.{_≡_};
 ghost use mathlib.Core.Bool.{not};
 ghost use Prim.Native.Nat.{ℕ, _+_, _-_, _^_, _<_, _≤_};
-ghost use lib.ListN.{getD, set};
+ghost use lib.ListN.{getD};
 ghost use Rattle.lists.specs.Tests.{pick, both, present, same, atMost};
 ghost use Rattle.lists.specs.Rows.{look};
-ghost use Rattle.lists.specs.Shifts.{moved};
+ghost use Rattle.spec.specs.Slots.{slotCount};
 ghost use Rattle.indexlet.specs.Words.{contentIn};
-ghost use Rattle.index.specs.Views.{Held, recordsOf};
-ghost use Rattle.phantomlet.specs.LeafNumbers.{Clearing, Prepared, sumTo};
+ghost use Rattle.index.specs.Views.{leafPlaces, Held, recordsOf};
+ghost use Rattle.index.specs.LeafColumns.{lowsOf, outsideOf, pendingOf};
+ghost use Rattle.phantomlet.specs.LeafNumbers.{sumTo};
+ghost use Rattle.phantomlet.specs.LeafWrites.{Cleared, Raised};
 ghost use Rattle.phantomlet.specs.LeafCounts.{Range, Ranging, reached};
-ghost use Rattle.phantomlet.specs.MergeCounts.{Recounting, Tallying, Numbers, Counting};
+ghost use Rattle.phantomlet.specs.MergeCounts.{Recounting, Tallying, Tallied, Numbering, Recounted};
 
 // Which leaves are counted: the places from `from` up to, not including, `to`, which hold the addresses from `low` up to,
 // not including, `high`: `span` of them.
@@ -35,43 +45,24 @@ fn before(i: usize) -> usize
     i - 1
 }
 
-// Copies n words from place `from` on to place `to`.
-fn shift(xs: &mut [u64; 1025], from: usize, to: usize, n: usize)
-    requires { ⌜ (from + n ≤ 1025) × (to + n ≤ 1025) ⌝ }
-    ensures { λ _. ⌜ now (xs .exit) ≡ moved (now (xs .entry)) from to n ⌝ }
+// Writes 0 for the numbers of the leaves at the places from `from` up to, not including, `to`.
+fn clear(leaves: &mut Leaves, from: usize, to: usize)
+    requires { ⌜ (from ≤ to) × (to ≤ leafPlaces) ⌝ }
+    ensures { λ _. ⌜ Cleared (now (leaves .entry)) (now (leaves .exit)) from to ⌝ }
 {
-    index::shifts::all(xs);
-    if to == from {
-        return;
-    }
-    if to < from {
-        index::shifts::shift_left(xs, from, to, n);
-        return;
-    }
-    index::shifts::shift_right(xs, from, to, n);
-}
-
-// Writes 0 at the places from `from` up to, not including, `to`.
-fn clear(xs: &mut [u64; 1025], from: usize, to: usize)
-    requires { ⌜ (from ≤ to) × (to ≤ 1025) ⌝ }
-    ensures { λ _. ⌜ Clearing (now (xs .entry)) (now (xs .exit)) from to ⌝ }
-{
-    index::shifts::all(xs);
+    leaves::leaf_places(leaves);
     let mut x = from;
     while x < to {
-        xs[x] = 0;
+        let l = leaves::leaf_at(leaves, x);
+        let none = Leaf {
+            low: l.low,
+            version: l.version,
+            outside: 0,
+            pending: 0,
+        };
+        leaves::put_leaf(leaves, x, none);
         x += 1;
     }
-}
-
-// The numbers after place i of `old` leaves move to place `to`, and those from `from` up to there become 0.
-fn make_room(xs: &mut [u64; 1025], i: usize, old: usize, from: usize, to: usize)
-    requires { ⌜ (i < old) × (old ≤ 1025) × (from ≤ to) × (to + (old - i - 1) ≤ 1025) ⌝ }
-    ensures { λ _. ⌜ Prepared (now (xs .entry)) (now (xs .exit)) i old from to ⌝ }
-{
-    index::shifts::all(xs);
-    shift(xs, i + 1, to, old - i - 1);
-    clear(xs, from, to);
 }
 
 // How many numbers there are from one up to, not including, another.
@@ -85,14 +76,16 @@ fn between(low: u64, high: u64) -> u64
 }
 
 // The addresses of the leaves at these places.
-pub fn addresses_of(lows: &[u64; 1025], m: usize, from: usize, to: usize) -> Reach
-    requires { ⌜ Ranging (now lows) m from to ⌝ }
-    ensures { λ r. ⌜ (Range (now (lows .entry)) m r) × (r .from ≡ from) × (r .to ≡ to) ⌝ }
+pub fn addresses_of(leaves: &Leaves, m: usize, from: usize, to: usize) -> Reach
+    requires { ⌜ Ranging (lowsOf (now leaves)) m from to ⌝ }
+    ensures { λ r. ⌜ (Range (lowsOf (now (leaves .entry))) m r) × (r .from ≡ from) × (r .to ≡ to) ⌝ }
 {
-    index::shifts::all(lows);
-    let low = lows[from];
+    leaves::leaf_places(leaves);
+    let first = leaves::leaf_at(leaves, from);
+    let low = first.low;
     if to < m {
-        let high = lows[to];
+        let next = leaves::leaf_at(leaves, to);
+        let high = next.low;
         return Reach {
             from,
             to,
@@ -105,8 +98,8 @@ pub fn addresses_of(lows: &[u64; 1025], m: usize, from: usize, to: usize) -> Rea
         from,
         to,
         low,
-        high: 4294967296,
-        span: between(low, 4294967296),
+        high: ADDRESSES,
+        span: between(low, ADDRESSES),
     }
 }
 
@@ -119,7 +112,7 @@ pub fn reaches(r: Reach, key: u64) -> bool
 }
 
 // 1 if a write is pending.
-fn waits(c: indexlet::Content) -> usize
+pub fn waits(c: indexlet::Content) -> u64
     ensures { λ r. ⌜ r ≡ pick (present (contentIn c .pending)) 1 0 ⌝ }
 {
     if c.kind == 0 {
@@ -128,44 +121,56 @@ fn waits(c: indexlet::Content) -> usize
     1
 }
 
-// 1 if the index has no record at the address.
-fn lacks(rows: &[u64; 3072], n: usize, a: Address) -> usize
+// The index has no record at the address.
+pub fn lacks(rows: &Records, n: usize, a: Address) -> bool
     requires { ⌜ Held (now rows) n ⌝ }
-    ensures { λ r. ⌜ r ≡ pick (not (present (look (recordsOf (now (rows .entry)) n) a))) 1 0 ⌝ }
+    ensures { λ r. ⌜ r ≡ not (present (look (recordsOf (now (rows .entry)) n) a)) ⌝ }
 {
-    match index::records::find(rows, n, a) {
-        index::records::Found::At {
-            value: _,
-            commit: _,
-        } => 0,
-        index::records::Found::Nothing => 1,
+    let there = index::records::find(rows, n, a);
+    match there {
+        index::records::Found::At { value, commit } => false,
+        index::records::Found::Nothing => true,
     }
 }
 
-// Adds to the number at a place.
-fn raise(xs: &mut [u64; 1025], at: usize, by: usize)
-    requires { ⌜ (at < 1025) × (getD (now xs) at 0 + by < 2 ^ 64) ⌝ }
-    ensures { λ _. ⌜ now (xs .exit) ≡ set (now (xs .entry)) at (getD (now (xs .entry)) at 0 + by) ⌝ }
+fn one(b: bool) -> u64
+    ensures { λ r. ⌜ r ≡ pick b 1 0 ⌝ }
 {
-    let x = xs[at];
-    xs[at] = x + (by as u64);
+    if b {
+        return 1;
+    }
+    0
+}
+
+// Adds to the two numbers of the leaf at a place.
+fn raise(leaves: &mut Leaves, at: usize, x: u64, w: u64)
+    requires { ⌜ at < leafPlaces ⌝ }
+    requires { ⌜ (getD (outsideOf (now leaves)) at 0 + x < 2 ^ 64) × (getD (pendingOf (now leaves)) at 0 + w < 2 ^ 64) ⌝ }
+    ensures { λ _. ⌜ Raised (now (leaves .entry)) (now (leaves .exit)) at x w ⌝ }
+{
+    let l = leaves::leaf_at(leaves, at);
+    let more = Leaf {
+        low: l.low,
+        version: l.version,
+        outside: l.outside + x,
+        pending: l.pending + w,
+    };
+    leaves::put_leaf(leaves, at, more);
 }
 
 // The walk at slot j: an entry in one of the leaves counts for it.
 fn tally_slot(
-    outside: &mut [u64; 1025],
-    pending: &mut [u64; 1025],
-    rows: &[u64; 3072],
-    lows: &[u64; 1025],
-    slots: &[u64; 1536],
+    leaves: &mut Leaves,
+    rows: &Records,
+    slots: &Slots,
     n: usize,
     m: usize,
     r: Reach,
     j: usize,
 )
-    requires { ⌜ Tallying (now rows) (now lows) (now slots) n m r (now outside) (now pending) j ⌝ }
-    requires { ⌜ j < 256 ⌝ }
-    ensures { λ _. ⌜ Tallying (now (rows .entry)) (now (lows .entry)) (now (slots .entry)) n m r (now (outside .exit)) (now (pending .exit)) (j + 1) ⌝ }
+    requires { ⌜ Tallying (now rows) (lowsOf (now leaves)) (now slots) n m r (outsideOf (now leaves)) (pendingOf (now leaves)) j ⌝ }
+    requires { ⌜ j < slotCount ⌝ }
+    ensures { λ _. ⌜ Tallied (now (rows .entry)) (now (leaves .entry)) (now (slots .entry)) n m r (j + 1) (now (leaves .exit)) ⌝ }
 {
     let s = indexlet::slot_at(slots, j);
     let key = s.key;
@@ -177,45 +182,36 @@ fn tally_slot(
         return;
     }
     let a = key as u32;
-    let at = index::leaves::leaf_at(lows, m, a);
-    let x = lacks(rows, n, a);
+    let at = leaves::find_leaf(leaves, m, a);
+    let out = lacks(rows, n, a);
+    let x = one(out);
     let w = waits(c);
-    raise(outside, at, x);
-    raise(pending, at, w);
+    raise(leaves, at, x, w);
 }
 
 // Counts the entries of the leaves.
-fn tally_all(
-    outside: &mut [u64; 1025],
-    pending: &mut [u64; 1025],
-    rows: &[u64; 3072],
-    lows: &[u64; 1025],
-    slots: &[u64; 1536],
-    n: usize,
-    m: usize,
-    r: Reach,
-)
-    requires { ⌜ Tallying (now rows) (now lows) (now slots) n m r (now outside) (now pending) 0 ⌝ }
-    ensures { λ _. ⌜ Numbers (now (rows .entry)) (now (lows .entry)) (now (slots .entry)) n m (now (outside .exit)) (now (pending .exit)) ⌝ }
+fn tally_all(leaves: &mut Leaves, rows: &Records, slots: &Slots, n: usize, m: usize, r: Reach)
+    requires { ⌜ Tallying (now rows) (lowsOf (now leaves)) (now slots) n m r (outsideOf (now leaves)) (pendingOf (now leaves)) 0 ⌝ }
+    ensures { λ _. ⌜ Numbering (now (rows .entry)) (now (leaves .entry)) (now (slots .entry)) n m (now (leaves .exit)) ⌝ }
 {
     let mut j = 0;
-    while j < 256 {
-        tally_slot(outside, pending, rows, lows, slots, n, m, r, j);
+    while j < SLOTS {
+        tally_slot(leaves, rows, slots, n, m, r, j);
         j += 1;
     }
 }
 
-// The sum of the first m numbers.
-fn sum(xs: &[u64; 1025], m: usize) -> usize
-    requires { ⌜ m ≤ 1025 ⌝ }
-    requires { ⌜ ((i : ℕ) → i < m → getD (now xs) i 0 ≤ 256) ⌝ }
-    ensures { λ r. ⌜ r ≡ sumTo (λ (i : ℕ). getD (now (xs .entry)) i 0) m ⌝ }
+// The sum of the first m leaves' numbers of entries outside of the index.
+fn sum(leaves: &Leaves, m: usize) -> usize
+    requires { ⌜ m ≤ leafPlaces ⌝ }
+    requires { ⌜ ((i : ℕ) → i < m → getD (outsideOf (now leaves)) i 0 ≤ slotCount) ⌝ }
+    ensures { λ r. ⌜ r ≡ sumTo (λ (i : ℕ). getD (outsideOf (now (leaves .entry))) i 0) m ⌝ }
 {
-    index::shifts::all(xs);
     let mut total = 0;
     let mut i = 0;
     while i < m {
-        total += xs[i] as usize;
+        let l = leaves::leaf_at(leaves, i);
+        total += l.outside as usize;
         i += 1;
     }
     total
@@ -234,31 +230,26 @@ fn bare(left: usize, m: usize, old: usize) -> bool
 // The phantomlet after a merge at place i of `old` leaves, of which there are m now; the merge left `left` entries in its
 // leaf. Answers how many entries lie at addresses that the index lacks.
 pub fn recount(
-    outside: &mut [u64; 1025],
-    pending: &mut [u64; 1025],
-    rows: &[u64; 3072],
-    lows: &[u64; 1025],
-    slots: &[u64; 1536],
+    leaves: &mut Leaves,
+    rows: &Records,
+    slots: &Slots,
     n: usize,
     m: usize,
     i: usize,
     old: usize,
     left: usize,
 ) -> usize
-    requires { ⌜ Recounting (now rows) (now lows) (now slots) n m (now outside) (now pending) i old left ⌝ }
-    ensures { λ r. ⌜ Counting (now (rows .entry)) (now (lows .entry)) (now (slots .entry)) n m (now (outside .exit)) (now (pending .exit)) r ⌝ }
+    requires { ⌜ Recounting (now rows) (now leaves) (now slots) n m i old left ⌝ }
+    ensures { λ r. ⌜ Recounted (now (rows .entry)) (now (leaves .entry)) (now (leaves .exit)) (now (slots .entry)) n m r ⌝ }
 {
-    index::shifts::all(lows);
-    let to = i + 1 + m - old;
+    leaves::leaf_places(leaves);
     if bare(left, m, old) {
-        make_room(outside, i, old, i, to);
-        make_room(pending, i, old, i, to);
-        return sum(outside, m);
+        return sum(leaves, m);
     }
     let from = before(i);
-    make_room(outside, i, old, from, to);
-    make_room(pending, i, old, from, to);
-    let r = addresses_of(lows, m, from, to);
-    tally_all(outside, pending, rows, lows, slots, n, m, r);
-    sum(outside, m)
+    let to = i + 1 + m - old;
+    clear(leaves, from, to);
+    let r = addresses_of(leaves, m, from, to);
+    tally_all(leaves, rows, slots, n, m, r);
+    sum(leaves, m)
 }

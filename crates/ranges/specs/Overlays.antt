@@ -1,6 +1,5 @@
 -- One list of rows laid over another, taken row by row: the smaller first key comes first, and at one key the upper list
 -- decides.
--- Assumes nothing.
 use Prim.Native.Nat.{ℕ, zero, suc, _<_, _≤_}
 use native.Mathlib.Nat.{le-refl, le-step}
 use native.Mathlib.Omega.{arith}

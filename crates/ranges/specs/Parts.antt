@@ -1,12 +1,13 @@
--- Parts of a list: a walk over places, one after the other, and what is left of a list's first elements.
--- Assumes nothing.
+-- Parts of a list: a walk over places, one after the other, and the first rows of a set.
 use Prim.Native.Nat.{ℕ, zero, suc, _+_, _-_, _<_, _≤_}
 use native.Mathlib.Nat.{not-suc-le-zero}
 use native.Mathlib.Omega.{arith}
 use mathlib.Core.Path.{_≡_, refl, sym, ap, _∙_}
 use mathlib.Core.List.{List, [], _∷_, _++_, append-assoc}
-use lib.ListN.{length, take, drop, getD}
-use lib.Seq.{take-nil}
+use lib.ListN.{length, take, getD}
+use lib.Seq.{length-take-le, getD-take, ext-getD}
+use Rattle.sets.specs.Sets.{firstRows}
+use Rattle.sets.specs.SetLaws.{length-rows, row-at}
 use Rattle.looks.specs.LookViews.{walk}
 
 module _ {A : Type 0} where
@@ -52,10 +53,12 @@ module _ {A : Type 0} where
   done-one xs ys zs us x e q =
       ap (λ (l : List A). l ++ zs) e ∙ append-assoc xs (x ∷ []) zs ∙ ap (λ (l : List A). xs ++ l) (sym q)
 
-  -- ---- the first elements
-
-  pub drop-take : (p q : ℕ) (xs : List A) → drop p (take q xs) ≡ take (q - p) (drop p xs)
-  drop-take zero q xs = ap (λ (n : ℕ). take n xs) (let e : q ≡ q - 0 = omega arith in e)
-  drop-take (suc p) zero xs = ap (λ (n : ℕ). take n (drop (suc p) xs)) (let e : 0 ≡ 0 - suc p = omega arith in e)
-  drop-take (suc p) (suc q) [] = sym (take-nil (suc q - suc p))
-  drop-take (suc p) (suc q) (x ∷ xs) = drop-take p q xs ∙ ap (λ (n : ℕ). take n (drop p xs)) (let e : q - p ≡ suc q - suc p = omega arith in e)
+-- the first of the first rows of a set
+pub take-rows : {A : Type 0} (f : List ℕ → A) (rs : List (List ℕ)) (q n : ℕ) → q ≤ n → take q (firstRows f rs n) ≡ firstRows f rs q
+take-rows f rs q n h =
+    let l : length (firstRows f rs n) ≡ n = length-rows f rs n in
+    ext-getD (f []) (take q (firstRows f rs n)) (firstRows f rs q) (length-take-le q (firstRows f rs n) (omega arith) ∙ sym (length-rows f rs q))
+    (λ i k.
+    let s : length (take q (firstRows f rs n)) ≡ q = length-take-le q (firstRows f rs n) (omega arith) in
+    let j : i < q = omega arith in
+    getD-take q (firstRows f rs n) i (f []) j ∙ row-at f rs n i (f []) (omega arith) ∙ sym (row-at f rs q i (f []) j))

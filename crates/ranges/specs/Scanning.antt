@@ -1,58 +1,60 @@
 -- What a scan's parts promise: the worker's writes of a range, and what is logged.
--- Assumes nothing.
 use Prim.Native.Nat.{ℕ, _+_, _-_, _^_, _<_, _≤_}
 use mathlib.Core.Path.{_≡_}
 use mathlib.Core.List.{List, [], _++_}
 use mathlib.Core.Option.{Option}
-use lib.ListN.{length, drop, getD}
+use lib.ListN.{drop, getD}
 use Rattle.lists.specs.Rows.{Row, between}
-use Rattle.spec.specs.Records.{Record}
+use Rattle.spec.specs.Records.{standard, Record}
 use Rattle.spec.specs.Leaves.{Leaf, firstLeaf}
-use Rattle.sets.specs.Reads.{readsIn, ReadsHeld}
-use Rattle.sets.specs.Leaves.{versionsIn, lowsIn, LeavesHeld}
-use Rattle.sets.specs.Writes.{writesIn}
-use Rattle.indexlet.specs.Held as indexlet
-use Rattle.index.specs.Views as index
-use Rattle.index.specs.Views.{leavesOf}
+use Rattle.sets.specs.Reads.{ReadRows, readsOf, ReadSetHeld}
+use Rattle.sets.specs.Leaves.{LeafSetRows, versionsOf, lowsOf, LeafSetHeld}
+use Rattle.sets.specs.Writes.{WriteRows, writesOf}
+use Rattle.map.specs.Views.{leavesIn, SlotRows, RecordRows}
+use Rattle.map.specs.Held.{perLeaf}
 use Rattle.looks.specs.declared.Range.{Range}
-use Rattle.looks.specs.LookViews.{mapWith, walk, indexedAt, versionIn, Narrow}
+use Rattle.looks.specs.LookViews.{mapWith, walk, indexedAt, versionIn}
+use Rattle.map.specs.Parts.{RecordsHeld, SlotsHeld, LeafListed}
 
--- worker w's writes from lo to hi stand at these places
-pub record OwnSpans (ws : List ℕ) (w n lo hi : ℕ) (r : Range) : Type 0 where
+-- the n writes from lo to hi stand at these places
+pub record OwnSpans (ws : WriteRows) (n lo hi : ℕ) (r : Range) : Type 0 where
   pub ordered : r .from ≤ r .to
   pub within : r .to ≤ n
-  pub rows-are : drop (r .from) (writesIn ws w (r .to)) ≡ between lo hi (writesIn ws w n)
+  pub rows-are : drop (r .from) (writesOf ws (r .to)) ≡ between lo hi (writesOf ws n)
+
+-- how many places
+abbrev pub span : Range → ℕ
+span p = p .to - p .from
+
+-- f of each
+abbrev pub across : {A : Type 0} → (ℕ → A) → Range → List A
+across f p = walk f (p .from) (span p)
 
 -- ---- records
 
--- the index records from place `from` up to, not including, place `to`
-abbrev pub seenRows : List ℕ → ℕ → List ℕ → ℕ → ℕ → List (Row (Option Record))
-seenRows rows n slots from to = walk (indexedAt (mapWith rows n slots [])) from (to - from)
+-- the record at each place of the index
+abbrev pub seenIn : RecordRows → ℕ → SlotRows → ℕ → Row (Option Record)
+seenIn rows n slots = indexedAt (mapWith rows n slots [])
 
--- they are there, and the read set has room for them
-pub record ReadsRoom (rows slots : List ℕ) (n w m from to : ℕ) : Type 0 where
-  pub rows-held : index.Held rows n
-  pub narrow : Narrow rows n
-  pub slots-held : indexlet.Held slots
-  pub worker : w < 8
-  pub ordered : from ≤ to
-  pub within : to ≤ n
-  pub room : m + (to - from) ≤ 64
+-- the records at these places are there, and the read set has room for them
+pub record ReadsRoom (rows : RecordRows) (slots : SlotRows) (n m : ℕ) (p : Range) : Type 0 where
+  pub rows-held : RecordsHeld rows n
+  pub slots-held : SlotsHeld slots
+  pub ordered : p .from ≤ p .to
+  pub within : p .to ≤ n
+  pub room : m + span p ≤ standard .readLimit
 
--- the words after the rows were appended to the n rows of worker w, and how many there are now
-pub record LogsRows (ws : List ℕ) (w n : ℕ) (rs : List (Row (Option Record))) (us : List ℕ) (r : ℕ) : Type 0 where
-  pub held : ReadsHeld us
-  pub count : r ≡ n + length rs
-  pub view : readsIn us w r ≡ readsIn ws w n ++ rs
-  pub others : (v m : ℕ) → (v ≡ w → ⊥) → readsIn us v m ≡ readsIn ws v m
+-- the read set after f of these places was appended to its first n rows, and how many there are now
+pub record LogsRows (rs : ReadRows) (n : ℕ) (f : ℕ → Row (Option Record)) (p : Range) (us : ReadRows) (r : ℕ) : Type 0 where
+  pub held : ReadSetHeld us
+  pub count : r ≡ n + span p
+  pub view : readsOf us r ≡ readsOf rs n ++ across f p
 
 -- those logged and those left are all
-pub record LoggingRows (ws : List ℕ) (w n : ℕ) (f : ℕ → Row (Option Record)) (from to : ℕ) (us : List ℕ) (i r : ℕ) : Type 0 where
-  pub held : ReadsHeld us
-  pub within : i ≤ to
-  pub count : r + (to - i) ≡ n + (to - from)
-  pub view : readsIn us w r ++ walk f i (to - i) ≡ readsIn ws w n ++ walk f from (to - from)
-  pub others : (v m : ℕ) → (v ≡ w → ⊥) → readsIn us v m ≡ readsIn ws v m
+pub record LoggingRows (rs : ReadRows) (n : ℕ) (f : ℕ → Row (Option Record)) (p : Range) (us : ReadRows) (i r : ℕ) : Type 0 where
+  pub held : ReadSetHeld us
+  pub count : r + (p .to - i) ≡ n + span p
+  pub view : readsOf us r ++ walk f i (p .to - i) ≡ readsOf rs n ++ across f p
 
 -- ---- leaves
 
@@ -60,28 +62,25 @@ pub record LoggingRows (ws : List ℕ) (w n : ℕ) (f : ℕ → Row (Option Reco
 unfoldable pub lowIn : List Leaf → ℕ → ℕ
 lowIn ls i = getD ls i firstLeaf .low
 
-pub record LeavesRoom (lows : List ℕ) (w m from to : ℕ) : Type 0 where
-  pub narrow : (i : ℕ) → i < to → getD lows i 0 < 2 ^ 32
-  pub worker : w < 8
-  pub ordered : from ≤ to
-  pub within : to ≤ 1025
-  pub room : m + (to - from) ≤ 32
+-- the leaves are there, and the leaf set has room for them
+pub record LeavesRoom (lows : List ℕ) (m : ℕ) (p : Range) : Type 0 where
+  pub listed : (i : ℕ) → i < p .to → LeafListed lows i
+  pub ordered : p .from ≤ p .to
+  pub within : p .to ≤ perLeaf
+  pub room : m + span p ≤ standard .leafSetLimit
 
--- the words after the leaves from place `from` up to place `to` were appended to the n rows of worker w, and how many there are now
-pub record LogsMarks (ws : List ℕ) (w n : ℕ) (lows versions : List ℕ) (from to : ℕ) (us : List ℕ) (r : ℕ) : Type 0 where
-  pub held : LeavesHeld us
-  pub count : r ≡ n + (to - from)
-  pub versions-are : versionsIn us w r ≡ versionsIn ws w n ++ walk (versionIn (leavesOf lows versions to)) from (to - from)
-  pub lows-are : lowsIn us w r ≡ lowsIn ws w n ++ walk (lowIn (leavesOf lows versions to)) from (to - from)
-  pub others : (v m : ℕ) → (v ≡ w → ⊥) → versionsIn us v m ≡ versionsIn ws v m
-  pub other-lows : (v m : ℕ) → (v ≡ w → ⊥) → lowsIn us v m ≡ lowsIn ws v m
+-- the leaf set after the leaves at these places, among any number that has them, were appended to its first n rows, and how many there are now
+pub record LogsMarks (rs : LeafSetRows) (n : ℕ) (lows versions : List ℕ) (p : Range) (us : LeafSetRows) (r : ℕ) : Type 0 where
+  pub held : LeafSetHeld us
+  pub count : r ≡ n + span p
+  pub versions-are : (m : ℕ) → p .to ≤ m → m ≤ perLeaf → versionsOf us r ≡ versionsOf rs n ++ across (versionIn (leavesIn lows versions m)) p
+  pub lows-are : (m : ℕ) → p .to ≤ m → m ≤ perLeaf → lowsOf us r ≡ lowsOf rs n ++ across (lowIn (leavesIn lows versions m)) p
 
 -- those logged and those left are all
-pub record LoggingMarks (ws : List ℕ) (w n : ℕ) (ls : List Leaf) (from to : ℕ) (us : List ℕ) (i r : ℕ) : Type 0 where
-  pub held : LeavesHeld us
-  pub within : i ≤ to
-  pub count : r + (to - i) ≡ n + (to - from)
-  pub versions-are : versionsIn us w r ++ walk (versionIn ls) i (to - i) ≡ versionsIn ws w n ++ walk (versionIn ls) from (to - from)
-  pub lows-are : lowsIn us w r ++ walk (lowIn ls) i (to - i) ≡ lowsIn ws w n ++ walk (lowIn ls) from (to - from)
-  pub others : (v m : ℕ) → (v ≡ w → ⊥) → versionsIn us v m ≡ versionsIn ws v m
-  pub other-lows : (v m : ℕ) → (v ≡ w → ⊥) → lowsIn us v m ≡ lowsIn ws v m
+pub record LoggingMarks (rs : LeafSetRows) (n : ℕ) (lows versions : List ℕ) (p : Range) (us : LeafSetRows) (i r : ℕ) : Type 0 where
+  pub held : LeafSetHeld us
+  pub count : r + (p .to - i) ≡ n + span p
+  pub versions-are : (m : ℕ) → p .to ≤ m → m ≤ perLeaf
+      → versionsOf us r ++ walk (versionIn (leavesIn lows versions m)) i (p .to - i) ≡ versionsOf rs n ++ across (versionIn (leavesIn lows versions m)) p
+  pub lows-are : (m : ℕ) → p .to ≤ m → m ≤ perLeaf
+      → lowsOf us r ++ walk (lowIn (leavesIn lows versions m)) i (p .to - i) ≡ lowsOf rs n ++ across (lowIn (leavesIn lows versions m)) p

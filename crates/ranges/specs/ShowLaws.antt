@@ -1,5 +1,4 @@
 -- The laws of a scan's two loops over its walk: how many are shown, and what is written to the buffers.
--- Assumes nothing.
 use Prim.Native.Nat.{ℕ, suc, _+_, _<_, _≤_, zero-le}
 use native.Mathlib.Nat.{le-refl, le-trans}
 use native.Mathlib.Numerals.{add-one}

@@ -1,26 +1,26 @@
 -- The laws of a scan's walk: what comes next by the two addresses, and that both lists rise.
--- Assumes nothing.
 use Prim.Native.Nat.{ℕ, suc, _+_, _-_, _<_, _≤_}
 use native.Mathlib.Omega.{arith}
 use mathlib.Core.Path.{_≡_, refl, sym, ap, _∙_, subst}
 use mathlib.Core.Bool.{Bool, true, false}
 use mathlib.Core.List.{List, [], _∷_}
 use mathlib.Core.Option.{Option, none, some}
-use lib.ListN.{length, take, drop, drop-of-length-le, getD}
+use lib.ListN.{length, take, drop}
 use lib.Dec.{eqb}
-use lib.Seq.{drop-cons}
 use Rattle.lists.specs.Tests.{pick, same}
 use Rattle.lists.specs.Rows.{Row, row, mapItems, From, Rising}
 use Rattle.lists.specs.RowLaws.{from-mapItems}
 use Rattle.spec.specs.Records.{Payload, Record, Write, written, deleted, ownView, payloadOf}
 use Rattle.spec.specs.Maps.{current}
 use Rattle.sets.specs.declared.writes.Entry.{Entry}
-use Rattle.sets.specs.Writes.{writeOf, entryIn, noWrite, writesIn, GivesWrite}
-use Rattle.sets.specs.WriteRows.{length-writes}
+use Rattle.sets.specs.declared.reads.Observed.{Observed}
+use Rattle.sets.specs.Reads.{observedIn}
+use Rattle.sets.specs.Writes.{writeOf, entryIn, writesOf, GivesWrite}
+use Rattle.map.specs.WriteWalks.{rest-none, rest-cons, given}
+use Rattle.map.specs.WriteWalks as walks
 use Rattle.index.specs.Views.{noRow, recordsOf}
 use Rattle.index.specs.ViewLaws.{length-records}
-use Rattle.looks.specs.declared.Seen.{Seen}
-use Rattle.looks.specs.LookViews.{mapWith, recordIn, indexedAt, seenIn, SeenAt}
+use Rattle.looks.specs.LookViews.{mapWith, indexedAt, SeenAt}
 use Rattle.looks.specs.RangeLaws.{walk-map}
 use Rattle.ranges.specs.Parts.{walk-on, walk-past}
 use Rattle.ranges.specs.Overlays.{from-drop, shown, overlay, overlay-none, overlay-upper, overlay-lower, overlay-both, rising-part, rising-tail, rising-map}
@@ -47,8 +47,8 @@ paid r = row (r .key) (payloadOf (r .item))
 owned : Row Write → Row (Option Payload)
 owned r = row (r .key) (ownView (r .item))
 
-index-shows : (s : Seen) (i j : ℕ) → turnIn (indexTurn s i j) ≡ paid (seenIn s)
-unfolding turnIn paid seenIn recordIn
+index-shows : (s : Observed) (i j : ℕ) → turnIn (indexTurn s i j) ≡ paid (observedIn s)
+unfolding turnIn paid
 index-shows s i j = ap (λ (o : Option Payload). row (s .address) o) (pay-pick (s .current .there) (s .current .value) (s .current .commit))
 
 own-shows : (e : Entry) (i j : ℕ) → turnIn (ownTurn e i j) ≡ owned (entryIn e)
@@ -61,20 +61,20 @@ module _ (g : Ground) (h : Walks g) where
   rising-seen : (i : ℕ) → i ≤ g .bounds .to → Rising (seenFrom g i)
   unfolding seenFrom indexedAt
   rising-seen i l =
-      let n : length (recordsOf (g .rows) (g .bounds .records)) ≡ g .bounds .records = length-records (g .rows) (g .bounds .records) (h .rows .room) in
+      let n : length (recordsOf (g .rows) (g .bounds .records)) ≡ g .bounds .records = length-records (g .rows) (g .bounds .records) (h .rows .held .room) in
       let t : g .bounds .to ≤ g .bounds .records = h .within in
       subst (Rising {A = Option Record})
       (sym (walk-map (λ (r : Row Record). row (r .key) (current (mapWith (g .rows) (g .bounds .records) (g .slots) []) (r .key)))
       (recordsOf (g .rows) (g .bounds .records)) noRow i (g .bounds .to - i) (omega arith)))
       (rising-map (current (mapWith (g .rows) (g .bounds .records) (g .slots) []))
       (take (g .bounds .to - i) (drop i (recordsOf (g .rows) (g .bounds .records))))
-      (rising-part (g .bounds .to - i) i (recordsOf (g .rows) (g .bounds .records)) (h .rows .rising)))
+      (rising-part (g .bounds .to - i) i (recordsOf (g .rows) (g .bounds .records)) (h .rows .held .rising)))
 
   seen-end : (i : ℕ) → g .bounds .to ≤ i → seenFrom g i ≡ []
   unfolding seenFrom
   seen-end i l = walk-past (indexedAt (mapWith (g .rows) (g .bounds .records) (g .slots) [])) i (g .bounds .to) l
 
-  seen-on : (i : ℕ) (s : Seen) → i < g .bounds .to → SeenAt (g .rows) (g .bounds .records) (g .slots) i s → seenFrom g i ≡ seenIn s ∷ seenFrom g (i + 1)
+  seen-on : (i : ℕ) (s : Observed) → i < g .bounds .to → SeenAt (g .rows) (g .bounds .records) (g .slots) i s → seenFrom g i ≡ observedIn s ∷ seenFrom g (i + 1)
   unfolding seenFrom
   seen-on i s l a =
       walk-on (indexedAt (mapWith (g .rows) (g .bounds .records) (g .slots) [])) i (g .bounds .to) l
@@ -82,60 +82,53 @@ module _ (g : Ground) (h : Walks g) where
 
   rising-own : (j : ℕ) → Rising (ownFrom g j)
   unfolding ownFrom Rising
-  rising-own j = from-drop j 0 (writesIn (g .writes) (g .bounds .worker) (g .bounds .end)) (h .writes .rising)
-
-  own-size : length (writesIn (g .writes) (g .bounds .worker) (g .bounds .end)) ≡ g .bounds .end
-  own-size = length-writes (g .writes) (g .bounds .worker) (g .bounds .end) (h .writes .room)
+  rising-own j = from-drop j 0 (writesOf (g .writes) (g .bounds .end)) (h .writes .rising)
 
   own-end : (j : ℕ) → g .bounds .end ≤ j → ownFrom g j ≡ []
-  unfolding ownFrom
-  own-end j l = drop-of-length-le (writesIn (g .writes) (g .bounds .worker) (g .bounds .end)) {i = j} (rw own-size l)
+  unfolding ownFrom walks.rest
+  own-end j l = rest-none (g .writes) j (g .bounds .end) l
 
-  own-on : (j : ℕ) (e : Entry) → j < g .bounds .end → GivesWrite (g .writes) (g .bounds .worker) j e → ownFrom g j ≡ entryIn e ∷ ownFrom g (j + 1)
-  unfolding ownFrom
+  own-on : (j : ℕ) (e : Entry) → j < g .bounds .end → GivesWrite (g .writes) j e → ownFrom g j ≡ entryIn e ∷ ownFrom g (j + 1)
+  unfolding ownFrom walks.rest
   own-on j e l a =
-      let ws = writesIn (g .writes) (g .bounds .worker) (g .bounds .end) in
-      drop-cons ws j noWrite (rw own-size l)
-      ∙ ap (λ (k : ℕ). getD ws j noWrite ∷ drop k ws) (let q : suc j ≡ j + 1 = omega arith in q)
-      ∙ ap (λ (r : Row Write). r ∷ drop (j + 1) ws) (sym (a .at (g .bounds .end) l))
+      rest-cons (g .writes) j (g .bounds .end) l ∙ ap (λ (r : Row Write). r ∷ ownFrom g (j + 1)) (sym (given a l))
 
   -- all of the worker's writes from place j on are above a
   none-above : (a j : ℕ) → g .bounds .end ≤ j → From (suc a) (ownFrom g j)
   none-above a j l = subst (From (suc a)) (sym (own-end j l)) (unfold From in tt)
 
-  own-above : (a j : ℕ) (e : Entry) → j < g .bounds .end → GivesWrite (g .writes) (g .bounds .worker) j e → a < e .address → From (suc a) (ownFrom g j)
+  own-above : (a j : ℕ) (e : Entry) → j < g .bounds .end → GivesWrite (g .writes) j e → a < e .address → From (suc a) (ownFrom g j)
   unfolding From
   own-above a j e l w b =
       subst (From (suc a)) (sym (own-on j e l w)) (b, rising-tail (entryIn e) (ownFrom g (j + 1)) (subst (Rising {A = Write}) (own-on j e l w) (rising-own j)))
 
-  own-tail : (j : ℕ) (e : Entry) → j < g .bounds .end → GivesWrite (g .writes) (g .bounds .worker) j e → From (suc (e .address)) (ownFrom g (j + 1))
+  own-tail : (j : ℕ) (e : Entry) → j < g .bounds .end → GivesWrite (g .writes) j e → From (suc (e .address)) (ownFrom g (j + 1))
   own-tail j e l w = rising-tail (entryIn e) (ownFrom g (j + 1)) (subst (Rising {A = Write}) (own-on j e l w) (rising-own j))
 
   -- all index addresses from place i on
-  seen-tail : (i : ℕ) (s : Seen) → i < g .bounds .to → SeenAt (g .rows) (g .bounds .records) (g .slots) i s → From (suc (s .address)) (seenFrom g (i + 1))
-  unfolding seenIn
+  seen-tail : (i : ℕ) (s : Observed) → i < g .bounds .to → SeenAt (g .rows) (g .bounds .records) (g .slots) i s → From (suc (s .address)) (seenFrom g (i + 1))
   seen-tail i s l a =
-      rising-tail (seenIn s) (seenFrom g (i + 1)) (subst (Rising {A = Option Record}) (seen-on i s l a) (rising-seen i (let b : i ≤ g .bounds .to = omega arith in b)))
+      rising-tail (observedIn s) (seenFrom g (i + 1)) (subst (Rising {A = Option Record}) (seen-on i s l a) (rising-seen i (let b : i ≤ g .bounds .to = omega arith in b)))
 
   past-above : (a i : ℕ) → g .bounds .to ≤ i → From (suc a) (seenFrom g i)
   past-above a i l = subst (From (suc a)) (sym (seen-end i l)) (unfold From in tt)
 
-  seen-above : (b i : ℕ) (s : Seen) → i < g .bounds .to → SeenAt (g .rows) (g .bounds .records) (g .slots) i s → b < s .address → From (suc b) (seenFrom g i)
-  unfolding From seenIn
+  seen-above : (b i : ℕ) (s : Observed) → i < g .bounds .to → SeenAt (g .rows) (g .bounds .records) (g .slots) i s → b < s .address → From (suc b) (seenFrom g i)
+  unfolding From
   seen-above b i s l a h = subst (From (suc b)) (sym (seen-on i s l a)) (h, seen-tail i s l a)
 
   -- ---- what comes next
 
-  index-first : (i j : ℕ) (s : Seen) → i < g .bounds .to → SeenAt (g .rows) (g .bounds .records) (g .slots) i s → From (suc (s .address)) (ownFrom g j)
+  index-first : (i j : ℕ) (s : Observed) → i < g .bounds .to → SeenAt (g .rows) (g .bounds .records) (g .slots) i s → From (suc (s .address)) (ownFrom g j)
       → rest g i j ≡ shown (turnIn (indexTurn s (i + 1) j)) (rest g (i + 1) j)
-  unfolding rest mapItems paid seenIn
+  unfolding rest mapItems paid
   index-first i j s l a f =
       ap (λ (xs : List (Row (Option Record))). overlay (mapItems ownView (ownFrom g j)) (mapItems payloadOf xs)) (seen-on i s l a)
-      ∙ overlay-lower (paid (seenIn s)) (mapItems ownView (ownFrom g j)) (mapItems payloadOf (seenFrom g (i + 1)))
+      ∙ overlay-lower (paid (observedIn s)) (mapItems ownView (ownFrom g j)) (mapItems payloadOf (seenFrom g (i + 1)))
       (from-mapItems ownView (ownFrom g j) (suc (s .address)) f) (from-mapItems payloadOf (seenFrom g (i + 1)) (suc (s .address)) (seen-tail i s l a))
       ∙ ap (λ (r : Row (Option Payload)). shown r (overlay (mapItems ownView (ownFrom g j)) (mapItems payloadOf (seenFrom g (i + 1))))) (sym (index-shows s (i + 1) j))
 
-  own-first : (i j : ℕ) (e : Entry) → j < g .bounds .end → GivesWrite (g .writes) (g .bounds .worker) j e → From (suc (e .address)) (seenFrom g i)
+  own-first : (i j : ℕ) (e : Entry) → j < g .bounds .end → GivesWrite (g .writes) j e → From (suc (e .address)) (seenFrom g i)
       → rest g i j ≡ shown (turnIn (ownTurn e i (j + 1))) (rest g i (j + 1))
   unfolding rest mapItems owned
   own-first i j e l a f =
@@ -144,14 +137,14 @@ module _ (g : Ground) (h : Walks g) where
       (from-mapItems ownView (ownFrom g (j + 1)) (suc (e .address)) (own-tail j e l a)) (from-mapItems payloadOf (seenFrom g i) (suc (e .address)) f)
       ∙ ap (λ (r : Row (Option Payload)). shown r (overlay (mapItems ownView (ownFrom g (j + 1))) (mapItems payloadOf (seenFrom g i)))) (sym (own-shows e i (j + 1)))
 
-  both-first : (i j : ℕ) (s : Seen) (e : Entry) → i < g .bounds .to → SeenAt (g .rows) (g .bounds .records) (g .slots) i s
-      → j < g .bounds .end → GivesWrite (g .writes) (g .bounds .worker) j e → s .address ≡ e .address
+  both-first : (i j : ℕ) (s : Observed) (e : Entry) → i < g .bounds .to → SeenAt (g .rows) (g .bounds .records) (g .slots) i s
+      → j < g .bounds .end → GivesWrite (g .writes) j e → s .address ≡ e .address
       → rest g i j ≡ shown (turnIn (ownTurn e (i + 1) (j + 1))) (rest g (i + 1) (j + 1))
-  unfolding rest mapItems owned paid seenIn
+  unfolding rest mapItems owned paid
   both-first i j s e l a k b q =
       ap (λ (xs : List (Row Write)). overlay (mapItems ownView xs) (mapItems payloadOf (seenFrom g i))) (own-on j e k b)
       ∙ ap (λ (xs : List (Row (Option Record))). overlay (mapItems ownView (entryIn e ∷ ownFrom g (j + 1))) (mapItems payloadOf xs)) (seen-on i s l a)
-      ∙ overlay-both (owned (entryIn e)) (paid (seenIn s)) (mapItems ownView (ownFrom g (j + 1))) (mapItems payloadOf (seenFrom g (i + 1))) q
+      ∙ overlay-both (owned (entryIn e)) (paid (observedIn s)) (mapItems ownView (ownFrom g (j + 1))) (mapItems payloadOf (seenFrom g (i + 1))) q
       (from-mapItems ownView (ownFrom g (j + 1)) (suc (e .address)) (own-tail j e k b))
       (from-mapItems payloadOf (seenFrom g (i + 1)) (suc (e .address)) (subst (λ (n : ℕ). From (suc n) (seenFrom g (i + 1))) q (seen-tail i s l a)))
       ∙ ap (λ (r : Row (Option Payload)). shown r (overlay (mapItems ownView (ownFrom g (j + 1))) (mapItems payloadOf (seenFrom g (i + 1))))) (sym (own-shows e (i + 1) (j + 1)))
@@ -169,7 +162,7 @@ module _ (g : Ground) (h : Walks g) where
     pub index-left : g .bounds .end ≤ j → i < g .bounds .to
     index-left l = let k : j ≤ g .bounds .end = at .own in omega arith
 
-    pub step-index-only : (s : Seen) → g .bounds .end ≤ j → SeenAt (g .rows) (g .bounds .records) (g .slots) i s → Steps g i j (indexTurn s (i + 1) j)
+    pub step-index-only : (s : Observed) → g .bounds .end ≤ j → SeenAt (g .rows) (g .bounds .records) (g .slots) i s → Steps g i j (indexTurn s (i + 1) j)
     step-index-only s l a =
         let b : i < g .bounds .to = index-left l in
         record {
@@ -179,7 +172,7 @@ module _ (g : Ground) (h : Walks g) where
         }
 
     -- no index record is left
-    pub step-own-only : (e : Entry) → j < g .bounds .end → g .bounds .to ≤ i → GivesWrite (g .writes) (g .bounds .worker) j e → Steps g i j (ownTurn e i (j + 1))
+    pub step-own-only : (e : Entry) → j < g .bounds .end → g .bounds .to ≤ i → GivesWrite (g .writes) j e → Steps g i j (ownTurn e i (j + 1))
     step-own-only e k l a =
         record {
           on = omega arith;
@@ -187,8 +180,8 @@ module _ (g : Ground) (h : Walks g) where
           rest-is = own-first i j e k a (past-above (e .address) i l);
         }
 
-    module _ (s : Seen) (e : Entry) (l : i < g .bounds .to) (k : j < g .bounds .end) (a : SeenAt (g .rows) (g .bounds .records) (g .slots) i s)
-        (b : GivesWrite (g .writes) (g .bounds .worker) j e) where
+    module _ (s : Observed) (e : Entry) (l : i < g .bounds .to) (k : j < g .bounds .end) (a : SeenAt (g .rows) (g .bounds .records) (g .slots) i s)
+        (b : GivesWrite (g .writes) j e) where
       pub step-index : s .address < e .address → Steps g i j (indexTurn s (i + 1) j)
       step-index h =
           record {

@@ -1,6 +1,5 @@
--- The walk of a scan in words: what is left of it at a place of the index and a place of the worker's writes, and what its
+-- The walk of a scan: what is left of it at a place of the index and a place of the worker's writes, and what its
 -- functions promise.
--- Assumes nothing.
 use Prim.Native.Nat.{ℕ, _+_, _-_, _<_, _≤_}
 use mathlib.Core.Path.{_≡_}
 use mathlib.Core.Bool.{true}
@@ -13,23 +12,23 @@ use Rattle.lists.specs.Rows.{Row, row, mapItems}
 use Rattle.lists.specs.Shifts.{tab}
 use Rattle.spec.specs.Records.{Payload, Record, Write, ownView, payloadOf}
 use Rattle.sets.specs.declared.writes.Entry.{Entry}
-use Rattle.sets.specs.Writes.{WriteSet, writesIn}
-use Rattle.indexlet.specs.Held as indexlet
-use Rattle.index.specs.Views as index
-use Rattle.looks.specs.declared.Seen.{Seen}
-use Rattle.looks.specs.LookViews.{mapWith, walk, indexedAt, Narrow}
+use Rattle.sets.specs.declared.reads.Observed.{Observed}
+use Rattle.sets.specs.Writes.{WriteRows, WriteSetOrdered, writesOf}
+use Rattle.looks.specs.LookViews.{mapWith, walk, indexedAt}
 use Rattle.ranges.specs.declared.walks.Bounds.{Bounds}
 use Rattle.ranges.specs.declared.walks.Turn.{Turn}
 use Rattle.ranges.specs.Overlays.{shown, overlay}
+use Rattle.map.specs.Views.{SlotRows, RecordRows}
+use Rattle.map.specs.Parts.{RecordsHeld, SlotsHeld}
 
--- What is walked over: the words of the index, of the slots and of the write sets, and where the walk ends.
+-- What is walked over: the rows of the index, of the slots and of the worker's write set, and where the walk ends.
 pub record Ground : Type 0 where
-  pub rows : List ℕ
-  pub slots : List ℕ
-  pub writes : List ℕ
+  pub rows : RecordRows
+  pub slots : SlotRows
+  pub writes : WriteRows
   pub bounds : Bounds
 
-abbrev pub ground : List ℕ → List ℕ → List ℕ → Bounds → Ground
+abbrev pub ground : RecordRows → SlotRows → WriteRows → Bounds → Ground
 ground rows slots writes b = record { rows = rows; slots = slots; writes = writes; bounds = b }
 
 -- the records from place i of the index on, each address with its current record
@@ -38,18 +37,17 @@ seenFrom g i = walk (indexedAt (mapWith (g .rows) (g .bounds .records) (g .slots
 
 -- the worker's writes from place j on
 unfoldable pub ownFrom : Ground → ℕ → List (Row Write)
-ownFrom g j = drop j (writesIn (g .writes) (g .bounds .worker) (g .bounds .end))
+ownFrom g j = drop j (writesOf (g .writes) (g .bounds .end))
 
 -- what the walk still shows at places i and j
 unfoldable pub rest : Ground → ℕ → ℕ → List (Row Payload)
 rest g i j = overlay (mapItems ownView (ownFrom g j)) (mapItems payloadOf (seenFrom g i))
 
--- the invariants of the words
+-- the invariants of the rows
 pub record Walks (g : Ground) : Type 0 where
-  pub rows : index.Held (g .rows) (g .bounds .records)
-  pub narrow : Narrow (g .rows) (g .bounds .records)
-  pub slots : indexlet.Held (g .slots)
-  pub writes : WriteSet (g .writes) (g .bounds .worker) (g .bounds .end)
+  pub rows : RecordsHeld (g .rows) (g .bounds .records)
+  pub slots : SlotsHeld (g .slots)
+  pub writes : WriteSetOrdered (g .writes) (g .bounds .end)
   pub within : g .bounds .to ≤ g .bounds .records
 
 -- places of the walk
@@ -59,7 +57,7 @@ pub record Inside (b : Bounds) (i j : ℕ) : Type 0 where
 
 -- ---- one turn
 
-abbrev pub indexTurn : Seen → ℕ → ℕ → Turn
+abbrev pub indexTurn : Observed → ℕ → ℕ → Turn
 indexTurn s i j =
     record { i = i; j = j; there = s .current .there; address = s .address; value = s .current .value }
 

@@ -3,16 +3,25 @@ use crate::logs;
 use crate::walks;
 use crate::walks::Bounds;
 use looks::Range;
-use map::Address;
+use map::Leaves;
+use map::Records;
 use map::Sizes;
+use map::Slots;
+use sets::LeafSet;
+use sets::ReadSet;
+use sets::WriteSet;
 use sets::workers::Worker;
 use sets::writes;
+use spec::Address;
+use spec::LEAF_SET_LIMIT;
+use spec::READ_LIMIT;
 use spec::Refusal;
 ghost use Prim.Native.Nat.{_≤_};
 ghost use lib.ListN.{length};
-ghost use Rattle.sets.specs.Reads.{ReadsHeld};
-ghost use Rattle.sets.specs.Leaves.{LeavesHeld};
-ghost use Rattle.sets.specs.Writes.{WriteSet};
+ghost use Rattle.sets.specs.Reads.{ReadSetHeld};
+ghost use Rattle.sets.specs.Leaves.{LeafSetHeld};
+ghost use Rattle.sets.specs.Writes.{WriteSetOrdered};
+ghost use Rattle.map.specs.Views.{lowsOf, versionsOf};
 ghost use Rattle.ranges.specs.Scanning.{OwnSpans};
 ghost use Rattle.ranges.specs.Plans.{Planning, Plans, Planned, Carried};
 
@@ -31,55 +40,53 @@ pub enum Plan {
 }
 
 // The places of the worker's n writes from lo to hi.
-fn writes_between(writes: &[u64; 384], w: usize, n: usize, lo: Address, hi: Address) -> Range
-    requires { ⌜ WriteSet (now writes) w n ⌝ }
+fn writes_between(writes: &WriteSet, n: usize, lo: Address, hi: Address) -> Range
+    requires { ⌜ WriteSetOrdered (now writes) n ⌝ }
     requires { ⌜ lo ≤ hi ⌝ }
-    ensures { λ r. ⌜ OwnSpans (now (writes .entry)) w n lo hi r ⌝ }
+    ensures { λ r. ⌜ OwnSpans (now (writes .entry)) n lo hi r ⌝ }
 {
-    let from = writes::writes_below(writes, w, n, lo);
-    let to = writes::writes_below(writes, w, n, hi);
+    let from = writes::writes_below(writes, n, lo);
+    let to = writes::writes_below(writes, n, hi);
     if n <= to {
         return Range { from, to };
     }
-    let e = writes::write_at(writes, w, to);
+    let e = writes::write_at(writes, to);
     if e.address == hi {
         return Range { from, to: to + 1 };
     }
     Range { from, to }
 }
 
-// Tests a scan of worker x with m and n places for addresses and values, and finds what it has to do. Nothing is written.
+// Tests a scan of a worker with m and n places for addresses and values, and finds what it has to do. Nothing is written.
 pub fn measure(
-    rows: &[u64; 3072],
-    lows: &[u64; 1025],
-    slots: &[u64; 1536],
-    writes: &[u64; 384],
+    rows: &Records,
+    leaves: &Leaves,
+    slots: &Slots,
+    writes: &WriteSet,
     z: Sizes,
     x: Worker,
-    w: usize,
     lo: Address,
     hi: Address,
     m: usize,
     n: usize,
 ) -> Plan
-    requires { ⌜ Planning (now rows) (now lows) (now slots) (now writes) z x w ⌝ }
-    ensures { λ r. ⌜ Plans (now (rows .entry)) (now (lows .entry)) (now (slots .entry)) (now (writes .entry)) z x w lo hi m n r ⌝ }
+    requires { ⌜ Planning (now rows) (lowsOf (now leaves)) (now slots) (now writes) z x ⌝ }
+    ensures { λ r. ⌜ Plans (now (rows .entry)) (lowsOf (now (leaves .entry))) (now (slots .entry)) (now (writes .entry)) z x lo hi m n r ⌝ }
 {
     if hi < lo {
         return Plan::Refused(Refusal::Backward);
     }
     let index = looks::records_between(rows, z.records, lo, hi);
-    let met = looks::leaves_meeting(lows, z.leaves, lo, hi);
-    if 64 < x.reads as usize + (index.to - index.from) {
+    let met = looks::leaves_meeting(leaves, z.leaves, lo, hi);
+    if READ_LIMIT < x.reads as usize + (index.to - index.from) {
         return Plan::Refused(Refusal::LogFull);
     }
-    if 32 < x.leaves as usize + (met.to - met.from) {
+    if LEAF_SET_LIMIT < x.leaves as usize + (met.to - met.from) {
         return Plan::Refused(Refusal::LogFull);
     }
-    let own = writes_between(writes, w, x.writes as usize, lo, hi);
+    let own = writes_between(writes, x.writes as usize, lo, hi);
     let b = Bounds {
         records: z.records,
-        worker: w,
         to: index.to,
         end: own.to,
     };
@@ -102,23 +109,23 @@ pub fn measure(
 pub fn carry(
     addresses: &mut [u32],
     values: &mut [u64],
-    reads: &mut [u64; 2048],
-    leaves: &mut [u64; 512],
-    rows: &[u64; 3072],
-    lows: &[u64; 1025],
-    versions: &[u64; 1025],
-    slots: &[u64; 1536],
-    writes: &[u64; 384],
+    reads: &mut ReadSet,
+    leafset: &mut LeafSet,
+    rows: &Records,
+    leaves: &Leaves,
+    slots: &Slots,
+    writes: &WriteSet,
     z: Sizes,
     x: Worker,
-    w: usize,
     t: Task,
 ) -> Worker
-    requires { ⌜ Planning (now rows) (now lows) (now slots) (now writes) z x w ⌝ }
-    requires { ⌜ Planned (now rows) (now lows) (now slots) (now writes) z x w t (length (now addresses)) (length (now values)) ⌝ }
-    requires { ⌜ ReadsHeld (now reads) ⌝ }
-    requires { ⌜ LeavesHeld (now leaves) ⌝ }
-    ensures { λ r. ⌜ Carried (now (rows .entry)) (now (lows .entry)) (now (versions .entry)) (now (slots .entry)) (now (writes .entry)) z x w t (now (addresses .entry)) (now (values .entry)) (now (reads .entry)) (now (leaves .entry)) (now (addresses .exit)) (now (values .exit)) (now (reads .exit)) (now (leaves .exit)) r ⌝ }
+    requires { ⌜ Planning (now rows) (lowsOf (now leaves)) (now slots) (now writes) z x ⌝ }
+    requires { ⌜ Planned (now rows) (lowsOf (now leaves)) (now slots) (now writes) z x t (length (now addresses)) (length (now values)) ⌝ }
+    requires { ⌜ ReadSetHeld (now reads) ⌝ }
+    requires { ⌜ LeafSetHeld (now leafset) ⌝ }
+    ensures { λ r. ⌜ Carried (now (rows .entry)) (lowsOf (now (leaves .entry))) (versionsOf (now (leaves .entry))) (now (slots .entry)) (now (writes .entry)) z x t
+        (now (addresses .entry)) (now (values .entry)) (now (reads .entry)) (now (leafset .entry))
+        (now (addresses .exit)) (now (values .exit)) (now (reads .exit)) (now (leafset .exit)) r ⌝ }
 {
     let index = t.index;
     let met = t.met;
@@ -126,7 +133,6 @@ pub fn carry(
     let stage = x.stage;
     let b = Bounds {
         records: z.records,
-        worker: w,
         to: index.to,
         end: own.to,
     };
@@ -140,25 +146,8 @@ pub fn carry(
         index.from,
         own.from,
     );
-    let logged = logs::log_rows(
-        reads,
-        rows,
-        slots,
-        z.records,
-        w,
-        x.reads as usize,
-        index.from,
-        index.to,
-    );
-    let marked = logs::log_leaves(
-        leaves,
-        lows,
-        versions,
-        w,
-        x.leaves as usize,
-        met.from,
-        met.to,
-    );
+    let logged = logs::log_rows(reads, rows, slots, z.records, x.reads as usize, index);
+    let marked = logs::log_leaves(leafset, leaves, x.leaves as usize, met);
     Worker {
         stage,
         number: x.number,

@@ -1,19 +1,21 @@
 // The walk of a scan: the records of the index and the worker's own writes together, by rising address. At one address
 // the write decides.
-use looks::Seen;
-use map::Address;
+use map::Records;
+use map::Slots;
+use sets::WriteSet;
+use sets::reads::Observed;
 use sets::writes;
 use sets::writes::Entry;
+use spec::Address;
 ghost use mathlib.Core.Path.{_≡_};
 ghost use Prim.Native.Nat.{_+_, _<_};
 ghost use lib.ListN.{length};
 ghost use Rattle.lists.specs.Tests.{pick};
 ghost use Rattle.ranges.specs.Walks.{ground, rest, Walks, Inside, Steps, indexTurn, ownTurn, Fits, Shows, Room, Fills};
 
-// How many records the index has, the worker, and where the walk ends: places of the index and of the worker's writes.
+// How many records the index has, and where the walk ends: places of the index and of the worker's writes.
 pub struct Bounds {
     pub records: usize,
-    pub worker: usize,
     pub to: usize,
     pub end: usize,
 }
@@ -27,7 +29,7 @@ pub struct Turn {
     pub value: u64,
 }
 
-fn of_index(s: Seen, i: usize, j: usize) -> Turn
+fn of_index(s: Observed, i: usize, j: usize) -> Turn
     ensures { λ r. ⌜ r ≡ indexTurn s i j ⌝ }
 {
     let c = s.current;
@@ -53,14 +55,7 @@ fn of_write(e: Entry, i: usize, j: usize) -> Turn
 }
 
 // What comes next at place i of the index and place j of the writes.
-fn next(
-    rows: &[u64; 3072],
-    slots: &[u64; 1536],
-    writes: &[u64; 384],
-    b: Bounds,
-    i: usize,
-    j: usize,
-) -> Turn
+fn next(rows: &Records, slots: &Slots, writes: &WriteSet, b: Bounds, i: usize, j: usize) -> Turn
     requires { ⌜ Walks (ground (now rows) (now slots) (now writes) b) ⌝ }
     requires { ⌜ Inside b i j ⌝ }
     requires { ⌜ i + j < b .to + b .end ⌝ }
@@ -70,7 +65,7 @@ fn next(
         let s = looks::seen_at(rows, slots, b.records, i);
         return of_index(s, i + 1, j);
     }
-    let e = writes::write_at(writes, b.worker, j);
+    let e = writes::write_at(writes, j);
     if b.to <= i {
         return of_write(e, i, j + 1);
     }
@@ -96,9 +91,9 @@ fn one(there: bool) -> usize
 
 // How many records the walk shows from place `from` of the index and place `start` of the writes on.
 pub fn count_shown(
-    rows: &[u64; 3072],
-    slots: &[u64; 1536],
-    writes: &[u64; 384],
+    rows: &Records,
+    slots: &Slots,
+    writes: &WriteSet,
     b: Bounds,
     from: usize,
     start: usize,
@@ -137,9 +132,9 @@ fn show(addresses: &mut [u32], values: &mut [u64], at: usize, x: Turn) -> usize
 pub fn fill(
     addresses: &mut [u32],
     values: &mut [u64],
-    rows: &[u64; 3072],
-    slots: &[u64; 1536],
-    writes: &[u64; 384],
+    rows: &Records,
+    slots: &Slots,
+    writes: &WriteSet,
     b: Bounds,
     from: usize,
     start: usize,

@@ -1,5 +1,4 @@
 -- Document 01's starred runs, of the engine: one fact about `replay`, over the table of crate `spec`.
--- Assumes nothing.
 use Prim.Native.Nat.{ℕ}
 use mathlib.Core.Path.{_≡_, refl, sym, ap, _∙_, subst}
 use mathlib.Core.List.{List, [], _∷_, _++_}
@@ -44,13 +43,20 @@ pub record Shows (h : List Event) (rs : List (Row Record)) (out : List ℕ) (l :
   pub answers : Wrote out 0 (allWords h) out' (r .written)
   pub same-contents : contents (mapOf l (r .core .sizes)) ≡ rs
 
--- what a row says of the engine: of every replay of its steps with scan buffers of 64 places and room for 4,096 words
+-- the places of each scan buffer, and the words of room, in what is said of the rows
+abbrev pub places : ℕ
+places = 64
+
+abbrev pub room : ℕ
+room = 4096
+
+-- what a row says of the engine: of every replay of its steps with so many places and so much room
 abbrev pub HoldsOf : Run → Type 0
 HoldsOf (home a h) = homeSlot (standard .bytes) a ≡ h
 HoldsOf (leaves n ns) = cuts standard n ≡ ns
 HoldsOf (script h rs) =
     (ks vs out : List ℕ) (l : Lent) (g : Logs) (ks' vs' out' : List ℕ) (r : Replayed)
-    → length ks ≡ 64 → length vs ≡ 64 → length out ≡ 4096 → Replays (codesFor h) ks vs out l g ks' vs' out' r
+    → length ks ≡ places → length vs ≡ places → length out ≡ room → Replays (codesFor h) ks vs out l g ks' vs' out' r
     → Shows h rs out l out' r
 
 abbrev pub AllHoldOf : List Run → Type 0
@@ -59,19 +65,19 @@ AllHoldOf (r ∷ rs) = HoldsOf r × AllHoldOf rs
 
 -- a script's steps are all taken, and answered as the table says
 abbrev Runs : List Event → Type 0
-Runs h = (ran 64 64 (fresh standard) 4096 (codesFor h) .events ≡ h) × (ran 64 64 (fresh standard) 4096 (codesFor h) .stop ≡ stop.Complete)
+Runs h = (ran places places (fresh standard) room (codesFor h) .events ≡ h) × (ran places places (fresh standard) room (codesFor h) .stop ≡ stop.Complete)
 
 shows : (h : List Event) (rs : List (Row Record)) → Runs h → Holds (script h rs) → HoldsOf (script h rs)
 shows h rs e k ks vs out l g ks' vs' out' r a b c p =
-    let run = ran 64 64 (fresh standard) 4096 (codesFor h) in
+    let run = ran places places (fresh standard) room (codesFor h) in
     let same : ran (length ks) (length vs) (fresh standard) (length out) (codesFor h) ≡ run
     = ap (λ (m : ℕ). ran m (length vs) (fresh standard) (length out) (codesFor h)) a
-    ∙ ap (λ (n : ℕ). ran 64 n (fresh standard) (length out) (codesFor h)) b
-    ∙ ap (λ (n : ℕ). ran 64 64 (fresh standard) n (codesFor h)) c in
+    ∙ ap (λ (n : ℕ). ran places n (fresh standard) (length out) (codesFor h)) b
+    ∙ ap (λ (n : ℕ). ran places places (fresh standard) n (codesFor h)) c in
     let state : stateOf l g (r .core) ≡ final (fresh standard) (stepsOf h)
     = p .state
     ∙ ap (λ (x : Ran). x .state) same
-    ∙ sym (ran-model 64 64 (fresh standard) 4096 (codesFor h) .state)
+    ∙ sym (ran-model places places (fresh standard) room (codesFor h) .state)
     ∙ ap (λ (es : List Event). final (fresh standard) (stepsOf es)) (e .0) in
     record {
       complete = p .stop ∙ ap (λ (x : Ran). x .stop) same ∙ e .1;

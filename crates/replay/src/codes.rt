@@ -4,10 +4,16 @@ use engine::steps::Access;
 use engine::steps::Ending;
 use engine::steps::Op;
 use engine::steps::Reply;
+use map::Leaves;
+use map::Records;
+use map::Slots;
+use sets::LeafSets;
+use sets::ReadSets;
+use sets::WriteSets;
+use spec::WIDE;
 use spec::number_of;
 use transactions::Core;
 ghost use mathlib.Core.Path.{_≡_};
-ghost use Prim.Native.Nat.{_^_, _<_};
 ghost use Rattle.map.specs.Views.{lent};
 ghost use Rattle.transactions.specs.Views.{logs};
 ghost use Rattle.transactions.specs.Ready.{Ready};
@@ -44,9 +50,6 @@ pub struct Stepped {
 
 // The answer number of a code with no meaning: above all those of the documents.
 pub const MEANINGLESS: u64 = 99;
-
-// A seat or an address is below this.
-const WIDE: u64 = 0x1_0000_0000;
 
 fn decode_access(kind: u64, w: u32, b: u64, d: u64) -> Decoded
     ensures { λ r. ⌜ r ≡ decodedAccess kind w b d ⌝ }
@@ -136,20 +139,20 @@ pub fn encode(p: Reply) -> Coded
 pub fn step(
     addresses: &mut [u32],
     values: &mut [u64],
-    rows: &mut [u64; 3072],
-    lows: &mut [u64; 1025],
-    versions: &mut [u64; 1025],
-    outside: &mut [u64; 1025],
-    pending: &mut [u64; 1025],
-    slots: &mut [u64; 1536],
-    reads: &mut [u64; 2048],
-    leaves: &mut [u64; 512],
-    writes: &mut [u64; 384],
+    rows: &mut Records,
+    leaves: &mut Leaves,
+    slots: &mut Slots,
+    reads: &mut ReadSets,
+    leafsets: &mut LeafSets,
+    writes: &mut WriteSets,
     c: Core,
     k: Code,
 ) -> Stepped
-    requires { ⌜ Ready (lent (now rows) (now lows) (now versions) (now outside) (now pending) (now slots)) (logs (now reads) (now leaves) (now writes)) c ⌝ }
-    ensures { λ r. ⌜ Steps (lent (now (rows .entry)) (now (lows .entry)) (now (versions .entry)) (now (outside .entry)) (now (pending .entry)) (now (slots .entry))) (logs (now (reads .entry)) (now (leaves .entry)) (now (writes .entry))) c k (now (addresses .entry)) (now (values .entry)) (lent (now (rows .exit)) (now (lows .exit)) (now (versions .exit)) (now (outside .exit)) (now (pending .exit)) (now (slots .exit))) (logs (now (reads .exit)) (now (leaves .exit)) (now (writes .exit))) (now (addresses .exit)) (now (values .exit)) r ⌝ }
+    requires { ⌜ Ready (lent (now rows) (now leaves) (now slots)) (logs (now reads) (now leafsets) (now writes)) c ⌝ }
+    ensures { λ r. ⌜ Steps (lent (now (rows .entry)) (now (leaves .entry)) (now (slots .entry)))
+        (logs (now (reads .entry)) (now (leafsets .entry)) (now (writes .entry))) c k (now (addresses .entry)) (now (values .entry))
+        (lent (now (rows .exit)) (now (leaves .exit)) (now (slots .exit))) (logs (now (reads .exit)) (now (leafsets .exit)) (now (writes .exit)))
+        (now (addresses .exit)) (now (values .exit)) r ⌝ }
 {
     let d = decode(k);
     match d {
@@ -158,13 +161,10 @@ pub fn step(
                 addresses,
                 values,
                 rows,
-                lows,
-                versions,
-                outside,
-                pending,
+                leaves,
                 slots,
                 reads,
-                leaves,
+                leafsets,
                 writes,
                 c,
                 op,

@@ -4,6 +4,12 @@ use crate::codes::Code;
 use crate::codes::Decoded;
 use crate::words;
 use engine::steps;
+use map::Leaves;
+use map::Records;
+use map::Slots;
+use sets::LeafSets;
+use sets::ReadSets;
+use sets::WriteSets;
 use transactions::Core;
 use transactions::starts;
 ghost use mathlib.Core.Path.{_≡_};
@@ -74,22 +80,22 @@ fn take_code(
     out: &mut [u64],
     addresses: &mut [u32],
     values: &mut [u64],
-    rows: &mut [u64; 3072],
-    lows: &mut [u64; 1025],
-    versions: &mut [u64; 1025],
-    outside: &mut [u64; 1025],
-    pending: &mut [u64; 1025],
-    slots: &mut [u64; 1536],
-    reads: &mut [u64; 2048],
-    leaves: &mut [u64; 512],
-    writes: &mut [u64; 384],
+    rows: &mut Records,
+    leaves: &mut Leaves,
+    slots: &mut Slots,
+    reads: &mut ReadSets,
+    leafsets: &mut LeafSets,
+    writes: &mut WriteSets,
     c: Core,
     k: Code,
     at: usize,
 ) -> Turn
-    requires { ⌜ Ready (lent (now rows) (now lows) (now versions) (now outside) (now pending) (now slots)) (logs (now reads) (now leaves) (now writes)) c ⌝ }
+    requires { ⌜ Ready (lent (now rows) (now leaves) (now slots)) (logs (now reads) (now leafsets) (now writes)) c ⌝ }
     requires { ⌜ at ≤ length (now out) ⌝ }
-    ensures { λ r. ⌜ Turns (lent (now (rows .entry)) (now (lows .entry)) (now (versions .entry)) (now (outside .entry)) (now (pending .entry)) (now (slots .entry))) (logs (now (reads .entry)) (now (leaves .entry)) (now (writes .entry))) c k (now (addresses .entry)) (now (values .entry)) (now (out .entry)) at (lent (now (rows .exit)) (now (lows .exit)) (now (versions .exit)) (now (outside .exit)) (now (pending .exit)) (now (slots .exit))) (logs (now (reads .exit)) (now (leaves .exit)) (now (writes .exit))) (now (addresses .exit)) (now (values .exit)) (now (out .exit)) r ⌝ }
+    ensures { λ r. ⌜ Turns (lent (now (rows .entry)) (now (leaves .entry)) (now (slots .entry)))
+        (logs (now (reads .entry)) (now (leafsets .entry)) (now (writes .entry))) c k (now (addresses .entry)) (now (values .entry)) (now (out .entry)) at
+        (lent (now (rows .exit)) (now (leaves .exit)) (now (slots .exit))) (logs (now (reads .exit)) (now (leafsets .exit)) (now (writes .exit)))
+        (now (addresses .exit)) (now (values .exit)) (now (out .exit)) r ⌝ }
 {
     if !fits(out.len() - at, addresses.len(), values.len()) {
         return Turn {
@@ -105,13 +111,10 @@ fn take_code(
                 addresses,
                 values,
                 rows,
-                lows,
-                versions,
-                outside,
-                pending,
+                leaves,
                 slots,
                 reads,
-                leaves,
+                leafsets,
                 writes,
                 c,
                 op,
@@ -148,20 +151,19 @@ fn take_all(
     out: &mut [u64],
     addresses: &mut [u32],
     values: &mut [u64],
-    rows: &mut [u64; 3072],
-    lows: &mut [u64; 1025],
-    versions: &mut [u64; 1025],
-    outside: &mut [u64; 1025],
-    pending: &mut [u64; 1025],
-    slots: &mut [u64; 1536],
-    reads: &mut [u64; 2048],
-    leaves: &mut [u64; 512],
-    writes: &mut [u64; 384],
+    rows: &mut Records,
+    leaves: &mut Leaves,
+    slots: &mut Slots,
+    reads: &mut ReadSets,
+    leafsets: &mut LeafSets,
+    writes: &mut WriteSets,
     steps: &[u64],
     start: Core,
 ) -> Replayed
-    requires { ⌜ Fresh (lent (now rows) (now lows) (now versions) (now outside) (now pending) (now slots)) (logs (now reads) (now leaves) (now writes)) start ⌝ }
-    ensures { λ r. ⌜ Replays (now (steps .entry)) (now (addresses .entry)) (now (values .entry)) (now (out .entry)) (lent (now (rows .exit)) (now (lows .exit)) (now (versions .exit)) (now (outside .exit)) (now (pending .exit)) (now (slots .exit))) (logs (now (reads .exit)) (now (leaves .exit)) (now (writes .exit))) (now (addresses .exit)) (now (values .exit)) (now (out .exit)) r ⌝ }
+    requires { ⌜ Fresh (lent (now rows) (now leaves) (now slots)) (logs (now reads) (now leafsets) (now writes)) start ⌝ }
+    ensures { λ r. ⌜ Replays (now (steps .entry)) (now (addresses .entry)) (now (values .entry)) (now (out .entry))
+        (lent (now (rows .exit)) (now (leaves .exit)) (now (slots .exit))) (logs (now (reads .exit)) (now (leafsets .exit)) (now (writes .exit)))
+        (now (addresses .exit)) (now (values .exit)) (now (out .exit)) r ⌝ }
 {
     let count = steps.len() / 4;
     let mut core = start;
@@ -174,13 +176,10 @@ fn take_all(
             addresses,
             values,
             rows,
-            lows,
-            versions,
-            outside,
-            pending,
+            leaves,
             slots,
             reads,
-            leaves,
+            leafsets,
             writes,
             core,
             k,
@@ -227,42 +226,28 @@ pub fn replay(
     out: &mut [u64],
     addresses: &mut [u32],
     values: &mut [u64],
-    rows: &mut [u64; 3072],
-    lows: &mut [u64; 1025],
-    versions: &mut [u64; 1025],
-    outside: &mut [u64; 1025],
-    pending: &mut [u64; 1025],
-    slots: &mut [u64; 1536],
-    reads: &mut [u64; 2048],
-    leaves: &mut [u64; 512],
-    writes: &mut [u64; 384],
+    rows: &mut Records,
+    leaves: &mut Leaves,
+    slots: &mut Slots,
+    reads: &mut ReadSets,
+    leafsets: &mut LeafSets,
+    writes: &mut WriteSets,
     steps: &[u64],
 ) -> Replayed
-    ensures { λ r. ⌜ Replays (now (steps .entry)) (now (addresses .entry)) (now (values .entry)) (now (out .entry)) (lent (now (rows .exit)) (now (lows .exit)) (now (versions .exit)) (now (outside .exit)) (now (pending .exit)) (now (slots .exit))) (logs (now (reads .exit)) (now (leaves .exit)) (now (writes .exit))) (now (addresses .exit)) (now (values .exit)) (now (out .exit)) r ⌝ }
+    ensures { λ r. ⌜ Replays (now (steps .entry)) (now (addresses .entry)) (now (values .entry)) (now (out .entry))
+        (lent (now (rows .exit)) (now (leaves .exit)) (now (slots .exit))) (logs (now (reads .exit)) (now (leafsets .exit)) (now (writes .exit)))
+        (now (addresses .exit)) (now (values .exit)) (now (out .exit)) r ⌝ }
 {
-    let start = starts::fresh(
-        rows,
-        lows,
-        versions,
-        outside,
-        pending,
-        slots,
-        reads,
-        leaves,
-        writes,
-    );
+    let start = starts::fresh(rows, leaves, slots, reads, leafsets, writes);
     take_all(
         out,
         addresses,
         values,
         rows,
-        lows,
-        versions,
-        outside,
-        pending,
+        leaves,
         slots,
         reads,
-        leaves,
+        leafsets,
         writes,
         steps,
         start,

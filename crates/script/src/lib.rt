@@ -2,6 +2,7 @@
 // lines of answers. What a line says is `meaning`, in specs/Grammar.antt.
 pub mod text;
 
+use spec::WIDE;
 ghost use mathlib.Core.Path.{_≡_};
 ghost use mathlib.Core.Bool.{true, not};
 ghost use mathlib.Core.List.{List, [], _∷_, _++_};
@@ -84,9 +85,6 @@ struct Run {
 const SPACE: u8 = 32;
 
 const LINE_FEED: u8 = 10;
-
-// A seat or an address is below this.
-const WIDE: u64 = 0x1_0000_0000;
 
 // The largest number that ten times fits 64 bits, and then a digit up to 5.
 const TENTH: u64 = 1844674407370955161;

@@ -1,5 +1,4 @@
 -- From what the Rattle functions promise to what the exported ones promise.
--- Assumes nothing.
 use Prim.Native.Nat.{ℕ}
 use mathlib.Core.Path.{_≡_, refl, sym, ap, _∙_, subst}
 use mathlib.Core.Bool.{true, false}
@@ -8,12 +7,11 @@ use mathlib.Core.Option.{Option, none, some}
 use lib.ListN.{length}
 use Rattle.lists.specs.Tests.{same, maybe, present}
 use Rattle.lists.specs.Rows.{Row, row}
-use Rattle.spec.specs.Records.{Record}
+use Rattle.spec.specs.Records.{standard, Record}
 use Rattle.spec.specs.Maps.{contents}
-use Rattle.index.specs.Views.{recordFrom}
 use Rattle.looks.specs.declared.Next.{Next}
 use Rattle.looks.specs.declared.Next.the-variants.{At, Done}
-use Rattle.map.specs.Views.{Lent, mapOf}
+use Rattle.map.specs.Views.{recordFrom, Lent, mapOf}
 use Rattle.looks.specs.NextViews.{firstFrom, nextIn, Follows}
 use Rattle.transactions.specs.declared.Core.{Core}
 use Rattle.transactions.specs.Views.{Logs}
@@ -31,12 +29,12 @@ use Rattle.replay.specs.Replays.{Replays}
 use Rattle.sections.specs.Saved.{coreIn}
 use Rattle.sections.specs.Exports.{codedIn, steppedIn, Takes, stopNumber, stopOf, Counts, replayedIn, rowWords, Gives}
 
--- ---- the core in the words
+-- ---- the core in the rows
 
-pub fresh-saved : {l : Lent} {g : Logs} {c : Core} (core : List ℕ) → Fresh l g c → coreIn core ≡ c → Fresh l g (coreIn core)
+pub fresh-saved : {l : Lent} {g : Logs} {c : Core} (core : List (List ℕ)) → Fresh l g c → coreIn core ≡ c → Fresh l g (coreIn core)
 fresh-saved {l} {g} core h e = subst (Fresh l g) (sym e) h
 
-pub ready-loaded : {l : Lent} {g : Logs} {c : Core} (core : List ℕ) → c ≡ coreIn core → Ready l g (coreIn core) → Ready l g c
+pub ready-loaded : {l : Lent} {g : Logs} {c : Core} (core : List (List ℕ)) → c ≡ coreIn core → Ready l g (coreIn core) → Ready l g c
 ready-loaded {l} {g} core e h = subst (Ready l g) (sym e) h
 
 -- ---- a step
@@ -52,13 +50,13 @@ module _ {l l' : Lent} {g g' : Logs} {c : Core} {k : Code} {ks vs ks' vs' : List
   steps-ready : Ready l' g' (r .core)
   steps-ready = ready-by (decoded k) refl
 
-  pub steps-eight : length (r .core .seats) ≡ 8
-  steps-eight = steps-ready .stored .seats
+  pub steps-crew : length (r .core .seats) ≡ standard .workers
+  steps-crew = steps-ready .stored .seats
 
-pub takes : {l l' : Lent} {g g' : Logs} {c : Core} {k : Code} {ks vs ks' vs' core core' answer : List ℕ} (r : Stepped)
+pub takes : {l l' : Lent} {g g' : Logs} {c : Core} {k : Code} {ks vs ks' vs' answer : List ℕ} {core core' : List (List ℕ)} (r : Stepped)
     → c ≡ coreIn core → Ready l g (coreIn core) → Steps l g c k ks vs l' g' ks' vs' r → coreIn core' ≡ r .core → codedIn answer ≡ r .answer
     → Takes l g core k ks vs l' g' core' ks' vs' answer
-takes {l} {l'} {g} {g'} {c} {k} {ks} {vs} {ks'} {vs'} {core} {core'} {answer} r e h s p q =
+takes {l} {l'} {g} {g'} {c} {k} {ks} {vs} {ks'} {vs'} {answer} {core} {core'} r e h s p q =
     record {
       ready = subst (Ready l' g') (sym p) (steps-ready (ready-loaded core e h) s);
       steps =
@@ -74,7 +72,7 @@ stop-back stop.Complete = refl
 stop-back stop.Meaningless = refl
 stop-back stop.Full = refl
 
-pub replayed : {words ks vs out : List ℕ} {l : Lent} {g : Logs} {ks' vs' out' : List ℕ} (core counts : List ℕ) (n : ℕ) (r : Replayed)
+pub replayed : {words ks vs out : List ℕ} {l : Lent} {g : Logs} {ks' vs' out' : List ℕ} (core : List (List ℕ)) (counts : List ℕ) (n : ℕ) (r : Replayed)
     → Replays words ks vs out l g ks' vs' out' r → coreIn core ≡ r .core → Counts counts (r .taken) (r .written) → n ≡ stopNumber (r .stop)
     → Replays words ks vs out l g ks' vs' out' (replayedIn core counts n)
 replayed {words} {ks} {vs} {out} {l} {g} {ks'} {vs'} {out'} core counts n r h e f q =
@@ -89,7 +87,7 @@ replayed {words} {ks} {vs} {out} {l} {g} {ks'} {vs'} {out'} core counts n r h e 
 
 -- ---- the contents
 
-module _ (l : Lent) (core : List ℕ) {c : Core} {from : ℕ} {r : Next} (e : c ≡ coreIn core)
+module _ (l : Lent) (core : List (List ℕ)) {c : Core} {from : ℕ} {r : Next} (e : c ≡ coreIn core)
     (h : Follows (l .rows) (c .sizes .records) (l .slots) from r) where
   first-is : nextIn r ≡ firstFrom from (contents (mapOf l (coreIn core .sizes)))
   first-is = h .next-is (mapOf l (c .sizes) .leaves) ∙ ap (λ (x : Core). firstFrom from (contents (mapOf l (x .sizes)))) e

@@ -1,5 +1,4 @@
 -- What the exported functions promise: the same as the Rattle functions below them, with the outcome read off the words.
--- Assumes nothing.
 use Prim.Native.Nat.{ℕ}
 use mathlib.Core.Path.{_≡_}
 use mathlib.Core.Bool.{Bool}
@@ -28,11 +27,11 @@ use Rattle.sections.specs.Saved.{coreIn}
 abbrev pub codedIn : List ℕ → Coded
 codedIn ws = codedAs (getD ws 0 0) (getD ws 1 0) (getD ws 2 0)
 
-abbrev pub steppedIn : List ℕ → List ℕ → Stepped
+abbrev pub steppedIn : List (List ℕ) → List ℕ → Stepped
 steppedIn core answer = record { core = coreIn core; answer = codedIn answer }
 
--- a coded step, from the core in the words to the core in the words
-pub record Takes (l : Lent) (g : Logs) (core : List ℕ) (k : Code) (ks vs : List ℕ) (l' : Lent) (g' : Logs) (core' ks' vs' answer : List ℕ) : Type 0 where
+-- a coded step, from the core in the rows to the core in the rows
+pub record Takes (l : Lent) (g : Logs) (core : List (List ℕ)) (k : Code) (ks vs : List ℕ) (l' : Lent) (g' : Logs) (core' : List (List ℕ)) (ks' vs' answer : List ℕ) : Type 0 where
   pub ready : Ready l' g' (coreIn core')
   pub steps : Steps l g (coreIn core) k ks vs l' g' ks' vs' (steppedIn core' answer)
 
@@ -50,7 +49,7 @@ pub record Counts (ws : List ℕ) (taken written : ℕ) : Type 0 where
   pub taken-is : getD ws 0 0 ≡ taken
   pub written-is : getD ws 1 0 ≡ written
 
-abbrev pub replayedIn : List ℕ → List ℕ → ℕ → Replayed
+abbrev pub replayedIn : List (List ℕ) → List ℕ → ℕ → Replayed
 replayedIn core counts n =
     record { core = coreIn core; taken = getD counts 0 0; written = getD counts 1 0; stop = stopOf n }
 
@@ -61,6 +60,6 @@ abbrev pub rowWords : Row Record → List ℕ
 rowWords r = r .key ∷ r .item .payload .value ∷ r .item .commit ∷ []
 
 -- the first record of the contents from an address on, in words that it leaves if there is none
-pub record Gives (l : Lent) (core : List ℕ) (from : ℕ) (old new : List ℕ) (r : Bool) : Type 0 where
+pub record Gives (l : Lent) (core : List (List ℕ)) (from : ℕ) (old new : List ℕ) (r : Bool) : Type 0 where
   pub there : r ≡ present (firstFrom from (contents (mapOf l (coreIn core .sizes))))
   pub words : new ≡ maybe (firstFrom from (contents (mapOf l (coreIn core .sizes)))) old rowWords

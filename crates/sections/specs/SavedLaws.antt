@@ -1,45 +1,30 @@
--- The core is read from its words, and put into them.
--- Assumes nothing.
-use Prim.Native.Nat.{ℕ, _+_, _*_, _%_, _^_}
+-- The core is read from its rows, and put into them.
+use Prim.Native.Nat.{ℕ, _+_, _%_, _^_, _<_, _≤_}
+use native.Mathlib.Nat.{not-suc-le-zero}
 use native.Mathlib.Omega.{arith}
-use mathlib.Core.Path.{_≡_, refl, ap, _∙_}
+use mathlib.Core.Path.{_≡_, refl, sym, ap, _∙_}
+use mathlib.Core.Logic.{⊎-elim}
 use mathlib.Core.List.{List, [], _∷_}
-use lib.ListN.{length, getD}
-use Rattle.lists.specs.Tests.{same, same-no}
+use lib.ListN.{length, getD, set, length-set}
+use lib.Seq.{ext-getD, getD-set-same, getD-set-other}
+use Rattle.lists.specs.Tests.{same, cases, same-true, same-false, same-no}
 use Rattle.spec.specs.declared.Stage.{Stage}
 use Rattle.spec.specs.declared.Stage.the-variants.{Free, Open, Locked, Checked}
+use Rattle.spec.specs.Records.{standard}
 use Rattle.sets.specs.declared.workers.Worker.{Worker}
 use Rattle.sets.specs.Workers.{freed}
+use Rattle.sets.specs.Sets.{firstRows}
+use Rattle.sets.specs.SetLaws.{length-rows, row-at}
 use Rattle.map.specs.declared.Sizes.{Sizes}
 use Rattle.counters.specs.declared.Counters.{Counters}
 use Rattle.transactions.specs.declared.Core.{Core}
-use Rattle.sections.specs.declared.saved.SeatWords.{SeatWords}
-use Rattle.sections.specs.Saved.{stageOf, stageNumber, seatIn, sizesIn, countersIn, coreIn, SeatIs}
+use Rattle.sections.specs.Saved.{stageOf, stageNumber, seatIn, seatsIn, sizesIn, countersIn, coreIn, Seated}
 
--- ---- reading
+-- ---- a seat
 
 pub stage-other : (n : ℕ) → (n ≡ 0 → ⊥) → (n ≡ 1 → ⊥) → (n ≡ 2 → ⊥) → Checked ≡ stageOf n
 unfolding stageOf
 stage-other n x y z = rw (same-no x, same-no y, same-no z)
-
-pub seat-read : (ws : List ℕ) (w : ℕ) {s : Stage} {n r l e : ℕ} → s ≡ stageOf (getD ws (5 * w) 0) → n ≡ getD ws (5 * w + 1) 0 % 2 ^ 32
-    → r ≡ getD ws (5 * w + 2) 0 % 2 ^ 8 → l ≡ getD ws (5 * w + 3) 0 % 2 ^ 8 → e ≡ getD ws (5 * w + 4) 0 % 2 ^ 8
-    → record { stage = s; number = n; reads = r; leaves = l; writes = e } ≡ seatIn ws w
-unfolding seatIn
-seat-read ws w a n b c d = λ i. record { stage = a i; number = n i; reads = b i; leaves = c i; writes = d i }
-
-pub sizes-read : (ws : List ℕ) {r l e o : ℕ} → r ≡ getD ws 40 0 → l ≡ getD ws 41 0 → e ≡ getD ws 42 0 → o ≡ getD ws 43 0
-    → record { records = r; leaves = l; entries = e; outside = o } ≡ sizesIn ws
-sizes-read ws a b c d = λ i. record { records = a i; leaves = b i; entries = c i; outside = d i }
-
-pub core-read : (ws : List ℕ) {a b c d e f g h : Worker} {z : Sizes} {k : Counters} → a ≡ seatIn ws 0 → b ≡ seatIn ws 1 → c ≡ seatIn ws 2
-    → d ≡ seatIn ws 3 → e ≡ seatIn ws 4 → f ≡ seatIn ws 5 → g ≡ seatIn ws 6 → h ≡ seatIn ws 7 → z ≡ sizesIn ws → k ≡ countersIn ws
-    → record { seats = a ∷ b ∷ c ∷ d ∷ e ∷ f ∷ g ∷ h ∷ []; sizes = z; counters = k } ≡ coreIn ws
-unfolding coreIn
-core-read ws p0 p1 p2 p3 p4 p5 p6 p7 s t =
-    λ i. record { seats = p0 i ∷ p1 i ∷ p2 i ∷ p3 i ∷ p4 i ∷ p5 i ∷ p6 i ∷ p7 i ∷ []; sizes = s i; counters = t i }
-
--- ---- putting
 
 stage-back : (s : Stage) → stageOf (stageNumber s) ≡ s
 unfolding stageOf same
@@ -48,66 +33,114 @@ stage-back Open = refl
 stage-back Locked = refl
 stage-back Checked = refl
 
--- the seat that the numbers of a seat stand for
-abbrev backOf : SeatWords → Worker
-backOf r =
-    record {
-      stage = stageOf (r .stage);
-      number = r .number % 2 ^ 32;
-      reads = r .reads % 2 ^ 8;
-      leaves = r .leaves % 2 ^ 8;
-      writes = r .writes % 2 ^ 8;
-    }
+pub seat-read : (r : List ℕ) {s : Stage} {n x l e : ℕ} → s ≡ stageOf (getD r 0 0) → n ≡ getD r 1 0 % 2 ^ 32
+    → x ≡ getD r 2 0 % 2 ^ 8 → l ≡ getD r 3 0 % 2 ^ 8 → e ≡ getD r 4 0 % 2 ^ 8
+    → record { stage = s; number = n; reads = x; leaves = l; writes = e } ≡ seatIn r
+unfolding seatIn
+seat-read r a n b c d = λ i. record { stage = a i; number = n i; reads = b i; leaves = c i; writes = d i }
 
-back : {x : Worker} {r : SeatWords} → SeatIs x r → backOf r ≡ x
-back {x} p =
-    λ i. record {
-      stage = (ap stageOf (p .stage) ∙ stage-back (x .stage)) i;
-      number = p .number i;
-      reads = p .reads i;
-      leaves = p .leaves i;
-      writes = p .writes i;
-    }
+pub seat-put : (x : Worker) {s : ℕ} → s ≡ stageNumber (x .stage) → x .number < 2 ^ 32 → x .reads < 2 ^ 8 → x .leaves < 2 ^ 8 → x .writes < 2 ^ 8
+    → seatIn (s ∷ x .number ∷ x .reads ∷ x .leaves ∷ x .writes ∷ []) ≡ x
+unfolding seatIn
+seat-put x e n a b c =
+    let p : x .number % 2 ^ 32 ≡ x .number = omega arith in
+    let q : x .reads % 2 ^ 8 ≡ x .reads = omega arith in
+    let l : x .leaves % 2 ^ 8 ≡ x .leaves = omega arith in
+    let w : x .writes % 2 ^ 8 ≡ x .writes = omega arith in
+    λ i. record { stage = (ap stageOf e ∙ stage-back (x .stage)) i; number = p i; reads = q i; leaves = l i; writes = w i }
 
--- a list of eight, one by one
-one-by-one : (xs : List Worker) → length xs ≡ 8 → getD xs 0 freed ∷ getD xs 1 freed ∷ getD xs 2 freed ∷ getD xs 3 freed ∷ getD xs 4 freed ∷ getD xs 5 freed ∷ getD xs 6 freed ∷ getD xs 7 freed ∷ [] ≡ xs
-one-by-one [] q = absurd (let z : ⊥ = omega arith in z)
-one-by-one (a ∷ []) q = absurd (let z : ⊥ = omega arith in z)
-one-by-one (a ∷ b ∷ []) q = absurd (let z : ⊥ = omega arith in z)
-one-by-one (a ∷ b ∷ c ∷ []) q = absurd (let z : ⊥ = omega arith in z)
-one-by-one (a ∷ b ∷ c ∷ d ∷ []) q = absurd (let z : ⊥ = omega arith in z)
-one-by-one (a ∷ b ∷ c ∷ d ∷ e ∷ []) q = absurd (let z : ⊥ = omega arith in z)
-one-by-one (a ∷ b ∷ c ∷ d ∷ e ∷ f ∷ []) q = absurd (let z : ⊥ = omega arith in z)
-one-by-one (a ∷ b ∷ c ∷ d ∷ e ∷ f ∷ g ∷ []) q = absurd (let z : ⊥ = omega arith in z)
-one-by-one (a ∷ b ∷ c ∷ d ∷ e ∷ f ∷ g ∷ h ∷ []) q = refl
-one-by-one (a ∷ b ∷ c ∷ d ∷ e ∷ f ∷ g ∷ h ∷ i ∷ xs) q = absurd (let z : ⊥ = omega arith in z)
+-- ---- all seats, one after the other
 
--- the words of a core, put one after the other, are read as that core
-pub core-put : (core : Core) → length (core .seats) ≡ 8 → {a b c d e f g h : SeatWords}
-    → SeatIs (getD (core .seats) 0 freed) a
-    → SeatIs (getD (core .seats) 1 freed) b
-    → SeatIs (getD (core .seats) 2 freed) c
-    → SeatIs (getD (core .seats) 3 freed) d
-    → SeatIs (getD (core .seats) 4 freed) e
-    → SeatIs (getD (core .seats) 5 freed) f
-    → SeatIs (getD (core .seats) 6 freed) g
-    → SeatIs (getD (core .seats) 7 freed) h
-    → coreIn (a .stage ∷ a .number ∷ a .reads ∷ a .leaves ∷ a .writes
-    ∷ b .stage ∷ b .number ∷ b .reads ∷ b .leaves ∷ b .writes
-    ∷ c .stage ∷ c .number ∷ c .reads ∷ c .leaves ∷ c .writes
-    ∷ d .stage ∷ d .number ∷ d .reads ∷ d .leaves ∷ d .writes
-    ∷ e .stage ∷ e .number ∷ e .reads ∷ e .leaves ∷ e .writes
-    ∷ f .stage ∷ f .number ∷ f .reads ∷ f .leaves ∷ f .writes
-    ∷ g .stage ∷ g .number ∷ g .reads ∷ g .leaves ∷ g .writes
-    ∷ h .stage ∷ h .number ∷ h .reads ∷ h .leaves ∷ h .writes
-    ∷ core .sizes .records ∷ core .sizes .leaves ∷ core .sizes .entries ∷ core .sizes .outside
-    ∷ core .counters .number ∷ core .counters .version ∷ [])
-    ≡ core
-unfolding coreIn seatIn
-core-put core q p0 p1 p2 p3 p4 p5 p6 p7 =
-    (λ i. record {
-      seats = back p0 i ∷ back p1 i ∷ back p2 i ∷ back p3 i ∷ back p4 i ∷ back p5 i ∷ back p6 i ∷ back p7 i ∷ [];
-      sizes = core .sizes;
-      counters = core .counters;
-    })
-    ∙ ap (λ (xs : List Worker). record { seats = xs; sizes = core .sizes; counters = core .counters }) (one-by-one (core .seats) q)
+-- the first i rows and the first i seats say the same
+pub record Saving (rs : List (List ℕ)) (xs : List Worker) (i : ℕ) : Type 0 where
+  pub seats : length xs ≡ standard .workers
+  pub at : (j : ℕ) → j < i → seatIn (getD rs j []) ≡ getD xs j freed
+
+pub saving-start : (rs : List (List ℕ)) (xs : List Worker) → length xs ≡ standard .workers → Saving rs xs 0
+saving-start rs xs q = record { seats = q; at = λ j h. absurd (not-suc-le-zero h) }
+
+module _ {rs : List (List ℕ)} {xs : List Worker} {i : ℕ} (h : i < standard .workers) (s : Saving rs xs i) where
+  -- the next seat is read
+  pub saving-read : (x : Worker) → x ≡ seatIn (getD rs i []) → Saving rs (set xs i x) (i + 1)
+  saving-read x e =
+      let l : length xs ≡ standard .workers = s .seats in
+      record {
+        seats = length-set xs i x ∙ s .seats;
+        at = λ j k.
+            ⊎-elim
+            (λ t. let q : j ≡ i = same-true j i t in
+            ap (λ (u : ℕ). seatIn (getD rs u [])) q ∙ sym e ∙ sym (getD-set-same xs i x freed (omega arith)) ∙ ap (λ (u : ℕ). getD (set xs i x) u freed) (sym q))
+            (λ f. let d : j ≡ i → ⊥ = same-false j i f in
+            s .at j (omega arith) ∙ sym (getD-set-other xs i j x freed d))
+            (cases (same j i));
+      }
+
+  -- the next row is put
+  pub saving-put : (r : List ℕ) → length rs ≡ standard .workers + 2 → seatIn r ≡ getD xs i freed → Saving (set rs i r) xs (i + 1)
+  saving-put r l e =
+      record {
+        seats = s .seats;
+        at = λ j k.
+            ⊎-elim
+            (λ t. let q : j ≡ i = same-true j i t in
+            ap (λ (u : ℕ). seatIn (getD (set rs i r) u [])) q ∙ ap seatIn (getD-set-same rs i r [] (omega arith)) ∙ e ∙ ap (λ (u : ℕ). getD xs u freed) (sym q))
+            (λ f. let d : j ≡ i → ⊥ = same-false j i f in
+            ap seatIn (getD-set-other rs i j r [] d) ∙ s .at j (omega arith))
+            (cases (same j i));
+      }
+
+pub saving-end : {rs : List (List ℕ)} {xs : List Worker} {i : ℕ} → Saving rs xs i → standard .workers ≤ i → seatsIn rs ≡ xs
+saving-end {rs} {xs} {i} s h =
+    let l : length (seatsIn rs) ≡ standard .workers = length-rows seatIn rs (standard .workers) in
+    let m : length xs ≡ standard .workers = s .seats in
+    ext-getD freed (seatsIn rs) xs (l ∙ sym m)
+    (λ j k. row-at seatIn rs (standard .workers) j freed (omega arith) ∙ s .at j (omega arith))
+
+-- ---- the core
+
+rows-same : {A : Type 0} (f : List ℕ → A) (rs us : List (List ℕ)) (n : ℕ) → ((j : ℕ) → j < n → getD rs j [] ≡ getD us j []) → firstRows f rs n ≡ firstRows f us n
+rows-same f rs us n h =
+    let l : length (firstRows f rs n) ≡ n = length-rows f rs n in
+    ext-getD (f []) (firstRows f rs n) (firstRows f us n) (l ∙ sym (length-rows f us n))
+    (λ j k. row-at f rs n j (f []) (omega arith) ∙ ap f (h j (omega arith)) ∙ sym (row-at f us n j (f []) (omega arith)))
+
+pub core-read : (rs : List (List ℕ)) {xs : List Worker} {z : Sizes} → xs ≡ seatsIn rs → z ≡ sizesIn (getD rs (standard .workers) [])
+    → record { seats = xs; sizes = z; counters = countersIn (getD rs (standard .workers + 1) []) } ≡ coreIn rs
+unfolding coreIn
+core-read rs e f = λ i. record { seats = e i; sizes = f i; counters = countersIn (getD rs (standard .workers + 1) []) }
+
+-- the rows of the sizes and the counters
+abbrev sizesRow : Sizes → List ℕ
+sizesRow z = z .records ∷ z .leaves ∷ z .entries ∷ z .outside ∷ 0 ∷ []
+
+abbrev countersRow : Counters → List ℕ
+countersRow k = k .number ∷ k .version ∷ 0 ∷ 0 ∷ 0 ∷ []
+
+module _ (core : Core) (rs : List (List ℕ)) where
+  abbrev withSizes : List (List ℕ)
+  withSizes = set rs (standard .workers) (sizesRow (core .sizes))
+
+  abbrev whole : List (List ℕ)
+  whole = set withSizes (standard .workers + 1) (countersRow (core .counters))
+
+  seats-same : seatsIn whole ≡ seatsIn rs
+  seats-same =
+      rows-same seatIn whole rs (standard .workers)
+      (λ j h.
+      getD-set-other withSizes (standard .workers + 1) j (countersRow (core .counters)) [] (λ q. let z : ⊥ = omega arith in z)
+      ∙ getD-set-other rs (standard .workers) j (sizesRow (core .sizes)) [] (λ q. let z : ⊥ = omega arith in z))
+
+  -- they are put after the seats
+  pub core-put : Seated rs (core .seats) → coreIn whole ≡ core
+  unfolding coreIn
+  core-put s =
+      let l : length rs ≡ standard .workers + 2 = s .rows in
+      let m : length withSizes ≡ length rs = length-set rs (standard .workers) (sizesRow (core .sizes)) in
+      λ i. record {
+        seats = (seats-same ∙ s .seats) i;
+        sizes =
+            sizesIn
+            ((getD-set-other withSizes (standard .workers + 1) (standard .workers) (countersRow (core .counters)) [] (λ q. let z : ⊥ = omega arith in z)
+            ∙ getD-set-same rs (standard .workers) (sizesRow (core .sizes)) [] (omega arith)) i);
+        counters = countersIn (getD-set-same withSizes (standard .workers + 1) (countersRow (core .counters)) [] (omega arith) i);
+      }

@@ -1,13 +1,21 @@
 // The map for programs in other languages, as a static library. All state lies in arrays that the caller lends: the nine of
-// the engine, and the core in 46 words. The caller keeps them as the last call left them, and begins with `sections_fresh`.
+// the engine, and the core in rows (`saved::Saved`). The caller keeps them as the last call left them, and begins with
+// `sections_fresh`.
 mod saved;
 
+use crate::saved::Saved;
 use looks::Next;
+use map::Leaves;
+use map::Records;
+use map::Slots;
 use replay::codes;
 use replay::codes::Code;
 use replay::codes::Coded;
 use replay::runs;
 use replay::runs::Stop;
+use sets::LeafSets;
+use sets::ReadSets;
+use sets::WriteSets;
 use transactions::starts;
 ghost use mathlib.Core.Path.{_≡_};
 ghost use Rattle.map.specs.Views.{lent};
@@ -21,30 +29,17 @@ ghost use Rattle.sections.specs.Exports.{codedIn, Takes, stopNumber, Cou
 // Makes the arrays a fresh map, whatever they hold.
 #[no_mangle]
 pub extern "C" fn sections_fresh(
-    core: &mut [u64; 46],
-    rows: &mut [u64; 3072],
-    lows: &mut [u64; 1025],
-    versions: &mut [u64; 1025],
-    outside: &mut [u64; 1025],
-    pending: &mut [u64; 1025],
-    slots: &mut [u64; 1536],
-    reads: &mut [u64; 2048],
-    leaves: &mut [u64; 512],
-    writes: &mut [u64; 384],
+    core: &mut Saved,
+    rows: &mut Records,
+    leaves: &mut Leaves,
+    slots: &mut Slots,
+    reads: &mut ReadSets,
+    leafsets: &mut LeafSets,
+    writes: &mut WriteSets,
 )
-    ensures { λ _. ⌜ Fresh (lent (now (rows .exit)) (now (lows .exit)) (now (versions .exit)) (now (outside .exit)) (now (pending .exit)) (now (slots .exit))) (logs (now (reads .exit)) (now (leaves .exit)) (now (writes .exit))) (coreIn (now (core .exit))) ⌝ }
+    ensures { λ _. ⌜ Fresh (lent (now (rows .exit)) (now (leaves .exit)) (now (slots .exit))) (logs (now (reads .exit)) (now (leafsets .exit)) (now (writes .exit))) (coreIn (now (core .exit))) ⌝ }
 {
-    let c = starts::fresh(
-        rows,
-        lows,
-        versions,
-        outside,
-        pending,
-        slots,
-        reads,
-        leaves,
-        writes,
-    );
+    let c = starts::fresh(rows, leaves, slots, reads, leafsets, writes);
     saved::store(core, c);
 }
 
@@ -62,36 +57,33 @@ pub extern "C" fn sections_step(
     answer: &mut [u64; 3],
     addresses: &mut [u32],
     values: &mut [u64],
-    core: &mut [u64; 46],
-    rows: &mut [u64; 3072],
-    lows: &mut [u64; 1025],
-    versions: &mut [u64; 1025],
-    outside: &mut [u64; 1025],
-    pending: &mut [u64; 1025],
-    slots: &mut [u64; 1536],
-    reads: &mut [u64; 2048],
-    leaves: &mut [u64; 512],
-    writes: &mut [u64; 384],
+    core: &mut Saved,
+    rows: &mut Records,
+    leaves: &mut Leaves,
+    slots: &mut Slots,
+    reads: &mut ReadSets,
+    leafsets: &mut LeafSets,
+    writes: &mut WriteSets,
     kind: u64,
     a: u64,
     b: u64,
     d: u64,
 )
-    requires { ⌜ Ready (lent (now rows) (now lows) (now versions) (now outside) (now pending) (now slots)) (logs (now reads) (now leaves) (now writes)) (coreIn (now core)) ⌝ }
-    ensures { λ _. ⌜ Takes (lent (now (rows .entry)) (now (lows .entry)) (now (versions .entry)) (now (outside .entry)) (now (pending .entry)) (now (slots .entry))) (logs (now (reads .entry)) (now (leaves .entry)) (now (writes .entry))) (now (core .entry)) (codeOf kind a b d) (now (addresses .entry)) (now (values .entry)) (lent (now (rows .exit)) (now (lows .exit)) (now (versions .exit)) (now (outside .exit)) (now (pending .exit)) (now (slots .exit))) (logs (now (reads .exit)) (now (leaves .exit)) (now (writes .exit))) (now (core .exit)) (now (addresses .exit)) (now (values .exit)) (now (answer .exit)) ⌝ }
+    requires { ⌜ Ready (lent (now rows) (now leaves) (now slots)) (logs (now reads) (now leafsets) (now writes)) (coreIn (now core)) ⌝ }
+    ensures { λ _. ⌜ Takes (lent (now (rows .entry)) (now (leaves .entry)) (now (slots .entry)))
+        (logs (now (reads .entry)) (now (leafsets .entry)) (now (writes .entry))) (now (core .entry)) (codeOf kind a b d) (now (addresses .entry)) (now (values .entry))
+        (lent (now (rows .exit)) (now (leaves .exit)) (now (slots .exit))) (logs (now (reads .exit)) (now (leafsets .exit)) (now (writes .exit))) (now (core .exit))
+        (now (addresses .exit)) (now (values .exit)) (now (answer .exit)) ⌝ }
 {
     let c = saved::load(core);
     let s = codes::step(
         addresses,
         values,
         rows,
-        lows,
-        versions,
-        outside,
-        pending,
+        leaves,
         slots,
         reads,
-        leaves,
+        leafsets,
         writes,
         c,
         Code { kind, a, b, d },
@@ -128,32 +120,28 @@ pub extern "C" fn sections_replay(
     out: &mut [u64],
     addresses: &mut [u32],
     values: &mut [u64],
-    core: &mut [u64; 46],
-    rows: &mut [u64; 3072],
-    lows: &mut [u64; 1025],
-    versions: &mut [u64; 1025],
-    outside: &mut [u64; 1025],
-    pending: &mut [u64; 1025],
-    slots: &mut [u64; 1536],
-    reads: &mut [u64; 2048],
-    leaves: &mut [u64; 512],
-    writes: &mut [u64; 384],
+    core: &mut Saved,
+    rows: &mut Records,
+    leaves: &mut Leaves,
+    slots: &mut Slots,
+    reads: &mut ReadSets,
+    leafsets: &mut LeafSets,
+    writes: &mut WriteSets,
     steps: &[u64],
 ) -> u64
-    ensures { λ r. ⌜ Replays (now (steps .entry)) (now (addresses .entry)) (now (values .entry)) (now (out .entry)) (lent (now (rows .exit)) (now (lows .exit)) (now (versions .exit)) (now (outside .exit)) (now (pending .exit)) (now (slots .exit))) (logs (now (reads .exit)) (now (leaves .exit)) (now (writes .exit))) (now (addresses .exit)) (now (values .exit)) (now (out .exit)) (replayedIn (now (core .exit)) (now (counts .exit)) r) ⌝ }
+    ensures { λ r. ⌜ Replays (now (steps .entry)) (now (addresses .entry)) (now (values .entry)) (now (out .entry))
+        (lent (now (rows .exit)) (now (leaves .exit)) (now (slots .exit))) (logs (now (reads .exit)) (now (leafsets .exit)) (now (writes .exit)))
+        (now (addresses .exit)) (now (values .exit)) (now (out .exit)) (replayedIn (now (core .exit)) (now (counts .exit)) r) ⌝ }
 {
     let p = runs::replay(
         out,
         addresses,
         values,
         rows,
-        lows,
-        versions,
-        outside,
-        pending,
+        leaves,
         slots,
         reads,
-        leaves,
+        leafsets,
         writes,
         steps,
     );
@@ -169,20 +157,17 @@ pub extern "C" fn sections_replay(
 #[no_mangle]
 pub extern "C" fn sections_next(
     found: &mut [u64; 3],
-    core: &[u64; 46],
-    rows: &[u64; 3072],
-    lows: &[u64; 1025],
-    versions: &[u64; 1025],
-    outside: &[u64; 1025],
-    pending: &[u64; 1025],
-    slots: &[u64; 1536],
-    reads: &[u64; 2048],
-    leaves: &[u64; 512],
-    writes: &[u64; 384],
+    core: &Saved,
+    rows: &Records,
+    leaves: &Leaves,
+    slots: &Slots,
+    reads: &ReadSets,
+    leafsets: &LeafSets,
+    writes: &WriteSets,
     from: u64,
 ) -> bool
-    requires { ⌜ Ready (lent (now rows) (now lows) (now versions) (now outside) (now pending) (now slots)) (logs (now reads) (now leaves) (now writes)) (coreIn (now core)) ⌝ }
-    ensures { λ r. ⌜ Gives (lent (now (rows .entry)) (now (lows .entry)) (now (versions .entry)) (now (outside .entry)) (now (pending .entry)) (now (slots .entry))) (now (core .entry)) from (now (found .entry)) (now (found .exit)) r ⌝ }
+    requires { ⌜ Ready (lent (now rows) (now leaves) (now slots)) (logs (now reads) (now leafsets) (now writes)) (coreIn (now core)) ⌝ }
+    ensures { λ r. ⌜ Gives (lent (now (rows .entry)) (now (leaves .entry)) (now (slots .entry))) (now (core .entry)) from (now (found .entry)) (now (found .exit)) r ⌝ }
 {
     let c = saved::load(core);
     let sizes = c.sizes;

@@ -1,22 +1,24 @@
-// The core in lent words: what goes by value between Rattle functions, another language keeps in an array.
+// The core in lent words: what goes by value between Rattle functions, another language keeps in an array. A row for each
+// seat, then one for the sizes and one for the counters.
 use counters::Counters;
 use map::Sizes;
 use sets::workers::Worker;
 use spec::Stage;
+use spec::WORKERS;
 use transactions::Core;
 ghost use mathlib.Core.Path.{_≡_};
 ghost use Prim.Native.Nat.{_%_, _^_, _<_};
 ghost use lib.ListN.{length};
-ghost use Rattle.sections.specs.Saved.{stageOf, stageNumber, seatIn, sizesIn, countersIn, coreIn, SeatIs};
+ghost use Rattle.spec.specs.Records.{standard};
+ghost use Rattle.sections.specs.Saved.{stageOf, stageNumber, seatIn, seatsIn, sizesIn, coreIn, Seated};
 
-// A seat in numbers.
-struct SeatWords {
-    stage: u64,
-    number: u64,
-    reads: u64,
-    leaves: u64,
-    writes: u64,
-}
+// How many words a row has.
+pub const CORE_WORDS: usize = 5;
+
+pub type Row = [u64; CORE_WORDS];
+
+// The rows of a core.
+pub type Saved = [Row; WORKERS + 2];
 
 fn stage_of(n: u64) -> Stage
     ensures { λ r. ⌜ r ≡ stageOf n ⌝ }
@@ -58,15 +60,15 @@ fn low_byte(n: u64) -> u8
     (n % 256) as u8
 }
 
-fn seat_in(words: &[u64; 46], w: usize) -> Worker
-    requires { ⌜ w < 8 ⌝ }
-    ensures { λ r. ⌜ r ≡ seatIn (now (words .entry)) w ⌝ }
+// The seat of a row.
+fn seat_in(row: Row) -> Worker
+    ensures { λ r. ⌜ r ≡ seatIn row ⌝ }
 {
-    let stage = stage_of(words[5 * w]);
-    let number = low_word(words[5 * w + 1]);
-    let reads = low_byte(words[5 * w + 2]);
-    let leaves = low_byte(words[5 * w + 3]);
-    let writes = low_byte(words[5 * w + 4]);
+    let stage = stage_of(row[0]);
+    let number = low_word(row[1]);
+    let reads = low_byte(row[2]);
+    let leaves = low_byte(row[3]);
+    let writes = low_byte(row[4]);
     Worker {
         number,
         stage,
@@ -76,13 +78,34 @@ fn seat_in(words: &[u64; 46], w: usize) -> Worker
     }
 }
 
-fn sizes_in(words: &[u64; 46]) -> Sizes
-    ensures { λ r. ⌜ r ≡ sizesIn (now (words .entry)) ⌝ }
+fn seats_in(words: &Saved) -> [Worker; WORKERS]
+    ensures { λ r. ⌜ r ≡ seatsIn (now (words .entry)) ⌝ }
 {
-    let records = size(words[40]);
-    let leaves = size(words[41]);
-    let entries = size(words[42]);
-    let outside = size(words[43]);
+    let free = Worker {
+        stage: Stage::Free,
+        number: 0,
+        reads: 0,
+        leaves: 0,
+        writes: 0,
+    };
+    let mut seats = [free; WORKERS];
+    let mut i = 0;
+    while i < WORKERS {
+        let row = words[i];
+        let x = seat_in(row);
+        seats[i] = x;
+        i += 1;
+    }
+    seats
+}
+
+fn sizes_in(row: Row) -> Sizes
+    ensures { λ r. ⌜ r ≡ sizesIn row ⌝ }
+{
+    let records = size(row[0]);
+    let leaves = size(row[1]);
+    let entries = size(row[2]);
+    let outside = size(row[3]);
     Sizes {
         records,
         leaves,
@@ -91,30 +114,17 @@ fn sizes_in(words: &[u64; 46]) -> Sizes
     }
 }
 
-fn counters_in(words: &[u64; 46]) -> Counters
-    ensures { λ r. ⌜ r ≡ countersIn (now (words .entry)) ⌝ }
-{
-    Counters {
-        number: words[44],
-        version: words[45],
-    }
-}
-
 // The core that the words hold.
-pub fn load(words: &[u64; 46]) -> Core
+pub fn load(words: &Saved) -> Core
     ensures { λ r. ⌜ r ≡ coreIn (now (words .entry)) ⌝ }
 {
-    let a = seat_in(words, 0);
-    let b = seat_in(words, 1);
-    let c = seat_in(words, 2);
-    let d = seat_in(words, 3);
-    let e = seat_in(words, 4);
-    let f = seat_in(words, 5);
-    let g = seat_in(words, 6);
-    let h = seat_in(words, 7);
-    let seats = [a, b, c, d, e, f, g, h];
-    let sizes = sizes_in(words);
-    let counters = counters_in(words);
+    let seats = seats_in(words);
+    let sizes = sizes_in(words[WORKERS]);
+    let row = words[WORKERS + 1];
+    let counters = Counters {
+        number: row[0],
+        version: row[1],
+    };
     Core {
         seats,
         sizes,
@@ -122,83 +132,54 @@ pub fn load(words: &[u64; 46]) -> Core
     }
 }
 
-fn seat_words(x: Worker) -> SeatWords
-    ensures { λ r. ⌜ SeatIs x r ⌝ }
+// The row of a seat.
+fn seat_row(x: Worker) -> Row
+    ensures { λ r. ⌜ seatIn r ≡ x ⌝ }
 {
     let s = x.stage;
     let stage = stage_number(s);
-    SeatWords {
+    [
         stage,
-        number: x.number as u64,
-        reads: x.reads as u64,
-        leaves: x.leaves as u64,
-        writes: x.writes as u64,
+        x.number as u64,
+        x.reads as u64,
+        x.leaves as u64,
+        x.writes as u64,
+    ]
+}
+
+fn seat_rows(seats: [Worker; WORKERS]) -> Saved
+    requires { ⌜ length seats ≡ standard .workers ⌝ }
+    ensures { λ r. ⌜ Seated r seats ⌝ }
+{
+    let none = [0; CORE_WORDS];
+    let mut rows = [none; WORKERS + 2];
+    let mut i = 0;
+    while i < WORKERS {
+        let row = seat_row(seats[i]);
+        rows[i] = row;
+        i += 1;
     }
+    rows
 }
 
 // Puts the core into the words.
-pub fn store(words: &mut [u64; 46], core: Core)
-    requires { ⌜ length (core .seats) ≡ 8 ⌝ }
+pub fn store(words: &mut Saved, core: Core)
+    requires { ⌜ length (core .seats) ≡ standard .workers ⌝ }
     ensures { λ _. ⌜ coreIn (now (words .exit)) ≡ core ⌝ }
 {
     let seats = core.seats;
     let z = core.sizes;
     let k = core.counters;
-    let a = seat_words(seats[0]);
-    let b = seat_words(seats[1]);
-    let c = seat_words(seats[2]);
-    let d = seat_words(seats[3]);
-    let e = seat_words(seats[4]);
-    let f = seat_words(seats[5]);
-    let g = seat_words(seats[6]);
-    let h = seat_words(seats[7]);
-    let all = [
-        a.stage,
-        a.number,
-        a.reads,
-        a.leaves,
-        a.writes,
-        b.stage,
-        b.number,
-        b.reads,
-        b.leaves,
-        b.writes,
-        c.stage,
-        c.number,
-        c.reads,
-        c.leaves,
-        c.writes,
-        d.stage,
-        d.number,
-        d.reads,
-        d.leaves,
-        d.writes,
-        e.stage,
-        e.number,
-        e.reads,
-        e.leaves,
-        e.writes,
-        f.stage,
-        f.number,
-        f.reads,
-        f.leaves,
-        f.writes,
-        g.stage,
-        g.number,
-        g.reads,
-        g.leaves,
-        g.writes,
-        h.stage,
-        h.number,
-        h.reads,
-        h.leaves,
-        h.writes,
+    let mut rows = seat_rows(seats);
+    let sizes = [
         z.records as u64,
         z.leaves as u64,
         z.entries as u64,
         z.outside as u64,
-        k.number,
-        k.version,
+        0,
     ];
-    *words = all;
+    rows[WORKERS] = sizes;
+    let counters = [k.number, k.version, 0, 0, 0];
+    rows[WORKERS + 1] = counters;
+    *words = rows;
 }

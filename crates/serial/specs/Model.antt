@@ -14,16 +14,16 @@ use lib.Seq.{getD-set-same, getD-set-other, set-out}
 use Rattle.lists.specs.Tests.{pick, maybe, present, same, less, cases, same-true, same-false, less-true, less-false}
 use Rattle.lists.specs.Rows.{look, Rising}
 use Rattle.lists.specs.RowLaws.{look-insert, some-not-none, rising-nil}
-use Rattle.spec.specs.Records.{Settings, standard, Record, Write}
+use Rattle.spec.specs.Records.{Settings, Record, Write}
 use Rattle.spec.specs.Leaves.{versionAt}
-use Rattle.spec.specs.Slots.{slotCount, contentOf}
+use Rattle.spec.specs.Slots.{contentOf}
 use Rattle.spec.specs.Maps.{current}
 use Rattle.spec.specs.Steps.{Worker, freeWorker, State, fresh, workerOf, Cause, firstCause, withWorker, Event}
 use Rattle.spec.specs.Claim.{Transaction, Reading, runningNow, passed, extended, goesOn}
 use Rattle.laws.specs.SlotCounts.{Good}
 use Rattle.laws.specs.SlotLaws.{fresh-good}
 use Rattle.laws.specs.LeafLaws.{GoodLeaves, fresh-leaves}
-use Rattle.laws.specs.LeafCuts.{GoodCut, standard-cut}
+use Rattle.laws.specs.WorkerLaws.{GoodSettings}
 use Rattle.serial.specs.Invariant.{Facts}
 use Rattle.serial.specs.Keeping.{ReadOn}
 
@@ -38,14 +38,6 @@ facts σ =
       version = versionAt (σ .map .leaves);
       worker = workerOf σ;
     }
-
--- What the theorem needs of the limits.
-pub record GoodSettings (s : Settings) : Type 0 where
-  pub cut : GoodCut s
-  pub roomy : s .waitingLimit < slotCount
-
-pub standard-good : GoodSettings standard
-standard-good = record { cut = standard-cut; roomy = omega arith }
 
 pub record Fine (σ : State) : Type 0 where
   pub settings : GoodSettings (σ .settings)

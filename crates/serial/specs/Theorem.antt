@@ -19,9 +19,10 @@ use Rattle.spec.specs.Maps.{freshMap, outcomeOf, current, contents, waitingWith
 use Rattle.spec.specs.Steps.{Worker, State, fresh, workerOf, Step, begin, read, scan, put, remove, lock, validate, install, abort, merge, workerIn, refused, isFree, isOpen, isLocked, isChecked, Cause, noWorker, workerFree, wrongStage, causes, firstCause, refusal, granted, effect, afterRefusal, answer, next, final, history}
 use Rattle.spec.specs.Claim.{Reading, nothingRead, isGranted, passed, readGranted, advance, readOn, reading, listAfter, SerialRun}
 use Rattle.laws.specs.ContentLaws.{look-contents, rising-contents}
+use Rattle.laws.specs.WorkerLaws.{GoodSettings, standard-settings}
 use Rattle.serial.specs.Stages.{free-free, checked-busy}
 use Rattle.serial.specs.Concluding.{serial}
-use Rattle.serial.specs.Model.{GoodSettings, standard-good, Fine, fine-fresh, worker-fresh, cause-passed, not-false}
+use Rattle.serial.specs.Model.{Fine, fine-fresh, worker-fresh, cause-passed, not-false}
 use Rattle.serial.specs.Continuing.{Sound, IsOpen, put-sound, remove-sound, read-sound, scan-sound}
 use Rattle.serial.specs.Locking.{begin-sound, Lockable, lock-sound, dropped-sound}
 use Rattle.serial.specs.Finishing.{Validatable, validate-sound, install-sound, merge-sound, same-sound}
@@ -195,4 +196,4 @@ every-run-is-serial s g ss =
 
 -- ... under document 01's limits
 pub theorem : (ss : List Step) → SerialRun (history (fresh standard) ss) (contents (final (fresh standard) ss .map))
-theorem ss = every-run-is-serial standard standard-good ss
+theorem ss = every-run-is-serial standard standard-settings ss

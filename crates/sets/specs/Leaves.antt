@@ -1,57 +1,63 @@
--- The leaf sets in words, 32 rows of two words for each worker, and what the functions over them promise.
--- Assumes nothing.
-use Prim.Native.Nat.{ℕ, _+_, _*_, _<_}
+-- Leaf sets (document 01: the log's marks): how their rows read, and what the functions over one promise.
+use Prim.Native.Nat.{ℕ, _+_, _<_}
 use mathlib.Core.Path.{_≡_}
 use mathlib.Core.List.{List, [], _∷_, _++_}
-use lib.ListN.{length, take, getD}
-use Rattle.lists.specs.Shifts.{tab}
-use Rattle.sets.specs.declared.leaves.Mark.{Mark}
-use Rattle.sets.specs.Blocks.{addresses, Beside}
+use lib.ListN.{getD}
+use Rattle.spec.specs.Records.{standard}
+use Rattle.sets.specs.declared.leaves.LoggedLeaf.{LoggedLeaf}
+use Rattle.sets.specs.Sets.{AddressAt, Each, firstRows}
+
+-- one worker's rows, as lists of words
+abbrev pub LeafSetRows : Type 0
+LeafSetRows = List (List ℕ)
+
+-- how many words a row has
+abbrev pub leafSetWords : ℕ
+leafSetWords = 2
 
 -- ---- views
 
--- the version and the low address in row k
-unfoldable pub versionAt : List ℕ → ℕ → ℕ
-versionAt ws k = getD ws (k * 2) 0
+-- the version and the low address that a row says
+abbrev pub versionIn : List ℕ → ℕ
+versionIn r = getD r 0 0
 
-unfoldable pub lowAt : List ℕ → ℕ → ℕ
-lowAt ws k = getD ws (k * 2 + 1) 0
+abbrev pub lowIn : List ℕ → ℕ
+lowIn r = getD r 1 0
 
--- those of all rows of worker w
-unfoldable pub versionsOf : List ℕ → ℕ → List ℕ
-versionsOf ws w = tab (λ (i : ℕ). versionAt ws (w * 32 + i)) 32
+-- the versions in a leaf set of n rows, and the low address of the leaf that had each
+abbrev pub versionsOf : LeafSetRows → ℕ → List ℕ
+versionsOf rs n = firstRows versionIn rs n
 
-unfoldable pub lowsOf : List ℕ → ℕ → List ℕ
-lowsOf ws w = tab (λ (i : ℕ). lowAt ws (w * 32 + i)) 32
+abbrev pub lowsOf : LeafSetRows → ℕ → List ℕ
+lowsOf rs n = firstRows lowIn rs n
 
--- the versions in the leaf set of worker w, of n rows (document 01: the log's marks)
-unfoldable pub versionsIn : List ℕ → ℕ → ℕ → List ℕ
-versionsIn ws w n = take n (versionsOf ws w)
+-- those of worker w
+abbrev pub versionsIn : List LeafSetRows → ℕ → ℕ → List ℕ
+versionsIn gs w n = versionsOf (getD gs w []) n
 
--- the low address of the leaf that had each version
-unfoldable pub lowsIn : List ℕ → ℕ → ℕ → List ℕ
-lowsIn ws w n = take n (lowsOf ws w)
+abbrev pub lowsIn : List LeafSetRows → ℕ → ℕ → List ℕ
+lowsIn gs w n = lowsOf (getD gs w []) n
 
--- ---- the invariant
+-- ---- the invariants
 
--- The words of all workers' leaf sets: stored lows are addresses.
-pub record LeavesHeld (ws : List ℕ) : Type 0 where
-  pub size : length ws ≡ 512
-  pub narrow : (k : ℕ) → k < 256 → getD ws (k * 2 + 1) 0 < addresses
+-- the rows of one worker: stored lows are addresses
+abbrev pub LeafSetHeld : LeafSetRows → Type 0
+LeafSetHeld rs = Each (AddressAt 1) (standard .leafSetLimit) rs
+
+-- those of all workers
+abbrev pub LeavesHeld : List LeafSetRows → Type 0
+LeavesHeld gs = Each LeafSetHeld (standard .workers) gs
 
 -- ---- promises
 
--- the words after a row was appended to the n rows of worker w, and how many there are now
-pub record LogsLeaf (ws : List ℕ) (w n version low : ℕ) (us : List ℕ) (r : ℕ) : Type 0 where
-  pub held : LeavesHeld us
+-- the rows after one was appended to the first n, and how many there are now
+pub record LogsLeaf (rs : LeafSetRows) (n : ℕ) (leaf : LoggedLeaf) (us : LeafSetRows) (r : ℕ) : Type 0 where
+  pub held : LeafSetHeld us
   pub count : r ≡ n + 1
-  pub versions : versionsIn us w r ≡ versionsIn ws w n ++ (version ∷ [])
-  pub lows : lowsIn us w r ≡ lowsIn ws w n ++ (low ∷ [])
-  pub others : (v m : ℕ) → (v ≡ w → ⊥) → versionsIn us v m ≡ versionsIn ws v m
-  pub otherLows : (v m : ℕ) → (v ≡ w → ⊥) → lowsIn us v m ≡ lowsIn ws v m
-  pub elsewhere : Beside 64 w ws us
+  pub versions : versionsOf us r ≡ versionsOf rs n ++ (leaf .version ∷ [])
+  pub lows : lowsOf us r ≡ lowsOf rs n ++ (leaf .low ∷ [])
 
--- row i of worker w, in a set of any number of rows that has it
-pub record GivesLeaf (ws : List ℕ) (w i : ℕ) (r : Mark) : Type 0 where
-  pub version : (n : ℕ) → i < n → r .version ≡ getD (versionsIn ws w n) i 0
-  pub low : (n : ℕ) → i < n → r .low ≡ getD (lowsIn ws w n) i 0
+-- row i, in a set of any number of rows that has it
+pub record GivesLeaf (rs : LeafSetRows) (i : ℕ) (r : LoggedLeaf) : Type 0 where
+  pub version : (n : ℕ) → i < n → r .version ≡ getD (versionsOf rs n) i 0
+  pub low : (n : ℕ) → i < n → r .low ≡ getD (lowsOf rs n) i 0

@@ -1,10 +1,10 @@
-pub mod Blocks
+pub mod Sets
 pub mod Reads
 pub mod Leaves
 pub mod Writes
 pub mod Workers
+pub mod SetLaws
 pub mod ReadLaws
 pub mod LeafLaws
-pub mod WriteRows
 pub mod WriteLaws
 pub mod WorkerLaws

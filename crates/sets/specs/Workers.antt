@@ -1,16 +1,15 @@
 -- A worker with its three sets, as the model has it, and what its methods make of it.
--- Assumes nothing.
 use Prim.Native.Nat.{ℕ}
 use mathlib.Core.List.{List}
 use Rattle.spec.specs.declared.Stage.the-variants.{Free, Open, Locked, Checked}
 use Rattle.spec.specs.Steps as model
 use Rattle.sets.specs.declared.workers.Worker.{Worker}
-use Rattle.sets.specs.Reads.{readsIn}
-use Rattle.sets.specs.Leaves.{versionsIn}
-use Rattle.sets.specs.Writes.{writesIn}
+use Rattle.sets.specs.Reads.{ReadRows, readsIn}
+use Rattle.sets.specs.Leaves.{LeafSetRows, versionsIn}
+use Rattle.sets.specs.Writes.{WriteRows, writesIn}
 
--- worker w, with the words of all read sets, leaf sets and write sets
-unfoldable pub workerIn : Worker → List ℕ → List ℕ → List ℕ → ℕ → model.Worker
+-- worker w (document 01: a seat), with the rows of all read sets, leaf sets and write sets
+unfoldable pub workerIn : Worker → List ReadRows → List LeafSetRows → List WriteRows → ℕ → model.Worker
 workerIn x rs ls ws w =
     record {
       stage = x .stage;
@@ -39,9 +38,6 @@ freed = record { stage = Free; number = 0; reads = 0; leaves = 0; writes = 0 }
 -- the worker with another count of one of its sets
 abbrev pub withReads : Worker → ℕ → Worker
 withReads x n = record { stage = x .stage; number = x .number; reads = n; leaves = x .leaves; writes = x .writes }
-
-abbrev pub withLeaves : Worker → ℕ → Worker
-withLeaves x n = record { stage = x .stage; number = x .number; reads = x .reads; leaves = n; writes = x .writes }
 
 abbrev pub withWrites : Worker → ℕ → Worker
 withWrites x n = record { stage = x .stage; number = x .number; reads = x .reads; leaves = x .leaves; writes = n }

@@ -1,22 +1,28 @@
--- The write sets in words, 16 rows of three words for each worker, and what the functions over them promise.
--- Assumes nothing.
-use Prim.Native.Nat.{ℕ, _+_, _*_, _<_, _≤_}
+-- Write sets (document 01: the edits): how their rows read, and what the functions over one promise.
+use Prim.Native.Nat.{ℕ, _<_, _≤_}
 use mathlib.Core.Path.{_≡_}
 use mathlib.Core.Logic.{_⊎_}
 use mathlib.Core.Bool.{Bool, true, false}
-use mathlib.Core.List.{List}
+use mathlib.Core.List.{List, [], _∷_}
 use mathlib.Core.Option.{Option, none, some}
-use lib.ListN.{length, take, getD}
+use lib.ListN.{length, getD}
 use Rattle.lists.specs.Tests.{pick, same}
 use Rattle.lists.specs.Rows.{Row, row, insert, Rising}
-use Rattle.lists.specs.Shifts.{tab}
 use Rattle.lists.specs.Places.{place, Present, Absent}
-use Rattle.spec.specs.Records.{Write, written, deleted}
+use Rattle.spec.specs.Records.{standard, Write, written, deleted}
 use Rattle.sets.specs.declared.writes.Entry.{Entry}
 use Rattle.sets.specs.declared.writes.Line.{Line}
 use Rattle.sets.specs.declared.writes.Found.{Found}
 use Rattle.sets.specs.declared.writes.Found.the-variants.{Put, Deletion, Nothing}
-use Rattle.sets.specs.Blocks.{addresses, Beside}
+use Rattle.sets.specs.Sets.{AddressAt, Each, firstRows}
+
+-- one worker's rows, as lists of words
+abbrev pub WriteRows : Type 0
+WriteRows = List (List ℕ)
+
+-- how many words a row has
+abbrev pub writeWords : ℕ
+writeWords = 3
 
 -- ---- views
 
@@ -26,9 +32,6 @@ writeOf kind value = pick (same kind 1) (written (record { value = value })) del
 
 abbrev pub entryIn : Entry → Row Write
 entryIn e = row (e .address) (writeOf (e .kind) (e .value))
-
-abbrev pub lineIn : Line → Row Write
-lineIn l = row (l .address) (writeOf (l .kind) (l .value))
 
 -- the write found, or none
 abbrev pub foundIn : Found → Option Write
@@ -40,64 +43,66 @@ foundIn Nothing = none
 abbrev pub noWrite : Row Write
 noWrite = row 0 deleted
 
--- row k of the words
-unfoldable pub writeAt : List ℕ → ℕ → Row Write
-writeAt ws k = row (getD ws (k * 3) 0) (writeOf (getD ws (k * 3 + 1) 0) (getD ws (k * 3 + 2) 0))
+-- row i in words
+abbrev pub lineAt : WriteRows → ℕ → Line
+lineAt rs i = record { address = getD (getD rs i []) 0 0; kind = getD (getD rs i []) 1 0; value = getD (getD rs i []) 2 0 }
 
--- all rows of worker w
-unfoldable pub writesOf : List ℕ → ℕ → List (Row Write)
-writesOf ws w = tab (λ (i : ℕ). writeAt ws (w * 16 + i)) 16
+-- the words of a row
+abbrev pub wordsOf : Line → List ℕ
+wordsOf l = l .address ∷ l .kind ∷ l .value ∷ []
 
--- the write set of worker w, of n rows (document 01: the edits)
-unfoldable pub writesIn : List ℕ → ℕ → ℕ → List (Row Write)
-writesIn ws w n = take n (writesOf ws w)
+-- what a row says
+abbrev pub writeIn : List ℕ → Row Write
+writeIn r = row (getD r 0 0) (writeOf (getD r 1 0) (getD r 2 0))
+
+-- a write set of n rows
+abbrev pub writesOf : WriteRows → ℕ → List (Row Write)
+writesOf rs n = firstRows writeIn rs n
+
+-- that of worker w
+abbrev pub writesIn : List WriteRows → ℕ → ℕ → List (Row Write)
+writesIn gs w n = writesOf (getD gs w []) n
 
 -- ---- the invariants
 
--- The words of all workers' write sets: stored addresses are addresses.
-pub record WritesHeld (ws : List ℕ) : Type 0 where
-  pub size : length ws ≡ 384
-  pub narrow : (k : ℕ) → k < 128 → getD ws (k * 3) 0 < addresses
+-- the rows of one worker: stored addresses are addresses
+abbrev pub WriteSetHeld : WriteRows → Type 0
+WriteSetHeld rs = Each (AddressAt 0) (standard .writeLimit) rs
 
--- The first n rows of worker w are a write set: addresses rise.
-pub record WriteSet (ws : List ℕ) (w n : ℕ) : Type 0 where
-  pub held : WritesHeld ws
-  pub worker : w < 8
-  pub room : n ≤ 16
-  pub rising : Rising (writesIn ws w n)
+-- those of all workers
+abbrev pub WritesHeld : List WriteRows → Type 0
+WritesHeld gs = Each WriteSetHeld (standard .workers) gs
+
+-- The first n rows are a write set: their addresses rise.
+pub record WriteSetOrdered (rs : WriteRows) (n : ℕ) : Type 0 where
+  pub held : WriteSetHeld rs
+  pub room : n ≤ standard .writeLimit
+  pub rising : Rising (writesOf rs n)
 
 -- ---- promises
 
--- row i of worker w as it stands in words
-pub record GivesLine (ws : List ℕ) (w i : ℕ) (r : Line) : Type 0 where
-  pub row : lineIn r ≡ getD (writesOf ws w) i noWrite
-  pub narrow : r .address < addresses
+-- the rows became these
+pub record Becomes (rs us : WriteRows) : Type 0 where
+  pub held : WriteSetHeld us
+  pub rows : us ≡ rs
 
--- the words after worker w's rows became these
-pub record Becomes (ws : List ℕ) (w : ℕ) (rs : List (Row Write)) (us : List ℕ) : Type 0 where
-  pub held : WritesHeld us
-  pub here : writesOf us w ≡ rs
-  pub elsewhere : Beside 48 w ws us
-
--- how many of worker w's n writes have an address below a
-pub record PlaceOf (ws : List ℕ) (w n a p : ℕ) : Type 0 where
-  pub is : p ≡ place a (writesIn ws w n)
+-- how many of the n writes have an address below a
+pub record PlaceOf (rs : WriteRows) (n a p : ℕ) : Type 0 where
+  pub is : p ≡ place a (writesOf rs n)
   pub within : p ≤ n
 
--- whether worker w has a write at the address
-pub record Stands (ws : List ℕ) (w n a : ℕ) (r : Bool) : Type 0 where
-  pub present : r ≡ true → Present a (writesIn ws w n) noWrite
-  pub absent : r ≡ false → Absent a (writesIn ws w n) noWrite
+-- whether there is a write at the address
+pub record Stands (rs : WriteRows) (n a : ℕ) (r : Bool) : Type 0 where
+  pub present : r ≡ true → Present a (writesOf rs n) noWrite
+  pub absent : r ≡ false → Absent a (writesOf rs n) noWrite
 
--- the words after a write was put among the n writes of worker w, and how many there are now
-pub record PutsWrite (ws : List ℕ) (w n a kind value : ℕ) (us : List ℕ) (r : ℕ) : Type 0 where
-  pub set : WriteSet us w r
-  pub view : writesIn us w r ≡ insert a (writeOf kind value) (writesIn ws w n)
-  pub count : r ≡ length (insert a (writeOf kind value) (writesIn ws w n))
-  pub others : (v m : ℕ) → (v ≡ w → ⊥) → writesIn us v m ≡ writesIn ws v m
-  pub elsewhere : Beside 48 w ws us
+-- the rows after a write was put among the n writes, and how many there are now
+pub record PutsWrite (rs : WriteRows) (n a kind value : ℕ) (us : WriteRows) (r : ℕ) : Type 0 where
+  pub set : WriteSetOrdered us r
+  pub view : writesOf us r ≡ insert a (writeOf kind value) (writesOf rs n)
+  pub count : r ≡ length (insert a (writeOf kind value) (writesOf rs n))
 
--- row i of worker w, in a set of any number of rows that has it; its kind is 1 or 2
-pub record GivesWrite (ws : List ℕ) (w i : ℕ) (r : Entry) : Type 0 where
-  pub at : (n : ℕ) → i < n → entryIn r ≡ getD (writesIn ws w n) i noWrite
+-- row i, in a set of any number of rows that has it; its kind is 1 or 2
+pub record GivesWrite (rs : WriteRows) (i : ℕ) (r : Entry) : Type 0 where
+  pub at : (n : ℕ) → i < n → entryIn r ≡ getD (writesOf rs n) i noWrite
   pub kind : (r .kind ≡ 1) ⊎ (r .kind ≡ 2)

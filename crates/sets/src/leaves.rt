@@ -1,36 +1,36 @@
-// The leaf sets: 32 rows of two words for each worker, a leaf's version (document 01: mark) and its low address.
-use crate::Address;
-ghost use mathlib.Core.Path.{_≡_};
+// A leaf set (document 01: the log's marks). A row: a leaf's version (mark) and its low address.
+use crate::LeafSet;
+use spec::Address;
 ghost use Prim.Native.Nat.{_<_};
-ghost use Rattle.sets.specs.Leaves.{LeavesHeld, LogsLeaf, GivesLeaf};
+ghost use Rattle.spec.specs.Records.{standard};
+ghost use Rattle.sets.specs.Leaves.{LeafSetHeld, LogsLeaf, GivesLeaf};
 
 // A row of a leaf set.
-pub struct Mark {
+pub struct LoggedLeaf {
     pub version: u64,
     pub low: Address,
 }
 
-// Appends a row to the n rows of worker w. Answers how many there are now.
-pub fn log_leaf(leaves: &mut [u64; 512], w: usize, n: usize, version: u64, low: Address) -> usize
-    requires { ⌜ LeavesHeld (now leaves) ⌝ }
-    requires { ⌜ (w < 8) × (n < 32) ⌝ }
-    ensures { λ r. ⌜ LogsLeaf (now (leaves .entry)) w n version low (now (leaves .exit)) r ⌝ }
+// Appends a row to the first n. Answers how many there are now.
+pub fn log_leaf(leaves: &mut LeafSet, n: usize, leaf: LoggedLeaf) -> usize
+    requires { ⌜ LeafSetHeld (now leaves) ⌝ }
+    requires { ⌜ n < standard .leafSetLimit ⌝ }
+    ensures { λ r. ⌜ LogsLeaf (now (leaves .entry)) n leaf (now (leaves .exit)) r ⌝ }
 {
-    let b = (w * 32 + n) * 2;
-    leaves[b] = version;
-    leaves[b + 1] = low as u64;
+    let row = [leaf.version, leaf.low as u64];
+    leaves[n] = row;
     n + 1
 }
 
-// Row i of worker w.
-pub fn leaf_at(leaves: &[u64; 512], w: usize, i: usize) -> Mark
-    requires { ⌜ LeavesHeld (now leaves) ⌝ }
-    requires { ⌜ (w < 8) × (i < 32) ⌝ }
-    ensures { λ r. ⌜ GivesLeaf (now (leaves .entry)) w i r ⌝ }
+// Row i.
+pub fn leaf_at(leaves: &LeafSet, i: usize) -> LoggedLeaf
+    requires { ⌜ LeafSetHeld (now leaves) ⌝ }
+    requires { ⌜ i < standard .leafSetLimit ⌝ }
+    ensures { λ r. ⌜ GivesLeaf (now (leaves .entry)) i r ⌝ }
 {
-    let b = (w * 32 + i) * 2;
-    Mark {
-        version: leaves[b],
-        low: leaves[b + 1] as Address,
+    let row = leaves[i];
+    LoggedLeaf {
+        version: row[0],
+        low: row[1] as Address,
     }
 }

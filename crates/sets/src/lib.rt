@@ -1,9 +1,32 @@
-// The transactions of eight workers: the worker itself, and its read set, leaf set and write set, each in one array that
-// the caller lends. A worker's rows stand together in each array; how many of them are in use stands in the worker.
+// The transactions of the workers: the worker itself, and its read set, leaf set and write set, each in rows of words that
+// the caller lends. How many rows of a set are in use stands in the worker.
+use spec::LEAF_SET_LIMIT;
+use spec::READ_LIMIT;
+use spec::WORKERS;
+use spec::WRITE_LIMIT;
+
 pub mod leaves;
 pub mod reads;
 pub mod workers;
 pub mod writes;
 
-// An address of the map. Rows hold 64-bit words.
-pub type Address = u32;
+// How many words a row of each set has.
+pub const READ_WORDS: usize = 4;
+
+pub const LEAF_SET_WORDS: usize = 2;
+
+pub const WRITE_WORDS: usize = 3;
+
+// One worker's sets, a row for each entry.
+pub type ReadSet = [[u64; READ_WORDS]; READ_LIMIT];
+
+pub type LeafSet = [[u64; LEAF_SET_WORDS]; LEAF_SET_LIMIT];
+
+pub type WriteSet = [[u64; WRITE_WORDS]; WRITE_LIMIT];
+
+// All workers' sets.
+pub type ReadSets = [ReadSet; WORKERS];
+
+pub type LeafSets = [LeafSet; WORKERS];
+
+pub type WriteSets = [WriteSet; WORKERS];

@@ -1,51 +1,43 @@
-// The read sets: 64 rows of four words for each worker, an address, whether a record is present there, its value, its
-// commit number.
-use crate::Address;
-ghost use mathlib.Core.Path.{_≡_};
+// A read set (document 01: the log's record entries). A row: the address, whether a record is present there (1 or 0), its
+// value, its commit number.
+use crate::ReadSet;
+use spec::Address;
+use spec::Current;
 ghost use Prim.Native.Nat.{_<_};
-ghost use Rattle.sets.specs.Reads.{ReadsHeld, LogsRead, GivesRead};
+ghost use Rattle.spec.specs.Records.{standard};
+ghost use Rattle.sets.specs.Reads.{ReadSetHeld, LogsRead, GivesRead};
 
-// What a read finds: whether a record is present, its value and its commit number (document 01: stamp).
-pub struct Seen {
-    pub there: bool,
-    pub value: u64,
-    pub commit: u64,
-}
-
-// A row of a read set.
-pub struct Logged {
+// A row of a read set: an address, with the record that a read or a scan found there.
+pub struct Observed {
     pub address: Address,
-    pub seen: Seen,
+    pub current: Current,
 }
 
-// Appends a row to the n rows of worker w. Answers how many there are now.
-pub fn log_read(reads: &mut [u64; 2048], w: usize, n: usize, a: Address, seen: Seen) -> usize
-    requires { ⌜ ReadsHeld (now reads) ⌝ }
-    requires { ⌜ (w < 8) × (n < 64) ⌝ }
-    ensures { λ r. ⌜ LogsRead (now (reads .entry)) w n a seen (now (reads .exit)) r ⌝ }
+// Appends a row to the first n. Answers how many there are now.
+pub fn log_read(reads: &mut ReadSet, n: usize, a: Address, seen: Current) -> usize
+    requires { ⌜ ReadSetHeld (now reads) ⌝ }
+    requires { ⌜ n < standard .readLimit ⌝ }
+    ensures { λ r. ⌜ LogsRead (now (reads .entry)) n a seen (now (reads .exit)) r ⌝ }
 {
-    let b = (w * 64 + n) * 4;
-    reads[b] = a as u64;
-    reads[b + 1] = seen.there as u64;
-    reads[b + 2] = seen.value;
-    reads[b + 3] = seen.commit;
+    let row = [a as u64, seen.there as u64, seen.value, seen.commit];
+    reads[n] = row;
     n + 1
 }
 
-// Row i of worker w.
-pub fn read_at(reads: &[u64; 2048], w: usize, i: usize) -> Logged
-    requires { ⌜ ReadsHeld (now reads) ⌝ }
-    requires { ⌜ (w < 8) × (i < 64) ⌝ }
-    ensures { λ r. ⌜ GivesRead (now (reads .entry)) w i r ⌝ }
+// Row i.
+pub fn read_at(reads: &ReadSet, i: usize) -> Observed
+    requires { ⌜ ReadSetHeld (now reads) ⌝ }
+    requires { ⌜ i < standard .readLimit ⌝ }
+    ensures { λ r. ⌜ GivesRead (now (reads .entry)) i r ⌝ }
 {
-    let b = (w * 64 + i) * 4;
-    let seen = Seen {
-        there: reads[b + 1] == 1,
-        value: reads[b + 2],
-        commit: reads[b + 3],
+    let row = reads[i];
+    let current = Current {
+        there: row[1] == 1,
+        value: row[2],
+        commit: row[3],
     };
-    Logged {
-        address: reads[b] as Address,
-        seen,
+    Observed {
+        address: row[0] as Address,
+        current,
     }
 }

@@ -1,6 +1,7 @@
-// The write sets: 16 rows of three words for each worker, an address, the kind of the write (1: a put, else a deletion)
-// and its value, by rising address.
-use crate::Address;
+// A write set (document 01: the edits). A row: the address, the kind of the write (1: a put, else a deletion) and its
+// value, by rising address.
+use crate::WriteSet;
+use spec::Address;
 ghost use mathlib.Core.Path.{_≡_};
 ghost use mathlib.Core.Logic.{_⊎_};
 ghost use mathlib.Core.Bool.{true};
@@ -9,8 +10,9 @@ ghost use lib.ListN.{set};
 ghost use Rattle.lists.specs.Tests.{present};
 ghost use Rattle.lists.specs.Rows.{look};
 ghost use Rattle.lists.specs.Shifts.{moved};
-ghost use Rattle.sets.specs.Blocks.{addresses};
-ghost use Rattle.sets.specs.Writes.{WritesHeld, WriteSet, lineIn, writesOf, writesIn, foundIn, GivesLine, Becomes, PlaceOf, Stands, PutsWrite, GivesWrite};
+ghost use Rattle.spec.specs.Records.{standard};
+ghost use Rattle.sets.specs.Sets.{addresses};
+ghost use Rattle.sets.specs.Writes.{lineAt, wordsOf, writesOf, foundIn, WriteSetHeld, WriteSetOrdered, Becomes, PlaceOf, Stands, PutsWrite, GivesWrite};
 
 // A row of a write set: the kind is 1 (a put) or 2 (a deletion).
 pub struct Entry {
@@ -33,64 +35,61 @@ pub enum Found {
     Nothing,
 }
 
-// Row i of worker w. Only this function and the next touch words.
-fn get(writes: &[u64; 384], w: usize, i: usize) -> Line
-    requires { ⌜ WritesHeld (now writes) ⌝ }
-    requires { ⌜ (w < 8) × (i < 16) ⌝ }
-    ensures { λ r. ⌜ GivesLine (now (writes .entry)) w i r ⌝ }
+// Row i. Only this function and the next touch words.
+fn get(writes: &WriteSet, i: usize) -> Line
+    requires { ⌜ i < standard .writeLimit ⌝ }
+    ensures { λ r. ⌜ r ≡ lineAt (now (writes .entry)) i ⌝ }
 {
-    let b = (w * 16 + i) * 3;
+    let row = writes[i];
     Line {
-        address: writes[b],
-        kind: writes[b + 1],
-        value: writes[b + 2],
+        address: row[0],
+        kind: row[1],
+        value: row[2],
     }
 }
 
-fn store(writes: &mut [u64; 384], w: usize, i: usize, r: Line)
-    requires { ⌜ WritesHeld (now writes) ⌝ }
-    requires { ⌜ (w < 8) × (i < 16) × (r .address < addresses) ⌝ }
-    ensures { λ _. ⌜ Becomes (now (writes .entry)) w (set (writesOf (now (writes .entry)) w) i (lineIn r)) (now (writes .exit)) ⌝ }
+// Another row at place i.
+fn store(writes: &mut WriteSet, i: usize, r: Line)
+    requires { ⌜ i < standard .writeLimit ⌝ }
+    ensures { λ _. ⌜ now (writes .exit) ≡ set (now (writes .entry)) i (wordsOf r) ⌝ }
 {
-    let b = (w * 16 + i) * 3;
-    writes[b] = r.address;
-    writes[b + 1] = r.kind;
-    writes[b + 2] = r.value;
+    let row = [r.address, r.kind, r.value];
+    writes[i] = row;
 }
 
 // Moves the rows from place p on up by one: the last one first, so that none is overwritten before it is copied.
-fn raise(writes: &mut [u64; 384], w: usize, n: usize, p: usize)
-    requires { ⌜ WritesHeld (now writes) ⌝ }
-    requires { ⌜ (w < 8) × (p ≤ n) × (n < 16) ⌝ }
-    ensures { λ _. ⌜ Becomes (now (writes .entry)) w (moved (writesOf (now (writes .entry)) w) p (p + 1) (n - p)) (now (writes .exit)) ⌝ }
+fn raise(writes: &mut WriteSet, n: usize, p: usize)
+    requires { ⌜ WriteSetHeld (now writes) ⌝ }
+    requires { ⌜ (p ≤ n) × (n < standard .writeLimit) ⌝ }
+    ensures { λ _. ⌜ Becomes (moved (now (writes .entry)) p (p + 1) (n - p)) (now (writes .exit)) ⌝ }
 {
     let mut i = n - p;
     while 0 < i {
         i -= 1;
-        let r = get(writes, w, p + i);
-        store(writes, w, p + 1 + i, r);
+        let row = writes[p + i];
+        writes[p + 1 + i] = row;
     }
 }
 
 // Puts a row in at place p, before the rows that stand there and after it.
-fn insert(writes: &mut [u64; 384], w: usize, n: usize, p: usize, r: Line)
-    requires { ⌜ WritesHeld (now writes) ⌝ }
-    requires { ⌜ (w < 8) × (p ≤ n) × (n < 16) × (r .address < addresses) ⌝ }
-    ensures { λ _. ⌜ Becomes (now (writes .entry)) w (set (moved (writesOf (now (writes .entry)) w) p (p + 1) (n - p)) p (lineIn r)) (now (writes .exit)) ⌝ }
+fn insert(writes: &mut WriteSet, n: usize, p: usize, r: Line)
+    requires { ⌜ WriteSetHeld (now writes) ⌝ }
+    requires { ⌜ (p ≤ n) × (n < standard .writeLimit) × (r .address < addresses) ⌝ }
+    ensures { λ _. ⌜ Becomes (set (moved (now (writes .entry)) p (p + 1) (n - p)) p (wordsOf r)) (now (writes .exit)) ⌝ }
 {
-    raise(writes, w, n, p);
-    store(writes, w, p, r);
+    raise(writes, n, p);
+    store(writes, p, r);
 }
 
-// How many of the n writes of worker w have an address below a: where a scan from a on begins.
-pub fn writes_below(writes: &[u64; 384], w: usize, n: usize, a: Address) -> usize
-    requires { ⌜ WriteSet (now writes) w n ⌝ }
-    ensures { λ r. ⌜ PlaceOf (now (writes .entry)) w n a r ⌝ }
+// How many of the n writes have an address below a: where a scan from a on begins.
+pub fn writes_below(writes: &WriteSet, n: usize, a: Address) -> usize
+    requires { ⌜ WriteSetOrdered (now writes) n ⌝ }
+    ensures { λ r. ⌜ PlaceOf (now (writes .entry)) n a r ⌝ }
 {
     let key = a as u64;
     let mut i = 0;
     while i < n {
-        let r = get(writes, w, i);
+        let r = get(writes, i);
         if key <= r.address {
             return i;
         }
@@ -100,26 +99,26 @@ pub fn writes_below(writes: &[u64; 384], w: usize, n: usize, a: Address) -> usiz
 }
 
 // Whether the write at place p is that of the address.
-fn stands(writes: &[u64; 384], w: usize, n: usize, a: Address, p: usize) -> bool
-    requires { ⌜ WriteSet (now writes) w n ⌝ }
-    requires { ⌜ PlaceOf (now writes) w n a p ⌝ }
-    ensures { λ r. ⌜ Stands (now (writes .entry)) w n a r ⌝ }
+fn stands(writes: &WriteSet, n: usize, a: Address, p: usize) -> bool
+    requires { ⌜ WriteSetOrdered (now writes) n ⌝ }
+    requires { ⌜ PlaceOf (now writes) n a p ⌝ }
+    ensures { λ r. ⌜ Stands (now (writes .entry)) n a r ⌝ }
 {
     if n <= p {
         return false;
     }
-    let r = get(writes, w, p);
+    let r = get(writes, p);
     r.address == a as u64
 }
 
 // The worker's own write at an address.
-pub fn find_write(writes: &[u64; 384], w: usize, n: usize, a: Address) -> Found
-    requires { ⌜ WriteSet (now writes) w n ⌝ }
-    ensures { λ r. ⌜ foundIn r ≡ look (writesIn (now (writes .entry)) w n) a ⌝ }
+pub fn find_write(writes: &WriteSet, n: usize, a: Address) -> Found
+    requires { ⌜ WriteSetOrdered (now writes) n ⌝ }
+    ensures { λ r. ⌜ foundIn r ≡ look (writesOf (now (writes .entry)) n) a ⌝ }
 {
-    let p = writes_below(writes, w, n, a);
-    if stands(writes, w, n, a, p) {
-        let r = get(writes, w, p);
+    let p = writes_below(writes, n, a);
+    if stands(writes, n, a, p) {
+        let r = get(writes, p);
         if r.kind == 1 {
             return Found::Put(r.value);
         }
@@ -128,40 +127,33 @@ pub fn find_write(writes: &[u64; 384], w: usize, n: usize, a: Address) -> Found
     Found::Nothing
 }
 
-// Puts a write among the n writes of worker w, in place of one at the same address. Answers how many there are now.
-pub fn put_write(
-    writes: &mut [u64; 384],
-    w: usize,
-    n: usize,
-    a: Address,
-    kind: u64,
-    value: u64,
-) -> usize
-    requires { ⌜ WriteSet (now writes) w n ⌝ }
-    requires { ⌜ (n < 16) ⊎ (present (look (writesIn (now writes) w n) a) ≡ true) ⌝ }
-    ensures { λ r. ⌜ PutsWrite (now (writes .entry)) w n a kind value (now (writes .exit)) r ⌝ }
+// Puts a write among the n writes, in place of one at the same address. Answers how many there are now.
+pub fn put_write(writes: &mut WriteSet, n: usize, a: Address, kind: u64, value: u64) -> usize
+    requires { ⌜ WriteSetOrdered (now writes) n ⌝ }
+    requires { ⌜ (n < standard .writeLimit) ⊎ (present (look (writesOf (now writes) n) a) ≡ true) ⌝ }
+    ensures { λ r. ⌜ PutsWrite (now (writes .entry)) n a kind value (now (writes .exit)) r ⌝ }
 {
-    let p = writes_below(writes, w, n, a);
+    let p = writes_below(writes, n, a);
     let line = Line {
         address: a as u64,
         kind,
         value,
     };
-    if stands(writes, w, n, a, p) {
-        store(writes, w, p, line);
+    if stands(writes, n, a, p) {
+        store(writes, p, line);
         return n;
     }
-    insert(writes, w, n, p, line);
+    insert(writes, n, p, line);
     n + 1
 }
 
-// Write i of worker w, by rising address.
-pub fn write_at(writes: &[u64; 384], w: usize, i: usize) -> Entry
-    requires { ⌜ WritesHeld (now writes) ⌝ }
-    requires { ⌜ (w < 8) × (i < 16) ⌝ }
-    ensures { λ r. ⌜ GivesWrite (now (writes .entry)) w i r ⌝ }
+// Write i, by rising address.
+pub fn write_at(writes: &WriteSet, i: usize) -> Entry
+    requires { ⌜ WriteSetHeld (now writes) ⌝ }
+    requires { ⌜ i < standard .writeLimit ⌝ }
+    ensures { λ r. ⌜ GivesWrite (now (writes .entry)) i r ⌝ }
 {
-    let r = get(writes, w, i);
+    let r = get(writes, i);
     let address = r.address as Address;
     if r.kind == 1 {
         return Entry {

@@ -2,6 +2,43 @@
 ghost use mathlib.Core.Path.{_≡_};
 ghost use Rattle.spec.specs.Refusals.{numberOf};
 
+// An address of the map (document 01: 32-bit unsigned). Rows hold it as a 64-bit word.
+pub type Address = u32;
+
+// Past the numbers of 32 bits: a seat or an address from here on has no meaning.
+pub const WIDE: u64 = 0x1_0000_0000;
+
+// How many addresses there are.
+pub const ADDRESSES: u64 = WIDE;
+
+// The limits of document 01, as `standard` has them: seats; record entries and marks of a log; edited addresses of a job;
+// waiting and locked addresses; index, waiting and locked addresses; records of a leaf that stays whole, and of a run that is
+// cut; the last serial number.
+pub const WORKERS: usize = 8;
+
+pub const READ_LIMIT: usize = 64;
+
+pub const LEAF_SET_LIMIT: usize = 32;
+
+pub const WRITE_LIMIT: usize = 16;
+
+pub const WAITING_LIMIT: usize = 192;
+
+pub const MAP_LIMIT: usize = 1024;
+
+pub const LEAF_LIMIT: usize = 16;
+
+pub const RUN: usize = 8;
+
+pub const LAST_NUMBER: u64 = 1000000;
+
+// The current record of an address, or none there (document 01: present record): its value and its commit number (stamp).
+pub struct Current {
+    pub there: bool,
+    pub value: u64,
+    pub commit: u64,
+}
+
 // A refusal, one variant for each row of document 01's table.
 pub enum Refusal {
     NoWorker,

@@ -1,17 +1,18 @@
 -- What the first tests of a step tell: the refusal, or the worker, whose stage is right.
--- Assumes nothing.
 use Prim.Native.Nat.{ℕ, _<_, _≤_}
 use mathlib.Core.Path.{_≡_, refl, sym, ap, _∙_, subst}
 use mathlib.Core.Bool.{Bool, true, false, not}
 use mathlib.Core.List.{List, [], _∷_}
-use Rattle.lists.specs.Tests.{less, less-yes, less-no}
+use Rattle.lists.specs.Tests.{less, less-yes, less-no, same, same-yes, same-no}
 use mathlib.Core.Option.{none, some}
 use lib.ListN.{length, getD}
 use Rattle.spec.specs.declared.Stage.{Stage}
+use Rattle.spec.specs.declared.Stage.the-variants.{Free, Open, Locked, Checked}
 use Rattle.spec.specs.declared.Refusal.{Refusal}
 use Rattle.spec.specs.declared.Refusal.the-variants.{NoWorker, WorkerFree, WorkerTaken, WrongStage}
+use Rattle.spec.specs.Records.{standard}
 use Rattle.spec.specs.Refusals.{ends}
-use Rattle.spec.specs.Steps.{workerOf, isFree, begin, cause, noWorker, causes, firstCause, refusal}
+use Rattle.spec.specs.Steps.{workerOf, isFree, isOpen, isLocked, isChecked, begin, cause, noWorker, causes, firstCause, refusal}
 use Rattle.sets.specs.declared.workers.Worker.{Worker}
 use Rattle.sets.specs.Workers.{workerIn, freed}
 use Rattle.map.specs.Views.{Lent}
@@ -21,13 +22,31 @@ use Rattle.transactions.specs.declared.admits.Admit.the-variants.{Refuse
 use Rattle.transactions.specs.Answering.{cause-holds, cause-fails, front, front-none, front-free, front-wrong, front-passed}
 use Rattle.transactions.specs.Views.{Logs, stateOf, worker-at}
 
+-- the stages numbered
+abbrev pub rankOf : Stage → ℕ
+rankOf Free = 0
+rankOf Open = 1
+rankOf Locked = 2
+rankOf Checked = 3
+
+-- the model's test of each
+abbrev pub isAt : Stage → Stage → Bool
+isAt Free = isFree
+isAt Open = isOpen
+isAt Locked = isLocked
+isAt Checked = isChecked
+
+-- abort has no wrong stage
+abbrev pub anyStage : Stage → Bool
+anyStage s = true
+
 -- The tests refuse, by r.
 pub record Turned (right : Stage → Bool) (seats : List Worker) (w : ℕ) (r : Refusal) : Type 0 where
   pub front-is : (l : Lent) (g : Logs) (c : Core) → c .seats ≡ seats → front right (stateOf l g c) w ≡ some r
 
 -- They pass, and x is the worker.
 pub record Entered (right : Stage → Bool) (seats : List Worker) (w : ℕ) (x : Worker) : Type 0 where
-  pub inside : w < 8
+  pub inside : w < standard .workers
   pub is : x ≡ getD seats w freed
   pub stage : right (x .stage) ≡ true
   pub front-is : (l : Lent) (g : Logs) (c : Core) → c .seats ≡ seats → front right (stateOf l g c) w ≡ none
@@ -43,7 +62,7 @@ pub record Barred (seats : List Worker) (w : ℕ) (r : Refusal) : Type 0 where
 
 -- They pass, and x is the free worker.
 pub record Vacant (seats : List Worker) (w : ℕ) (x : Worker) : Type 0 where
-  pub inside : w < 8
+  pub inside : w < standard .workers
   pub is : x ≡ getD seats w freed
   pub passes : (l : Lent) (g : Logs) (c : Core) → c .seats ≡ seats → refusal (stateOf l g c) (begin w) ≡ none
 
@@ -53,6 +72,31 @@ Begun seats w (Seat x) = Vacant seats w x
 
 -- ---- by cases of the tests
 
+rank-test : (s t : Stage) → same (rankOf s) (rankOf t) ≡ isAt t s
+unfolding same isFree isOpen isLocked isChecked
+rank-test Free Free = refl
+rank-test Free Open = refl
+rank-test Free Locked = refl
+rank-test Free Checked = refl
+rank-test Open Free = refl
+rank-test Open Open = refl
+rank-test Open Locked = refl
+rank-test Open Checked = refl
+rank-test Locked Free = refl
+rank-test Locked Open = refl
+rank-test Locked Locked = refl
+rank-test Locked Checked = refl
+rank-test Checked Free = refl
+rank-test Checked Open = refl
+rank-test Checked Locked = refl
+rank-test Checked Checked = refl
+
+pub rank-is : (s t : Stage) {m n : ℕ} → m ≡ rankOf s → n ≡ rankOf t → m ≡ n → isAt t s ≡ true
+rank-is s t p q e = sym (rank-test s t) ∙ same-yes (sym p ∙ e ∙ q)
+
+pub rank-not : (s t : Stage) {m n : ℕ} → m ≡ rankOf s → n ≡ rankOf t → (m ≡ n → ⊥) → isAt t s ≡ false
+rank-not s t p q d = sym (rank-test s t) ∙ same-no (λ e. d (p ∙ e ∙ sym q))
+
 stage-is : (l : Lent) (g : Logs) (c : Core) (seats : List Worker) (w : ℕ) → c .seats ≡ seats → w < length seats
     → workerOf (stateOf l g c) w .stage ≡ getD seats w freed .stage
 unfolding workerIn
@@ -60,71 +104,80 @@ stage-is l g c seats w e h =
     ap (λ (x : Rattle.spec.specs.Steps.Worker). x .stage) (worker-at l g c w (subst (λ (xs : List Worker). w < length xs) (sym e) h))
     ∙ ap (λ (xs : List Worker). getD xs w freed .stage) e
 
-eight : (l : Lent) (g : Logs) (c : Core) → stateOf l g c .settings .workers ≡ 8
+crew-size : (l : Lent) (g : Logs) (c : Core) → stateOf l g c .settings .workers ≡ standard .workers
 unfolding stateOf
-eight l g c = refl
+crew-size l g c = refl
 
-inside-eight : (l : Lent) (g : Logs) (c : Core) (w : ℕ) → w < 8 → w < stateOf l g c .settings .workers
-inside-eight l g c w h = subst (λ (n : ℕ). w < n) (sym (eight l g c)) h
+inside-crew : (l : Lent) (g : Logs) (c : Core) (w : ℕ) → w < standard .workers → w < stateOf l g c .settings .workers
+inside-crew l g c w h = subst (λ (n : ℕ). w < n) (sym (crew-size l g c)) h
 
-pub turned-none : (right : Stage → Bool) (seats : List Worker) (w : ℕ) → 8 ≤ w → Turned right seats w NoWorker
+pub turned-none : (right : Stage → Bool) (seats : List Worker) (w : ℕ) → standard .workers ≤ w → Turned right seats w NoWorker
 turned-none right seats w h =
-    record { front-is = λ l g c e. front-none right (stateOf l g c) w (subst (λ (n : ℕ). n ≤ w) (sym (eight l g c)) h) }
+    record { front-is = λ l g c e. front-none right (stateOf l g c) w (subst (λ (n : ℕ). n ≤ w) (sym (crew-size l g c)) h) }
 
-module _ (right : Stage → Bool) (seats : List Worker) (w : ℕ) (x : Worker) (all : length seats ≡ 8) (h : w < 8) (is : x ≡ getD seats w freed) where
+-- worker x at its place, whose stage has rank n
+module _ {seats : List Worker} {w n : ℕ} (x : Worker) (all : length seats ≡ standard .workers) (h : w < standard .workers) (is : x ≡ getD seats w freed)
+    (ranked : n ≡ rankOf (x .stage)) where
   here : (l : Lent) (g : Logs) (c : Core) → c .seats ≡ seats → workerOf (stateOf l g c) w .stage ≡ x .stage
   here l g c e =
       stage-is l g c seats w e (subst (λ (n : ℕ). w < n) (sym all) h) ∙ ap (λ (y : Worker). y .stage) (sym is)
 
-  pub turned-free : isFree (x .stage) ≡ true → Turned right seats w WorkerFree
-  turned-free f =
-      record { front-is = λ l g c e. front-free right (stateOf l g c) w (inside-eight l g c w h) (ap isFree (here l g c e) ∙ f) }
+  module _ (right : Stage → Bool) where
+    pub turned-free : n ≡ 0 → Turned right seats w WorkerFree
+    turned-free z =
+        record { front-is = λ l g c e. front-free right (stateOf l g c) w (inside-crew l g c w h) (ap isFree (here l g c e) ∙ rank-is (x .stage) Free ranked refl z) }
 
-  pub turned-wrong : isFree (x .stage) ≡ false → right (x .stage) ≡ false → Turned right seats w WrongStage
-  turned-wrong f r =
-      record {
-        front-is = λ l g c e. front-wrong right (stateOf l g c) w (inside-eight l g c w h) (ap isFree (here l g c e) ∙ f) (ap right (here l g c e) ∙ r);
-      }
+    pub turned-wrong : (n ≡ 0 → ⊥) → right (x .stage) ≡ false → Turned right seats w WrongStage
+    turned-wrong f r =
+        record {
+          front-is =
+              λ l g c e. front-wrong right (stateOf l g c) w (inside-crew l g c w h)
+              (ap isFree (here l g c e) ∙ rank-not (x .stage) Free ranked refl f) (ap right (here l g c e) ∙ r);
+        }
 
-  pub admitted : isFree (x .stage) ≡ false → right (x .stage) ≡ true → Entered right seats w x
-  admitted f r =
-      record {
-        inside = h;
-        is = is;
-        stage = r;
-        front-is = λ l g c e. front-passed right (stateOf l g c) w (inside-eight l g c w h) (ap isFree (here l g c e) ∙ f) (ap right (here l g c e) ∙ r);
-      }
+    pub admitted : (n ≡ 0 → ⊥) → right (x .stage) ≡ true → Entered right seats w x
+    admitted f r =
+        record {
+          inside = h;
+          is = is;
+          stage = r;
+          front-is =
+              λ l g c e. front-passed right (stateOf l g c) w (inside-crew l g c w h)
+              (ap isFree (here l g c e) ∙ rank-not (x .stage) Free ranked refl f) (ap right (here l g c e) ∙ r);
+        }
 
 -- ---- begin
 
-begin-first : (l : Lent) (g : Logs) (c : Core) (w : ℕ) → 8 ≤ w → refusal (stateOf l g c) (begin w) ≡ some NoWorker
+begin-first : (l : Lent) (g : Logs) (c : Core) (w : ℕ) → standard .workers ≤ w → refusal (stateOf l g c) (begin w) ≡ some NoWorker
 unfolding refusal causes noWorker stateOf
-begin-first l g c w h = cause-holds (not (less w 8)) NoWorker _ (ap not (less-no {m = w} {n = 8} h))
+begin-first l g c w h = cause-holds (not (less w (standard .workers))) NoWorker _ (ap not (less-no {m = w} {n = standard .workers} h))
 
-pub barred-none : (seats : List Worker) (w : ℕ) → 8 ≤ w → Barred seats w NoWorker
+pub barred-none : (seats : List Worker) (w : ℕ) → standard .workers ≤ w → Barred seats w NoWorker
 barred-none seats w h = record { refuses = λ l g c e. begin-first l g c w h; mild = refl }
 
-begin-then : (l : Lent) (g : Logs) (c : Core) (w : ℕ) → w < 8
+begin-then : (l : Lent) (g : Logs) (c : Core) (w : ℕ) → w < standard .workers
     → refusal (stateOf l g c) (begin w) ≡ firstCause (cause (not (isFree (workerOf (stateOf l g c) w .stage))) WorkerTaken ∷ [])
 unfolding refusal causes noWorker stateOf
-begin-then l g c w h = cause-fails (not (less w 8)) NoWorker _ (ap not (less-yes {m = w} {n = 8} h))
+begin-then l g c w h = cause-fails (not (less w (standard .workers))) NoWorker _ (ap not (less-yes {m = w} {n = standard .workers} h))
 
-module _ (seats : List Worker) (w : ℕ) (x : Worker) (all : length seats ≡ 8) (h : w < 8) (is : x ≡ getD seats w freed) where
-  at-begin : (l : Lent) (g : Logs) (c : Core) → c .seats ≡ seats → workerOf (stateOf l g c) w .stage ≡ x .stage
-  at-begin l g c e = here isFree seats w x all h is l g c e
-
-  pub barred-taken : isFree (x .stage) ≡ false → Barred seats w WorkerTaken
+module _ {seats : List Worker} {w n : ℕ} (x : Worker) (all : length seats ≡ standard .workers) (h : w < standard .workers) (is : x ≡ getD seats w freed)
+    (ranked : n ≡ rankOf (x .stage)) where
+  pub barred-taken : (n ≡ 0 → ⊥) → Barred seats w WorkerTaken
   barred-taken f =
       record {
-        refuses = λ l g c e. begin-then l g c w h ∙ cause-holds _ WorkerTaken [] (ap not (ap isFree (at-begin l g c e) ∙ f));
+        refuses =
+            λ l g c e. begin-then l g c w h
+            ∙ cause-holds _ WorkerTaken [] (ap (λ (s : Stage). not (isFree s)) (here x all h is ranked l g c e) ∙ ap not (rank-not (x .stage) Free ranked refl f));
         mild = refl;
       }
 
-  pub vacant-free : isFree (x .stage) ≡ true → Vacant seats w x
+  pub vacant-free : n ≡ 0 → Vacant seats w x
   unfolding firstCause
-  vacant-free f =
+  vacant-free z =
       record {
         inside = h;
         is = is;
-        passes = λ l g c e. begin-then l g c w h ∙ cause-fails _ WorkerTaken [] (ap not (ap isFree (at-begin l g c e) ∙ f));
+        passes =
+            λ l g c e. begin-then l g c w h
+            ∙ cause-fails _ WorkerTaken [] (ap (λ (s : Stage). not (isFree s)) (here x all h is ranked l g c e) ∙ ap not (rank-is (x .stage) Free ranked refl z));
       }

@@ -1,5 +1,4 @@
 -- How a step's refusals are found one after the other: the causes that the code has tested, in their order.
--- Assumes nothing.
 use Prim.Native.Nat.{ℕ, _<_, _≤_}
 use mathlib.Core.Path.{_≡_, refl, ap, _∙_}
 use mathlib.Core.Bool.{Bool, true, false, not}

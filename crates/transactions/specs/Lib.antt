@@ -1,9 +1,8 @@
-pub mod StageTests
 pub mod Answering
 pub mod Views
 pub mod Ready
 pub mod Admits
+pub mod SeatLaws
 pub mod Begins
 pub mod Starts
-pub mod SeatLaws
 pub mod MergeSteps

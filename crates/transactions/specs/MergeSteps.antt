@@ -1,12 +1,11 @@
 -- A merge, as it goes: the map and the last version are the model's, and each logged low still lies in its leaf.
--- Assumes nothing.
 use Prim.Native.Nat.{ℕ, _+_, _*_, _^_, _<_, _≤_}
 use native.Mathlib.Nat.{le-trans, le-of-eq}
 use native.Mathlib.Omega.{arith}
 use mathlib.Core.Path.{_≡_, refl, sym, ap, _∙_, subst}
 use mathlib.Core.Logic.{_⊎_, ⊎-elim}
 use mathlib.Core.Bool.{true, false}
-use mathlib.Core.List.{List·Memᴰ}
+use mathlib.Core.List.{[], List·Memᴰ}
 use mathlib.Core.Option.{none}
 use lib.ListN.{getD}
 use Rattle.lists.specs.Tests.{cases}
@@ -18,9 +17,10 @@ use Rattle.spec.specs.Steps.{State, merge, counted, refusal, causes, firstCause
 use Rattle.laws.specs.LeafVersions.{GoodLeaves, version-live, live-version}
 use Rattle.laws.specs.LeafCuts.{standard-cut}
 use Rattle.laws.specs.MergeLaws as laws
+use Rattle.laws.specs.VersionBounds.{versionsPerMerge, standard-per}
 use Rattle.limits.specs.Invariant.{standard-version}
-use Rattle.sets.specs.Leaves.{versionsIn, lowsIn}
-use Rattle.sets.specs.LeafLaws.{length-versions}
+use Rattle.sets.specs.Leaves.{versionIn, versionsIn, lowsIn}
+use Rattle.sets.specs.SetLaws.{length-rows}
 use Rattle.lists.specs.Ascending.{mem-getD}
 use Rattle.map.specs.declared.merge.Merged.{Merged}
 use Rattle.map.specs.Views.{Lent, mapOf}
@@ -37,10 +37,11 @@ mergedCore c r = record { seats = c .seats; sizes = r .sizes; counters = r .coun
 -- the version counter is far from its end
 pub version-room : {l : Lent} {g : Logs} {c : Core} → Ready l g c → c .counters .version + 129 < 2 ^ 64
 version-room {l} {g} {c} h =
-    let e : c .counters .version ≤ 129 * 16 * 1000000 = small in
+    let e : c .counters .version ≤ versionsPerMerge standard * standard .writeLimit * standard .lastNumber = small in
+    let p : versionsPerMerge standard ≡ 129 = standard-per in
     omega arith
   where
-    small : c .counters .version ≤ 129 * 16 * 1000000
+    small : c .counters .version ≤ versionsPerMerge standard * standard .writeLimit * standard .lastNumber
     small = unfold stateOf in standard-version (h .kept) refl
 
 -- ---- a logged low stays in its leaf
@@ -91,7 +92,7 @@ module _ {l l' : Lent} {g : Logs} {c : Core} {a : ℕ} {r : Merged} (h : Ready l
   does =
       laws.merges a standard-cut (h .stored .map .bounded .slots) (h .stored .map .bounded .records) good
 
-  merged-stored : ((w : ℕ) → w < 8 → (i : ℕ) → i < seat c w .leaves → getD (versionsIn (g .leaves) w (seat c w .leaves)) i 0 ≤ c .counters .version)
+  merged-stored : ((w : ℕ) → w < standard .workers → (i : ℕ) → i < seat c w .leaves → getD (versionsIn (g .leaves) w (seat c w .leaves)) i 0 ≤ c .counters .version)
       → Stored l' g (mergedCore c r)
   merged-stored old =
       record {
@@ -107,7 +108,7 @@ module _ {l l' : Lent} {g : Logs} {c : Core} {a : ℕ} {r : Merged} (h : Ready l
             (subst (λ (x : MapState). live (x .leaves) (getD (versionsIn (g .leaves) w (seat c w .leaves)) i 0) ≡ true) (m .map) e));
       }
 
-  versions-at : (w : ℕ) → w < 8 → model.workerOf (stateOf l g c) w .versions ≡ versionsIn (g .leaves) w (seat c w .leaves)
+  versions-at : (w : ℕ) → w < standard .workers → model.workerOf (stateOf l g c) w .versions ≡ versionsIn (g .leaves) w (seat c w .leaves)
   unfolding Rattle.sets.specs.Workers.workerIn
   versions-at w b =
       ap (λ (x : model.Worker). x .versions) (worker-at l g c w (subst (λ (n : ℕ). w < n) (sym (h .stored .seats)) b))
@@ -117,11 +118,11 @@ module _ {l l' : Lent} {g : Logs} {c : Core} {a : ℕ} {r : Merged} (h : Ready l
   version-given w u q = h .logged .old w u q
 
   -- a logged version is one of those that the model has logged
-  logged-old : (w : ℕ) → w < 8 → (i : ℕ) → i < seat c w .leaves → getD (versionsIn (g .leaves) w (seat c w .leaves)) i 0 ≤ c .counters .version
+  logged-old : (w : ℕ) → w < standard .workers → (i : ℕ) → i < seat c w .leaves → getD (versionsIn (g .leaves) w (seat c w .leaves)) i 0 ≤ c .counters .version
   logged-old w b i j =
       version-given w (getD (versionsIn (g .leaves) w (seat c w .leaves)) i 0)
       (subst (List·Memᴰ (getD (versionsIn (g .leaves) w (seat c w .leaves)) i 0)) (sym (versions-at w b))
-      (mem-getD (versionsIn (g .leaves) w (seat c w .leaves)) i 0 (le-trans j (le-of-eq (sym (length-versions (g .leaves) w (seat c w .leaves) (h .stored .counts w b .leaves)))))))
+      (mem-getD (versionsIn (g .leaves) w (seat c w .leaves)) i 0 (le-trans j (le-of-eq (sym (length-rows versionIn (getD (g .leaves) w []) (seat c w .leaves)))))))
 
   pub merge-goes : Goes l g c (merge a) l' g (mergedCore c r) (counted (r .count))
   merge-goes =

@@ -1,14 +1,15 @@
 -- The invariant of the engine: every public entry asks it, `fresh` establishes it and every entry keeps it. And what a
 -- step promises: its answer and the state after it are the model's.
--- Assumes nothing.
 use Prim.Native.Nat.{ℕ, _<_, _≤_}
 use mathlib.Core.Path.{_≡_, refl, sym, _∙_, subst}
 use mathlib.Core.Bool.{true, false}
+use mathlib.Core.List.{List, []}
 use mathlib.Core.Option.{some}
 use lib.ListN.{length, getD}
 use Rattle.spec.specs.declared.Refusal.{Refusal}
+use Rattle.spec.specs.Records.{standard}
 use Rattle.spec.specs.Refusals.{ends}
-use Rattle.spec.specs.Leaves.{versionAt, live}
+use Rattle.spec.specs.Leaves.{Leaf, versionAt, live}
 use Rattle.spec.specs.Steps.{State, Step, Answer, refused, refusal, answer, next}
 use Rattle.limits.specs.Invariant.{Kept}
 use Rattle.limits.specs.Keeping.{next-kept}
@@ -16,7 +17,7 @@ use Rattle.limits.specs.LoggedVersions.{LoggedOld, next-logged}
 use Rattle.sets.specs.declared.workers.Worker.{Worker}
 use Rattle.sets.specs.Workers.{freed}
 use Rattle.sets.specs.Reads.{ReadsHeld}
-use Rattle.sets.specs.Leaves.{LeavesHeld, versionsIn, lowsIn}
+use Rattle.sets.specs.Leaves.{LeafSetRows, LeavesHeld, versionsOf, lowsOf}
 use Rattle.sets.specs.Writes.{WritesHeld}
 use Rattle.map.specs.Views.{Lent, mapOf}
 use Rattle.map.specs.Held as map
@@ -29,9 +30,14 @@ seat c w = getD (c .seats) w freed
 
 -- A worker's counts stay within its rows.
 pub record Within (x : Worker) : Type 0 where
-  pub reads : x .reads ≤ 64
-  pub leaves : x .leaves ≤ 32
-  pub writes : x .writes ≤ 16
+  pub reads : x .reads ≤ standard .readLimit
+  pub leaves : x .leaves ≤ standard .leafSetLimit
+  pub writes : x .writes ≤ standard .writeLimit
+
+-- Each low address of a leaf set of n rows lies in the leaf with the version logged beside it, as long as there is one.
+abbrev pub LowsStay : List Leaf → LeafSetRows → ℕ → Type 0
+LowsStay ts rs n =
+    (i : ℕ) → i < n → live ts (getD (versionsOf rs n) i 0) ≡ true → versionAt ts (getD (lowsOf rs n) i 0) ≡ getD (versionsOf rs n) i 0
 
 -- What the arrays and the core hold beside the model's own invariant: what the promises of the layers below ask.
 pub record Stored (l : Lent) (g : Logs) (c : Core) : Type 0 where
@@ -39,14 +45,9 @@ pub record Stored (l : Lent) (g : Logs) (c : Core) : Type 0 where
   pub reads : ReadsHeld (g .reads)
   pub leaves : LeavesHeld (g .leaves)
   pub writes : WritesHeld (g .writes)
-  pub seats : length (c .seats) ≡ 8
-  pub counts : (w : ℕ) → w < 8 → Within (seat c w)
-  -- a logged low address lies in the leaf with the version logged beside it, as long as there is one
-  pub lows :
-      (w : ℕ) → w < 8 → (i : ℕ) → i < seat c w .leaves
-      → live (mapOf l (c .sizes) .leaves) (getD (versionsIn (g .leaves) w (seat c w .leaves)) i 0) ≡ true
-      → versionAt (mapOf l (c .sizes) .leaves) (getD (lowsIn (g .leaves) w (seat c w .leaves)) i 0)
-      ≡ getD (versionsIn (g .leaves) w (seat c w .leaves)) i 0
+  pub seats : length (c .seats) ≡ standard .workers
+  pub counts : (w : ℕ) → w < standard .workers → Within (seat c w)
+  pub lows : (w : ℕ) → w < standard .workers → LowsStay (mapOf l (c .sizes) .leaves) (getD (g .leaves) w []) (seat c w .leaves)
 
 pub record Ready (l : Lent) (g : Logs) (c : Core) : Type 0 where
   pub stored : Stored l g c

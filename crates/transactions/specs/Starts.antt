@@ -1,9 +1,8 @@
 -- The arrays of a fresh map, with every worker free.
--- Assumes nothing.
 use Prim.Native.Nat.{ℕ, zero, suc, _<_, zero-le}
 use native.Mathlib.Nat.{not-suc-le-zero}
 use mathlib.Core.Path.{_≡_, refl, sym, subst}
-use mathlib.Core.List.{_∷_}
+use mathlib.Core.List.{List, _∷_}
 use lib.ListN.{getD, replicate, length-replicate}
 use Rattle.spec.specs.Records.{standard}
 use Rattle.spec.specs.Maps.{freshMap}
@@ -12,13 +11,14 @@ use Rattle.laws.specs.WorkerLaws.{standard-settings}
 use Rattle.limits.specs.Invariant.{Kept, fresh-kept}
 use Rattle.limits.specs.LoggedVersions.{LoggedOld, fresh-logged}
 use Rattle.sets.specs.declared.workers.Worker.{Worker}
-use Rattle.sets.specs.Workers.{workerIn, freed}
-use Rattle.sets.specs.Reads.{readsIn}
-use Rattle.sets.specs.Leaves.{versionsIn}
-use Rattle.sets.specs.Writes.{writesIn}
+use Rattle.sets.specs.Workers.{freed}
+use Rattle.sets.specs.Reads.{readWords}
+use Rattle.sets.specs.Leaves.{leafSetWords}
+use Rattle.sets.specs.Writes.{writeWords}
 use Rattle.sets.specs.ReadLaws.{reads-zero}
 use Rattle.sets.specs.LeafLaws.{leaves-zero}
-use Rattle.sets.specs.WriteRows.{writes-zero}
+use Rattle.sets.specs.WriteLaws.{writes-zero}
+use Rattle.sets.specs.WorkerLaws.{free-in}
 use Rattle.map.specs.declared.Sizes.{Sizes}
 use Rattle.map.specs.Views.{Lent}
 use Rattle.map.specs.Says.{Becomes}
@@ -30,16 +30,18 @@ pub record Fresh (l : Lent) (g : Logs) (c : Core) : Type 0 where
   pub ready : Ready l g c
   pub state : stateOf l g c ≡ fresh standard
 
--- the words of sets with nothing in them
+-- all workers' sets, of rows of zeros
+abbrev zeros : ℕ → ℕ → List (List (List ℕ))
+zeros limit words = replicate (standard .workers) (replicate limit (replicate words 0))
+
 abbrev pub noLogs : Logs
-noLogs = logs (replicate 2048 0) (replicate 512 0) (replicate 384 0)
+noLogs = logs (zeros (standard .readLimit) readWords) (zeros (standard .leafSetLimit) leafSetWords) (zeros (standard .writeLimit) writeWords)
 
 abbrev pub startCore : Sizes → Core
-startCore z = record { seats = replicate 8 freed; sizes = z; counters = record { number = 0; version = 0 } }
+startCore z = record { seats = replicate (standard .workers) freed; sizes = z; counters = record { number = 0; version = 0 } }
 
 free-seat : (g : Logs) (w : ℕ) → seatIn g freed w ≡ freeWorker
-unfolding workerIn readsIn versionsIn writesIn
-free-seat g w = refl
+free-seat g w = free-in (g .reads) (g .leaves) (g .writes) w
 
 free-crew : (g : Logs) (n w : ℕ) → workersFrom g (replicate n freed) w ≡ replicate n freeWorker
 unfolding workersFrom
@@ -59,11 +61,11 @@ module _ (l : Lent) (z : Sizes) (b : Becomes l z 0 freshMap) where
         settings = standard;
         counters = record { number = 0; version = 0 };
         map = b .map i;
-        workers = free-crew noLogs 8 0 i;
+        workers = free-crew noLogs (standard .workers) 0 i;
       }
 
   no-leaf : (w i : ℕ) → i < seat (startCore z) w .leaves → {A : Type 0} → A
-  no-leaf w i h = absurd (not-suc-le-zero (subst (λ (x : Worker). i < x .leaves) (getD-free 8 w) h))
+  no-leaf w i h = absurd (not-suc-le-zero (subst (λ (x : Worker). i < x .leaves) (getD-free (standard .workers) w) h))
 
   fresh-stored : Stored l noLogs (startCore z)
   fresh-stored =
@@ -72,8 +74,8 @@ module _ (l : Lent) (z : Sizes) (b : Becomes l z 0 freshMap) where
         reads = reads-zero;
         leaves = leaves-zero;
         writes = writes-zero;
-        seats = length-replicate 8 freed;
-        counts = λ w h. subst Within (sym (getD-free 8 w)) (record { reads = zero-le; leaves = zero-le; writes = zero-le });
+        seats = length-replicate (standard .workers) freed;
+        counts = λ w h. subst Within (sym (getD-free (standard .workers) w)) (record { reads = zero-le; leaves = zero-le; writes = zero-le });
         lows = λ w h i j. no-leaf w i j;
       }
 

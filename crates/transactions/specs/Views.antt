@@ -1,5 +1,4 @@
 -- How the lent arrays and the core are read: they are the model's state.
--- Assumes nothing.
 use Prim.Native.Nat.{ℕ, zero, suc, _+_, _<_}
 use native.Mathlib.Nat.{not-suc-le-zero, le-of-suc-le-suc, add-zero, add-suc, suc-add}
 use native.Mathlib.Omega.{arith}
@@ -11,22 +10,23 @@ use Rattle.spec.specs.Steps as model
 use Rattle.spec.specs.Steps.{State, workerOf, freeWorker, withWorker}
 use Rattle.sets.specs.declared.workers.Worker.{Worker}
 use Rattle.sets.specs.Workers.{workerIn, freed}
-use Rattle.sets.specs.Reads.{readsIn}
-use Rattle.sets.specs.Leaves.{versionsIn}
-use Rattle.sets.specs.Writes.{writesIn}
+use Rattle.sets.specs.Reads.{ReadRows, readsIn}
+use Rattle.sets.specs.Leaves.{LeafSetRows, versionsIn}
+use Rattle.sets.specs.Writes.{WriteRows, writesIn}
+use Rattle.map.specs.declared.Sizes.{Sizes}
 use Rattle.map.specs.Views.{Lent, mapOf}
 use Rattle.transactions.specs.declared.Core.{Core}
 
--- The words of all workers' read sets, leaf sets and write sets.
+-- All workers' read sets, leaf sets and write sets.
 pub record Logs : Type 0 where
-  pub reads : List ℕ
-  pub leaves : List ℕ
-  pub writes : List ℕ
+  pub reads : List ReadRows
+  pub leaves : List LeafSetRows
+  pub writes : List WriteRows
 
-abbrev pub logs : List ℕ → List ℕ → List ℕ → Logs
+abbrev pub logs : List ReadRows → List LeafSetRows → List WriteRows → Logs
 logs reads leaves writes = record { reads = reads; leaves = leaves; writes = writes }
 
--- worker w, with its rows of the three arrays
+-- worker w, with its rows of the three sets
 abbrev pub seatIn : Logs → Worker → ℕ → model.Worker
 seatIn g x w = workerIn x (g .reads) (g .leaves) (g .writes) w
 
@@ -45,9 +45,12 @@ stateOf l g c =
       workers = workersFrom g (c .seats) 0;
     }
 
--- the core with another worker
+-- the core with another worker, and with other sizes
 abbrev pub withSeat : Core → ℕ → Worker → Core
 withSeat c w x = record { seats = set (c .seats) w x; sizes = c .sizes; counters = c .counters }
+
+abbrev pub withBoth : Core → ℕ → Worker → Sizes → Core
+withBoth c w x z = record { seats = set (c .seats) w x; sizes = z; counters = c .counters }
 
 -- ---- workers
 
@@ -76,6 +79,9 @@ pub record OthersSame (g g' : Logs) (w : ℕ) : Type 0 where
   pub reads : (v n : ℕ) → (v ≡ w → ⊥) → readsIn (g' .reads) v n ≡ readsIn (g .reads) v n
   pub leaves : (v n : ℕ) → (v ≡ w → ⊥) → versionsIn (g' .leaves) v n ≡ versionsIn (g .leaves) v n
   pub writes : (v n : ℕ) → (v ≡ w → ⊥) → writesIn (g' .writes) v n ≡ writesIn (g .writes) v n
+
+pub same-logs : (g : Logs) (w : ℕ) → OthersSame g g w
+same-logs g w = record { reads = λ v n d. refl; leaves = λ v n d. refl; writes = λ v n d. refl }
 
 other-seat : (g g' : Logs) (w : ℕ) → OthersSame g g' w → (x : Worker) (v : ℕ) → (v ≡ w → ⊥) → seatIn g' x v ≡ seatIn g x v
 unfolding workerIn

@@ -8,10 +8,11 @@ pub mod starts;
 use counters::Counters;
 use map::Sizes;
 use sets::workers::Worker;
+use spec::WORKERS;
 
 // What goes by value: the workers, how much the map's arrays hold, and the last commit number and leaf version given.
 pub struct Core {
-    pub seats: [Worker; 8],
+    pub seats: [Worker; WORKERS],
     pub sizes: Sizes,
     pub counters: Counters,
 }

@@ -1,7 +1,13 @@
 // Merge (document 01: fold): no worker takes part, and it is never refused.
 use crate::Core;
-use map::Address;
+use map::Leaves;
+use map::Records;
+use map::Slots;
 use map::merge;
+use sets::LeafSets;
+use sets::ReadSets;
+use sets::WriteSets;
+use spec::Address;
 ghost use Rattle.spec.specs.Steps as model;
 ghost use Rattle.map.specs.Views.{lent};
 ghost use Rattle.transactions.specs.Views.{logs};
@@ -15,35 +21,24 @@ pub struct MergeDone {
 
 // The pending writes of the leaf that holds the address enter the index.
 pub fn merge_at(
-    rows: &mut [u64; 3072],
-    lows: &mut [u64; 1025],
-    versions: &mut [u64; 1025],
-    outside: &mut [u64; 1025],
-    pending: &mut [u64; 1025],
-    slots: &mut [u64; 1536],
-    reads: &[u64; 2048],
-    leaves: &[u64; 512],
-    writes: &[u64; 384],
+    rows: &mut Records,
+    leaves: &mut Leaves,
+    slots: &mut Slots,
+    reads: &ReadSets,
+    leafsets: &LeafSets,
+    writes: &WriteSets,
     c: Core,
     a: Address,
 ) -> MergeDone
-    requires { ⌜ Ready (lent (now rows) (now lows) (now versions) (now outside) (now pending) (now slots)) (logs (now reads) (now leaves) (now writes)) c ⌝ }
-    ensures { λ r. ⌜ Goes (lent (now (rows .entry)) (now (lows .entry)) (now (versions .entry)) (now (outside .entry)) (now (pending .entry)) (now (slots .entry))) (logs (now (reads .entry)) (now (leaves .entry)) (now (writes .entry))) c (model.merge a) (lent (now (rows .exit)) (now (lows .exit)) (now (versions .exit)) (now (outside .exit)) (now (pending .exit)) (now (slots .exit))) (logs (now (reads .entry)) (now (leaves .entry)) (now (writes .entry))) (r .core) (model.counted (r .count)) ⌝ }
+    requires { ⌜ Ready (lent (now rows) (now leaves) (now slots)) (logs (now reads) (now leafsets) (now writes)) c ⌝ }
+    ensures { λ r. ⌜ Goes (lent (now (rows .entry)) (now (leaves .entry)) (now (slots .entry)))
+        (logs (now (reads .entry)) (now (leafsets .entry)) (now (writes .entry))) c (model.merge a) (lent (now (rows .exit)) (now (leaves .exit)) (now (slots .exit)))
+        (logs (now (reads .entry)) (now (leafsets .entry)) (now (writes .entry))) (r .core) (model.counted (r .count)) ⌝ }
 {
     let seats = c.seats;
     let sizes = c.sizes;
     let counters = c.counters;
-    let r = merge::merge(
-        rows,
-        lows,
-        versions,
-        outside,
-        pending,
-        slots,
-        sizes,
-        counters,
-        a,
-    );
+    let r = merge::merge(rows, leaves, slots, sizes, counters, a);
     let z = r.sizes;
     let k = r.counters;
     let core = Core {

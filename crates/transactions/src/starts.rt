@@ -1,34 +1,47 @@
 // A fresh map in any lent arrays, with every worker free.
 use crate::Core;
 use counters::Counters;
+use map::Leaves;
+use map::Records;
+use map::Slots;
 use map::say;
+use sets::LEAF_SET_WORDS;
+use sets::LeafSets;
+use sets::READ_WORDS;
+use sets::ReadSets;
+use sets::WRITE_WORDS;
+use sets::WriteSets;
 use sets::workers::Worker;
+use spec::LEAF_SET_LIMIT;
+use spec::READ_LIMIT;
 use spec::Stage;
+use spec::WORKERS;
+use spec::WRITE_LIMIT;
 ghost use Rattle.map.specs.Views.{lent};
 ghost use Rattle.transactions.specs.Views.{logs};
 ghost use Rattle.transactions.specs.Starts.{Fresh};
 
 // Empties the arrays. Whatever they held, the state is document 01's fresh map.
 pub fn fresh(
-    rows: &mut [u64; 3072],
-    lows: &mut [u64; 1025],
-    versions: &mut [u64; 1025],
-    outside: &mut [u64; 1025],
-    pending: &mut [u64; 1025],
-    slots: &mut [u64; 1536],
-    reads: &mut [u64; 2048],
-    leaves: &mut [u64; 512],
-    writes: &mut [u64; 384],
+    rows: &mut Records,
+    leaves: &mut Leaves,
+    slots: &mut Slots,
+    reads: &mut ReadSets,
+    leafsets: &mut LeafSets,
+    writes: &mut WriteSets,
 ) -> Core
-    ensures { λ r. ⌜ Fresh (lent (now (rows .exit)) (now (lows .exit)) (now (versions .exit)) (now (outside .exit)) (now (pending .exit)) (now (slots .exit))) (logs (now (reads .exit)) (now (leaves .exit)) (now (writes .exit))) r ⌝ }
+    ensures { λ r. ⌜ Fresh (lent (now (rows .exit)) (now (leaves .exit)) (now (slots .exit))) (logs (now (reads .exit)) (now (leafsets .exit)) (now (writes .exit))) r ⌝ }
 {
-    let sizes = say::fresh(rows, lows, versions, outside, pending, slots);
-    let no_reads = [0u64; 2048];
-    *reads = no_reads;
-    let no_leaves = [0u64; 512];
-    *leaves = no_leaves;
-    let no_writes = [0u64; 384];
-    *writes = no_writes;
+    let sizes = say::fresh(rows, leaves, slots);
+    let no_read = [0u64; READ_WORDS];
+    let no_reads = [no_read; READ_LIMIT];
+    *reads = [no_reads; WORKERS];
+    let no_leaf = [0u64; LEAF_SET_WORDS];
+    let no_leaves = [no_leaf; LEAF_SET_LIMIT];
+    *leafsets = [no_leaves; WORKERS];
+    let no_write = [0u64; WRITE_WORDS];
+    let no_writes = [no_write; WRITE_LIMIT];
+    *writes = [no_writes; WORKERS];
     let free = Worker {
         stage: Stage::Free,
         number: 0,
@@ -36,7 +49,7 @@ pub fn fresh(
         leaves: 0,
         writes: 0,
     };
-    let seats = [free; 8];
+    let seats = [free; WORKERS];
     let counters = Counters {
         number: 0,
         version: 0,

@@ -1,34 +1,62 @@
 //! The functions of the static library, as `sections.h` has them. Nothing checks
 //! these lines against crates/sections/src/lib.rt.
 
+/// Document 01's limits, and how many words a row of each array has.
+const SEATS: usize = 8;
+const MAP_LIMIT: usize = 1024;
+const SLOTS: usize = 256;
+const READ_LIMIT: usize = 64;
+const MARK_LIMIT: usize = 32;
+const WRITE_LIMIT: usize = 16;
+const CORE_WORDS: usize = 5;
+const RECORD_WORDS: usize = 3;
+const LEAF_WORDS: usize = 4;
+const SLOT_WORDS: usize = 6;
+const READ_WORDS: usize = 4;
+const MARK_WORDS: usize = 2;
+const WRITE_WORDS: usize = 3;
+
+pub type Core = [[u64; CORE_WORDS]; SEATS + 2];
+pub type Records = [[u64; RECORD_WORDS]; MAP_LIMIT];
+pub type Leaves = [[u64; LEAF_WORDS]; MAP_LIMIT + 1];
+pub type Slots = [[u64; SLOT_WORDS]; SLOTS];
+pub type ReadSets = [[[u64; READ_WORDS]; READ_LIMIT]; SEATS];
+pub type LeafSets = [[[u64; MARK_WORDS]; MARK_LIMIT]; SEATS];
+pub type WriteSets = [[[u64; WRITE_WORDS]; WRITE_LIMIT]; SEATS];
+
 /// What one map needs, beside the core.
 #[repr(C)]
 pub struct Arrays {
-    pub rows: [u64; 3072],
-    pub lows: [u64; 1025],
-    pub versions: [u64; 1025],
-    pub outside: [u64; 1025],
-    pub pending: [u64; 1025],
-    pub slots: [u64; 1536],
-    pub reads: [u64; 2048],
-    pub leaves: [u64; 512],
-    pub writes: [u64; 384],
+    pub records: Records,
+    pub leaves: Leaves,
+    pub slots: Slots,
+    pub reads: ReadSets,
+    pub leaf_sets: LeafSets,
+    pub writes: WriteSets,
 }
 
-pub type Core = [u64; 46];
+/// Arrays whose every word is the same.
+pub fn filled(word: u64) -> (Core, Arrays) {
+    let arrays = Arrays {
+        records: [[word; RECORD_WORDS]; MAP_LIMIT],
+        leaves: [[word; LEAF_WORDS]; MAP_LIMIT + 1],
+        slots: [[word; SLOT_WORDS]; SLOTS],
+        reads: [[[word; READ_WORDS]; READ_LIMIT]; SEATS],
+        leaf_sets: [[[word; MARK_WORDS]; MARK_LIMIT]; SEATS],
+        writes: [[[word; WRITE_WORDS]; WRITE_LIMIT]; SEATS],
+    };
+    ([[word; CORE_WORDS]; SEATS + 2], arrays)
+}
 
 extern "C" {
     pub fn sections_fresh(
         core: &mut Core,
-        rows: &mut [u64; 3072],
-        lows: &mut [u64; 1025],
-        versions: &mut [u64; 1025],
-        outside: &mut [u64; 1025],
-        pending: &mut [u64; 1025],
-        slots: &mut [u64; 1536],
-        reads: &mut [u64; 2048],
-        leaves: &mut [u64; 512],
-        writes: &mut [u64; 384],
+        records: &mut Records,
+        leaves: &mut Leaves,
+        slots: &mut Slots,
+        reads: &mut ReadSets,
+        leaf_sets: &mut LeafSets,
+        writes: &mut WriteSets,
     );
 
     pub fn sections_step(
@@ -38,15 +66,12 @@ extern "C" {
         values: *mut u64,
         value_places: usize,
         core: &mut Core,
-        rows: &mut [u64; 3072],
-        lows: &mut [u64; 1025],
-        versions: &mut [u64; 1025],
-        outside: &mut [u64; 1025],
-        pending: &mut [u64; 1025],
-        slots: &mut [u64; 1536],
-        reads: &mut [u64; 2048],
-        leaves: &mut [u64; 512],
-        writes: &mut [u64; 384],
+        records: &mut Records,
+        leaves: &mut Leaves,
+        slots: &mut Slots,
+        reads: &mut ReadSets,
+        leaf_sets: &mut LeafSets,
+        writes: &mut WriteSets,
         kind: u64,
         a: u64,
         b: u64,
@@ -62,15 +87,12 @@ extern "C" {
         values: *mut u64,
         value_places: usize,
         core: &mut Core,
-        rows: &mut [u64; 3072],
-        lows: &mut [u64; 1025],
-        versions: &mut [u64; 1025],
-        outside: &mut [u64; 1025],
-        pending: &mut [u64; 1025],
-        slots: &mut [u64; 1536],
-        reads: &mut [u64; 2048],
-        leaves: &mut [u64; 512],
-        writes: &mut [u64; 384],
+        records: &mut Records,
+        leaves: &mut Leaves,
+        slots: &mut Slots,
+        reads: &mut ReadSets,
+        leaf_sets: &mut LeafSets,
+        writes: &mut WriteSets,
         steps: *const u64,
         step_words: usize,
     ) -> u64;
@@ -78,15 +100,12 @@ extern "C" {
     pub fn sections_next(
         found: &mut [u64; 3],
         core: &Core,
-        rows: &[u64; 3072],
-        lows: &[u64; 1025],
-        versions: &[u64; 1025],
-        outside: &[u64; 1025],
-        pending: &[u64; 1025],
-        slots: &[u64; 1536],
-        reads: &[u64; 2048],
-        leaves: &[u64; 512],
-        writes: &[u64; 384],
+        records: &Records,
+        leaves: &Leaves,
+        slots: &Slots,
+        reads: &ReadSets,
+        leaf_sets: &LeafSets,
+        writes: &WriteSets,
         from: u64,
     ) -> bool;
 }

@@ -47,14 +47,11 @@ impl Default for Sections {
         unsafe {
             sections_fresh(
                 core,
-                &mut x.rows,
-                &mut x.lows,
-                &mut x.versions,
-                &mut x.outside,
-                &mut x.pending,
+                &mut x.records,
+                &mut x.leaves,
                 &mut x.slots,
                 &mut x.reads,
-                &mut x.leaves,
+                &mut x.leaf_sets,
                 &mut x.writes,
             );
         }
@@ -65,18 +62,8 @@ impl Default for Sections {
 impl Sections {
     /// Not a map yet.
     fn blank() -> Self {
-        let arrays = Arrays {
-            rows: [7; 3072],
-            lows: [7; 1025],
-            versions: [7; 1025],
-            outside: [7; 1025],
-            pending: [7; 1025],
-            slots: [7; 1536],
-            reads: [7; 2048],
-            leaves: [7; 512],
-            writes: [7; 384],
-        };
-        Sections { core: [7; 46], arrays: Box::new(arrays) }
+        let (core, arrays) = declared::filled(7);
+        Sections { core, arrays: Box::new(arrays) }
     }
 
     /// One step, with the buffers for a scan: its answer in three words.
@@ -93,14 +80,11 @@ impl Sections {
                 values.as_mut_ptr(),
                 values.len(),
                 core,
-                &mut x.rows,
-                &mut x.lows,
-                &mut x.versions,
-                &mut x.outside,
-                &mut x.pending,
+                &mut x.records,
+                &mut x.leaves,
                 &mut x.slots,
                 &mut x.reads,
-                &mut x.leaves,
+                &mut x.leaf_sets,
                 &mut x.writes,
                 kind,
                 a,
@@ -132,14 +116,11 @@ impl Sections {
                 values.as_mut_ptr(),
                 values.len(),
                 core,
-                &mut x.rows,
-                &mut x.lows,
-                &mut x.versions,
-                &mut x.outside,
-                &mut x.pending,
+                &mut x.records,
+                &mut x.leaves,
                 &mut x.slots,
                 &mut x.reads,
-                &mut x.leaves,
+                &mut x.leaf_sets,
                 &mut x.writes,
                 steps.as_ptr(),
                 steps.len(),
@@ -163,14 +144,11 @@ impl Sections {
             sections_next(
                 &mut found,
                 core,
-                &x.rows,
-                &x.lows,
-                &x.versions,
-                &x.outside,
-                &x.pending,
+                &x.records,
+                &x.leaves,
                 &x.slots,
                 &x.reads,
-                &x.leaves,
+                &x.leaf_sets,
                 &x.writes,
                 from,
             )

@@ -1,42 +1,31 @@
--- `looks::leaf` meets its contract. Assumes nothing.
+-- `looks::leaf` meets its contract.
+use Prim.Native.Nat.{ℕ, _^_, _<_}
+use mathlib.Core.Path.{sym, subst}
+use Rattle.index.specs.LeafColumns.{column-places}
+use Rattle.phantomlet.specs.LeafCounts.{low-of}
 use Rattle.looks.specs.ScanLaws.{marks}
 use borrow.Author.Needs.{needs}
 use Rattle.looks.proofs.leaf.Statement.{statement}
 use Rattle.looks.proofs.leaf.Tie as tie
+use Rattle.index.proofs.leaves.leaf_at.Reads as leaf-at-reads
+use Rattle.index.proofs.leaves.leaf_places.Reads as leaf-places-reads
 
-all-requires : tie.Need-all-requires
-all-requires c κs = search needs
+leaf-places-requires : tie.Need-leaf-places-requires
+leaf-places-requires c κs = search needs
 
-all-requires-2 : tie.Need-all-requires-2
-all-requires-2 c κs = search needs
+leaf-at-requires : tie.Need-leaf-at-requires
+leaf-at-requires c κs = search needs
 
-mul-low : tie.Need-mul-low
-mul-low c = search needs
-
-element-copy-out-low : tie.Need-element-copy-out-low
-element-copy-out-low c = search needs
-
-mul-t6 : tie.Need-mul-t6
-mul-t6 c = search needs
-
-element-copy-out-t9 : tie.Need-element-copy-out-t9
-element-copy-out-t9 c = search needs
-
-cast-t12 : tie.Need-cast-t12
-cast-t12 c = search needs
+cast-t5 : tie.Need-cast-t5
+cast-t5 c =
+    let s = c .before .before .before in
+    record { fits = subst (λ (x : ℕ). x < 2 ^ 32) (sym (low-of (s .args .leaves .now) (s .args .i) (c .before .leaf-at .ensures))) (s .pre .narrow) }
 
 returns : tie.Need-returns
-returns c = marks _ _ _ (c .before .before .before .all .ensures) (c .before .before .all2 .ensures)
+returns c =
+    let s = c .before .before .before in
+    let ls = s .args .leaves .now in
+    marks ls _ _ (c .before .before .leaf-places .ensures) (c .before .leaf-at .ensures)
 
 pub leaf-spec : {M : Type 1} → statement M
-leaf-spec =
-    tie.close
-    (tie.spec
-    all-requires
-    all-requires-2
-    mul-low
-    element-copy-out-low
-    mul-t6
-    element-copy-out-t9
-    cast-t12
-    returns)
+leaf-spec = tie.close (tie.spec leaf-places-requires leaf-at-requires cast-t5 returns)

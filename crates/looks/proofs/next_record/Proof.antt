@@ -2,7 +2,7 @@
 use Prim.Native.Nat.{_-_}
 use native.Mathlib.Omega.{arith}
 use borrow.Author.Needs.{needs}
-use Rattle.looks.specs.NextViews.{Passed}
+use Rattle.looks.specs.NextViews.{end, Passed}
 use Rattle.looks.specs.NextLaws.{passed-start, passed-over, passed-on, follows-done, follows-at}
 use Rattle.looks.proofs.next_record.Statement.{statement}
 use Rattle.looks.proofs.next_record.Tie as tie
@@ -11,7 +11,7 @@ abbrev Inv-loop : tie.InvT-loop
 Inv-loop rows slots n from at₀ at = Passed rows n slots from at
 
 abbrev μ-loop : tie.MeasureT-loop
-μ-loop rows slots n from at₀ at = 4294967296 - at
+μ-loop rows slots n from at₀ at = end - at
 
 loop-holds : tie.Need-loop-holds Inv-loop μ-loop
 loop-holds c = passed-start _ _ _ _
@@ -30,7 +30,7 @@ least-requires c κs = search needs
 
 returns : tie.Need-returns Inv-loop μ-loop
 returns c = let s = c .before .before .before .before .before .before in
-    follows-done _ _ _ (s .pre .0) (s .pre .1 .0) (s .pre .1 .1) _ _ (passed-over _ _ _ (s .pre .0) (s .pre .1 .0) (s .pre .1 .1) _ _ _ _ _ (c .before .before .before .before .before .loop .inv) (c .before .before .before .index-from .ensures) (c .before .before .slot-from .ensures) (c .before .least .ensures)) (c .if1 .taken)
+    follows-done _ _ _ (s .pre .0) (s .pre .1) _ _ (passed-over _ _ _ (s .pre .0) (s .pre .1) _ _ _ _ _ (c .before .before .before .before .before .loop .inv) (c .before .before .before .index-from .ensures) (c .before .before .slot-from .ensures) (c .before .least .ensures)) (c .if1 .taken)
 
 cast-address : tie.Need-cast-address Inv-loop μ-loop
 cast-address c = search needs
@@ -40,7 +40,7 @@ current-record-requires c κs = search needs
 
 returns-2 : tie.Need-returns-2 Inv-loop μ-loop
 returns-2 c = let s = c .before .before .before .before .before .before .before .before in
-    follows-at _ _ _ (s .pre .0) (s .pre .1 .0) (s .pre .1 .1) _ _ (c .before .current-record .result) (passed-over _ _ _ (s .pre .0) (s .pre .1 .0) (s .pre .1 .1) _ _ _ _ _ (c .before .before .before .before .before .before .before .loop .inv) (c .before .before .before .before .before .index-from .ensures) (c .before .before .before .before .slot-from .ensures) (c .before .before .before .least .ensures)) (c .before .current-record .ensures) (c .if2 .taken)
+    follows-at _ _ _ (s .pre .0) (s .pre .1) _ _ (c .before .current-record .result) (passed-over _ _ _ (s .pre .0) (s .pre .1) _ _ _ _ _ (c .before .before .before .before .before .before .before .loop .inv) (c .before .before .before .before .before .index-from .ensures) (c .before .before .before .before .slot-from .ensures) (c .before .before .before .least .ensures)) (c .before .current-record .ensures) (c .if2 .taken)
 
 add-at : tie.Need-add-at Inv-loop μ-loop
 add-at c = search needs
@@ -50,11 +50,11 @@ loop-less c = omega (arith, c .before .before .before .before .before .index-fro
 
 loop-again : tie.Need-loop-again Inv-loop μ-loop
 loop-again c = let s = c .before .before .before .before .before .before .before .before in
-    passed-on _ _ _ (s .pre .0) (s .pre .1 .0) (s .pre .1 .1) _ _ (c .before .current-record .result) (passed-over _ _ _ (s .pre .0) (s .pre .1 .0) (s .pre .1 .1) _ _ _ _ _ (c .before .before .before .before .before .before .before .loop .inv) (c .before .before .before .before .before .index-from .ensures) (c .before .before .before .before .slot-from .ensures) (c .before .before .before .least .ensures)) (c .before .current-record .ensures) (c .if2 .left)
+    passed-on _ _ _ (s .pre .0) (s .pre .1) _ _ (c .before .current-record .result) (passed-over _ _ _ (s .pre .0) (s .pre .1) _ _ _ _ _ (c .before .before .before .before .before .before .before .loop .inv) (c .before .before .before .before .before .index-from .ensures) (c .before .before .before .before .slot-from .ensures) (c .before .before .before .least .ensures)) (c .before .current-record .ensures) (c .if2 .left)
 
 returns-3 : tie.Need-returns-3 Inv-loop μ-loop
 returns-3 c = let s = c .before .before in
-    follows-done _ _ _ (s .pre .0) (s .pre .1 .0) (s .pre .1 .1) _ _ (c .before .loop .inv) (c .loop-test .left)
+    follows-done _ _ _ (s .pre .0) (s .pre .1) _ _ (c .before .loop .inv) (c .loop-test .left)
 
 pub next-record-spec : {M : Type 1} → statement M
 next-record-spec =

@@ -1,50 +1,40 @@
--- `looks::phantom` meets its contract: by whether the leaf is there, and by the counts. Assumes nothing.
-use Rattle.looks.specs.PhantomLaws.{phantom-gone, phantom-none, phantom-count}
+-- `looks::phantom` meets its contract: by whether the leaf is there, and by the counts.
+use mathlib.Core.Path.{sym, ap, _∙_}
+use Rattle.looks.specs.PhantomLaws.{version-of, outside-of, phantom-gone, phantom-none, phantom-count}
 use borrow.Author.Needs.{needs}
 use Rattle.looks.proofs.phantom.Statement.{statement}
 use Rattle.looks.proofs.phantom.Tie as tie
+use Rattle.index.proofs.leaves.leaf_at.Reads as leaf-at-reads
+use Rattle.looks.proofs.place_of.Reads as place-of-reads
+use Rattle.looks.proofs.silent_of.Reads as silent-of-reads
 
 place-of-requires : tie.Need-place-of-requires
 place-of-requires c κs = search needs
 
-mul-if1 : tie.Need-mul-if1
-mul-if1 c = search needs
-
-element-copy-out-if1 : tie.Need-element-copy-out-if1
-element-copy-out-if1 c = search needs
+leaf-at-requires : tie.Need-leaf-at-requires
+leaf-at-requires c κs = search needs
 
 returns : tie.Need-returns
-returns c = let s = c .before .before .before in
-    phantom-gone _ _ _ (s .args .outside .now) _ _ (s .pre .0) _ _ _ _ (c .before .before .place-of .ensures) (s .pre .1 .1) (c .if1 .taken)
-
-mul-out : tie.Need-mul-out
-mul-out c = search needs
-
-element-copy-out-out : tie.Need-element-copy-out-out
-element-copy-out-out c = search needs
+returns c =
+    let s = c .before .before .before .before in
+    phantom-gone _ _ (s .pre .0) _ _ _ _ (c .before .before .before .place-of .ensures) (s .pre .1 .1) (λ e. c .if1 .taken (version-of (s .args .leaves .now) _ (c .before .before .leaf-at .ensures) ∙ e))
 
 returns-2 : tie.Need-returns-2
-returns-2 c = let s = c .before .before .before .before .before in
-    phantom-none _ _ _ (s .args .outside .now) _ _ (s .pre .0) (s .args .ws .now) _ _ (s .pre .1 .0) _ _ _ (c .before .before .before .before .place-of .ensures) (c .before .before .if1 .left) (c .if2 .taken)
+returns-2 c =
+    let s = c .before .before .before .before .before in
+    phantom-none _ _ (s .pre .0) (s .args .ws .now) _ _ (s .pre .1 .0) _ _ _ (c .before .before .before .before .place-of .ensures) (sym (version-of (s .args .leaves .now) _ (c .before .before .before .leaf-at .ensures)) ∙ c .before .if1 .left) (sym (outside-of (s .args .leaves .now) _ (c .before .before .before .leaf-at .ensures)) ∙ c .if2 .taken)
 
 silent-of-requires : tie.Need-silent-of-requires
-silent-of-requires c κs = let s = c .before .before .before .before .before in
+silent-of-requires c κs =
+    let s = c .before .before .before .before .before in
     (s .pre .0 .held .tables .rows, (s .pre .0 .held .tables .lows, (s .pre .0 .held .tables .words, s .pre .1 .0 .fitting)))
 
 returns-3 : tie.Need-returns-3
-returns-3 c = let s = c .before .before .before .before .before .before in
-    phantom-count _ _ _ (s .args .outside .now) _ _ (s .pre .0) (s .args .ws .now) _ _ (s .pre .1 .0) _ _ _ _ (c .before .before .before .before .before .place-of .ensures) (c .before .before .before .if1 .left) (c .silent-of .ensures)
+returns-3 c =
+    let s = c .before .before .before .before .before .before in
+    phantom-count _ _ (s .pre .0) (s .args .ws .now) _ _ (s .pre .1 .0) _ _ _ _ _ (outside-of (s .args .leaves .now) _ (c .before .before .before .before .leaf-at .ensures)) (c .before .before .before .before .before .place-of .ensures) (sym (version-of (s .args .leaves .now) _ (c .before .before .before .before .leaf-at .ensures)) ∙ c .before .before .if1 .left) (c .silent-of .ensures)
 
 pub phantom-spec : {M : Type 1} → statement M
 phantom-spec =
     tie.close
-    (tie.spec
-    place-of-requires
-    mul-if1
-    element-copy-out-if1
-    returns
-    mul-out
-    element-copy-out-out
-    returns-2
-    silent-of-requires
-    returns-3)
+    (tie.spec place-of-requires leaf-at-requires returns returns-2 silent-of-requires returns-3)

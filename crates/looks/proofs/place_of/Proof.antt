@@ -1,17 +1,23 @@
--- `looks::place_of` meets its contract. Assumes nothing.
+-- `looks::place_of` meets its contract.
+use Rattle.index.specs.LeafColumns.{lowsOf, column-places}
 use Rattle.looks.specs.ScanLaws.{leaf-at}
 use borrow.Author.Needs.{needs}
 use Rattle.looks.proofs.place_of.Statement.{statement}
 use Rattle.looks.proofs.place_of.Tie as tie
+use Rattle.index.proofs.leaves.find_leaf.Reads as find-leaf-reads
+use Rattle.index.proofs.leaves.leaf_places.Reads as leaf-places-reads
 
-all-requires : tie.Need-all-requires
-all-requires c κs = search needs
+leaf-places-requires : tie.Need-leaf-places-requires
+leaf-places-requires c κs = search needs
 
-leaf-at-requires : tie.Need-leaf-at-requires
-leaf-at-requires c κs = search needs
+find-leaf-requires : tie.Need-find-leaf-requires
+find-leaf-requires c κs = search needs
 
 returns : tie.Need-returns
-returns c = leaf-at (c .before .before .args .lows .now) _ _ _ (c .before .before .pre .room) (c .before .all .ensures) (c .leaf-at .ensures)
+returns c =
+    let s = c .before .before in
+    let ls = s .args .leaves .now in
+    leaf-at (lowsOf ls) _ _ _ (s .pre .room) (column-places 0 ls (c .before .leaf-places .ensures)) (c .find-leaf .ensures)
 
 pub place-of-spec : {M : Type 1} → statement M
-place-of-spec = tie.close (tie.spec all-requires leaf-at-requires returns)
+place-of-spec = tie.close (tie.spec leaf-places-requires find-leaf-requires returns)

@@ -12,7 +12,7 @@ locate-requires-2 c κs = search needs
 
 returns : tie.Need-returns
 returns c = let s = c .before .before .before in
-    spans-past (s .args .rows .now) _ _ _ _ (s .pre .0) (s .pre .1) (c .before .before .locate .ensures) _ (c .before .locate2 .ensures) (c .if1 .taken)
+    spans-past (s .args .rows .now) _ _ _ _ (s .pre .0 .held) (s .pre .1) (c .before .before .locate .ensures) _ (c .before .locate2 .ensures) (c .if1 .taken)
 
 get-requires : tie.Need-get-requires
 get-requires c κs = search needs
@@ -22,11 +22,11 @@ add-t10 c = search needs
 
 returns-2 : tie.Need-returns-2
 returns-2 c = let s = c .before .before .before .before .before .before in
-    spans-last (s .args .rows .now) _ _ _ _ (s .pre .0) (s .pre .1) (c .before .before .before .before .before .locate .ensures) _ (c .before .before .get .result) (c .before .before .before .before .locate2 .ensures) (c .before .before .before .if1 .left) (c .before .before .get .ensures) (c .if2 .taken)
+    spans-last (s .args .rows .now) _ _ _ _ (s .pre .0 .held) (s .pre .1) (c .before .before .before .before .before .locate .ensures) _ (c .before .before .get .result) (c .before .before .before .before .locate2 .ensures) (c .before .before .before .if1 .left) (c .before .before .get .ensures) (c .if2 .taken)
 
 returns-3 : tie.Need-returns-3
 returns-3 c = let s = c .before .before .before .before .before .before in
-    spans-other (s .args .rows .now) _ _ _ _ (s .pre .0) (s .pre .1) (c .before .before .before .before .before .locate .ensures) _ (c .before .before .get .result) (c .before .before .before .before .locate2 .ensures) (c .before .before .before .if1 .left) (c .before .before .get .ensures) (c .if2 .left)
+    spans-other (s .args .rows .now) _ _ _ _ (s .pre .0 .held) (s .pre .1) (c .before .before .before .before .before .locate .ensures) _ (c .before .before .get .result) (c .before .before .before .before .locate2 .ensures) (c .before .before .before .if1 .left) (c .before .before .get .ensures) (c .if2 .left)
 
 pub records-between-spec : {M : Type 1} → statement M
 records-between-spec =

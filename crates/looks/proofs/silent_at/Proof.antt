@@ -4,11 +4,11 @@ use borrow.Author.Needs.{needs}
 use Rattle.looks.proofs.silent_at.Statement.{statement}
 use Rattle.looks.proofs.silent_at.Tie as tie
 
-leaf-at-requires : tie.Need-leaf-at-requires
-leaf-at-requires c κs = search needs
+find-leaf-requires : tie.Need-find-leaf-requires
+find-leaf-requires c κs = search needs
 
 returns : tie.Need-returns
-returns c = silent-elsewhere _ _ _ _ _ _ _ _ (c .before .leaf-at .ensures) (c .if1 .taken)
+returns c = silent-elsewhere _ _ _ _ _ _ _ _ (c .before .find-leaf .ensures) (c .if1 .taken)
 
 look-up-requires : tie.Need-look-up-requires
 look-up-requires c κs = search needs
@@ -31,13 +31,13 @@ returns-3 c = silent-found _ _ _ _ _ _ _ _ _ _ (c .enum-told .given .1) (c .befo
 
 returns-4 : tie.Need-returns-4
 returns-4 c = let l = c .before .before .before .before .before .before .look-up in
-    silent-yes _ _ _ _ _ _ _ _ (l .result .content) _ (c .before .before .before .before .before .before .before .before .leaf-at .ensures) (c .before .before .before .before .before .before .before .if1 .left) (l .ensures .content) (c .before .before .before .if2 .left) (c .enum-told2 .given .1) (c .before .before .find .ensures)
+    silent-yes _ _ _ _ _ _ _ _ (l .result .content) _ (c .before .before .before .before .before .before .before .before .find-leaf .ensures) (c .before .before .before .before .before .before .before .if1 .left) (l .ensures .content) (c .before .before .before .if2 .left) (c .enum-told2 .given .1) (c .before .before .find .ensures)
 
 pub silent-at-spec : {M : Type 1} → statement M
 silent-at-spec =
     tie.close
     (tie.spec
-    leaf-at-requires
+    find-leaf-requires
     returns
     look-up-requires
     returns-2

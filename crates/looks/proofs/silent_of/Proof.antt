@@ -1,38 +1,34 @@
--- `looks::silent_of` meets its contract. The invariant: those counted and those left are all. Assumes nothing.
+-- `looks::silent_of` meets its contract. The invariant: those counted and those left are all.
 use Prim.Native.Nat.{_-_}
 use native.Mathlib.Omega.{arith}
+use mathlib.Core.Path.{ap}
 use borrow.Author.Needs.{needs}
+use Rattle.lists.specs.Rows.{Row}
+use Rattle.spec.specs.Records.{Write}
+use Rattle.index.specs.LeafColumns.{lowsOf}
+use Rattle.map.specs.WriteWalks.{given}
 use Rattle.looks.specs.PhantomViews.{Counting}
 use Rattle.looks.specs.PhantomLaws.{counting-start, counting-on, counting-end}
 use Rattle.looks.proofs.silent_of.Statement.{statement}
 use Rattle.looks.proofs.silent_of.Tie as tie
 
 abbrev Inv-loop : tie.InvT-loop
-Inv-loop rows lows slots ws n m i count x₀ own₀ x own = Counting rows lows slots n m i ws count x own
+Inv-loop rows leaves slots ws n m i count x₀ own₀ x own = Counting rows (lowsOf leaves) slots n m i ws count x own
 
 abbrev μ-loop : tie.MeasureT-loop
-μ-loop rows lows slots ws n m i count x₀ own₀ x own = count - x
+μ-loop rows leaves slots ws n m i count x₀ own₀ x own = count - x
 
 loop-holds : tie.Need-loop-holds Inv-loop μ-loop
 loop-holds c = counting-start _ _ _ _ _ _ _ _
 
-mul-key : tie.Need-mul-key Inv-loop μ-loop
-mul-key c = search needs
-
-mul-key-2 : tie.Need-mul-key-2 Inv-loop μ-loop
-mul-key-2 c = search needs
-
-element-copy-out-key : tie.Need-element-copy-out-key Inv-loop μ-loop
-element-copy-out-key c = search needs
-
-cast-silent-at : tie.Need-cast-silent-at Inv-loop μ-loop
-cast-silent-at c = record { fits = c .before .before .before .pre .1 .1 .1 .narrow _ (c .before .loop-test .taken) }
+write-at-requires : tie.Need-write-at-requires Inv-loop μ-loop
+write-at-requires c κs = let s = c .before .before in (s .pre .1 .1 .1 .held, omega (arith, s .pre .1 .1 .1 .few, c .loop-test .taken))
 
 silent-at-requires : tie.Need-silent-at-requires Inv-loop μ-loop
 silent-at-requires c κs = search needs
 
 add-own : tie.Need-add-own Inv-loop μ-loop
-add-own c = let k = counting-on _ _ _ _ _ _ _ _ _ _ _ (c .before .before .before .loop .inv) (c .before .before .loop-test .taken) (c .silent-at .ensures) in
+add-own c = let k = counting-on _ _ _ _ _ _ _ _ _ _ _ _ (c .before .before .before .loop .inv) (c .before .before .loop-test .taken) (ap (λ (x : Row Write). x .key) (given (c .before .write-at .ensures) (c .before .before .loop-test .taken))) (c .silent-at .ensures) in
     omega (arith, k .small, c .before .before .before .before .pre .1 .1 .1 .few)
 
 add-x : tie.Need-add-x Inv-loop μ-loop
@@ -42,7 +38,7 @@ loop-less : tie.Need-loop-less Inv-loop μ-loop
 loop-less c = search needs
 
 loop-again : tie.Need-loop-again Inv-loop μ-loop
-loop-again c = counting-on _ _ _ _ _ _ _ _ _ _ _ (c .before .before .before .loop .inv) (c .before .before .loop-test .taken) (c .silent-at .ensures)
+loop-again c = counting-on _ _ _ _ _ _ _ _ _ _ _ _ (c .before .before .before .loop .inv) (c .before .before .loop-test .taken) (ap (λ (x : Row Write). x .key) (given (c .before .write-at .ensures) (c .before .before .loop-test .taken))) (c .silent-at .ensures)
 
 returns : tie.Need-returns Inv-loop μ-loop
 returns c = counting-end _ _ _ _ _ _ _ _ _ _ (c .before .loop .inv) (c .loop-test .left)
@@ -54,10 +50,7 @@ silent-of-spec =
     Inv-loop
     μ-loop
     loop-holds
-    mul-key
-    mul-key-2
-    element-copy-out-key
-    cast-silent-at
+    write-at-requires
     silent-at-requires
     add-own
     add-x

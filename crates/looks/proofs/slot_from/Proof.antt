@@ -1,7 +1,8 @@
--- `looks::slot_from` meets its contract. The invariant: no entry of the slots passed is nearer. Assumes nothing.
+-- `looks::slot_from` meets its contract. The invariant: no entry of the slots passed is nearer.
 use Prim.Native.Nat.{_-_}
 use native.Mathlib.Omega.{arith}
 use borrow.Author.Needs.{needs}
+use Rattle.spec.specs.Slots.{slotCount}
 use Rattle.looks.specs.NextViews.{Walked}
 use Rattle.looks.specs.NextLaws.{walked-start, walked-on, walked-end}
 use Rattle.looks.proofs.slot_from.Statement.{statement}
@@ -11,7 +12,7 @@ abbrev Inv-loop : tie.InvT-loop
 Inv-loop slots from low best₀ i₀ best i = Walked slots low i best
 
 abbrev μ-loop : tie.MeasureT-loop
-μ-loop slots from low best₀ i₀ best i = 256 - i
+μ-loop slots from low best₀ i₀ best i = slotCount - i
 
 loop-holds : tie.Need-loop-holds Inv-loop μ-loop
 loop-holds c = let f = c .fits .from .fits in

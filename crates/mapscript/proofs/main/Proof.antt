@@ -9,12 +9,12 @@ use Rattle.mapscript.proofs.main.Statement.{statement}
 use Rattle.mapscript.proofs.main.Tie as tie
 
 abbrev Inv-loop : tie.InvT-loop
-Inv-loop input₀ out₀ rows₀ lows₀ versions₀ outside₀ pending₀ slots₀ reads₀ leaves₀ writes₀ w₀ turns₀ input out rows lows versions outside pending slots reads leaves writes w turns =
-    Holds (lent rows lows versions outside pending slots) (logs reads leaves writes) w (length out) (length input)
+Inv-loop input₀ out₀ rows₀ leaves₀ slots₀ reads₀ leafsets₀ writes₀ w₀ turns₀ input out rows leaves slots reads leafsets writes w turns =
+    Holds (lent rows leaves slots) (logs reads leafsets writes) w (length out) (length input)
     × (65536 ≡ length out) × (65536 ≡ length input)
 
 abbrev μ-loop : tie.MeasureT-loop
-μ-loop input₀ out₀ rows₀ lows₀ versions₀ outside₀ pending₀ slots₀ reads₀ leaves₀ writes₀ w₀ turns₀ input out rows lows versions outside pending slots reads leaves writes w turns =
+μ-loop input₀ out₀ rows₀ leaves₀ slots₀ reads₀ leafsets₀ writes₀ w₀ turns₀ input out rows leaves slots reads leafsets writes w turns =
     turns
 
 large-buffer-requires : tie.Need-large-buffer-requires Inv-loop μ-loop
@@ -27,7 +27,7 @@ fresh-requires : tie.Need-fresh-requires Inv-loop μ-loop
 fresh-requires c κs = tt
 
 loop-holds : tie.Need-loop-holds Inv-loop μ-loop
-loop-holds c = (holds-start _ _ (c .fresh .ensures) refl refl, c .before .before .before .before .before .before .before .before .before .before .large-buffer2 .ensures, c .before .before .before .before .before .before .before .before .before .before .before .large-buffer .ensures)
+loop-holds c = (holds-start _ _ (c .fresh .ensures) refl refl, c .before .before .before .before .before .before .before .large-buffer2 .ensures, c .before .before .before .before .before .before .before .before .large-buffer .ensures)
 
 slice-aggregate-turn : tie.Need-slice-aggregate-turn Inv-loop μ-loop
 slice-aggregate-turn c = c .before .before .before .loop .inv .2
@@ -36,13 +36,13 @@ slice-aggregate-turn-2 : tie.Need-slice-aggregate-turn-2 Inv-loop μ-loop
 slice-aggregate-turn-2 c = c .before .before .before .before .loop .inv .1
 
 turn-requires : tie.Need-turn-requires Inv-loop μ-loop
-turn-requires c κs = c .before .before .before .before .before .before .before .before .before .before .before .before .before .loop .inv .0
+turn-requires c κs = c .before .before .before .before .before .before .before .before .before .before .loop .inv .0
 
 sub-turns : tie.Need-sub-turns Inv-loop μ-loop
-sub-turns c = omega (arith, c .before .before .before .before .before .before .before .before .before .before .before .before .before .before .before .loop-test .taken)
+sub-turns c = omega (arith, c .before .before .before .before .before .before .before .before .before .before .before .before .loop-test .taken)
 
 loop-less : tie.Need-loop-less Inv-loop μ-loop
-loop-less c = omega (arith, c .before .before .before .before .before .before .before .before .before .before .before .before .before .before .before .loop-test .taken)
+loop-less c = omega (arith, c .before .before .before .before .before .before .before .before .before .before .before .before .loop-test .taken)
 
 loop-again : tie.Need-loop-again Inv-loop μ-loop
 loop-again c = (c .before .before .turn .ensures, sym (c .out2 .given), sym (c .before .input2 .given))
@@ -52,7 +52,7 @@ slice-aggregate-close c = c .before .before .loop .inv .1
 
 close-requires : tie.Need-close-requires Inv-loop μ-loop
 close-requires c κs =
-    let i = c .before .before .before .before .before .before .before .before .before .before .before .loop .inv in
+    let i = c .before .before .before .before .before .before .before .before .loop .inv in
     (i .0 .ready, (i .0 .started, (i .0 .room-left, omega (arith, i .1))))
 
 returns : tie.Need-returns Inv-loop μ-loop

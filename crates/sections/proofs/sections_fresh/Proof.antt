@@ -1,4 +1,4 @@
--- `sections_fresh` meets its contract: the fresh core, in the words. Assumes nothing.
+-- `sections_fresh` meets its contract: the fresh core, in the words.
 use Rattle.sections.specs.ExportLaws.{fresh-saved}
 use borrow.Author.Needs.{needs}
 use Rattle.sections.proofs.sections_fresh.Statement.{statement}

@@ -1,6 +1,7 @@
--- `sections_next` meets its contract: the first record, or none. Assumes nothing.
+-- `sections_next` meets its contract: the first record, or none.
 use Rattle.sections.specs.ExportLaws.{ready-loaded, gives-one, gives-none}
 use borrow.Author.Needs.{needs}
+use Rattle.map.specs.Parts.{records-held, slots-held}
 use Rattle.sections.proofs.sections_next.Statement.{statement}
 use Rattle.sections.proofs.sections_next.Tie as tie
 
@@ -10,13 +11,13 @@ load-requires c κs = search needs
 next-record-requires : tie.Need-next-record-requires
 next-record-requires c κs =
     let t = ready-loaded _ (c .before .load .ensures) (c .before .before .pre) .stored .map .tables in
-    (t .rows, (t .rows-narrow, t .words))
+    (records-held t, slots-held t)
 
 enum-known-next : tie.Need-enum-known-next
 enum-known-next c = search needs
 
-cast-t21 : tie.Need-cast-t21
-cast-t21 c = search needs
+cast-t18 : tie.Need-cast-t18
+cast-t18 c = search needs
 
 enum-told : tie.Need-enum-told
 enum-told c = search needs
@@ -34,7 +35,7 @@ sections-next-spec =
     load-requires
     next-record-requires
     enum-known-next
-    cast-t21
+    cast-t18
     enum-told
     returns
     returns-2)

@@ -1,4 +1,4 @@
--- `sections_replay` meets its contract: `runs::replay`, its outcome in the words. Assumes nothing.
+-- `sections_replay` meets its contract: `runs::replay`, its outcome in the words.
 use Rattle.sections.specs.ExportLaws.{replayed}
 use borrow.Author.Needs.{needs}
 use Rattle.sections.proofs.sections_replay.Statement.{statement}

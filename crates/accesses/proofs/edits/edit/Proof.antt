@@ -1,4 +1,4 @@
--- `edits::edit` meets its contract: by the tests, in their order. Assumes nothing.
+-- `edits::edit` meets its contract: by the tests, in their order.
 use mathlib.Core.Path.{subst}
 use Rattle.spec.specs.Steps.{isOpen}
 use Rattle.transactions.specs.Admits.{Admitted}
@@ -17,52 +17,65 @@ enum-known-r c = search needs
 enum-known-x : tie.Need-enum-known-x
 enum-known-x c = search needs
 
-cast-full : tie.Need-cast-full
-cast-full c = search needs
+cast-n : tie.Need-cast-n
+cast-n c = search needs
+
+mul-full : tie.Need-mul-full
+mul-full c = search needs
+
+index-1-full : tie.Need-index-1-full
+index-1-full c =
+    let x = c .before .before in
+    let e = subst (Admitted isOpen _ _) (x .x .given .1) (x .before .before .«open» .ensures) in
+    e .inside
 
 full-requires : tie.Need-full-requires
 full-requires c κs =
     let x = c .before .before .before in
     let o = x .before .before in
-    seat-writable (o .before .before .before .before .pre) (subst (Admitted isOpen _ _) (x .x .given .1) (o .«open» .ensures))
+    seat-writable (o .before .before .pre) (subst (Admitted isOpen _ _) (x .x .given .1) (o .«open» .ensures))
 
 returns : tie.Need-returns
 returns c =
     let x = c .before .before .before .before .before in
-    let o = x .before .before in
-    edit-full _ _ _ _ _ _ _ (subst (Admitted isOpen _ _) (x .x .given .1) (o .«open» .ensures)) (c .before .full .ensures) (c .if1 .taken)
+    edit-full (subst (Admitted isOpen _ _) (x .x .given .1) (x .before .before .«open» .ensures)) (c .before .full .ensures) (c .if1 .taken)
 
-cast-put-write : tie.Need-cast-put-write
-cast-put-write c = search needs
+mul-put-write : tie.Need-mul-put-write
+mul-put-write c = search needs
+
+index-1-put-write : tie.Need-index-1-put-write
+index-1-put-write c =
+    let x = c .before .before .before .before .before in
+    let e = subst (Admitted isOpen _ _) (x .x .given .1) (x .before .before .«open» .ensures) in
+    e .inside
 
 put-write-requires : tie.Need-put-write-requires
 put-write-requires c κs =
-    let x = c .before .before .before .before .before .before .before in
+    let x = c .before .before .before .before .before .before in
     let o = x .before .before in (
-      seat-writable (o .before .before .before .before .pre) (subst (Admitted isOpen _ _) (x .x .given .1) (o .«open» .ensures)),
-      room-here _ _ _ _ _ (c .before .before .before .full .ensures) (c .before .before .if1 .left),
+      seat-writable (o .before .before .pre) (subst (Admitted isOpen _ _) (x .x .given .1) (o .«open» .ensures)),
+      room-here _ _ _ _ (c .before .before .full .ensures) (c .before .if1 .left),
     )
 
-cast-t27 : tie.Need-cast-t27
-cast-t27 c = search needs
+cast-t29 : tie.Need-cast-t29
+cast-t29 c = search needs
 
-mul-seats : tie.Need-mul-seats
-mul-seats c = search needs
-
-array-set-from-seats : tie.Need-array-set-from-seats
-array-set-from-seats c = search needs
+with-seat-requires : tie.Need-with-seat-requires
+with-seat-requires c κs =
+    let x = c .before .before .before .before .before .before .before in
+    let e = subst (Admitted isOpen _ _) (x .x .given .1) (x .before .before .«open» .ensures) in
+    e .inside
 
 returns-2 : tie.Need-returns-2
-returns-2 c =
-    let o = c .before .before .before in
-    edit-refused _ _ _ _ _ _ (subst (Admitted isOpen _ _) (c .before .r .given .1) (o .«open» .ensures))
+returns-2 c = edit-refused (subst (Admitted isOpen _ _) (c .before .r .given .1) (c .before .before .before .«open» .ensures))
 
 returns-3 : tie.Need-returns-3
 returns-3 c =
-    let x = c .before .before .before .before .before .before .before .before in
-    let o = x .before .before in
-    edit-granted _ _ _ _ _ _ _ _ _ _ (subst (Admitted isOpen _ _) (x .x .given .1) (o .«open» .ensures))
-    (c .before .before .before .before .full .ensures) (c .before .before .before .if1 .left) (c .put-write .ensures)
+    let p = c .before in
+    let i = p .before .before in
+    let x = i .before .before .before .before .before in
+    edit-granted (subst (Admitted isOpen _ _) (x .x .given .1) (x .before .before .«open» .ensures)) (i .before .full .ensures) (i .if1 .left)
+    (p .put-write .ensures) (c .with-seat .ensures)
 
 pub edit-spec : {M : Type 1} → statement M
 edit-spec =
@@ -71,13 +84,15 @@ edit-spec =
     open-requires
     enum-known-r
     enum-known-x
-    cast-full
+    cast-n
+    mul-full
+    index-1-full
     full-requires
     returns
-    cast-put-write
+    mul-put-write
+    index-1-put-write
     put-write-requires
-    cast-t27
-    mul-seats
-    array-set-from-seats
+    cast-t29
+    with-seat-requires
     returns-2
     returns-3)

@@ -1,4 +1,4 @@
--- `edits::put` meets its contract: it is `edit` with a put. Assumes nothing.
+-- `edits::put` meets its contract: it is `edit` with a put.
 use Rattle.transactions.specs.SeatLaws.{ready-writable}
 use Rattle.accesses.specs.Edits.{put-goes}
 use Rattle.accesses.proofs.edits.put.Statement.{statement}

@@ -1,4 +1,4 @@
--- `edits::remove` meets its contract: it is `edit` with a deletion. Assumes nothing.
+-- `edits::remove` meets its contract: it is `edit` with a deletion.
 use Rattle.transactions.specs.SeatLaws.{ready-writable}
 use Rattle.accesses.specs.Edits.{remove-goes}
 use Rattle.accesses.proofs.edits.remove.Statement.{statement}

@@ -1,4 +1,4 @@
--- `reads::read` meets its contract: it is `tell`, whatever the other arrays hold. Assumes nothing.
+-- `reads::read` meets its contract: it is `tell`, whatever the other arrays hold.
 use Rattle.accesses.specs.ReadSteps.{ready-readable}
 use Rattle.accesses.proofs.reads.read.Statement.{statement}
 use Rattle.accesses.proofs.reads.read.Tie as tie

@@ -1,4 +1,4 @@
--- `reads::shown` meets its contract. Assumes nothing.
+-- `reads::shown` meets its contract.
 use Rattle.accesses.specs.ReadSteps.{shown-there, shown-none}
 use Rattle.accesses.proofs.reads.shown.Statement.{statement}
 use Rattle.accesses.proofs.reads.shown.Tie as tie

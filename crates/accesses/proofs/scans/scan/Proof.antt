@@ -1,4 +1,4 @@
--- `scans::scan` meets its contract: refused for the worker, refused by the tests, or carried out. Assumes nothing.
+-- `scans::scan` meets its contract: refused for the worker, refused by the tests, or carried out.
 use native.Mathlib.Omega.{arith}
 use mathlib.Core.Path.{subst}
 use borrow.Author.Needs.{needs}
@@ -6,7 +6,7 @@ use Rattle.spec.specs.Steps.{isOpen}
 use Rattle.transactions.specs.Admits.{Admitted}
 use Rattle.ranges.specs.Plans.{Plans}
 use Rattle.ranges.specs.PlanLaws.{planned}
-use Rattle.accesses.specs.ScanSteps.{planning}
+use Rattle.accesses.specs.ScanCauses.{planning}
 use Rattle.accesses.specs.Scans.{scans-turned, scans-declined, scans-granted}
 use Rattle.accesses.proofs.scans.scan.Statement.{statement}
 use Rattle.accesses.proofs.scans.scan.Tie as tie
@@ -20,11 +20,21 @@ enum-known-r c = search needs
 enum-known-x : tie.Need-enum-known-x
 enum-known-x c = search needs
 
+mul-measure : tie.Need-mul-measure
+mul-measure c = search needs
+
+index-1-measure : tie.Need-index-1-measure
+index-1-measure c =
+    let x = c .before in
+    let e = subst (Admitted isOpen _ _) (x .x .given .1) (x .before .before .«open» .ensures) in
+    e .inside
+
 measure-requires : tie.Need-measure-requires
 measure-requires c κs =
-    let o = c .before .before .before in
-    let s = o .before .before .before .before .before .before in
-    planning (s .pre) (subst (Admitted isOpen _ _) (c .before .x .given .1) (o .«open» .ensures))
+    let x = c .before .before in
+    let o = x .before .before in
+    let s = o .before .before .before .before .before in
+    planning (s .pre) (subst (Admitted isOpen _ _) (x .x .given .1) (o .«open» .ensures))
 
 enum-known-r-2 : tie.Need-enum-known-r-2
 enum-known-r-2 c = search needs
@@ -32,64 +42,91 @@ enum-known-r-2 c = search needs
 enum-known-t : tie.Need-enum-known-t
 enum-known-t c = search needs
 
-carry-requires : tie.Need-carry-requires
-carry-requires c κs =
-    let a = c .before .before .before .before .before in
-    let m = a .before .before in
-    let x = m .before .before in
-    let o = x .before .before in
-    let s = o .before .before .before .before .before .before in
-    let e = subst (Admitted isOpen _ _) (x .x .given .1) (o .«open» .ensures) in
-    let p = subst (Plans _ _ _ _ _ _ _ _ _ _ _) (a .t .given .1) (m .measure .ensures) in
-    (planning (s .pre) e, (planned (p .measured) (p .roomy), (s .pre .stored .reads, s .pre .stored .leaves)))
-
-mul-seats : tie.Need-mul-seats
-mul-seats c =
-    let a = c .before .before .before .before .before .before .before .before .before .before in
-    let x = a .before .before .before .before in
-    let o = x .before .before in
-    let e = subst (Admitted isOpen _ _) (x .x .given .1) (o .«open» .ensures) in
+mul-carry : tie.Need-mul-carry
+mul-carry c =
+    let x = c .before .before .before .before .before .before .before .before in
+    let e = subst (Admitted isOpen _ _) (x .x .given .1) (x .before .before .«open» .ensures) in
     omega (arith, e .inside)
 
-array-set-from-seats : tie.Need-array-set-from-seats
-array-set-from-seats c =
-    let a = c .before .before .before .before .before .before .before .before .before .before in
-    let x = a .before .before .before .before in
+index-1-carry : tie.Need-index-1-carry
+index-1-carry c =
+    let x = c .before .before .before .before .before .before .before .before in
+    let e = subst (Admitted isOpen _ _) (x .x .given .1) (x .before .before .«open» .ensures) in
+    e .inside
+
+mul-carry-2 : tie.Need-mul-carry-2
+mul-carry-2 c =
+    let x = c .before .before .before .before .before .before .before .before .before in
+    let e = subst (Admitted isOpen _ _) (x .x .given .1) (x .before .before .«open» .ensures) in
+    omega (arith, e .inside)
+
+index-1-carry-2 : tie.Need-index-1-carry-2
+index-1-carry-2 c =
+    let x = c .before .before .before .before .before .before .before .before .before in
+    let e = subst (Admitted isOpen _ _) (x .x .given .1) (x .before .before .«open» .ensures) in
+    e .inside
+
+mul-carry-3 : tie.Need-mul-carry-3
+mul-carry-3 c =
+    let x = c .before .before .before .before .before .before .before .before .before .before in
+    let e = subst (Admitted isOpen _ _) (x .x .given .1) (x .before .before .«open» .ensures) in
+    omega (arith, e .inside)
+
+index-1-carry-3 : tie.Need-index-1-carry-3
+index-1-carry-3 c =
+    let x = c .before .before .before .before .before .before .before .before .before .before in
+    let e = subst (Admitted isOpen _ _) (x .x .given .1) (x .before .before .«open» .ensures) in
+    e .inside
+
+carry-requires : tie.Need-carry-requires
+carry-requires c κs =
+    let a = c .before .before .before .before .before .before in
+    let m = a .before .before in
+    let x = m .before .before .before in
     let o = x .before .before in
+    let s = o .before .before .before .before .before in
     let e = subst (Admitted isOpen _ _) (x .x .given .1) (o .«open» .ensures) in
+    let p = subst (Plans _ _ _ _ _ _ _ _ _ _) (a .t .given .1) (m .measure .ensures) in
+    (planning (s .pre) e, (planned (p .measured) (p .roomy), (s .pre .stored .reads .at _ (e .inside), s .pre .stored .leaves .at _ (e .inside))))
+
+with-seat-requires : tie.Need-with-seat-requires
+with-seat-requires c κs =
+    let a = c .before .before .before .before .before .before .before .before .before .before .before in
+    let x = a .before .before .before .before .before in
+    let e = subst (Admitted isOpen _ _) (x .x .given .1) (x .before .before .«open» .ensures) in
     e .inside
 
 returns : tie.Need-returns
 returns c =
     let o = c .before .before .before in
-    let s = o .before .before .before .before .before .before in
+    let s = o .before .before .before .before .before in
     scans-turned _ _ _ _ (s .pre) (subst (Admitted isOpen _ _) (c .before .r .given .1) (o .«open» .ensures))
 
 returns-2 : tie.Need-returns-2
 returns-2 c =
     let m = c .before .before .before in
-    let x = m .before .before in
+    let x = m .before .before .before in
     let o = x .before .before in
-    let s = o .before .before .before .before .before .before in
+    let s = o .before .before .before .before .before in
     scans-declined _ _ _ _ (s .pre) (subst (Admitted isOpen _ _) (x .x .given .1) (o .«open» .ensures))
-    (subst (Plans _ _ _ _ _ _ _ _ _ _ _) (c .before .r2 .given .1) (m .measure .ensures))
+    (subst (Plans _ _ _ _ _ _ _ _ _ _) (c .before .r2 .given .1) (m .measure .ensures))
 
 same-length : tie.Need-same-length
-same-length c = c .before .before .before .before .carry .ensures .fills .addresses .size
+same-length c = c .before .before .before .before .before .carry .ensures .fills .addresses .size
 
 same-length-2 : tie.Need-same-length-2
-same-length-2 c = c .before .before .before .before .carry .ensures .fills .values .size
+same-length-2 c = c .before .before .before .before .before .carry .ensures .fills .values .size
 
 returns-3 : tie.Need-returns-3
 returns-3 c =
-    let f = c .before .before .before .before in
-    let a = f .before .before .before .before .before .before in
+    let f = c .before .before .before .before .before in
+    let a = f .before .before .before .before .before .before .before in
     let m = a .before .before in
-    let x = m .before .before in
+    let x = m .before .before .before in
     let o = x .before .before in
-    let s = o .before .before .before .before .before .before in
-    scans-granted _ _ _ _ _ _ _ _ _ _ (s .pre) (subst (Admitted isOpen _ _) (x .x .given .1) (o .«open» .ensures))
-    (subst (Plans _ _ _ _ _ _ _ _ _ _ _) (a .t .given .1) (m .measure .ensures)) (f .carry .ensures)
+    let s = o .before .before .before .before .before in
+    scans-granted _ _ _ _ (s .pre) (subst (Admitted isOpen _ _) (x .x .given .1) (o .«open» .ensures))
+    (subst (Plans _ _ _ _ _ _ _ _ _ _) (a .t .given .1) (m .measure .ensures)) (f .carry .ensures) (c .with-seat .ensures)
 
 pub scan-spec : {M : Type 1} → statement M
 scan-spec =
@@ -98,12 +135,19 @@ scan-spec =
     open-requires
     enum-known-r
     enum-known-x
+    mul-measure
+    index-1-measure
     measure-requires
     enum-known-r-2
     enum-known-t
+    mul-carry
+    index-1-carry
+    mul-carry-2
+    index-1-carry-2
+    mul-carry-3
+    index-1-carry-3
     carry-requires
-    mul-seats
-    array-set-from-seats
+    with-seat-requires
     returns
     returns-2
     same-length

@@ -19,7 +19,7 @@ put-records-requires c κs =
     let n = c .before .before .before .before .before .count-records .ensures .number-is [] in
     let w = c .before .before .before .put-answer .ensures in (
       s .pre .0,
-      (s .pre .1 .0, (s .pre .1 .1 .0, omega (arith, s .pre .1 .1 .1, n, w, field-most (c .before .before .before .before .before .count-records .result) (omega (arith, n, s .pre .1 .1 .1))))),
+      (s .pre .1 .0, omega (arith, s .pre .1 .1, n, w, field-most (c .before .before .before .before .before .count-records .result) (omega (arith, n, s .pre .1 .1)))),
     )
 
 put-byte-requires : tie.Need-put-byte-requires
@@ -28,7 +28,7 @@ put-byte-requires c κs =
     let n = c .before .before .before .before .before .before .before .before .before .count-records .ensures .number-is [] in
     let w = c .before .before .before .before .before .before .before .put-answer .ensures in
     let p = c .before .before .before .put-records .ensures .most in
-    omega (arith, s .pre .1 .1 .1, n, w, p, field-most (c .before .before .before .before .before .before .before .before .before .count-records .result) (omega (arith, n, s .pre .1 .1 .1)))
+    omega (arith, s .pre .1 .1, n, w, p, field-most (c .before .before .before .before .before .before .before .before .before .count-records .result) (omega (arith, n, s .pre .1 .1)))
 
 same-length : tie.Need-same-length
 same-length c = search needs

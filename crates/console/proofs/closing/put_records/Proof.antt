@@ -5,6 +5,7 @@ use mathlib.Core.Path.{refl}
 use borrow.Author.Needs.{needs}
 use Rattle.lists.specs.Texts.{wrote-length}
 use Rattle.looks.specs.NextLaws.{passed-start, follows-done}
+use Rattle.sets.specs.Sets.{addresses}
 use Rattle.console.specs.Closings.{allRecords, Listing, rising-all, next-at, next-done, listing-start, listing-room, listing-above, listing-on, listing-end}
 use Rattle.console.proofs.closing.put_records.Statement.{statement}
 use Rattle.console.proofs.closing.put_records.Tie as tie
@@ -13,10 +14,10 @@ abbrev Inv-loop : tie.InvT-loop
 Inv-loop out₀ at rows slots n place₀ from₀ out place from = Listing (allRecords rows n slots) out₀ at from out place
 
 abbrev μ-loop : tie.MeasureT-loop
-μ-loop out₀ at rows slots n place₀ from₀ out place from = 4294967296 - from
+μ-loop out₀ at rows slots n place₀ from₀ out place from = addresses - from
 
 loop-holds : tie.Need-loop-holds Inv-loop μ-loop
-loop-holds c = let s = c .before in listing-start _ _ _ (rising-all _ _ _ (s .pre .0)) (omega (arith, s .pre .1 .1 .1))
+loop-holds c = let s = c .before in listing-start _ _ _ (rising-all _ _ _ (s .pre .0)) (omega (arith, s .pre .1 .1))
 
 next-record-requires : tie.Need-next-record-requires Inv-loop μ-loop
 next-record-requires c κs = search needs
@@ -31,7 +32,7 @@ put-pair-requires : tie.Need-put-pair-requires Inv-loop μ-loop
 put-pair-requires c κs =
     let s = c .before .before .before .before .before .before .before .before in
     let p = c .before .before .before .before .before .before .loop .inv in
-    listing-room (rising-all _ _ _ (s .pre .0)) p (next-at (c .before .before .before .before .next-record .ensures) (c .before .before .next .given .1)) (s .pre .1 .1 .1) (wrote-length (p .wrote))
+    listing-room (rising-all _ _ _ (s .pre .0)) p (next-at (c .before .before .before .before .next-record .ensures) (c .before .before .next .given .1)) (s .pre .1 .1) (wrote-length (p .wrote))
 
 cast-from : tie.Need-cast-from Inv-loop μ-loop
 cast-from c = search needs
@@ -65,7 +66,7 @@ returns-2 : tie.Need-returns-2 Inv-loop μ-loop
 returns-2 c =
     let s = c .before .before .before in
     listing-end (c .before .loop .inv)
-    (next-done (follows-done _ _ _ (s .pre .0) (s .pre .1 .0) (s .pre .1 .1 .0) _ _ (passed-start _ _ _ _) (c .loop-test .left)) refl)
+    (next-done (follows-done _ _ _ (s .pre .0) (s .pre .1 .0) _ _ (passed-start _ _ _ _) (c .loop-test .left)) refl)
 
 pub put-records-spec : {M : Type 1} → statement M
 put-records-spec =

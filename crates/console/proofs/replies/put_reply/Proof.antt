@@ -8,6 +8,7 @@ use denote.Ref.{now}
 use Rattle.lists.specs.Texts.{wrote-length}
 use Rattle.engine.specs.declared.steps.Reply.{Reply}
 use Rattle.engine.specs.Performs.{placesIn}
+use Rattle.console.specs.Program.{places}
 use Rattle.console.specs.Replies.{wrote-granted, wrote-value, wrote-absent, wrote-listed, wrote-numbered, wrote-counted, wrote-refused}
 use Rattle.console.proofs.replies.put_reply.Statement.{statement}
 use Rattle.console.proofs.replies.put_reply.Tie as tie
@@ -37,9 +38,9 @@ put-listed-line-requires : tie.Need-put-listed-line-requires
 put-listed-line-requires c κs =
     let s = c .before .before .before .before .before .before .before in
     let r = c .before .before .before .before .reply2 .given in
-    let a : length (now (s .args .addresses)) ≡ 64 = c .before .put-listed-line-arg2 .given .0 in
-    let b : length (now (s .args .values)) ≡ 64 = c .put-listed-line-arg3 .given .0 in
-    let n : r .0 .0 ≤ 64 = subst (λ (p : Reply). placesIn p ≤ 64) (r .1) (s .pre .1) in
+    let a : length (now (s .args .addresses)) ≡ places = c .before .put-listed-line-arg2 .given .0 in
+    let b : length (now (s .args .values)) ≡ places = c .put-listed-line-arg3 .given .0 in
+    let n : r .0 .0 ≤ places = subst (λ (p : Reply). placesIn p ≤ places) (r .1) (s .pre .1) in
     ((omega arith, omega arith), omega (arith, s .pre .0))
 
 enum-known-reply-3 : tie.Need-enum-known-reply-3
@@ -88,9 +89,9 @@ returns-4 : tie.Need-returns-4
 returns-4 c =
     let s = c .before .before .before .before .before .before .before .before .before .before in
     let r = c .before .before .before .before .before .before .before .reply2 .given in
-    let a : length (now (s .args .addresses)) ≡ 64 = c .before .before .before .before .put-listed-line-arg2 .given .0 in
-    let b : length (now (s .args .values)) ≡ 64 = c .before .before .before .put-listed-line-arg3 .given .0 in
-    let n : r .0 .0 ≤ 64 = subst (λ (p : Reply). placesIn p ≤ 64) (r .1) (s .pre .1) in
+    let a : length (now (s .args .addresses)) ≡ places = c .before .before .before .before .put-listed-line-arg2 .given .0 in
+    let b : length (now (s .args .values)) ≡ places = c .before .before .before .put-listed-line-arg3 .given .0 in
+    let n : r .0 .0 ≤ places = subst (λ (p : Reply). placesIn p ≤ places) (r .1) (s .pre .1) in
     wrote-listed _ (r .1) (omega arith) (omega arith) (c .before .before .put-listed-line .ensures)
 
 same-length-5 : tie.Need-same-length-5

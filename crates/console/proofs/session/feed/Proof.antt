@@ -7,11 +7,11 @@ use Rattle.console.proofs.session.feed.Statement.{statement}
 use Rattle.console.proofs.session.feed.Tie as tie
 
 abbrev Inv-loop : tie.InvT-loop
-Inv-loop out₀ rows₀ lows₀ versions₀ outside₀ pending₀ slots₀ reads₀ leaves₀ writes₀ input addresses₀ values₀ x₀ out rows lows versions outside pending slots reads leaves writes addresses values x =
-    Feeds (lent rows₀ lows₀ versions₀ outside₀ pending₀ slots₀) (logs reads₀ leaves₀ writes₀) x₀ input out₀ (lent rows lows versions outside pending slots) (logs reads leaves writes) x out
+Inv-loop out₀ rows₀ leaves₀ slots₀ reads₀ leafsets₀ writes₀ input addresses₀ values₀ x₀ out rows leaves slots reads leafsets writes addresses values x =
+    Feeds (lent rows₀ leaves₀ slots₀) (logs reads₀ leafsets₀ writes₀) x₀ input out₀ (lent rows leaves slots) (logs reads leafsets writes) x out
 
 abbrev μ-loop : tie.MeasureT-loop
-μ-loop out₀ rows₀ lows₀ versions₀ outside₀ pending₀ slots₀ reads₀ leaves₀ writes₀ input addresses₀ values₀ x₀ out rows lows versions outside pending slots reads leaves writes addresses values x =
+μ-loop out₀ rows₀ leaves₀ slots₀ reads₀ leafsets₀ writes₀ input addresses₀ values₀ x₀ out rows leaves slots reads leafsets writes addresses values x =
     left input x
 
 loop-holds : tie.Need-loop-holds Inv-loop μ-loop
@@ -22,7 +22,7 @@ goes-on-requires c κs = tt
 
 turn-requires : tie.Need-turn-requires Inv-loop μ-loop
 turn-requires c κs =
-    let t = c .before .before .before .before .before .before .before .before .before .before .before .before in
+    let t = c .before .before .before .before .before .before .before .before .before in
     let i = t .before .before .loop .inv in
     (i .ready, (i .started, sym (t .before .goes-on .ensures) ∙ t .if1 .taken))
 
@@ -30,7 +30,7 @@ loop-less : tie.Need-loop-less Inv-loop μ-loop
 loop-less c = c .before .before .turn .ensures .fewer
 
 loop-again : tie.Need-loop-again Inv-loop μ-loop
-loop-again c = feeds-join (c .before .before .before .before .before .before .before .before .before .before .before .before .before .before .before .before .before .loop .inv) (c .before .before .turn .ensures .feeds)
+loop-again c = feeds-join (c .before .before .before .before .before .before .before .before .before .before .before .before .before .before .loop .inv) (c .before .before .turn .ensures .feeds)
 
 same-length : tie.Need-same-length Inv-loop μ-loop
 same-length c = c .before .before .loop .inv .size

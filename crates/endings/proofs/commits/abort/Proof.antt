@@ -1,8 +1,9 @@
--- `commits::abort` meets its contract: refused by 1 or 2, or the transaction is dropped. Assumes nothing.
+-- `commits::abort` meets its contract: refused by 1 or 2, or the transaction is dropped.
 use mathlib.Core.Path.{subst}
 use borrow.Author.Needs.{needs}
-use Rattle.transactions.specs.Admits.{Admitted}
-use Rattle.endings.specs.Finishes.{anyStage, abort-refused, abort-granted}
+use Rattle.transactions.specs.Admits.{anyStage, Admitted}
+use Rattle.transactions.specs.SeatLaws.{ready-writable}
+use Rattle.endings.specs.Finishes.{abort-refused, abort-granted}
 use Rattle.endings.proofs.commits.abort.Statement.{statement}
 use Rattle.endings.proofs.commits.abort.Tie as tie
 
@@ -17,10 +18,10 @@ enum-told c = search needs
 
 drop-transaction-requires : tie.Need-drop-transaction-requires
 drop-transaction-requires c κs =
-    let t = c .before .before .before in
+    let t = c .before .before in
     let k = t .before .before .before .before .pre in
     let e = subst (Admitted anyStage _ _) (t .enum-told .given .1) (t .before .before .busy .ensures) in
-    (k .stored .map, (k .stored .writes, (e .inside, k .stored .counts _ (e .inside) .writes)))
+    (k .stored .map, (e .inside, ready-writable k .set _ (e .inside)))
 
 returns : tie.Need-returns
 returns c =
@@ -29,7 +30,7 @@ returns c =
 
 returns-2 : tie.Need-returns-2
 returns-2 c =
-    let t = c .before .before .before .before in
+    let t = c .before .before .before in
     abort-granted _ (t .before .before .before .before .pre) _
     (subst (Admitted anyStage _ _) (t .enum-told .given .1) (t .before .before .busy .ensures))
     (c .drop-transaction .ensures)

@@ -1,8 +1,9 @@
--- `commits::install` meets its contract: refused by 1, 2 or 4, or the writes are installed. Assumes nothing.
+-- `commits::install` meets its contract: refused by 1, 2 or 4, or the writes are installed.
 use mathlib.Core.Path.{subst}
 use borrow.Author.Needs.{needs}
 use Rattle.spec.specs.Steps.{isChecked}
 use Rattle.transactions.specs.Admits.{Admitted}
+use Rattle.transactions.specs.SeatLaws.{ready-writable}
 use Rattle.endings.specs.Finishes.{install-refused, install-can, install-granted}
 use Rattle.endings.proofs.commits.install.Statement.{statement}
 use Rattle.endings.proofs.commits.install.Tie as tie
@@ -18,10 +19,10 @@ enum-told c = search needs
 
 install-transaction-requires : tie.Need-install-transaction-requires
 install-transaction-requires c κs =
-    let t = c .before .before .before in
+    let t = c .before .before in
     let k = t .before .before .before .before .pre in
     let e = subst (Admitted isChecked _ _) (t .enum-told .given .1) (t .before .before .checked .ensures) in
-    (k .stored .map, (k .stored .writes, ((e .inside, k .stored .counts _ (e .inside) .writes), install-can _ k _ e)))
+    (k .stored .map, (e .inside, (ready-writable k .set _ (e .inside), install-can _ k _ e)))
 
 returns : tie.Need-returns
 returns c =
@@ -30,7 +31,7 @@ returns c =
 
 returns-2 : tie.Need-returns-2
 returns-2 c =
-    let t = c .before .before .before .before in
+    let t = c .before .before .before in
     install-granted _ (t .before .before .before .before .pre) _
     (subst (Admitted isChecked _ _) (t .enum-told .given .1) (t .before .before .checked .ensures))
     (c .install-transaction .ensures)

@@ -1,8 +1,6 @@
--- `commits::install_transaction` meets its contract: the writes are pending, and the seat is free. Assumes nothing.
-use mathlib.Core.Path.{sym, subst}
+-- `commits::install_transaction` meets its contract: the writes are pending, and the seat is free.
 use borrow.Author.Needs.{needs}
-use Rattle.laws.specs.MapLaws.{Installable}
-use Rattle.endings.specs.Commits.{installs}
+use Rattle.endings.specs.Commits.{writing, installs}
 use Rattle.endings.proofs.commits.install_transaction.Statement.{statement}
 use Rattle.endings.proofs.commits.install_transaction.Tie as tie
 
@@ -12,8 +10,11 @@ mul-x c = search needs
 array-copy-out-x : tie.Need-array-copy-out-x
 array-copy-out-x c = search needs
 
-block-of-requires : tie.Need-block-of-requires
-block-of-requires c κs = search needs
+mul-install-all : tie.Need-mul-install-all
+mul-install-all c = search needs
+
+index-1-install-all : tie.Need-index-1-install-all
+index-1-install-all c = search needs
 
 cast-install-all : tie.Need-cast-install-all
 cast-install-all c = search needs
@@ -23,31 +24,27 @@ cast-install-all-2 c = search needs
 
 install-all-requires : tie.Need-install-all-requires
 install-all-requires c κs =
-    let b = c .before .before .before .before .before .before in
-    let s = b .before .before .before .before .before in (
-      s .pre .0,
-      (b .block-of .ensures .narrow _ (s .pre .1 .1 .0 .1), subst (Installable _) (sym (b .block-of .ensures .view _ (s .pre .1 .1 .0 .1))) (s .pre .1 .1 .1)),
-    )
+    let s = c .before .before .before .before .before .before .before .before .before in
+    (s .pre .0, (writing (s .pre .1 .1 .0), s .pre .1 .1 .1))
 
 free-requires : tie.Need-free-requires
 free-requires c κs = search needs
 
 mul-seats : tie.Need-mul-seats
 mul-seats c =
-    let s = c .before .before .before .before .before .before .before .before .before .before .before .before .before in
-    let h = s .pre .1 .1 .0 .0 in
+    let s = c .before .before .before .before .before .before .before .before .before .before .before in
+    let h = s .pre .1 .0 in
     search needs
 
 array-set-from-seats : tie.Need-array-set-from-seats
 array-set-from-seats c =
-    let s = c .before .before .before .before .before .before .before .before .before .before .before .before .before in
-    s .pre .1 .1 .0 .0
+    let s = c .before .before .before .before .before .before .before .before .before .before .before in
+    s .pre .1 .0
 
 returns : tie.Need-returns
 returns c =
-    let b = c .before .before .before .before .before .before .before .before in
-    let s = b .before .before .before .before .before in
-    installs _ _ _ _ _ _ _ _ (s .pre .1 .1 .0 .0) (s .pre .1 .1 .0 .1) (b .block-of .ensures) (c .free .ensures) (c .before .install-all .ensures)
+    let s = c .before .before .before .before .before .before .before .before .before .before .before in
+    installs _ _ _ _ _ _ _ (s .pre .1 .0) (c .free .ensures) (c .before .install-all .ensures)
 
 pub install-transaction-spec : {M : Type 1} → statement M
 install-transaction-spec =
@@ -55,7 +52,8 @@ install-transaction-spec =
     (tie.spec
     mul-x
     array-copy-out-x
-    block-of-requires
+    mul-install-all
+    index-1-install-all
     cast-install-all
     cast-install-all-2
     install-all-requires

@@ -1,9 +1,10 @@
--- `commits::lock` meets its contract: refused by 1, 2 or 4, or what comes of an open worker's lock. Assumes nothing.
+-- `commits::lock` meets its contract: refused by 1, 2 or 4, or what comes of an open worker's lock.
 use mathlib.Core.Path.{subst}
 use borrow.Author.Needs.{needs}
 use Rattle.spec.specs.Steps.{isOpen}
 use Rattle.transactions.specs.Admits.{Admitted}
-use Rattle.endings.specs.Locks.{lock-refused, lock-rising, lock-goes}
+use Rattle.transactions.specs.SeatLaws.{ready-writable}
+use Rattle.endings.specs.Locks.{lock-refused, lock-goes}
 use Rattle.endings.proofs.commits.lock.Statement.{statement}
 use Rattle.endings.proofs.commits.lock.Tie as tie
 
@@ -18,10 +19,10 @@ enum-told c = search needs
 
 lock-open-requires : tie.Need-lock-open-requires
 lock-open-requires c κs =
-    let t = c .before .before .before in
+    let t = c .before .before in
     let k = t .before .before .before .before .pre in
     let e = subst (Admitted isOpen _ _) (t .enum-told .given .1) (t .before .before .open .ensures) in
-    (k .stored .map, (k .stored .writes, ((e .inside, k .stored .counts _ (e .inside) .writes), lock-rising _ k _ e)))
+    (k .stored .map, (e .inside, ready-writable k .set _ (e .inside)))
 
 returns : tie.Need-returns
 returns c =
@@ -30,7 +31,7 @@ returns c =
 
 returns-2 : tie.Need-returns-2
 returns-2 c =
-    let t = c .before .before .before .before in
+    let t = c .before .before .before in
     lock-goes _ (t .before .before .before .before .pre) _
     (subst (Admitted isOpen _ _) (t .enum-told .given .1) (t .before .before .open .ensures)) _
     (c .lock-open .ensures)

@@ -1,7 +1,7 @@
--- `commits::lock_open` meets its contract: refused by 9, 10 or 11, or the write set is locked. Assumes nothing.
-use mathlib.Core.Path.{sym, subst, _∙_}
-use Rattle.lists.specs.Rows.{Rising}
+-- `commits::lock_open` meets its contract: refused by 9, 10 or 11, or the write set is locked.
+use mathlib.Core.Path.{sym, _∙_}
 use Rattle.map.specs.AddressCounts.{counted}
+use Rattle.endings.specs.Commits.{writing}
 use Rattle.endings.specs.Locks.{tested-can, worker-fits, locks-refused, locks-granted}
 use borrow.Author.Needs.{needs}
 use Rattle.endings.proofs.commits.lock_open.Statement.{statement}
@@ -16,42 +16,45 @@ array-copy-out-x c = search needs
 cast-n : tie.Need-cast-n
 cast-n c = search needs
 
-block-of-requires : tie.Need-block-of-requires
-block-of-requires c κs = let s = c .before .before .before .before .before in (s .pre .1 .0, s .pre .1 .1 .0 .0)
+mul-lock-tests : tie.Need-mul-lock-tests
+mul-lock-tests c = search needs
+
+index-1-lock-tests : tie.Need-index-1-lock-tests
+index-1-lock-tests c = search needs
 
 lock-tests-requires : tie.Need-lock-tests-requires
 lock-tests-requires c κs =
-    let b = c .before .before in
-    let s = b .before .before .before .before .before .before in
-    let few = s .pre .1 .1 .0 .1 in (
-      counted (s .pre .0 .tables),
-      (
-        s .pre .0 .tables .entries-are,
-        (b .block-of .ensures .narrow _ few, subst Rising (sym (b .block-of .ensures .view _ few)) (s .pre .1 .1 .1)),
-      ),
-    )
+    let s = c .before .before .before .before .before .before .before in
+    (counted (s .pre .0 .tables), (s .pre .0 .tables .entries-are, s .pre .1 .1))
 
 refused-requires : tie.Need-refused-requires
 refused-requires c κs = search needs
 
 returns : tie.Need-returns
 returns c =
-    let t = c .before .before in
-    let b = t .before .before .before in
-    let s = b .before .before .before .before .before .before in
-    locks-refused _ _ _ _ _ _ (s .pre .1 .1 .0 .1) (b .block-of .ensures) (t .lock-tests .ensures) (sym (c .before .refused .ensures) ∙ c .if1 .taken)
+    locks-refused _ _ _ _ _ (c .before .before .lock-tests .ensures) (sym (c .before .refused .ensures) ∙ c .if1 .taken)
+
+mul-lock-all : tie.Need-mul-lock-all
+mul-lock-all c =
+    let e = c .before .before in
+    let h = e .before .before .before .before .before .before .before .before .before .before .pre .1 .0 in
+    search needs
+
+index-1-lock-all : tie.Need-index-1-lock-all
+index-1-lock-all c =
+    let e = c .before .before in
+    e .before .before .before .before .before .before .before .before .before .before .pre .1 .0
 
 lock-all-requires : tie.Need-lock-all-requires
 lock-all-requires c κs =
-    let e = c .before .before .before .before in
+    let e = c .before .before .before in
     let t = e .before .before in
-    let b = t .before .before .before in
-    let s = b .before .before .before .before .before .before in (
+    let s = t .before .before .before .before .before .before .before .before in (
       s .pre .0,
       (
-        b .block-of .ensures .narrow _ (s .pre .1 .1 .0 .1),
+        writing (s .pre .1 .1),
         (
-          worker-fits _ (s .pre .1 .1 .0 .0),
+          worker-fits _ (s .pre .1 .0),
           tested-can _ _ _ _ _ _ _ _ (t .lock-tests .ensures) (sym (e .before .refused .ensures) ∙ e .if1 .left),
         ),
       ),
@@ -62,23 +65,22 @@ lock-requires c κs = search needs
 
 mul-seats : tie.Need-mul-seats
 mul-seats c =
-    let e = c .before .before .before .before .before .before in
-    let h = e .before .before .before .before .before .before .before .before .before .before .before .pre .1 .1 .0 .0 in
+    let e = c .before .before .before .before .before in
+    let h = e .before .before .before .before .before .before .before .before .before .before .pre .1 .0 in
     search needs
 
 array-set-from-seats : tie.Need-array-set-from-seats
 array-set-from-seats c =
-    let e = c .before .before .before .before .before .before in
-    e .before .before .before .before .before .before .before .before .before .before .before .pre .1 .1 .0 .0
+    let e = c .before .before .before .before .before in
+    e .before .before .before .before .before .before .before .before .before .before .pre .1 .0
 
 returns-2 : tie.Need-returns-2
 returns-2 c =
-    let e = c .before .before .before .before .before .before in
+    let e = c .before .before .before .before .before in
     let t = e .before .before in
-    let b = t .before .before .before in
-    let s = b .before .before .before .before .before .before in
-    locks-granted _ _ _ _ _ _ _ _ _ (s .pre .1 .1 .0 .0) (s .pre .1 .1 .0 .1) (b .block-of .ensures)
-    (t .lock-tests .ensures) (sym (e .before .refused .ensures) ∙ e .if1 .left) (c .lock .ensures) (c .before .lock-all .ensures)
+    let s = t .before .before .before .before .before .before .before .before in
+    locks-granted _ _ _ _ _ _ _ _ (s .pre .1 .0) (t .lock-tests .ensures) (sym (e .before .refused .ensures) ∙ e .if1 .left)
+    (c .lock .ensures) (c .before .lock-all .ensures)
 
 pub lock-open-spec : {M : Type 1} → statement M
 lock-open-spec =
@@ -87,10 +89,13 @@ lock-open-spec =
     mul-x
     array-copy-out-x
     cast-n
-    block-of-requires
+    mul-lock-tests
+    index-1-lock-tests
     lock-tests-requires
     refused-requires
     returns
+    mul-lock-all
+    index-1-lock-all
     lock-all-requires
     lock-requires
     mul-seats

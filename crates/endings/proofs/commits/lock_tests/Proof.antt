@@ -1,20 +1,24 @@
--- `commits::lock_tests` meets its contract: the causes one after the other. Assumes nothing.
+-- `commits::lock_tests` meets its contract: the causes one after the other.
 use Rattle.endings.specs.Locks.{tested-held, tested-full, tested-map, tested-passed}
-use borrow.Author.Needs.{needs}
+use Rattle.endings.specs.Commits.{writing}
 use Rattle.endings.proofs.commits.lock_tests.Statement.{statement}
 use Rattle.endings.proofs.commits.lock_tests.Tie as tie
 
 held-requires : tie.Need-held-requires
-held-requires c κs = (c .pre .0 .slots-held, c .pre .1 .1 .0)
+held-requires c κs = (c .pre .0 .slots-held, writing (c .pre .1 .1))
 
 returns : tie.Need-returns
 returns c = tested-held _ _ _ _ _ _ (c .before .held .ensures) (c .if1 .taken)
 
 waiting-with-requires : tie.Need-waiting-with-requires
-waiting-with-requires c κs = search needs
+waiting-with-requires c κs =
+    let s = c .before .before in
+    (s .pre .0 .slots-held, (s .pre .1 .0, (writing (s .pre .1 .1), s .pre .1 .1 .rising)))
 
 addresses-with-requires : tie.Need-addresses-with-requires
-addresses-with-requires c κs = search needs
+addresses-with-requires c κs =
+    let s = c .before .before .before in
+    (s .pre .0, (writing (s .pre .1 .1), s .pre .1 .1 .rising))
 
 returns-2 : tie.Need-returns-2
 returns-2 c =

@@ -1,6 +1,6 @@
--- `drops::drop_transaction` meets its contract: the locks of the write set go, and the seat is free. Assumes nothing.
+-- `drops::drop_transaction` meets its contract: the locks of the write set go, and the seat is free.
 use borrow.Author.Needs.{needs}
-use Rattle.endings.specs.Commits.{drops}
+use Rattle.endings.specs.Commits.{writing, drops}
 use Rattle.endings.proofs.drops.drop_transaction.Statement.{statement}
 use Rattle.endings.proofs.drops.drop_transaction.Tie as tie
 
@@ -10,37 +10,38 @@ mul-x c = search needs
 array-copy-out-x : tie.Need-array-copy-out-x
 array-copy-out-x c = search needs
 
-block-of-requires : tie.Need-block-of-requires
-block-of-requires c κs = search needs
+mul-unlock-all : tie.Need-mul-unlock-all
+mul-unlock-all c = search needs
+
+index-1-unlock-all : tie.Need-index-1-unlock-all
+index-1-unlock-all c = search needs
 
 cast-unlock-all : tie.Need-cast-unlock-all
 cast-unlock-all c = search needs
 
 unlock-all-requires : tie.Need-unlock-all-requires
 unlock-all-requires c κs =
-    let b = c .before .before .before .before .before in
-    let s = b .before .before .before .before .before in
-    (s .pre .0, b .block-of .ensures .narrow _ (s .pre .1 .1 .1))
+    let s = c .before .before .before .before .before .before .before .before in
+    (s .pre .0, writing (s .pre .1 .1))
 
 free-requires : tie.Need-free-requires
 free-requires c κs = search needs
 
 mul-seats : tie.Need-mul-seats
 mul-seats c =
-    let s = c .before .before .before .before .before .before .before .before .before .before .before .before in
-    let h = s .pre .1 .1 .0 in
+    let s = c .before .before .before .before .before .before .before .before .before .before in
+    let h = s .pre .1 .0 in
     search needs
 
 array-set-from-seats : tie.Need-array-set-from-seats
 array-set-from-seats c =
-    let s = c .before .before .before .before .before .before .before .before .before .before .before .before in
-    s .pre .1 .1 .0
+    let s = c .before .before .before .before .before .before .before .before .before .before in
+    s .pre .1 .0
 
 returns : tie.Need-returns
 returns c =
-    let b = c .before .before .before .before .before .before .before in
-    let s = b .before .before .before .before .before in
-    drops _ _ _ _ _ _ _ _ (s .pre .1 .1 .0) (s .pre .1 .1 .1) (b .block-of .ensures) (c .free .ensures) (c .before .unlock-all .ensures)
+    let s = c .before .before .before .before .before .before .before .before .before .before in
+    drops _ _ _ _ _ _ _ (s .pre .1 .0) (c .free .ensures) (c .before .unlock-all .ensures)
 
 pub drop-transaction-spec : {M : Type 1} → statement M
 drop-transaction-spec =
@@ -48,7 +49,8 @@ drop-transaction-spec =
     (tie.spec
     mul-x
     array-copy-out-x
-    block-of-requires
+    mul-unlock-all
+    index-1-unlock-all
     cast-unlock-all
     unlock-all-requires
     free-requires

@@ -1,4 +1,4 @@
--- `validates::differs` meets its contract: by presence, then value, then commit number. Assumes nothing.
+-- `validates::differs` meets its contract: by presence, then value, then commit number.
 use Rattle.endings.specs.Validates.{differ-stamps, differ-values, differ-gone, differ-new}
 use Rattle.endings.proofs.validates.differs.Statement.{statement}
 use Rattle.endings.proofs.validates.differs.Tie as tie

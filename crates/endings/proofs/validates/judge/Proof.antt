@@ -1,4 +1,4 @@
--- `validates::judge` meets its contract: by the three tests, in their order. Assumes nothing.
+-- `validates::judge` meets its contract: by the three tests, in their order.
 use borrow.Author.Needs.{needs}
 use Rattle.endings.specs.Verdicts.{judge-changed, judge-locked, judge-phantom, judge-passed, examined-owns}
 use Rattle.endings.proofs.validates.judge.Statement.{statement}
@@ -11,7 +11,7 @@ changed-requires : tie.Need-changed-requires
 changed-requires c κs = search needs
 
 returns : tie.Need-returns
-returns c = judge-changed _ _ _ _ _ _ _ _ _ _ (c .before .changed .ensures) (c .if1 .taken)
+returns c = judge-changed _ _ _ _ _ _ _ (c .before .changed .ensures) (c .if1 .taken)
 
 cast-under-lock : tie.Need-cast-under-lock
 cast-under-lock c = search needs
@@ -22,10 +22,7 @@ under-lock-requires c κs = search needs
 returns-2 : tie.Need-returns-2
 returns-2 c =
     let n = c .before .before .before in
-    judge-locked _ _ _ _ _ _ _ _ _ _ _ (n .before .changed .ensures) (n .if1 .left) (c .before .under-lock .ensures) (c .if2 .taken)
-
-block-of-requires : tie.Need-block-of-requires
-block-of-requires c κs = search needs
+    judge-locked _ _ _ _ _ _ _ _ (n .before .changed .ensures) (n .if1 .left) (c .before .under-lock .ensures) (c .if2 .taken)
 
 cast-phantoms : tie.Need-cast-phantoms
 cast-phantoms c = search needs
@@ -35,23 +32,22 @@ cast-phantoms-2 c = search needs
 
 phantoms-requires : tie.Need-phantoms-requires
 phantoms-requires c κs =
-    let s = c .before .before .before .before .before .before .before .before .before .before in
-    let e = s .pre in
-    (e .held, (examined-owns e (c .before .before .before .block-of .ensures), (e .leaves-held, (e .logged-all, (e .worker, e .counts .leaves)))))
+    let e = c .before .before .before .before .before .before .before .before .pre in
+    (e .held, (examined-owns e, (e .leaves-held, (e .logged-all, e .counts .leaves))))
 
 returns-3 : tie.Need-returns-3
 returns-3 c =
-    let b = c .before .before .before .before .before in
-    let n = b .before .before .before .before in
-    judge-phantom _ _ _ _ _ _ _ _ _ _ _ _ (n .before .changed .ensures) (n .if1 .left)
-    (b .before .before .under-lock .ensures) (b .before .if2 .left) (c .before .phantoms .ensures) (c .if3 .taken)
+    let b = c .before .before .before .before in
+    let n = b .before .before .before in
+    judge-phantom _ _ _ _ _ _ _ _ _ (n .before .changed .ensures) (n .if1 .left)
+    (b .before .under-lock .ensures) (b .if2 .left) (c .before .phantoms .ensures) (c .if3 .taken)
 
 returns-4 : tie.Need-returns-4
 returns-4 c =
-    let b = c .before .before .before .before .before in
-    let n = b .before .before .before .before in
-    judge-passed _ _ _ _ _ _ _ _ _ _ _ _ (n .before .changed .ensures) (n .if1 .left)
-    (b .before .before .under-lock .ensures) (b .before .if2 .left) (c .before .phantoms .ensures) (c .if3 .left)
+    let b = c .before .before .before .before in
+    let n = b .before .before .before in
+    judge-passed _ _ _ _ _ _ _ _ _ (n .before .changed .ensures) (n .if1 .left)
+    (b .before .under-lock .ensures) (b .if2 .left) (c .before .phantoms .ensures) (c .if3 .left)
 
 pub judge-spec : {M : Type 1} → statement M
 judge-spec =
@@ -63,7 +59,6 @@ judge-spec =
     cast-under-lock
     under-lock-requires
     returns-2
-    block-of-requires
     cast-phantoms
     cast-phantoms-2
     phantoms-requires

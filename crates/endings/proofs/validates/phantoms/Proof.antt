@@ -1,20 +1,21 @@
--- `validates::phantoms` meets its contract: the first leaf that is gone or hides a key, or none does. Assumes nothing.
+-- `validates::phantoms` meets its contract: the first leaf that is gone or hides a key, or none does.
 use Prim.Native.Nat.{_-_, _≤_, zero-le}
 use native.Mathlib.Omega.{arith}
-use Rattle.looks.specs.PhantomViews.{mapIn, phantomAt}
-use Rattle.sets.specs.Leaves.{versionsIn}
-use Rattle.sets.specs.LeafLaws.{length-versions}
+use Rattle.looks.specs.PhantomViews.{phantomAt}
+use Rattle.map.specs.Views.{lent, mapOf}
+use Rattle.sets.specs.Leaves.{versionIn, versionsOf}
+use Rattle.sets.specs.SetLaws.{length-rows}
 use Rattle.endings.specs.Searching.{Searching, search-start, search-on, search-hit, search-end}
 use Rattle.endings.specs.Validates.{row-phantom, row-logged}
 use Rattle.endings.proofs.validates.phantoms.Statement.{statement}
 use Rattle.endings.proofs.validates.phantoms.Tie as tie
 
 abbrev Inv-loop : tie.InvT-loop
-Inv-loop rows lows versions outside slots leaves ws z n w k i₀ i =
-    (i ≤ k) × Searching (phantomAt (mapIn rows lows versions slots z) w) (versionsIn leaves w k) i
+Inv-loop rows leaves slots set ws z n w k i₀ i =
+    (i ≤ k) × Searching (phantomAt (mapOf (lent rows leaves slots) z) w) (versionsOf set k) i
 
 abbrev μ-loop : tie.MeasureT-loop
-μ-loop rows lows versions outside slots leaves ws z n w k i₀ i = k - i
+μ-loop rows leaves slots set ws z n w k i₀ i = k - i
 
 loop-holds : tie.Need-loop-holds Inv-loop μ-loop
 loop-holds c = (zero-le, search-start _ _)
@@ -24,7 +25,7 @@ leaf-at-requires c κs =
     let p = c .before .before .pre in
     let b = p .1 .1 .1 .1 in
     let h = c .loop-test .taken in
-    (p .1 .1 .0, (b .0, omega arith))
+    (p .1 .1 .0, omega arith)
 
 phantom-requires : tie.Need-phantom-requires Inv-loop μ-loop
 phantom-requires c κs =
@@ -39,15 +40,14 @@ returns c =
     let t = o .before .before in
     let s = t .before .before in
     let a = s .args in
-    let few = s .pre .1 .1 .1 .1 .1 in
     let h = t .loop-test .taken in
-    let e = length-versions (a .leaves .now) (a .w) (a .k) few in
+    let e = length-rows versionIn (a .leafset .now) (a .k) in
     search-hit 0 (omega arith)
-    (row-phantom (mapIn (a .rows .now) (a .lows .now) (a .versions .now) (a .slots .now) (a .z)) (a .k) h (o .before .leaf-at .ensures) (o .phantom .ensures) (c .if1 .taken))
+    (row-phantom (mapOf (lent (a .rows .now) (a .leaves .now) (a .slots .now)) (a .z)) (a .w) (a .k) h (o .before .leaf-at .ensures) (o .phantom .ensures) (c .if1 .taken))
     (t .before .loop .inv .1)
 
 add-i : tie.Need-add-i Inv-loop μ-loop
-add-i c = omega (arith, c .before .before .before .before .before .pre .1 .1 .1 .1 .1)
+add-i c = omega (arith, c .before .before .before .before .before .pre .1 .1 .1 .1)
 
 loop-less : tie.Need-loop-less Inv-loop μ-loop
 loop-less c = omega arith
@@ -58,12 +58,11 @@ loop-again c =
     let t = o .before .before in
     let s = t .before .before in
     let a = s .args in
-    let few = s .pre .1 .1 .1 .1 .1 in
     let h = t .loop-test .taken in
-    let e = length-versions (a .leaves .now) (a .w) (a .k) few in (
+    let e = length-rows versionIn (a .leafset .now) (a .k) in (
       omega arith,
       search-on 0 (omega arith)
-          (row-phantom (mapIn (a .rows .now) (a .lows .now) (a .versions .now) (a .slots .now) (a .z)) (a .k) h (o .before .leaf-at .ensures) (o .phantom .ensures) (c .if1 .left))
+          (row-phantom (mapOf (lent (a .rows .now) (a .leaves .now) (a .slots .now)) (a .z)) (a .w) (a .k) h (o .before .leaf-at .ensures) (o .phantom .ensures) (c .if1 .left))
           (t .before .loop .inv .1),
     )
 
@@ -71,9 +70,8 @@ returns-2 : tie.Need-returns-2 Inv-loop μ-loop
 returns-2 c =
     let s = c .before .before in
     let a = s .args in
-    let few = s .pre .1 .1 .1 .1 .1 in
     let h = c .loop-test .left in
-    let e = length-versions (a .leaves .now) (a .w) (a .k) few in
+    let e = length-rows versionIn (a .leafset .now) (a .k) in
     search-end (omega arith) (c .before .loop .inv .1)
 
 pub phantoms-spec : {M : Type 1} → statement M

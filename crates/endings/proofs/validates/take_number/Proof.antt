@@ -1,4 +1,4 @@
--- `validates::take_number` meets its contract: by whether a commit number is left. Assumes nothing.
+-- `validates::take_number` meets its contract: by whether a commit number is left.
 use borrow.Author.Needs.{needs}
 use Rattle.endings.specs.Validates.{number-spent, number-taken}
 use Rattle.endings.proofs.validates.take_number.Statement.{statement}

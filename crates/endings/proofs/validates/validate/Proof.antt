@@ -1,8 +1,9 @@
--- `validates::validate` meets its contract: by the stage, then the log, then the numbers left. Assumes nothing.
+-- `validates::validate` meets its contract: by the stage, then the log, then the numbers left.
 use mathlib.Core.Path.{subst}
 use borrow.Author.Needs.{needs}
 use Rattle.spec.specs.Steps.{isLocked}
 use Rattle.transactions.specs.Admits.{Admitted}
+use Rattle.transactions.specs.SeatLaws.{ready-writable}
 use Rattle.endings.specs.Verdicts.{examinable, validate-refused, validate-ended, validate-passed}
 use Rattle.endings.proofs.validates.validate.Statement.{statement}
 use Rattle.endings.proofs.validates.validate.Tie as tie
@@ -16,9 +17,48 @@ enum-known-r c = search needs
 enum-known-x : tie.Need-enum-known-x
 enum-known-x c = search needs
 
+mul-judge : tie.Need-mul-judge
+mul-judge c =
+    let x = c .before .before .before in
+    let t = subst (Admitted isLocked _ _) (x .x .given .1) (x .before .before .locked .ensures) in
+    let h = t .inside in
+    search needs
+
+index-1-judge : tie.Need-index-1-judge
+index-1-judge c =
+    let x = c .before .before .before in
+    let t = subst (Admitted isLocked _ _) (x .x .given .1) (x .before .before .locked .ensures) in
+    t .inside
+
+mul-judge-2 : tie.Need-mul-judge-2
+mul-judge-2 c =
+    let x = c .before .before .before .before in
+    let t = subst (Admitted isLocked _ _) (x .x .given .1) (x .before .before .locked .ensures) in
+    let h = t .inside in
+    search needs
+
+index-1-judge-2 : tie.Need-index-1-judge-2
+index-1-judge-2 c =
+    let x = c .before .before .before .before in
+    let t = subst (Admitted isLocked _ _) (x .x .given .1) (x .before .before .locked .ensures) in
+    t .inside
+
+mul-judge-3 : tie.Need-mul-judge-3
+mul-judge-3 c =
+    let x = c .before .before .before .before .before in
+    let t = subst (Admitted isLocked _ _) (x .x .given .1) (x .before .before .locked .ensures) in
+    let h = t .inside in
+    search needs
+
+index-1-judge-3 : tie.Need-index-1-judge-3
+index-1-judge-3 c =
+    let x = c .before .before .before .before .before in
+    let t = subst (Admitted isLocked _ _) (x .x .given .1) (x .before .before .locked .ensures) in
+    t .inside
+
 judge-requires : tie.Need-judge-requires
 judge-requires c κs =
-    let x = c .before .before .before in
+    let x = c .before .before .before .before .before .before in
     let o = x .before .before in
     let s = o .before .before .before in
     examinable _ (s .pre) _ (subst (Admitted isLocked _ _) (x .x .given .1) (o .locked .ensures))
@@ -28,21 +68,20 @@ enum-known-said c = search needs
 
 drop-transaction-requires : tie.Need-drop-transaction-requires
 drop-transaction-requires c κs =
-    let j = c .before .before .before .before .before .before in
-    let x = j .before .before .before .before in
+    let j = c .before .before .before .before .before in
+    let x = j .before .before .before .before .before .before .before in
     let o = x .before .before in
     let s = o .before .before .before in
     let t = subst (Admitted isLocked _ _) (x .x .given .1) (o .locked .ensures) in
-    (s .pre .stored .map, (s .pre .stored .writes, (t .inside, s .pre .stored .counts _ (t .inside) .writes)))
+    (s .pre .stored .map, (t .inside, ready-writable (s .pre) .set _ (t .inside)))
 
 enum-told : tie.Need-enum-told
 enum-told c = search needs
 
 take-number-requires : tie.Need-take-number-requires
 take-number-requires c κs =
-    let x = c .before .before .before .before .before .before in
-    let o = x .before .before in
-    let t = subst (Admitted isLocked _ _) (x .x .given .1) (o .locked .ensures) in
+    let x = c .before .before .before .before .before .before .before .before .before in
+    let t = subst (Admitted isLocked _ _) (x .x .given .1) (x .before .before .locked .ensures) in
     t .inside
 
 returns : tie.Need-returns
@@ -53,9 +92,9 @@ returns c =
 
 returns-2 : tie.Need-returns-2
 returns-2 c =
-    let d = c .before .before .before .before .before in
+    let d = c .before .before .before .before in
     let j = d .before .before in
-    let x = j .before .before .before .before in
+    let x = j .before .before .before .before .before .before .before in
     let o = x .before .before in
     let s = o .before .before .before in
     validate-ended _ (s .pre) _ (subst (Admitted isLocked _ _) (x .x .given .1) (o .locked .ensures)) _ _
@@ -64,7 +103,7 @@ returns-2 c =
 returns-3 : tie.Need-returns-3
 returns-3 c =
     let j = c .before .before .before in
-    let x = j .before .before .before .before in
+    let x = j .before .before .before .before .before .before .before in
     let o = x .before .before in
     let s = o .before .before .before in
     validate-passed _ (s .pre) _ (subst (Admitted isLocked _ _) (x .x .given .1) (o .locked .ensures)) _ _
@@ -77,6 +116,12 @@ validate-spec =
     locked-requires
     enum-known-r
     enum-known-x
+    mul-judge
+    index-1-judge
+    mul-judge-2
+    index-1-judge-2
+    mul-judge-3
+    index-1-judge-3
     judge-requires
     enum-known-said
     drop-transaction-requires

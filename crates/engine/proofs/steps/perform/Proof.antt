@@ -46,13 +46,13 @@ same-length-2 : tie.Need-same-length-2
 same-length-2 c = search needs
 
 returns-2 : tie.Need-returns-2
-returns-2 c = performs-as (c .before .before .before .before .before .before .before .before .before .before .before .before .before .before .before .before .before .op2 .given .1) (c .before .before .before .before .take-access .ensures)
+returns-2 c = performs-as (c .before .before .before .before .before .before .before .before .before .before .before .before .before .before .op2 .given .1) (c .before .before .before .before .take-access .ensures)
 
 returns-3 : tie.Need-returns-3
-returns-3 c = performs-quiet _ _ (quiet-as (c .before .before .before .before .before .before .before .before .before .before .before .op3 .given .1) (c .take-ending .ensures))
+returns-3 c = performs-quiet _ _ (quiet-as (c .before .before .before .before .before .before .before .before .op3 .given .1) (c .take-ending .ensures))
 
 returns-4 : tie.Need-returns-4
-returns-4 c = performs-quiet _ _ (quiet-merge _ (c .before .merge-at .result) (λ m n. refl) (c .before .before .before .before .before .before .before .before .before .before .before .before .op4 .given .1) (c .of-merge .ensures) (c .before .merge-at .ensures))
+returns-4 c = performs-quiet _ _ (quiet-merge _ (c .before .merge-at .result) (λ m n. refl) (c .before .before .before .before .before .before .before .before .before .op4 .given .1) (c .of-merge .ensures) (c .before .merge-at .ensures))
 
 pub perform-spec : {M : Type 1} → statement M
 perform-spec =

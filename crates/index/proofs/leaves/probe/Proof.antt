@@ -1,38 +1,40 @@
-use Prim.Native.Nat.{_≤_}
+use Prim.Native.Nat.{_+_, _≤_}
+use mathlib.Core.Path.{sym, ap, _∙_}
 use lib.ListN.{length}
+use Rattle.index.specs.declared.leaves.Leaf.{Leaf}
 use Rattle.index.specs.LeafPlaces.{leaf-step, leaf-stay, leaf-end}
+use Rattle.index.specs.LeafColumns.{lowsOf, column-places, column-getD}
 use borrow.Author.Needs.{needs}
 use Rattle.index.proofs.leaves.probe.Statement.{statement}
 use Rattle.index.proofs.leaves.probe.Tie as tie
 
-all-requires : tie.Need-all-requires
-all-requires c κs = search needs
+leaf-places-requires : tie.Need-leaf-places-requires
+leaf-places-requires c κs = search needs
 
 add-next : tie.Need-add-next
 add-next c = search needs
 
-mul-low : tie.Need-mul-low
-mul-low c = search needs
-
-element-copy-out-low : tie.Need-element-copy-out-low
-element-copy-out-low c = search needs
+leaf-at-requires : tie.Need-leaf-at-requires
+leaf-at-requires c κs = search needs
 
 returns : tie.Need-returns
-returns c = let s = c .before .before .before .before in
-    let f : s .args .m ≤ length (s .args .lows .now) = rw (c .before .before .before .all .ensures) (s .pre .0) in
-    leaf-step (s .args .lows .now) (s .args .m) (s .args .key) (s .args .base) (s .args .step) f (c .if2 .taken) (c .before .if1 .taken)
+returns c = let s = c .before .before .before .before .before in
+    let g = c .before .before .before .leaf-at in
+    let f : s .args .m ≤ length (lowsOf (s .args .leaves .now)) = rw (column-places 0 (s .args .leaves .now) (c .before .before .before .before .leaf-places .ensures)) (s .pre .0) in
+    leaf-step (lowsOf (s .args .leaves .now)) (s .args .m) (s .args .key) (s .args .base) (s .args .step) f (c .if2 .taken) (rw (ap (λ (l : Leaf). l .low) (g .ensures) ∙ sym (column-getD 0 (s .args .leaves .now) (s .args .base + s .args .step))) at (c .before .if1 .taken))
 
 returns-2 : tie.Need-returns-2
-returns-2 c = let s = c .before .before .before .before in
-    let f : s .args .m ≤ length (s .args .lows .now) = rw (c .before .before .before .all .ensures) (s .pre .0) in
-    leaf-end (s .args .lows .now) (s .args .m) (s .args .key) (s .args .base) (s .args .step) f (c .if2 .left)
+returns-2 c = let s = c .before .before .before .before .before in
+    let g = c .before .before .before .leaf-at in
+    let f : s .args .m ≤ length (lowsOf (s .args .leaves .now)) = rw (column-places 0 (s .args .leaves .now) (c .before .before .before .before .leaf-places .ensures)) (s .pre .0) in
+    leaf-end (lowsOf (s .args .leaves .now)) (s .args .m) (s .args .key) (s .args .base) (s .args .step) f (c .if2 .left)
 
 returns-3 : tie.Need-returns-3
-returns-3 c = let s = c .before .before .before in
-    let f : s .args .m ≤ length (s .args .lows .now) = rw (c .before .before .all .ensures) (s .pre .0) in
-    leaf-stay (s .args .lows .now) (s .args .m) (s .args .key) (s .args .base) (s .args .step) f (c .if1 .left)
+returns-3 c = let s = c .before .before .before .before in
+    let g = c .before .before .leaf-at in
+    let f : s .args .m ≤ length (lowsOf (s .args .leaves .now)) = rw (column-places 0 (s .args .leaves .now) (c .before .before .before .leaf-places .ensures)) (s .pre .0) in
+    leaf-stay (lowsOf (s .args .leaves .now)) (s .args .m) (s .args .key) (s .args .base) (s .args .step) f (rw (ap (λ (l : Leaf). l .low) (g .ensures) ∙ sym (column-getD 0 (s .args .leaves .now) (s .args .base + s .args .step))) at (c .if1 .left))
 
 pub probe-spec : {M : Type 1} → statement M
 probe-spec =
-    tie.close
-    (tie.spec all-requires add-next mul-low element-copy-out-low returns returns-2 returns-3)
+    tie.close (tie.spec leaf-places-requires add-next leaf-at-requires returns returns-2 returns-3)

@@ -4,11 +4,15 @@ use borrow.Author.Needs.{needs}
 use Rattle.index.proofs.records.drop.Statement.{statement}
 use Rattle.index.proofs.records.drop.Tie as tie
 
+record-places-requires : tie.Need-record-places-requires
+record-places-requires c κs = search needs
+
 locate-requires : tie.Need-locate-requires
 locate-requires c κs = search needs
 
 returns : tie.Need-returns
-returns c = let s = c .before .before .before in
+returns c = let r = c .before .before .before in
+    let s = r .before .before in
     let p = c .before .locate in
     drop-none (s .args .rows .now) (s .args .n) (s .args .a) (p .result) (s .pre) (p .ensures)
     (absent-past (s .args .rows .now) (s .args .n) (s .args .a) (p .result) (s .pre .room) (p .ensures) (c .if1 .taken))
@@ -32,15 +36,17 @@ sub-result : tie.Need-sub-result
 sub-result c = search needs
 
 returns-2 : tie.Need-returns-2
-returns-2 c = let s = c .before .before .before .before .before .before .before .before .before in
+returns-2 c = let r = c .before .before .before .before .before .before .before .before .before in
+    let s = r .before .before in
     let p = c .before .before .before .before .before .before .before .locate in
     let g = c .before .before .before .before .get in
-    drop-here (s .args .rows .now) (s .args .n) (s .args .a) (p .result) (s .pre) (p .ensures) (c .lower .last .0)
+    drop-here (s .args .rows .now) (s .args .n) (s .args .a) (p .result) (s .pre) (p .ensures) (c .lower .last .0) (r .record-places .ensures)
     (present-at (s .args .rows .now) (s .args .n) (s .args .a) (p .result) (s .pre .room) (p .ensures) (rowOf (g .result)) (c .before .before .before .before .before .before .if1 .left) (g .ensures) (c .before .before .if2 .taken))
     (c .before .before .before .before .before .before .if1 .left) (c .lower .ensures)
 
 returns-3 : tie.Need-returns-3
-returns-3 c = let s = c .before .before .before .before .before .before .before in
+returns-3 c = let r = c .before .before .before .before .before .before .before in
+    let s = r .before .before in
     let p = c .before .before .before .before .before .locate in
     let g = c .before .before .get in
     drop-none (s .args .rows .now) (s .args .n) (s .args .a) (p .result) (s .pre) (p .ensures)
@@ -50,6 +56,7 @@ pub drop-spec : {M : Type 1} → statement M
 drop-spec =
     tie.close
     (tie.spec
+    record-places-requires
     locate-requires
     returns
     get-requires

@@ -4,7 +4,7 @@ use lib.ListN.{length}
 use native.Mathlib.Omega.{arith}
 use borrow.Author.Needs.{needs}
 use Rattle.lists.specs.Places.{place, place-most}
-use Rattle.index.specs.Views.{recordsOf}
+use Rattle.index.specs.Views.{recordPlaces, recordsOf}
 use Rattle.index.specs.ViewLaws.{length-records}
 use Rattle.index.specs.Nearing.{Took, Nearing, first-taken, near-start, near-on, near-end}
 use Rattle.index.specs.Searches.{probe-took}
@@ -26,7 +26,7 @@ returns c = let s = c .before .before in
     let rs = recordsOf (s .args .rows .now) (s .args .n) in
     let m : place (s .args .a) rs ≤ length rs = place-most (s .args .a) rs in
     let l : length rs ≡ s .args .n = length-records (s .args .rows .now) (s .args .n) (s .pre .room) in
-    let t : Took (place (s .args .a) rs) 0 1024 (g .result) = rw (g .ensures) (probe-took rs (s .args .a) 0 1024 (s .pre .rising) (omega arith)) in
+    let t : Took (place (s .args .a) rs) 0 recordPlaces (g .result) = rw (g .ensures) (probe-took rs (s .args .a) 0 recordPlaces (s .pre .rising) (omega arith)) in
     let e : g .result ≡ place (s .args .a) rs = first-taken (omega arith) t (c .if1 .taken) in
     record { is = e; within = omega arith }
 
@@ -34,7 +34,7 @@ loop-holds : tie.Need-loop-holds Inv-loop μ-loop
 loop-holds c = let s = c .before .before in
     let g = c .before .probe in
     let rs = recordsOf (s .args .rows .now) (s .args .n) in
-    let t : Took (place (s .args .a) rs) 0 1024 (g .result) = rw (g .ensures) (probe-took rs (s .args .a) 0 1024 (s .pre .rising) (omega arith)) in
+    let t : Took (place (s .args .a) rs) 0 recordPlaces (g .result) = rw (g .ensures) (probe-took rs (s .args .a) 0 recordPlaces (s .pre .rising) (omega arith)) in
     near-start t (c .if1 .left)
 
 probe-requires-2 : tie.Need-probe-requires-2 Inv-loop μ-loop

@@ -4,11 +4,15 @@ use borrow.Author.Needs.{needs}
 use Rattle.index.proofs.records.put.Statement.{statement}
 use Rattle.index.proofs.records.put.Tie as tie
 
+record-places-requires : tie.Need-record-places-requires
+record-places-requires c κs = search needs
+
 locate-requires : tie.Need-locate-requires
 locate-requires c κs = search needs
 
 insert-requires : tie.Need-insert-requires
-insert-requires c κs = let s = c .before .before .before .before in
+insert-requires c κs = let r = c .before .before .before .before in
+    let s = r .before .before in
     let p = c .before .before .locate in (
       p .ensures .within,
       put-room (s .args .rows .now) (s .args .n) (s .args .a) (p .result) (s .pre .0) (p .ensures) (recordFrom (s .args .value) (s .args .commit))
@@ -16,7 +20,8 @@ insert-requires c κs = let s = c .before .before .before .before in
     )
 
 returns : tie.Need-returns
-returns c = let s = c .before .before .before .before .before in
+returns c = let r = c .before .before .before .before .before in
+    let s = r .before .before in
     let p = c .before .before .before .locate in
     put-new (s .args .rows .now) (s .args .n) (s .args .a) (p .result) (s .pre .0) (p .ensures) (c .insert .last .0) (c .insert .result) (recordFrom (s .args .value) (s .args .commit))
     (absent-past (s .args .rows .now) (s .args .n) (s .args .a) (p .result) (s .pre .0 .room) (p .ensures) (c .before .before .if1 .taken)) (s .pre .1) (c .insert .ensures)
@@ -28,15 +33,17 @@ store-requires : tie.Need-store-requires
 store-requires c κs = search needs
 
 returns-2 : tie.Need-returns-2
-returns-2 c = let s = c .before .before .before .before .before .before .before .before .before in
+returns-2 c = let r = c .before .before .before .before .before .before .before .before .before in
+    let s = r .before .before in
     let p = c .before .before .before .before .before .before .before .locate in
     let g = c .before .before .before .before .get in
-    put-over (s .args .rows .now) (s .args .n) (s .args .a) (p .result) (s .pre .0) (p .ensures) (c .store .last .0) (recordFrom (s .args .value) (s .args .commit))
+    put-over (s .args .rows .now) (s .args .n) (s .args .a) (p .result) (s .pre .0) (p .ensures) (c .store .last .0) (s .args .value) (s .args .commit) (r .record-places .ensures)
     (present-at (s .args .rows .now) (s .args .n) (s .args .a) (p .result) (s .pre .0 .room) (p .ensures) (rowOf (g .result)) (c .before .before .before .before .before .before .if1 .left) (g .ensures) (c .before .before .if2 .taken))
     (c .before .before .before .before .before .before .if1 .left) (c .store .ensures)
 
 insert-requires-2 : tie.Need-insert-requires-2
-insert-requires-2 c κs = let s = c .before .before .before .before .before .before .before .before in
+insert-requires-2 c κs = let r = c .before .before .before .before .before .before .before .before in
+    let s = r .before .before in
     let p = c .before .before .before .before .before .before .locate in
     let g = c .before .before .before .get in (
       p .ensures .within,
@@ -45,7 +52,8 @@ insert-requires-2 c κs = let s = c .before .before .before .before .before .bef
     )
 
 returns-3 : tie.Need-returns-3
-returns-3 c = let s = c .before .before .before .before .before .before .before .before .before in
+returns-3 c = let r = c .before .before .before .before .before .before .before .before .before in
+    let s = r .before .before in
     let p = c .before .before .before .before .before .before .before .locate in
     let g = c .before .before .before .before .get in
     put-new (s .args .rows .now) (s .args .n) (s .args .a) (p .result) (s .pre .0) (p .ensures) (c .insert2 .last .0) (c .insert2 .result) (recordFrom (s .args .value) (s .args .commit))
@@ -55,6 +63,7 @@ pub put-spec : {M : Type 1} → statement M
 put-spec =
     tie.close
     (tie.spec
+    record-places-requires
     locate-requires
     insert-requires
     returns

@@ -1,36 +1,40 @@
-use Prim.Native.Nat.{_+_}
-use mathlib.Core.Path.{_∙_, ap}
-use lib.ListN.{set}
-use Rattle.lists.specs.Rows.{Row}
-use Rattle.spec.specs.Records.{Record}
-use Rattle.index.specs.ViewLaws.{length-rows}
-use borrow.Author.Needs.{needs}
 use Prim.Native.Nat.{_-_}
-use Rattle.index.specs.Views.{rowsOf, noRow}
+use mathlib.Core.Path.{refl}
+use mathlib.Core.List.{[]}
 use Rattle.lists.specs.Shifts.{Lowering, lowering-start, lowering-on, lowering-end}
+use borrow.Author.Needs.{needs}
 use Rattle.index.proofs.rows.lower.Statement.{statement}
 use Rattle.index.proofs.rows.lower.Tie as tie
 
 abbrev Inv-loop : tie.InvT-loop
-Inv-loop rows₀ from to n i₀ rows i = Lowering (rowsOf rows₀) (rowsOf rows) from to n i
+Inv-loop rows₀ from to n i₀ rows i = Lowering rows₀ rows from to n i
 
 abbrev μ-loop : tie.MeasureT-loop
 μ-loop rows₀ from to n i₀ rows i = n - i
 
+record-places-requires : tie.Need-record-places-requires Inv-loop μ-loop
+record-places-requires c κs = search needs
+
 loop-holds : tie.Need-loop-holds Inv-loop μ-loop
-loop-holds c = lowering-start (rowsOf (c .args .rows .now)) (c .args .from) (c .args .to) (c .args .n)
+loop-holds c = let s = c .before .before in lowering-start (s .args .rows .now) (s .args .from) (s .args .to) (s .args .n)
 
-add-get : tie.Need-add-get Inv-loop μ-loop
-add-get c = search needs
+add-row : tie.Need-add-row Inv-loop μ-loop
+add-row c = search needs
 
-get-requires : tie.Need-get-requires Inv-loop μ-loop
-get-requires c κs = search needs
+mul-row : tie.Need-mul-row Inv-loop μ-loop
+mul-row c = search needs
 
-add-store : tie.Need-add-store Inv-loop μ-loop
-add-store c = search needs
+element-copy-out-row : tie.Need-element-copy-out-row Inv-loop μ-loop
+element-copy-out-row c = search needs
 
-store-requires : tie.Need-store-requires Inv-loop μ-loop
-store-requires c κs = search needs
+add-row-2 : tie.Need-add-row-2 Inv-loop μ-loop
+add-row-2 c = search needs
+
+mul-row-2 : tie.Need-mul-row-2 Inv-loop μ-loop
+mul-row-2 c = search needs
+
+element-set-from-row : tie.Need-element-set-from-row Inv-loop μ-loop
+element-set-from-row c = search needs
 
 add-i : tie.Need-add-i Inv-loop μ-loop
 add-i c = search needs
@@ -39,10 +43,9 @@ loop-less : tie.Need-loop-less Inv-loop μ-loop
 loop-less c = search needs
 
 loop-again : tie.Need-loop-again Inv-loop μ-loop
-loop-again c = let l = c .before .before .before .before .before in
-    let s = l .before in
-    lowering-on (rowsOf (c .store .last .0)) noRow (s .pre .0) (rw (length-rows (s .args .rows .now)) (s .pre .1)) (c .before .before .before .before .loop-test .taken) (l .loop .inv)
-    (c .store .ensures ∙ ap (λ (r : Row Record). set (rowsOf (l .loop .rows)) (s .args .to + (l .loop .i)) r) (c .before .before .get .ensures))
+loop-again c = let l = c .before .before in
+    let s = l .before .before .before in
+    lowering-on _ [] (s .pre .0) (rw (l .before .record-places .ensures) (s .pre .1)) (c .before .loop-test .taken) (l .loop .inv) refl
 
 returns : tie.Need-returns Inv-loop μ-loop
 returns c = lowering-end (c .before .loop .inv) (c .loop-test .left)
@@ -53,11 +56,14 @@ lower-spec =
     (tie.spec
     Inv-loop
     μ-loop
+    record-places-requires
     loop-holds
-    add-get
-    get-requires
-    add-store
-    store-requires
+    add-row
+    mul-row
+    element-copy-out-row
+    add-row-2
+    mul-row-2
+    element-set-from-row
     add-i
     loop-less
     loop-again

@@ -3,13 +3,13 @@ use Prim.Native.Nat.{_+_, _-_, _≤_, zero-le}
 use native.Mathlib.Omega.{arith}
 use lib.ListN.{length}
 use Rattle.lists.specs.Rows.{keys, filter}
-use Rattle.map.specs.Views.{block}
+use Rattle.sets.specs.Writes.{writesOf}
 use Rattle.map.specs.AddressCounts.{unknown, Counting, counting-fits, counting-on, counting-end, base-fits, addressed-start, addressed}
 use Rattle.map.proofs.locks.addresses_with.Statement.{statement}
 use Rattle.map.proofs.locks.addresses_with.Tie as tie
 
 abbrev Inv-loop : tie.InvT-loop
-Inv-loop rows slots ws n records sum₀ i₀ sum i = (i ≤ n) × Counting (unknown rows records slots) ws n i sum (sum₀ + length (filter (unknown rows records slots) (keys (block ws n))))
+Inv-loop rows slots ws n records sum₀ i₀ sum i = (i ≤ n) × Counting (unknown rows records slots) ws n i sum (sum₀ + length (filter (unknown rows records slots) (keys (writesOf ws n))))
 
 abbrev μ-loop : tie.MeasureT-loop
 μ-loop rows slots ws n records sum₀ i₀ sum i = n - i

@@ -3,14 +3,14 @@ use Prim.Native.Nat.{_-_, _≤_, zero-le}
 use native.Mathlib.Omega.{arith}
 use mathlib.Core.Path.{_≡_, sym, ap, _∙_}
 use Rattle.lists.specs.Rows.{any, keys}
-use Rattle.map.specs.Views.{block}
-use Rattle.map.specs.Blocks.{restKeys, keys-all}
+use Rattle.sets.specs.Writes.{writesOf}
+use Rattle.map.specs.WriteWalks.{restKeys, keys-all}
 use Rattle.map.specs.LockLaws.{foreign, any-here, any-later, any-end}
 use Rattle.map.proofs.locks.held.Statement.{statement}
 use Rattle.map.proofs.locks.held.Tie as tie
 
 abbrev Inv-loop : tie.InvT-loop
-Inv-loop slots ws n w i₀ i = (i ≤ n) × (any (foreign slots w) (restKeys ws i n) ≡ any (foreign slots w) (keys (block ws n)))
+Inv-loop slots ws n w i₀ i = (i ≤ n) × (any (foreign slots w) (restKeys ws i n) ≡ any (foreign slots w) (keys (writesOf ws n)))
 
 abbrev μ-loop : tie.MeasureT-loop
 μ-loop slots ws n w i₀ i = n - i

@@ -3,13 +3,13 @@ use Prim.Native.Nat.{_+_, _-_, _≤_, zero-le}
 use native.Mathlib.Omega.{arith}
 use lib.ListN.{length}
 use Rattle.lists.specs.Rows.{keys, filter}
-use Rattle.map.specs.Views.{block}
+use Rattle.sets.specs.Writes.{writesOf}
 use Rattle.map.specs.AddressCounts.{unsaid, Counting, counting-fits, counting-on, counting-end, waits-start, waits}
 use Rattle.map.proofs.locks.waiting_with.Statement.{statement}
 use Rattle.map.proofs.locks.waiting_with.Tie as tie
 
 abbrev Inv-loop : tie.InvT-loop
-Inv-loop slots ws n entries sum₀ i₀ sum i = (i ≤ n) × Counting (unsaid slots) ws n i sum (sum₀ + length (filter (unsaid slots) (keys (block ws n))))
+Inv-loop slots ws n entries sum₀ i₀ sum i = (i ≤ n) × Counting (unsaid slots) ws n i sum (sum₀ + length (filter (unsaid slots) (keys (writesOf ws n))))
 
 abbrev μ-loop : tie.MeasureT-loop
 μ-loop slots ws n entries sum₀ i₀ sum i = n - i

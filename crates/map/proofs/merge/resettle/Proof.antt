@@ -1,4 +1,4 @@
--- `map::merge::resettle` meets its contract: the leaf's rows are handed on. Assumes nothing.
+-- `map::merge::resettle` meets its contract: the leaf's rows are handed on.
 use borrow.Author.Needs.{needs}
 use Rattle.map.specs.MergeSettles.{settling, resettled}
 use Rattle.map.proofs.merge.resettle.Statement.{statement}
@@ -8,10 +8,10 @@ leaf-rows-requires : tie.Need-leaf-rows-requires
 leaf-rows-requires c κs = search needs
 
 settle-requires : tie.Need-settle-requires
-settle-requires c κs = settling (c .before .before .before .before .pre) (c .before .before .leaf-rows .ensures)
+settle-requires c κs = settling (c .before .before .before .pre) (c .before .leaf-rows .ensures)
 
 returns : tie.Need-returns
-returns c = resettled (c .before .before .before .leaf-rows .ensures) (c .settle .ensures)
+returns c = resettled (c .before .before .leaf-rows .ensures) (c .settle .ensures)
 
 pub resettle-spec : {M : Type 1} → statement M
 resettle-spec = tie.close (tie.spec leaf-rows-requires settle-requires returns)

@@ -1,22 +1,23 @@
 -- `map::merge::take_all` meets its contract: what is left to take in, from the walk's place on, is what there was.
--- Assumes nothing.
 use Prim.Native.Nat.{_-_}
 use borrow.Author.Needs.{needs}
 use Rattle.indexlet.specs.Words.{slotsOf}
 use Rattle.index.specs.Views.{recordsOf}
+use Rattle.spec.specs.Slots.{slotCount}
+use Rattle.index.specs.LeafColumns.{lowsOf}
 use Rattle.phantomlet.specs.LeafTests.{placed}
 use Rattle.map.specs.MergeWalks.{Walking, walk-start, walk-end}
 use Rattle.map.proofs.merge.take_all.Statement.{statement}
 use Rattle.map.proofs.merge.take_all.Tie as tie
 
 abbrev Inv-loop : tie.InvT-loop
-Inv-loop rows₀ slots₀ lows n e m i r w₀ j₀ rows slots w j = Walking (placed lows m i) (recordsOf rows₀ n) (slotsOf slots₀) rows slots w j
+Inv-loop rows₀ slots₀ leaves n e m i r w₀ j₀ rows slots w j = Walking (placed (lowsOf leaves) m i) (recordsOf rows₀ n) (slotsOf slots₀) rows slots w j
 
 abbrev μ-loop : tie.MeasureT-loop
-μ-loop rows₀ slots₀ lows n e m i r w₀ j₀ rows slots w j = 256 - j
+μ-loop rows₀ slots₀ leaves n e m i r w₀ j₀ rows slots w j = slotCount - j
 
 loop-holds : tie.Need-loop-holds Inv-loop μ-loop
-loop-holds c = walk-start (placed (c .args .lows .now) (c .args .m) (c .args .i)) (c .pre .0)
+loop-holds c = walk-start (placed (lowsOf (c .args .leaves .now)) (c .args .m) (c .args .i)) (c .pre .0)
 
 take-slot-requires : tie.Need-take-slot-requires Inv-loop μ-loop
 take-slot-requires c κs = let s = c .before .before .before .before in

@@ -1,32 +1,55 @@
--- `map::say::adjust` meets its contract: one word changes. Assumes nothing.
-use mathlib.Core.Path.{refl}
+-- `map::say::adjust` meets its contract: one leaf's numbers change.
+use Prim.Native.Nat.{ℕ, _+_, _-_}
+use native.Mathlib.Omega.{arith}
+use mathlib.Core.Path.{_≡_, sym, ap, _∙_}
+use lib.ListN.{getD}
+use Rattle.index.specs.declared.leaves.Leaf.{Leaf as LeafWords}
+use Rattle.index.specs.LeafColumns.{outsideOf, pendingOf, leafPut, column-getD}
+use Rattle.map.specs.SayLaws.{adjusts}
 use borrow.Author.Needs.{needs}
-use Rattle.map.specs.Says.{adjusted}
 use Rattle.map.proofs.say.adjust.Statement.{statement}
 use Rattle.map.proofs.say.adjust.Tie as tie
+use Rattle.index.proofs.leaves.leaf_at.Reads as leaf-at-reads
+use Rattle.index.proofs.leaves.put_leaf.Reads as put-leaf-reads
 
-mul-x : tie.Need-mul-x
-mul-x c = search needs
+leaf-at-requires : tie.Need-leaf-at-requires
+leaf-at-requires c κs = search needs
 
-element-copy-out-x : tie.Need-element-copy-out-x
-element-copy-out-x c = search needs
+add-t7 : tie.Need-add-t7
+add-t7 c =
+    let e : c .before .before .leaf-at .result .outside ≡ getD (outsideOf (c .before .before .before .before .args .leaves .now)) (c .before .before .before .before .args .t .at) 0
+    = ap (λ (l : LeafWords). l .outside) (c .before .before .leaf-at .ensures) ∙ sym (column-getD 2 (c .before .before .before .before .args .leaves .now) (c .before .before .before .before .args .t .at)) in
+    omega (arith, e, c .before .before .before .before .pre .1 .fits)
 
-add-xs : tie.Need-add-xs
-add-xs c = search needs
+sub-t8 : tie.Need-sub-t8
+sub-t8 c =
+    let e : c .before .before .before .leaf-at .result .outside ≡ getD (outsideOf (c .before .before .before .before .before .args .leaves .now)) (c .before .before .before .before .before .args .t .at) 0
+    = ap (λ (l : LeafWords). l .outside) (c .before .before .before .leaf-at .ensures) ∙ sym (column-getD 2 (c .before .before .before .before .before .args .leaves .now) (c .before .before .before .before .before .args .t .at)) in
+    omega (arith, e, c .before .before .before .before .before .pre .1 .enough)
 
-sub-xs : tie.Need-sub-xs
-sub-xs c = search needs
+add-t9 : tie.Need-add-t9
+add-t9 c =
+    let e : c .before .before .before .before .before .leaf-at .result .pending ≡ getD (pendingOf (c .before .before .before .before .before .before .before .args .leaves .now)) (c .before .before .before .before .before .before .before .args .t .at) 0
+    = ap (λ (l : LeafWords). l .pending) (c .before .before .before .before .before .leaf-at .ensures) ∙ sym (column-getD 3 (c .before .before .before .before .before .before .before .args .leaves .now) (c .before .before .before .before .before .before .before .args .t .at)) in
+    omega (arith, e, c .before .before .before .before .before .before .before .pre .0 .fits)
 
-mul-xs : tie.Need-mul-xs
-mul-xs c = search needs
+sub-t10 : tie.Need-sub-t10
+sub-t10 c =
+    let e : c .before .before .before .before .before .before .leaf-at .result .pending ≡ getD (pendingOf (c .before .before .before .before .before .before .before .before .args .leaves .now)) (c .before .before .before .before .before .before .before .before .args .t .at) 0
+    = ap (λ (l : LeafWords). l .pending) (c .before .before .before .before .before .before .leaf-at .ensures) ∙ sym (column-getD 3 (c .before .before .before .before .before .before .before .before .args .leaves .now) (c .before .before .before .before .before .before .before .before .args .t .at)) in
+    omega (arith, e, c .before .before .before .before .before .before .before .before .pre .0 .enough)
 
-element-write-xs : tie.Need-element-write-xs
-element-write-xs c = search needs
+put-leaf-requires : tie.Need-put-leaf-requires
+put-leaf-requires c κs = search needs
 
 returns : tie.Need-returns
-unfolding adjusted
-returns c = refl
+returns c =
+    let s = c .before .before .before .before .before .before .before .before .before .before in
+    adjusts (s .args .leaves .now) (s .args .t) _
+    (c .put-leaf .ensures
+    ∙ ap (λ (l : LeafWords). leafPut (s .args .leaves .now) (s .args .t .at) (record { low = l .low; version = l .version; outside = l .outside + s .args .t .join - s .args .t .leave; pending = l .pending + s .args .t .pend - s .args .t .unpend }))
+    (c .before .before .before .before .before .before .before .before .leaf-at .ensures))
 
 pub adjust-spec : {M : Type 1} → statement M
 adjust-spec =
-    tie.close (tie.spec mul-x element-copy-out-x add-xs sub-xs mul-xs element-write-xs returns)
+    tie.close (tie.spec leaf-at-requires add-t7 sub-t8 add-t9 sub-t10 put-leaf-requires returns)

@@ -1,34 +1,28 @@
--- `map::say::fresh` meets its contract: every part is empty. Assumes nothing.
+-- `map::say::fresh` meets its contract: every part is empty.
+use mathlib.Core.Path.{refl}
+use Rattle.map.specs.FreshLaws.{fresh-becomes, emptied}
 use borrow.Author.Needs.{needs}
-use Rattle.map.specs.FreshLaws.{fresh-becomes}
 use Rattle.map.proofs.say.fresh.Statement.{statement}
 use Rattle.map.proofs.say.fresh.Tie as tie
+use Rattle.index.proofs.leaves.leaf_places.Reads as leaf-places-reads
+use Rattle.index.proofs.leaves.put_leaf.Reads as put-leaf-reads
+use Rattle.indexlet.proofs.fresh.Reads as fresh-reads
 
-clear-requires : tie.Need-clear-requires
-clear-requires c κs = search needs
+leaf-places-requires : tie.Need-leaf-places-requires
+leaf-places-requires c κs = search needs
 
-clear-requires-2 : tie.Need-clear-requires-2
-clear-requires-2 c κs = search needs
-
-clear-requires-3 : tie.Need-clear-requires-3
-clear-requires-3 c κs = search needs
-
-clear-requires-4 : tie.Need-clear-requires-4
-clear-requires-4 c κs = search needs
+put-leaf-requires : tie.Need-put-leaf-requires
+put-leaf-requires c κs = search needs
 
 fresh-requires : tie.Need-fresh-requires
 fresh-requires c κs = search needs
 
 returns : tie.Need-returns
-returns c = fresh-becomes _ _ _ _ _ _ (c .before .before .before .before .before .before .before .before .clear .ensures) (c .before .before .before .before .before .before .clear2 .ensures) (c .before .before .before .before .clear3 .ensures) (c .before .before .clear4 .ensures) (c .fresh .ensures)
+returns c =
+    let s = c .before .before .before .before .before .before in
+    let l = c .before .before .before .before .leaf-places .ensures in
+    let p = c .before .before .put-leaf .ensures in
+    fresh-becomes _ _ _ _ _ _ (emptied (s .args .leaves .now) _ 0 l p refl) (emptied (s .args .leaves .now) _ 1 l p refl) (emptied (s .args .leaves .now) _ 2 l p refl) (emptied (s .args .leaves .now) _ 3 l p refl) (c .fresh .ensures)
 
 pub fresh-spec : {M : Type 1} → statement M
-fresh-spec =
-    tie.close
-    (tie.spec
-    clear-requires
-    clear-requires-2
-    clear-requires-3
-    clear-requires-4
-    fresh-requires
-    returns)
+fresh-spec = tie.close (tie.spec leaf-places-requires put-leaf-requires fresh-requires returns)

@@ -12,14 +12,14 @@ use Rattle.map.proofs.say.terms.Tie as tie
 look-up-requires : tie.Need-look-up-requires
 look-up-requires c κs = search needs
 
-leaf-at-requires : tie.Need-leaf-at-requires
-leaf-at-requires c κs = search needs
+find-leaf-requires : tie.Need-find-leaf-requires
+find-leaf-requires c κs = search needs
 
-pending-term-requires : tie.Need-pending-term-requires
-pending-term-requires c κs = search needs
+waits-requires : tie.Need-waits-requires
+waits-requires c κs = search needs
 
-pending-term-requires-2 : tie.Need-pending-term-requires-2
-pending-term-requires-2 c κs = search needs
+waits-requires-2 : tie.Need-waits-requires-2
+waits-requires-2 c κs = search needs
 
 idle-requires : tie.Need-idle-requires
 idle-requires c κs = search needs
@@ -31,9 +31,9 @@ returns : tie.Need-returns
 returns c =
     let e = c .before .before .before .before .before .before .before .look-up .ensures .content in
     record {
-      place = c .before .before .before .before .before .leaf-at .ensures;
-      pend = c .before .before .before .before .pending-term .ensures;
-      unpend = c .before .before .before .pending-term2 .ensures ∙ ap pendingTerm (sym e);
+      place = c .before .before .before .before .before .find-leaf .ensures;
+      pend = c .before .before .before .before .waits .ensures;
+      unpend = c .before .before .before .waits2 .ensures ∙ ap pendingTerm (sym e);
       join-most = search needs;
       balance = balance-still _ _ _ (ap isIdle e ∙ sym (c .before .before .idle .ensures) ∙ same-truth _ _ (c .if1 .taken) ∙ c .before .idle2 .ensures);
     }
@@ -55,9 +55,9 @@ returns-2 c =
     let join = c .before .outside-term .ensures ∙ ap (λ (b : Bool). outsideTerm b (contentIn (s .args .c))) n in
     let leave = c .outside-term2 .ensures ∙ ap (λ (b : Bool). outsideTerm b (contentIn (found .result .content))) n ∙ ap (outsideTerm _) (sym (found .ensures .content)) in
     record {
-      place = c .before .before .before .before .before .before .before .before .leaf-at .ensures;
-      pend = c .before .before .before .before .before .before .before .pending-term .ensures;
-      unpend = c .before .before .before .before .before .before .pending-term2 .ensures ∙ ap pendingTerm (sym (found .ensures .content));
+      place = c .before .before .before .before .before .before .before .before .find-leaf .ensures;
+      pend = c .before .before .before .before .before .before .before .waits .ensures;
+      unpend = c .before .before .before .before .before .before .waits2 .ensures ∙ ap pendingTerm (sym (found .ensures .content));
       join-most = term-most _ _ _ join;
       balance = balance-moved _ _ _ _ _ join leave;
     }
@@ -67,9 +67,9 @@ terms-spec =
     tie.close
     (tie.spec
     look-up-requires
-    leaf-at-requires
-    pending-term-requires
-    pending-term-requires-2
+    find-leaf-requires
+    waits-requires
+    waits-requires-2
     idle-requires
     idle-requires-2
     returns

@@ -1,21 +1,23 @@
--- `phantomlet::recount::tally_all` meets its contract. Assumes nothing.
+-- `phantomlet::recount::tally_all` meets its contract.
 use Prim.Native.Nat.{_-_}
 use borrow.Author.Needs.{needs}
-use Rattle.phantomlet.specs.MergeCounts.{Tallying, tally-end}
+use Rattle.spec.specs.Slots.{slotCount}
+use Rattle.phantomlet.specs.MergeCounts.{Tallied, tallied-start, tallied-on, tallied-end}
 use Rattle.phantomlet.proofs.recount.tally_all.Statement.{statement}
 use Rattle.phantomlet.proofs.recount.tally_all.Tie as tie
+use Rattle.phantomlet.proofs.recount.tally_slot.Reads as tally-slot-reads
 
 abbrev Inv-loop : tie.InvT-loop
-Inv-loop outside₀ pending₀ rows lows slots n m r j₀ outside pending j = Tallying rows lows slots n m r outside pending j
+Inv-loop leaves₀ rows slots n m r j₀ leaves j = Tallied rows leaves₀ slots n m r j leaves
 
 abbrev μ-loop : tie.MeasureT-loop
-μ-loop outside₀ pending₀ rows lows slots n m r j₀ outside pending j = 256 - j
+μ-loop leaves₀ rows slots n m r j₀ leaves j = slotCount - j
 
 loop-holds : tie.Need-loop-holds Inv-loop μ-loop
-loop-holds c = c .pre
+loop-holds c = tallied-start (c .pre)
 
 tally-slot-requires : tie.Need-tally-slot-requires Inv-loop μ-loop
-tally-slot-requires c κs = (c .before .before .before .loop .inv, c .before .before .loop-test .taken)
+tally-slot-requires c κs = (c .before .before .loop .inv .tallying, c .before .loop-test .taken)
 
 add-j : tie.Need-add-j Inv-loop μ-loop
 add-j c = search needs
@@ -24,10 +26,10 @@ loop-less : tie.Need-loop-less Inv-loop μ-loop
 loop-less c = search needs
 
 loop-again : tie.Need-loop-again Inv-loop μ-loop
-loop-again c = c .tally-slot .ensures
+loop-again c = tallied-on (c .before .before .before .loop .inv) (c .tally-slot .ensures)
 
 returns : tie.Need-returns Inv-loop μ-loop
-returns c = tally-end (c .before .loop .inv) (c .loop-test .left)
+returns c = tallied-end (c .before .loop .inv) (c .loop-test .left)
 
 pub tally-all-spec : {M : Type 1} → statement M
 tally-all-spec =

@@ -1,16 +1,24 @@
--- `phantomlet::recount::tally_slot` meets its contract: an address in another leaf, no entry, or one that is added at its
--- leaf's place. Assumes nothing.
-use mathlib.Core.Path.{sym, _∙_}
-use mathlib.Core.Bool.{not}
-use Rattle.lists.specs.Tests.{present}
+-- `phantomlet::recount::tally_slot` meets its contract: an address in another leaf, no entry, or one that is added at its leaf's place.
+use mathlib.Core.Path.{sym, ap, _∙_}
+use Prim.Native.Nat.{ℕ}
+use mathlib.Core.Bool.{Bool, not}
+use Rattle.lists.specs.Tests.{pick, present}
 use Rattle.lists.specs.Rows.{look}
 use Rattle.indexlet.specs.Words.{contentIn}
 use Rattle.index.specs.Views.{recordsOf}
 use Rattle.phantomlet.specs.LeafCounts.{reaches-yes, reaches-no}
-use Rattle.phantomlet.specs.MergeCounts.{tally-none, tally-outside, tally-some, outside-fits, pending-fits}
+use Rattle.phantomlet.specs.MergeCounts.{tallied-same, tally-none, tally-outside, tallied-some, outside-fits, pending-fits}
 use borrow.Author.Needs.{needs}
 use Rattle.phantomlet.proofs.recount.tally_slot.Statement.{statement}
 use Rattle.phantomlet.proofs.recount.tally_slot.Tie as tie
+use Rattle.index.proofs.leaves.find_leaf.Reads as find-leaf-reads
+use Rattle.indexlet.proofs.idle.Reads as idle-reads
+use Rattle.indexlet.proofs.slot_at.Reads as slot-at-reads
+use Rattle.phantomlet.proofs.recount.lacks.Reads as lacks-reads
+use Rattle.phantomlet.proofs.recount.one.Reads as one-reads
+use Rattle.phantomlet.proofs.recount.raise.Reads as raise-reads
+use Rattle.phantomlet.proofs.recount.reaches.Reads as reaches-reads
+use Rattle.phantomlet.proofs.recount.waits.Reads as waits-reads
 
 slot-at-requires : tie.Need-slot-at-requires
 slot-at-requires c κs = search needs
@@ -19,50 +27,54 @@ reaches-requires : tie.Need-reaches-requires
 reaches-requires c κs = search needs
 
 returns : tie.Need-returns
-returns c = let s = c .before .before .before in
+returns c =
+    let s = c .before .before .before in
     let r = c .before .before .slot-at in
-    tally-outside (s .pre .0) (s .pre .1) (r .result) (r .ensures) (reaches-no _ (s .args .r) (r .result .key) (c .before .reaches .ensures) (c .if1 .taken))
+    tallied-same (tally-outside (s .pre .0) (s .pre .1) (r .result) (r .ensures) (reaches-no _ (s .args .r) (r .result .key) (c .before .reaches .ensures) (c .if1 .taken)))
 
 idle-requires : tie.Need-idle-requires
 idle-requires c κs = search needs
 
 returns-2 : tie.Need-returns-2
-returns-2 c = let s = c .before .before .before .before .before .before in
+returns-2 c =
+    let s = c .before .before .before .before .before .before in
     let r = c .before .before .before .before .before .slot-at in
-    tally-none (s .pre .0) (s .pre .1) (r .result) (r .ensures) (sym (c .before .idle .ensures) ∙ c .if2 .taken)
+    tallied-same (tally-none (s .pre .0) (s .pre .1) (r .result) (r .ensures) (sym (c .before .idle .ensures) ∙ c .if2 .taken))
 
 cast-a : tie.Need-cast-a
 cast-a c = search needs
 
-leaf-at-requires : tie.Need-leaf-at-requires
-leaf-at-requires c κs = search needs
+find-leaf-requires : tie.Need-find-leaf-requires
+find-leaf-requires c κs = search needs
 
 lacks-requires : tie.Need-lacks-requires
 lacks-requires c κs = search needs
+
+one-requires : tie.Need-one-requires
+one-requires c κs = search needs
 
 waits-requires : tie.Need-waits-requires
 waits-requires c κs = search needs
 
 raise-requires : tie.Need-raise-requires
-raise-requires c κs = let s = c .before .before .before .before .before .before .before .before .before .before in
-    let r = c .before .before .before .before .before .before .before .before .before .slot-at in
-    let y = reaches-yes _ (s .args .r) (r .result .key) (c .before .before .before .before .before .before .before .before .reaches .ensures) (c .before .before .before .before .before .before .before .if1 .left) in
-    outside-fits (s .pre .0) (s .pre .1) (c .before .before .before .leaf-at .ensures) (y .0) (y .1) (c .before .before .lacks .result) (not (present (look (recordsOf (s .args .rows .now) (s .args .n)) (r .result .key)))) (c .before .before .lacks .ensures)
-
-raise-requires-2 : tie.Need-raise-requires-2
-raise-requires-2 c κs = let s = c .before .before .before .before .before .before .before .before .before .before .before .before in
+raise-requires c κs =
+    let s = c .before .before .before .before .before .before .before .before .before .before .before .before in
     let r = c .before .before .before .before .before .before .before .before .before .before .before .slot-at in
     let y = reaches-yes _ (s .args .r) (r .result .key) (c .before .before .before .before .before .before .before .before .before .before .reaches .ensures) (c .before .before .before .before .before .before .before .before .before .if1 .left) in
-    pending-fits (s .pre .0) (s .pre .1) (c .before .before .before .before .before .leaf-at .ensures) (y .0) (y .1) (c .before .before .before .waits .result) (present (contentIn (r .result .content) .pending)) (c .before .before .before .waits .ensures)
+    let l = c .before .before .before .before .find-leaf in
+    let a = outside-fits (s .pre .0) (s .pre .1) (l .ensures) (y .0) (y .1) (c .before .before .one .result) (c .before .before .before .lacks .result) (c .before .before .one .ensures) in
+    let b = pending-fits (s .pre .0) (s .pre .1) (l .ensures) (y .0) (y .1) (c .before .waits .result) (present (contentIn (r .result .content) .pending)) (c .before .waits .ensures) in
+    (a .0, (a .1, b .1))
 
 returns-3 : tie.Need-returns-3
-returns-3 c = let s = c .before .before .before .before .before .before .before .before .before .before .before .before .before in
+returns-3 c =
+    let s = c .before .before .before .before .before .before .before .before .before .before .before .before .before in
     let r = c .before .before .before .before .before .before .before .before .before .before .before .before .slot-at in
     let y = reaches-yes _ (s .args .r) (r .result .key) (c .before .before .before .before .before .before .before .before .before .before .before .reaches .ensures) (c .before .before .before .before .before .before .before .before .before .before .if1 .left) in
-    let l = c .before .before .before .before .before .before .leaf-at in
-    tally-some (s .pre .0) (s .pre .1) (r .result) (r .ensures) (l .result) (c .before .before .before .before .before .lacks .result) (c .before .before .before .before .waits .result) (c .before .before .raise .last .0) (c .raise2 .last .0)
+    let l = c .before .before .before .before .before .find-leaf in
+    tallied-some (s .pre .0) (s .pre .1) (r .result) (r .ensures) (l .result) (c .before .before .before .one .result) (c .before .before .waits .result)
     (sym (c .before .before .before .before .before .before .before .before .idle .ensures) ∙ c .before .before .before .before .before .before .before .if2 .left) (y .0) (y .1)
-    (l .ensures) (c .before .before .before .before .before .lacks .ensures) (c .before .before .before .before .waits .ensures) (c .before .before .raise .ensures) (c .raise2 .ensures)
+    (l .ensures) (c .before .before .before .one .ensures ∙ ap (λ (b : Bool). pick b 1 0) (c .before .before .before .before .lacks .ensures)) (c .before .before .waits .ensures) (c .raise .ensures)
 
 pub tally-slot-spec : {M : Type 1} → statement M
 tally-slot-spec =
@@ -74,9 +86,9 @@ tally-slot-spec =
     idle-requires
     returns-2
     cast-a
-    leaf-at-requires
+    find-leaf-requires
     lacks-requires
+    one-requires
     waits-requires
     raise-requires
-    raise-requires-2
     returns-3)

@@ -1,4 +1,4 @@
--- `phantomlet::recount::waits` meets its contract: kind 0 is no pending write. Assumes nothing.
+-- `phantomlet::recount::waits` meets its contract: kind 0 is no pending write.
 use Rattle.phantomlet.specs.MergeCounts.{waits-none, waits-some}
 use Rattle.phantomlet.proofs.recount.waits.Statement.{statement}
 use Rattle.phantomlet.proofs.recount.waits.Tie as tie

@@ -1,8 +1,8 @@
--- `plans::carry` meets its contract. Assumes nothing.
+-- `plans::carry` meets its contract.
 use native.Mathlib.Omega.{arith}
 use mathlib.Core.Path.{refl}
 use borrow.Author.Needs.{needs}
-use Rattle.ranges.specs.PlanLaws.{walkable, reads-room, leaves-room, reads-most, leaves-most, room, filled}
+use Rattle.ranges.specs.PlanLaws.{walkable, reads-room, leaves-room, room, filled}
 use Rattle.ranges.proofs.plans.carry.Statement.{statement}
 use Rattle.ranges.proofs.plans.carry.Tie as tie
 
@@ -19,9 +19,10 @@ cast-log-rows c = search needs
 
 log-rows-requires : tie.Need-log-rows-requires
 log-rows-requires c κs =
-    let s = c .before .before .before .before .before .before .before .before .before .before .before .before .before .before in
+    let f = c .before .before .before .before .before .before in
+    let s = f .before .before .before .before .before .before .before .before in
     let p = s .pre .1 .0 in
-    (s .pre .1 .1 .0, reads-room (s .pre .0) _ _ (p .index-ordered) (p .index-within) (p .reads-fit))
+    (s .pre .1 .1 .0, reads-room (s .pre .0) _ (p .index-ordered) (p .index-within) (p .reads-fit))
 
 cast-log-leaves : tie.Need-cast-log-leaves
 cast-log-leaves c = search needs
@@ -31,19 +32,19 @@ log-leaves-requires c κs =
     let f = c .before .before .before .before .before .before .before .before .before in
     let s = f .before .before .before .before .before .before .before .before in
     let p = s .pre .1 .0 in
-    (s .pre .1 .1 .1, leaves-room (s .pre .0) _ _ (p .met-ordered) (p .met-within) (p .leaves-fit))
+    (s .pre .1 .1 .1, leaves-room (s .pre .0) _ (p .met-ordered) (p .met-within) (p .leaves-fit))
 
-cast-t28 : tie.Need-cast-t28
-cast-t28 c =
+cast-t26 : tie.Need-cast-t26
+cast-t26 c =
     let f = c .before .before .before .before .before .before .before .before .before .before in
     let s = f .before .before .before .before .before .before .before .before in
-    omega (arith, reads-most _ _ _ (s .pre .1 .0 .reads-fit) (c .before .before .before .log-rows .ensures))
+    omega (arith, s .pre .1 .0 .reads-fit, c .before .before .before .log-rows .ensures .count)
 
-cast-t29 : tie.Need-cast-t29
-cast-t29 c =
+cast-t27 : tie.Need-cast-t27
+cast-t27 c =
     let f = c .before .before .before .before .before .before .before .before .before .before in
     let s = f .before .before .before .before .before .before .before .before in
-    omega (arith, leaves-most (s .pre .1 .0 .leaves-fit) (c .log-leaves .ensures))
+    omega (arith, s .pre .1 .0 .leaves-fit, c .log-leaves .ensures .count)
 
 same-length : tie.Need-same-length
 same-length c =
@@ -75,8 +76,8 @@ carry-spec =
     log-rows-requires
     cast-log-leaves
     log-leaves-requires
-    cast-t28
-    cast-t29
+    cast-t26
+    cast-t27
     same-length
     same-length-2
     returns)

@@ -1,9 +1,9 @@
--- `plans::measure` meets its contract: each test in its order. Assumes nothing.
+-- `plans::measure` meets its contract: each test in its order.
 use native.Mathlib.Omega.{arith}
 use mathlib.Core.Path.{refl}
 use mathlib.Core.Logic.{inl, inr}
 use borrow.Author.Needs.{needs}
-use Rattle.ranges.specs.Plans.{backward, many-reads, many-leaves, short}
+use Rattle.ranges.specs.Plans.{backward, full, short}
 use Rattle.ranges.specs.PlanLaws.{walkable}
 use Rattle.ranges.proofs.plans.measure.Statement.{statement}
 use Rattle.ranges.proofs.plans.measure.Tie as tie
@@ -27,12 +27,13 @@ add-if2 : tie.Need-add-if2
 add-if2 c =
     let r = c .before .before .before in
     let s = r .before .before in
-    omega (arith, r .records-between .ensures .within, s .pre .rows-held .room, s .pre .reads)
+    omega (arith, r .records-between .ensures .within, s .pre .rows-held .held .room, s .pre .reads)
 
 returns-2 : tie.Need-returns-2
 returns-2 c =
-    let r = c .before .before .before .before in
-    many-reads refl _ (r .before .if1 .left) (r .records-between .ensures) (c .if2 .taken)
+    let l = c .before .before .before in
+    let r = l .before in
+    full refl _ _ (r .before .if1 .left) (r .records-between .ensures) (l .leaves-meeting .ensures) (inl (c .if2 .taken))
 
 cast-if3 : tie.Need-cast-if3
 cast-if3 c = search needs
@@ -44,14 +45,14 @@ add-if3 : tie.Need-add-if3
 add-if3 c =
     let l = c .before .before .before .before .before in
     let s = l .before .before .before in
-    omega (arith, l .leaves-meeting .ensures .within, s .pre .listed .room, s .pre .leaves)
+    omega (arith, l .leaves-meeting .ensures .within, s .pre .listed .listed .room, s .pre .leaves)
 
 returns-3 : tie.Need-returns-3
 returns-3 c =
     let e = c .before .before .before in
     let l = e .before .before .before in
     let r = l .before in
-    many-leaves refl _ _ (r .before .if1 .left) (r .records-between .ensures) (l .leaves-meeting .ensures) (e .if2 .left) (c .if3 .taken)
+    full refl _ _ (r .before .if1 .left) (r .records-between .ensures) (l .leaves-meeting .ensures) (inr (c .if3 .taken))
 
 cast-writes-between : tie.Need-cast-writes-between
 cast-writes-between c = search needs

@@ -1,4 +1,4 @@
--- `walks::count_shown` meets its contract. The invariant: those counted and those left are all. Assumes nothing.
+-- `walks::count_shown` meets its contract. The invariant: those counted and those left are all.
 use Prim.Native.Nat.{_+_, _-_}
 use native.Mathlib.Omega.{arith}
 use Rattle.ranges.specs.Walks.{ground, Counting}
@@ -18,10 +18,10 @@ loop-holds c = counting-start _ (c .pre .0) _ _ (c .pre .1)
 add-if1 : tie.Need-add-if1 Inv-loop μ-loop
 add-if1 c =
     let s = c .before in
-    omega (arith, c .loop .inv .inside .index, c .loop .inv .inside .own, s .pre .0 .within, s .pre .0 .rows .room, s .pre .0 .writes .room)
+    omega (arith, c .loop .inv .inside .index, c .loop .inv .inside .own, s .pre .0 .within, s .pre .0 .rows .held .room, s .pre .0 .writes .room)
 
 add-if1-2 : tie.Need-add-if1-2 Inv-loop μ-loop
-add-if1-2 c = let s = c .before .before in omega (arith, s .pre .0 .within, s .pre .0 .rows .room, s .pre .0 .writes .room)
+add-if1-2 c = let s = c .before .before in omega (arith, s .pre .0 .within, s .pre .0 .rows .held .room, s .pre .0 .writes .room)
 
 next-requires : tie.Need-next-requires Inv-loop μ-loop
 next-requires c κs = let l = c .before .before in (l .before .pre .0, (l .loop .inv .inside, c .if1 .taken))
@@ -34,7 +34,7 @@ add-count c =
     let l = c .before .before .before .before in
     let s = l .before in
     let k = counting-on _ (s .pre .0) _ _ _ _ _ _ _ (l .loop .inv) (c .before .next .ensures) (c .one .ensures) in
-    omega (arith, k .few, k .inside .index, k .inside .own, s .pre .0 .within, s .pre .0 .rows .room, s .pre .0 .writes .room)
+    omega (arith, k .few, k .inside .index, k .inside .own, s .pre .0 .within, s .pre .0 .rows .held .room, s .pre .0 .writes .room)
 
 loop-less : tie.Need-loop-less Inv-loop μ-loop
 loop-less c = let e = c .before .next .ensures in omega (arith, e .on, e .inside .index, e .inside .own)

@@ -1,4 +1,4 @@
--- `walks::fill` meets its contract. The invariant: those written and those left are all. Assumes nothing.
+-- `walks::fill` meets its contract. The invariant: those written and those left are all.
 use Prim.Native.Nat.{_+_, _-_}
 use native.Mathlib.Omega.{arith}
 use Rattle.ranges.specs.Walks.{ground, Filling}
@@ -19,10 +19,10 @@ loop-holds c = let s = c .before .before in filling-start _ (s .pre .0) _ _ _ _ 
 add-if1 : tie.Need-add-if1 Inv-loop μ-loop
 add-if1 c =
     let s = c .before .before .before in
-    omega (arith, c .loop .inv .inside .index, c .loop .inv .inside .own, s .pre .0 .within, s .pre .0 .rows .room, s .pre .0 .writes .room)
+    omega (arith, c .loop .inv .inside .index, c .loop .inv .inside .own, s .pre .0 .within, s .pre .0 .rows .held .room, s .pre .0 .writes .room)
 
 add-if1-2 : tie.Need-add-if1-2 Inv-loop μ-loop
-add-if1-2 c = let s = c .before .before .before .before in omega (arith, s .pre .0 .within, s .pre .0 .rows .room, s .pre .0 .writes .room)
+add-if1-2 c = let s = c .before .before .before .before in omega (arith, s .pre .0 .within, s .pre .0 .rows .held .room, s .pre .0 .writes .room)
 
 next-requires : tie.Need-next-requires Inv-loop μ-loop
 next-requires c κs =

@@ -1,4 +1,4 @@
--- `walks::next` meets its contract: by which of the two addresses is smaller. Assumes nothing.
+-- `walks::next` meets its contract: by which of the two addresses is smaller.
 use Prim.Native.Nat.{_≤_, _<_}
 use native.Mathlib.Omega.{arith}
 use mathlib.Core.Path.{sym, subst}
@@ -13,14 +13,14 @@ seen-at-requires c κs =
     let g = s .pre .0 in
     let l : s .args .i < s .args .b .to = index-left _ g _ _ (s .pre .1 .0) (s .pre .1 .1) (c .if1 .taken) in
     let w : s .args .b .to ≤ s .args .b .records = g .within in
-    (g .rows, (g .narrow, (g .slots, omega arith)))
+    (g .rows, (g .slots, omega arith))
 
 add-of-index : tie.Need-add-of-index
 add-of-index c =
     let s = c .before .before .before in
     let l : s .args .i < s .args .b .to = index-left _ (s .pre .0) _ _ (s .pre .1 .0) (s .pre .1 .1) (c .before .if1 .taken) in
     let w : s .args .b .to ≤ s .args .b .records = s .pre .0 .within in
-    omega (arith, s .pre .0 .rows .room)
+    omega (arith, s .pre .0 .rows .held .room)
 
 of-index-requires : tie.Need-of-index-requires
 of-index-requires c κs = tt
@@ -33,7 +33,7 @@ returns c =
 write-at-requires : tie.Need-write-at-requires
 write-at-requires c κs =
     let s = c .before .before in
-    (s .pre .0 .writes .held, (s .pre .0 .writes .worker, omega (arith, s .pre .0 .writes .room, c .if1 .left)))
+    (s .pre .0 .writes .held, omega (arith, s .pre .0 .writes .room, c .if1 .left))
 
 add-of-write : tie.Need-add-of-write
 add-of-write c = let s = c .before .before .before .before .before in omega (arith, s .pre .0 .writes .room, c .before .before .before .if1 .left)
@@ -53,13 +53,13 @@ seen-at-requires-2 c κs =
     let g = s .pre .0 in
     let l : s .args .i < s .args .b .to = c .if2 .left in
     let w : s .args .b .to ≤ s .args .b .records = g .within in
-    (g .rows, (g .narrow, (g .slots, omega arith)))
+    (g .rows, (g .slots, omega arith))
 
 add-of-index-2 : tie.Need-add-of-index-2
 add-of-index-2 c =
     let e2 = c .before .before .before .before in
     let s = e2 .before .before .before .before .before in
-    omega (arith, e2 .if2 .left, s .pre .0 .within, s .pre .0 .rows .room)
+    omega (arith, e2 .if2 .left, s .pre .0 .within, s .pre .0 .rows .held .room)
 
 of-index-requires-2 : tie.Need-of-index-requires-2
 of-index-requires-2 c κs = tt
@@ -97,7 +97,7 @@ add-of-write-3 c =
     let a = c .before .before .before .before .before .before in
     let e2 = a .before in
     let s = e2 .before .before .before .before .before in
-    omega (arith, e2 .if2 .left, s .pre .0 .within, s .pre .0 .rows .room)
+    omega (arith, e2 .if2 .left, s .pre .0 .within, s .pre .0 .rows .held .room)
 
 add-of-write-4 : tie.Need-add-of-write-4
 add-of-write-4 c =

@@ -1,4 +1,4 @@
--- `walks::show` meets its contract. Assumes nothing.
+-- `walks::show` meets its contract.
 use Prim.Native.Nat.{_<_}
 use lib.ListN.{length}
 use borrow.Author.Needs.{needs}

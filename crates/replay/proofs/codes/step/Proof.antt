@@ -26,7 +26,7 @@ same-length-2 : tie.Need-same-length-2
 same-length-2 c = search needs
 
 returns : tie.Need-returns
-returns c = steps-meant (c .before .before .before .before .before .before .perform .result) (c .before .before .before .before .before .before .before .before .before .before .before .before .before .before .before .before .before .before .before .before .before .decode .ensures) (c .before .before .before .before .before .before .before .before .before .before .before .before .before .before .before .before .before .before .before .d .given .1) (c .before .before .before .before .before .before .perform .ensures) (c .encode .ensures)
+returns c = steps-meant (c .before .before .before .before .before .before .perform .result) (c .before .before .before .before .before .before .before .before .before .before .before .before .before .before .before .before .before .before .decode .ensures) (c .before .before .before .before .before .before .before .before .before .before .before .before .before .before .before .before .d .given .1) (c .before .before .before .before .before .before .perform .ensures) (c .encode .ensures)
 
 returns-2 : tie.Need-returns-2
 returns-2 c = steps-unmeant (c .before .before .decode .ensures) (c .enum-told .given .1)

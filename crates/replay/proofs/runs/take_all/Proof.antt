@@ -12,11 +12,11 @@ use Rattle.replay.proofs.runs.take_all.Statement.{statement}
 use Rattle.replay.proofs.runs.take_all.Tie as tie
 
 abbrev Inv-loop : tie.InvT-loop
-Inv-loop out₀ addresses₀ values₀ rows₀ lows₀ versions₀ outside₀ pending₀ slots₀ reads₀ leaves₀ writes₀ steps count core₀ at₀ i₀ out addresses values rows lows versions outside pending slots reads leaves writes core at i =
-    Replaying steps addresses₀ values₀ out₀ (lent rows lows versions outside pending slots) (logs reads leaves writes) core addresses values out at i
+Inv-loop out₀ addresses₀ values₀ rows₀ leaves₀ slots₀ reads₀ leafsets₀ writes₀ steps count core₀ at₀ i₀ out addresses values rows leaves slots reads leafsets writes core at i =
+    Replaying steps addresses₀ values₀ out₀ (lent rows leaves slots) (logs reads leafsets writes) core addresses values out at i
 
 abbrev μ-loop : tie.MeasureT-loop
-μ-loop out₀ addresses₀ values₀ rows₀ lows₀ versions₀ outside₀ pending₀ slots₀ reads₀ leaves₀ writes₀ steps count core₀ at₀ i₀ out addresses values rows lows versions outside pending slots reads leaves writes core at i =
+μ-loop out₀ addresses₀ values₀ rows₀ leaves₀ slots₀ reads₀ leafsets₀ writes₀ steps count core₀ at₀ i₀ out addresses values rows leaves slots reads leafsets writes core at i =
     count - i
 
 loop-holds : tie.Need-loop-holds Inv-loop μ-loop
@@ -26,49 +26,49 @@ code-at-requires : tie.Need-code-at-requires Inv-loop μ-loop
 code-at-requires c κs = omega (arith, c .loop-test .taken)
 
 take-code-requires : tie.Need-take-code-requires Inv-loop μ-loop
-take-code-requires c κs = (c .before .before .before .before .before .before .before .before .before .before .before .before .before .before .loop .inv .ready, replaying-at (c .before .before .before .before .before .before .before .before .before .before .before .before .before .before .loop .inv))
+take-code-requires c κs = (c .before .before .before .before .before .before .before .before .before .before .before .loop .inv .ready, replaying-at (c .before .before .before .before .before .before .before .before .before .before .before .loop .inv))
 
 enum-told : tie.Need-enum-told Inv-loop μ-loop
 enum-told c = search needs
 
 add-i : tie.Need-add-i Inv-loop μ-loop
-add-i c = omega (arith, c .before .before .before .before .before .before .before .before .before .before .before .before .before .before .before .before .before .before .before .before .before .before .code-at .ensures .1)
+add-i c = omega (arith, c .before .before .before .before .before .before .before .before .before .before .before .before .before .before .before .before .before .before .before .code-at .ensures .1)
 
 loop-less : tie.Need-loop-less Inv-loop μ-loop
-loop-less c = omega (arith, c .before .before .before .before .before .before .before .before .before .before .before .before .before .before .before .before .before .before .before .before .before .before .before .loop-test .taken)
+loop-less c = omega (arith, c .before .before .before .before .before .before .before .before .before .before .before .before .before .before .before .before .before .before .before .before .loop-test .taken)
 
 loop-again : tie.Need-loop-again Inv-loop μ-loop
-loop-again c = replaying-on (c .before .before .before .before .before .before .before .before .before .before .before .before .before .before .before .before .before .before .before .before .before .before .before .before .loop .inv) (turns-as (c .before .before .before .before .before .before .before .before .before .take-code .ensures) (c .before .before .before .before .before .before .before .before .before .before .before .before .before .before .before .before .before .before .before .before .before .before .code-at .ensures .0)) (omega (arith, c .before .before .before .before .before .before .before .before .before .before .before .before .before .before .before .before .before .before .before .before .before .before .before .loop-test .taken)) (c .enum-told .given .1)
+loop-again c = replaying-on (c .before .before .before .before .before .before .before .before .before .before .before .before .before .before .before .before .before .before .before .before .before .loop .inv) (turns-as (c .before .before .before .before .before .before .before .before .before .take-code .ensures) (c .before .before .before .before .before .before .before .before .before .before .before .before .before .before .before .before .before .before .before .code-at .ensures .0)) (omega (arith, c .before .before .before .before .before .before .before .before .before .before .before .before .before .before .before .before .before .before .before .before .loop-test .taken)) (c .enum-told .given .1)
 
 enum-told-2 : tie.Need-enum-told-2 Inv-loop μ-loop
 enum-told-2 c = search needs
 
 same-length : tie.Need-same-length Inv-loop μ-loop
-same-length c = turned-out (c .before .before .before .before .before .before .before .before .before .take-code .ensures) ∙ replaying-out (c .before .before .before .before .before .before .before .before .before .before .before .before .before .before .before .before .before .before .before .before .before .before .before .before .loop .inv)
+same-length c = turned-out (c .before .before .before .before .before .before .before .before .before .take-code .ensures) ∙ replaying-out (c .before .before .before .before .before .before .before .before .before .before .before .before .before .before .before .before .before .before .before .before .before .loop .inv)
 
 same-length-2 : tie.Need-same-length-2 Inv-loop μ-loop
-same-length-2 c = turned-addresses (c .before .before .before .before .before .before .before .before .before .take-code .ensures) ∙ replaying-addresses (c .before .before .before .before .before .before .before .before .before .before .before .before .before .before .before .before .before .before .before .before .before .before .before .before .loop .inv)
+same-length-2 c = turned-addresses (c .before .before .before .before .before .before .before .before .before .take-code .ensures) ∙ replaying-addresses (c .before .before .before .before .before .before .before .before .before .before .before .before .before .before .before .before .before .before .before .before .before .loop .inv)
 
 same-length-3 : tie.Need-same-length-3 Inv-loop μ-loop
-same-length-3 c = turned-values (c .before .before .before .before .before .before .before .before .before .take-code .ensures) ∙ replaying-values (c .before .before .before .before .before .before .before .before .before .before .before .before .before .before .before .before .before .before .before .before .before .before .before .before .loop .inv)
+same-length-3 c = turned-values (c .before .before .before .before .before .before .before .before .before .take-code .ensures) ∙ replaying-values (c .before .before .before .before .before .before .before .before .before .before .before .before .before .before .before .before .before .before .before .before .before .loop .inv)
 
 returns : tie.Need-returns Inv-loop μ-loop
-returns c = replays-stop (c .before .before .before .before .before .before .before .before .before .before .before .before .before .before .before .before .before .before .before .before .before .before .before .before .loop .inv) (turns-as (c .before .before .before .before .before .before .before .before .before .take-code .ensures) (c .before .before .before .before .before .before .before .before .before .before .before .before .before .before .before .before .before .before .before .before .before .before .code-at .ensures .0)) (omega (arith, c .before .before .before .before .before .before .before .before .before .before .before .before .before .before .before .before .before .before .before .before .before .before .before .loop-test .taken)) stop.Meaningless (c .enum-told2 .given .1) refl (λ r σ. refl)
+returns c = replays-stop (c .before .before .before .before .before .before .before .before .before .before .before .before .before .before .before .before .before .before .before .before .before .loop .inv) (turns-as (c .before .before .before .before .before .before .before .before .before .take-code .ensures) (c .before .before .before .before .before .before .before .before .before .before .before .before .before .before .before .before .before .before .before .code-at .ensures .0)) (omega (arith, c .before .before .before .before .before .before .before .before .before .before .before .before .before .before .before .before .before .before .before .before .loop-test .taken)) stop.Meaningless (c .enum-told2 .given .1) refl (λ r σ. refl)
 
 enum-told-3 : tie.Need-enum-told-3 Inv-loop μ-loop
 enum-told-3 c = search needs
 
 same-length-4 : tie.Need-same-length-4 Inv-loop μ-loop
-same-length-4 c = turned-out (c .before .before .before .before .before .before .before .before .before .take-code .ensures) ∙ replaying-out (c .before .before .before .before .before .before .before .before .before .before .before .before .before .before .before .before .before .before .before .before .before .before .before .before .loop .inv)
+same-length-4 c = turned-out (c .before .before .before .before .before .before .before .before .before .take-code .ensures) ∙ replaying-out (c .before .before .before .before .before .before .before .before .before .before .before .before .before .before .before .before .before .before .before .before .before .loop .inv)
 
 same-length-5 : tie.Need-same-length-5 Inv-loop μ-loop
-same-length-5 c = turned-addresses (c .before .before .before .before .before .before .before .before .before .take-code .ensures) ∙ replaying-addresses (c .before .before .before .before .before .before .before .before .before .before .before .before .before .before .before .before .before .before .before .before .before .before .before .before .loop .inv)
+same-length-5 c = turned-addresses (c .before .before .before .before .before .before .before .before .before .take-code .ensures) ∙ replaying-addresses (c .before .before .before .before .before .before .before .before .before .before .before .before .before .before .before .before .before .before .before .before .before .loop .inv)
 
 same-length-6 : tie.Need-same-length-6 Inv-loop μ-loop
-same-length-6 c = turned-values (c .before .before .before .before .before .before .before .before .before .take-code .ensures) ∙ replaying-values (c .before .before .before .before .before .before .before .before .before .before .before .before .before .before .before .before .before .before .before .before .before .before .before .before .loop .inv)
+same-length-6 c = turned-values (c .before .before .before .before .before .before .before .before .before .take-code .ensures) ∙ replaying-values (c .before .before .before .before .before .before .before .before .before .before .before .before .before .before .before .before .before .before .before .before .before .loop .inv)
 
 returns-2 : tie.Need-returns-2 Inv-loop μ-loop
-returns-2 c = replays-stop (c .before .before .before .before .before .before .before .before .before .before .before .before .before .before .before .before .before .before .before .before .before .before .before .before .loop .inv) (turns-as (c .before .before .before .before .before .before .before .before .before .take-code .ensures) (c .before .before .before .before .before .before .before .before .before .before .before .before .before .before .before .before .before .before .before .before .before .before .code-at .ensures .0)) (omega (arith, c .before .before .before .before .before .before .before .before .before .before .before .before .before .before .before .before .before .before .before .before .before .before .before .loop-test .taken)) stop.Full (c .enum-told3 .given .1) refl (λ r σ. refl)
+returns-2 c = replays-stop (c .before .before .before .before .before .before .before .before .before .before .before .before .before .before .before .before .before .before .before .before .before .loop .inv) (turns-as (c .before .before .before .before .before .before .before .before .before .take-code .ensures) (c .before .before .before .before .before .before .before .before .before .before .before .before .before .before .before .before .before .before .before .code-at .ensures .0)) (omega (arith, c .before .before .before .before .before .before .before .before .before .before .before .before .before .before .before .before .before .before .before .before .loop-test .taken)) stop.Full (c .enum-told3 .given .1) refl (λ r σ. refl)
 
 last-stop-requires : tie.Need-last-stop-requires Inv-loop μ-loop
 last-stop-requires c κs = tt

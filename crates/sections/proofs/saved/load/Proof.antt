@@ -1,54 +1,46 @@
--- `saved::load` meets its contract: seat by seat. Assumes nothing.
+-- `saved::load` meets its contract: the rows, one after the other.
 use Rattle.sections.specs.SavedLaws.{core-read}
 use borrow.Author.Needs.{needs}
 use Rattle.sections.proofs.saved.load.Statement.{statement}
 use Rattle.sections.proofs.saved.load.Tie as tie
 
-seat-in-requires : tie.Need-seat-in-requires
-seat-in-requires c κs = search needs
+seats-in-requires : tie.Need-seats-in-requires
+seats-in-requires c κs = search needs
 
-seat-in-requires-2 : tie.Need-seat-in-requires-2
-seat-in-requires-2 c κs = search needs
-
-seat-in-requires-3 : tie.Need-seat-in-requires-3
-seat-in-requires-3 c κs = search needs
-
-seat-in-requires-4 : tie.Need-seat-in-requires-4
-seat-in-requires-4 c κs = search needs
-
-seat-in-requires-5 : tie.Need-seat-in-requires-5
-seat-in-requires-5 c κs = search needs
-
-seat-in-requires-6 : tie.Need-seat-in-requires-6
-seat-in-requires-6 c κs = search needs
-
-seat-in-requires-7 : tie.Need-seat-in-requires-7
-seat-in-requires-7 c κs = search needs
-
-seat-in-requires-8 : tie.Need-seat-in-requires-8
-seat-in-requires-8 c κs = search needs
+element-copy-out-sizes-in : tie.Need-element-copy-out-sizes-in
+element-copy-out-sizes-in c = search needs
 
 sizes-in-requires : tie.Need-sizes-in-requires
 sizes-in-requires c κs = search needs
 
-counters-in-requires : tie.Need-counters-in-requires
-counters-in-requires c κs = search needs
+add-row : tie.Need-add-row
+add-row c = search needs
+
+mul-row : tie.Need-mul-row
+mul-row c = search needs
+
+element-copy-out-row : tie.Need-element-copy-out-row
+element-copy-out-row c = search needs
+
+array-read-t15 : tie.Need-array-read-t15
+array-read-t15 c = search needs
+
+array-read-t18 : tie.Need-array-read-t18
+array-read-t18 c = search needs
 
 returns : tie.Need-returns
-returns c = core-read _ (c .before .before .before .before .before .before .before .before .before .seat-in .ensures) (c .before .before .before .before .before .before .before .before .seat-in2 .ensures) (c .before .before .before .before .before .before .before .seat-in3 .ensures) (c .before .before .before .before .before .before .seat-in4 .ensures) (c .before .before .before .before .before .seat-in5 .ensures) (c .before .before .before .before .seat-in6 .ensures) (c .before .before .before .seat-in7 .ensures) (c .before .before .seat-in8 .ensures) (c .before .sizes-in .ensures) (c .counters-in .ensures)
+returns c = core-read _ (c .before .before .before .seats-in .ensures) (c .before .sizes-in .ensures)
 
 pub load-spec : {M : Type 1} → statement M
 load-spec =
     tie.close
     (tie.spec
-    seat-in-requires
-    seat-in-requires-2
-    seat-in-requires-3
-    seat-in-requires-4
-    seat-in-requires-5
-    seat-in-requires-6
-    seat-in-requires-7
-    seat-in-requires-8
+    seats-in-requires
+    element-copy-out-sizes-in
     sizes-in-requires
-    counters-in-requires
+    add-row
+    mul-row
+    element-copy-out-row
+    array-read-t15
+    array-read-t18
     returns)

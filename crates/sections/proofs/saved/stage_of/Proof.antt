@@ -1,4 +1,4 @@
--- `saved::stage_of` meets its contract, case by case. Assumes nothing.
+-- `saved::stage_of` meets its contract, case by case.
 use mathlib.Core.Path.{sym, ap}
 use Rattle.lists.specs.Tests.{same}
 use Rattle.sections.specs.Saved.{stageOf}

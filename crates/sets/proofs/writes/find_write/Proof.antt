@@ -1,9 +1,8 @@
--- `writes::find_write` meets its contract: what stands at the place of the address, if that is its own. Assumes nothing.
+-- `writes::find_write` meets its contract: what stands at the place of the address, if that is its own.
 use native.Mathlib.Omega.{arith}
-use borrow.Author.Needs.{needs}
-use Prim.Native.Nat.{_<_, _≤_}
 use Rattle.spec.specs.Records.{written, deleted}
 use Rattle.sets.specs.WriteLaws.{put-kind, deletion-kind, inside, found-here, found-none}
+use borrow.Author.Needs.{needs}
 use Rattle.sets.proofs.writes.find_write.Statement.{statement}
 use Rattle.sets.proofs.writes.find_write.Tie as tie
 
@@ -18,16 +17,14 @@ get-requires c κs =
     let t = c .before in
     let b = t .before in
     let s = b .before in
-    let r : s .args .n ≤ 16 = s .pre .room in
-    let i : b .writes-below .result < s .args .n = inside (s .pre) (b .writes-below .ensures) (t .stands .ensures .present (c .if1 .taken)) in
-    (s .pre .held, (s .pre .worker, omega arith))
+    omega (arith, s .pre .room, inside (s .pre) (b .writes-below .ensures) (t .stands .ensures .present (c .if1 .taken)))
 
 returns : tie.Need-returns
 returns c =
     let g = c .before .before in
     let t = g .before .before in
     let b = t .before in
-    found-here (b .before .pre) (b .writes-below .ensures) (g .get .result) (t .stands .ensures .present (g .before .if1 .taken)) (g .get .ensures)
+    found-here (b .before .pre) (b .writes-below .ensures) (g .get .result) (g .get .ensures) (t .stands .ensures .present (g .before .if1 .taken))
     (written (record { value = g .get .result .value })) (put-kind (g .get .result .kind) (g .get .result .value) (c .if2 .taken))
 
 returns-2 : tie.Need-returns-2
@@ -35,7 +32,7 @@ returns-2 c =
     let g = c .before .before in
     let t = g .before .before in
     let b = t .before in
-    found-here (b .before .pre) (b .writes-below .ensures) (g .get .result) (t .stands .ensures .present (g .before .if1 .taken)) (g .get .ensures)
+    found-here (b .before .pre) (b .writes-below .ensures) (g .get .result) (g .get .ensures) (t .stands .ensures .present (g .before .if1 .taken))
     deleted (deletion-kind (g .get .result .kind) (g .get .result .value) (c .if2 .left))
 
 returns-3 : tie.Need-returns-3

@@ -1,8 +1,7 @@
--- `writes::put_write` meets its contract: over the write that stands at the place, or before it. Assumes nothing.
+-- `writes::put_write` meets its contract: over the write that stands at the place, or before it.
 use native.Mathlib.Omega.{arith}
-use borrow.Author.Needs.{needs}
-use Prim.Native.Nat.{_<_, _≤_}
 use Rattle.sets.specs.WriteLaws.{inside, put-room, put-over, put-new}
+use borrow.Author.Needs.{needs}
 use Rattle.sets.proofs.writes.put_write.Statement.{statement}
 use Rattle.sets.proofs.writes.put_write.Tie as tie
 
@@ -17,30 +16,21 @@ store-requires c κs =
     let t = c .before .before in
     let b = t .before .before in
     let s = b .before .before in
-    let r : s .args .n ≤ 16 = s .pre .0 .room in
-    let i : b .writes-below .result < s .args .n = inside (s .pre .0) (b .writes-below .ensures) (t .stands .ensures .present (c .before .if1 .taken)) in
-    (s .pre .0 .held, (s .pre .0 .worker, omega arith, s .fits .a .fits))
+    omega (arith, s .pre .0 .room, inside (s .pre .0) (b .writes-below .ensures) (t .stands .ensures .present (c .before .if1 .taken)))
 
 returns : tie.Need-returns
 returns c =
     let t = c .before .before .before in
     let b = t .before .before in
     let s = b .before .before in
-    put-over (s .pre .0) (b .writes-below .ensures) (s .args .kind) (s .args .value) (t .stands .ensures .present (c .before .before .if1 .taken)) (c .store .ensures)
+    put-over (s .pre .0) (b .writes-below .ensures) (s .args .kind) (s .args .value) (t .stands .ensures .present (c .before .before .if1 .taken)) (s .fits .a .fits) (c .store .ensures)
 
 insert-requires : tie.Need-insert-requires
 insert-requires c κs =
     let t = c .before .before in
     let b = t .before .before in
-    let s = b .before .before in (
-      s .pre .0 .held,
-      (
-        s .pre .0 .worker,
-        b .writes-below .ensures .within,
-        put-room (s .pre .0) (b .writes-below .ensures) (t .stands .ensures .absent (c .before .if1 .left)) (s .pre .1),
-        s .fits .a .fits,
-      ),
-    )
+    let s = b .before .before in
+    (s .pre .0 .held, (b .writes-below .ensures .within, put-room (s .pre .0) (b .writes-below .ensures) (t .stands .ensures .absent (c .before .if1 .left)) (s .pre .1), s .fits .a .fits))
 
 add-result : tie.Need-add-result
 add-result c = search needs

@@ -1,4 +1,4 @@
--- `writes::stands` meets its contract. Assumes nothing.
+-- `writes::stands` meets its contract.
 use Rattle.sets.specs.WriteLaws.{stands-past, stands-at}
 use borrow.Author.Needs.{needs}
 use Rattle.sets.proofs.writes.stands.Statement.{statement}
@@ -13,7 +13,7 @@ get-requires c κs = search needs
 returns-2 : tie.Need-returns-2
 returns-2 c =
     let s = c .before .before .before in
-    stands-at (s .pre .0) (s .pre .1) (c .before .get .result) (c .before .before .if1 .left) (c .before .get .ensures)
+    stands-at (s .pre .0) (s .pre .1) (c .before .get .result) (c .before .get .ensures) (c .before .before .if1 .left)
 
 pub stands-spec : {M : Type 1} → statement M
 stands-spec = tie.close (tie.spec returns get-requires returns-2)

@@ -5,35 +5,27 @@ use Rattle.transactions.specs.Admits.{Begun}
 use Rattle.transactions.proofs.begins.begin.Statement.{statement}
 use Rattle.transactions.proofs.begins.begin.Tie as tie
 
--- src/begins.rt:27:11
 vacant-requires : tie.Need-vacant-requires
 vacant-requires c κs = search needs
 
--- src/begins.rt:28:24
 enum-known-r : tie.Need-enum-known-r
 enum-known-r c = search needs
 
--- src/begins.rt:32:21
 enum-known-x : tie.Need-enum-known-x
 enum-known-x c = search needs
 
--- src/begins.rt:33:17
 begin-requires : tie.Need-begin-requires
 begin-requires c κs = search needs
 
--- src/begins.rt:34:13
 mul-seats : tie.Need-mul-seats
 mul-seats c = search needs
 
--- src/begins.rt:34:13
 array-set-from-seats : tie.Need-array-set-from-seats
 array-set-from-seats c = let v = subst (Begun _ _) (c .before .before .x .given .1) (c .before .before .before .before .vacant .ensures) in v .inside
 
--- src/begins.rt:21:1
 returns : tie.Need-returns
 returns c = begin-refused _ _ _ (subst (Begun _ _) (c .before .r .given .1) (c .before .before .before .vacant .ensures))
 
--- src/begins.rt:21:1
 returns-2 : tie.Need-returns-2
 returns-2 c =
     begin-granted _ _ _ _ (subst (Begun _ _) (c .before .before .x .given .1) (c .before .before .before .before .vacant .ensures)) (c .begin .ensures)

@@ -2,13 +2,11 @@ use Rattle.transactions.specs.MergeSteps.{version-room, merge-goes}
 use Rattle.transactions.proofs.merges.merge_at.Statement.{statement}
 use Rattle.transactions.proofs.merges.merge_at.Tie as tie
 
--- src/merges.rt:36:9
 merge-requires : tie.Need-merge-requires
-merge-requires c κs = (c .before .before .before .before .before .before .before .before .before .pre .stored .map, version-room (c .before .before .before .before .before .before .before .before .before .pre))
+merge-requires c κs = (c .before .before .before .before .before .before .pre .stored .map, version-room (c .before .before .before .before .before .before .pre))
 
--- src/merges.rt:17:1
 returns : tie.Need-returns
-returns c = merge-goes (c .before .before .before .before .before .before .before .before .before .before .before .before .pre) (c .before .before .merge .ensures)
+returns c = merge-goes (c .before .before .before .before .before .before .before .before .before .pre) (c .before .before .merge .ensures)
 
 pub merge-at-spec : {M : Type 1} → statement M
 merge-at-spec = tie.close (tie.spec merge-requires returns)

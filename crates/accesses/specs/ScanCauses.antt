@@ -1,0 +1,215 @@
+-- Why a scan is refused in the model, from what its tests told of the arrays.
+use Prim.Native.Nat.{ℕ, _+_, _≤_, min}
+use native.Mathlib.Omega.{arith}
+use mathlib.Core.Path.{_≡_, refl, sym, ap, _∙_}
+use mathlib.Core.Logic.{⊎-elim}
+use mathlib.Core.Bool.{Bool, true, false}
+use mathlib.Core.List.{List, [], _∷_}
+use mathlib.Core.Option.{Option, none, some}
+use lib.ListN.{length, getD}
+use Rattle.lists.specs.Tests.{either, maybe, less, less-yes, less-no}
+use Rattle.lists.specs.Rows.{Row, between, mapItems, any}
+use Rattle.spec.specs.declared.Refusal.{Refusal}
+use Rattle.spec.specs.declared.Refusal.the-variants.{Backward, LogFull, ShortBuffer}
+use Rattle.spec.specs.Refusals.{ends}
+use Rattle.spec.specs.Records.{standard, Record, Write, ownView, payloadOf}
+use Rattle.spec.specs.Maps.{current, indexedBetween}
+use Rattle.spec.specs.Steps as model
+use Rattle.spec.specs.Steps.{State, workerOf, scan, isOpen, scanned, scanReads, scanVersions, scanLogFull, Cause, cause, noWorker, workerFree, wrongStage, causes, firstCause, refusal, refused}
+use Rattle.laws.specs.WorkerLaws.{mild-cause}
+use Rattle.sets.specs.declared.workers.Worker.{Worker}
+use Rattle.sets.specs.Workers.{workerIn}
+use Rattle.sets.specs.Reads.{readIn}
+use Rattle.sets.specs.Leaves as leaves
+use Rattle.sets.specs.Writes.{writesIn}
+use Rattle.sets.specs.SetLaws.{length-rows}
+use Rattle.map.specs.Views.{leavesIn, Lent, mapOf}
+use Rattle.looks.specs.declared.Range.{Range}
+use Rattle.looks.specs.LookViews.{mapWith, versionIn, Spans, Meets}
+use Rattle.ranges.specs.declared.plans.Task.{Task}
+use Rattle.ranges.specs.Overlays.{overlay}
+use Rattle.ranges.specs.Parts.{length-walk}
+use Rattle.ranges.specs.Walks.{seenFrom, ownFrom, rest}
+use Rattle.ranges.specs.Scanning.{span, across, seenIn}
+use Rattle.ranges.specs.Plans.{Planning, shownOf, Measured, Declined, backward, full, short, Passed}
+use Rattle.transactions.specs.declared.Core.{Core}
+use Rattle.transactions.specs.Answering.{cause-holds, cause-fails, front, front-first}
+use Rattle.transactions.specs.Admits.{Turned, Entered}
+use Rattle.transactions.specs.Views.{Logs, stateOf}
+use Rattle.transactions.specs.Ready.{Within, Ready, Goes, goes-refused}
+use Rattle.transactions.specs.SeatLaws.{ready-writable, seat-writable, seated, within}
+use Rattle.map.specs.Parts.{records-held, slots-held, leaves-listed}
+
+-- what the tests of a scan by worker w told, in the arrays of all workers
+abbrev pub MeasuredIn : Lent → Logs → Core → ℕ → Worker → ℕ → ℕ → Task → Type 0
+MeasuredIn l g c w x lo hi t = Measured (l .rows) (l .lows) (l .slots) (getD (g .writes) w []) (c .sizes) x lo hi t
+
+abbrev pub DeclinedIn : Lent → Logs → Core → ℕ → Worker → ℕ → ℕ → ℕ → ℕ → Refusal → Type 0
+DeclinedIn l g c w x lo hi m n r = Declined (l .rows) (l .lows) (l .slots) (getD (g .writes) w []) (c .sizes) x lo hi m n r
+
+abbrev pub PassedIn : Lent → Logs → Core → ℕ → Worker → ℕ → ℕ → ℕ → ℕ → Task → Type 0
+PassedIn l g c w x lo hi m n t = Passed (l .rows) (l .lows) (l .slots) (getD (g .writes) w []) (c .sizes) x lo hi m n t
+
+-- ---- the causes
+
+-- those that come after the worker's
+further : State → ℕ → ℕ → ℕ → ℕ → ℕ → List Cause
+further σ w lo hi m n =
+    cause (less hi lo) Backward
+    ∷ cause (scanLogFull σ w lo hi) LogFull
+    ∷ cause (less (min m n) (length (scanned σ w lo hi))) ShortBuffer
+    ∷ []
+
+scan-causes : (σ : State) (w lo hi m n : ℕ) (o : Option Refusal) → front isOpen σ w ≡ o
+    → refusal σ (scan w lo hi m n) ≡ maybe o (firstCause (further σ w lo hi m n)) some
+unfolding refusal causes further
+scan-causes σ w lo hi m n o e =
+    front-first isOpen σ w (further σ w lo hi m n) ∙ ap (λ (p : Option Refusal). maybe p (firstCause (further σ w lo hi m n)) some) e
+
+mild : (σ : State) (w lo hi m n : ℕ) (r : Refusal) → refusal σ (scan w lo hi m n) ≡ some r → ends r ≡ false
+unfolding refusal causes noWorker workerFree wrongStage any
+mild σ w lo hi m n r q = mild-cause (causes σ (scan w lo hi m n)) r refl q
+
+-- refused for the worker
+pub scan-turned : {l : Lent} {g : Logs} {c : Core} {w : ℕ} {r : Refusal} → Ready l g c → Turned isOpen (c .seats) w r → (lo hi m n : ℕ)
+    → Goes l g c (scan w lo hi m n) l g c (refused r)
+scan-turned {l} {g} {c} {w} {r} k t lo hi m n =
+    let q : refusal (stateOf l g c) (scan w lo hi m n) ≡ some r = scan-causes (stateOf l g c) w lo hi m n (some r) (t .front-is l g c refl) in
+    goes-refused k q (mild (stateOf l g c) w lo hi m n r q)
+
+either-last : (b : Bool) → either b true ≡ true
+either-last true = refl
+either-last false = refl
+
+-- ---- a worker that is open
+
+module _ {l : Lent} {g : Logs} {c : Core} {w : ℕ} {x : Worker} (k : Ready l g c) (e : Entered isOpen (c .seats) w x) where
+  pub planning : Planning (l .rows) (l .lows) (l .slots) (getD (g .writes) w []) (c .sizes) x
+  planning =
+      let t = k .stored .map .tables in
+      let b : Within x = within isOpen l g c w x k e in
+      record {
+        rows-held = records-held t;
+        slots-held = slots-held t;
+        listed = leaves-listed t;
+        set = seat-writable (ready-writable k) e;
+        reads = b .reads;
+        leaves = b .leaves;
+      }
+
+  -- ---- what the model's tests look at
+
+  reads-size : length (workerOf (stateOf l g c) w .reads) ≡ x .reads
+  unfolding workerIn
+  reads-size = ap (λ (y : model.Worker). length (y .reads)) (seated isOpen l g c w x k e) ∙ length-rows readIn (getD (g .reads) w []) (x .reads)
+
+  versions-size : length (workerOf (stateOf l g c) w .versions) ≡ x .leaves
+  unfolding workerIn
+  versions-size =
+      ap (λ (y : model.Worker). length (y .versions)) (seated isOpen l g c w x k e) ∙ length-rows leaves.versionIn (getD (g .leaves) w []) (x .leaves)
+
+  leaves-any : (lo hi : ℕ) → indexedBetween (mapWith (l .rows) (c .sizes .records) (l .slots) []) lo hi ≡ indexedBetween (mapOf l (c .sizes)) lo hi
+  unfolding indexedBetween current
+  leaves-any lo hi = refl
+
+  module _ (lo hi : ℕ) where
+    -- the records passed
+    pub scan-reads : (a : Range) → Spans (l .rows) (c .sizes .records) lo hi a
+        → across (seenIn (l .rows) (c .sizes .records) (l .slots)) a ≡ scanReads (stateOf l g c) lo hi
+    unfolding scanReads stateOf
+    scan-reads a s = s .seen-are (l .slots) [] ∙ leaves-any lo hi
+
+    reads-count : (a : Range) → Spans (l .rows) (c .sizes .records) lo hi a → length (scanReads (stateOf l g c) lo hi) ≡ span a
+    reads-count a s =
+        sym (ap length (scan-reads a s)) ∙ length-walk (seenIn (l .rows) (c .sizes .records) (l .slots)) (a .from) (span a)
+
+    -- and the leaves
+    pub scan-versions : (b : Range) → Meets (l .lows) (c .sizes .leaves) lo hi b
+        → across (versionIn (leavesIn (l .lows) (l .versions) (c .sizes .leaves))) b ≡ scanVersions (stateOf l g c) lo hi
+    unfolding scanVersions stateOf
+    scan-versions b s = s .versions-are (l .versions) (c .counters .version) (k .stored .map .tables .versions-size) (k .stored .map .tables .leaves)
+
+    versions-count : (b : Range) → Meets (l .lows) (c .sizes .leaves) lo hi b → length (scanVersions (stateOf l g c) lo hi) ≡ span b
+    versions-count b s =
+        sym (ap length (scan-versions b s)) ∙ length-walk (versionIn (leavesIn (l .lows) (l .versions) (c .sizes .leaves))) (b .from) (span b)
+
+    reads-are : scanReads (stateOf l g c) lo hi ≡ indexedBetween (stateOf l g c .map) lo hi
+    unfolding scanReads
+    reads-are = refl
+
+    -- what is shown
+    pub scan-shown : (t : Task) → MeasuredIn l g c w x lo hi t
+        → shownOf (l .rows) (l .slots) (getD (g .writes) w []) (c .sizes) t ≡ scanned (stateOf l g c) w lo hi
+    unfolding rest ownFrom seenFrom scanned overlay workerIn
+    scan-shown t d =
+        ap (λ (ys : List (Row Write)). overlay (mapItems ownView ys) (mapItems payloadOf (across (seenIn (l .rows) (c .sizes .records) (l .slots)) (t .index))))
+        (d .own .rows-are)
+        ∙ ap (λ (xs : List (Row (Option Record))). overlay (mapItems ownView (between lo hi (writesIn (g .writes) w (x .writes)))) (mapItems payloadOf xs))
+        (scan-reads (t .index) (d .index) ∙ reads-are)
+        ∙ ap (λ (y : model.Worker). overlay (mapItems ownView (between lo hi (y .writes))) (mapItems payloadOf (indexedBetween (stateOf l g c .map) lo hi)))
+        (sym (seated isOpen l g c w x k e))
+
+    count-is : (t : Task) → MeasuredIn l g c w x lo hi t → t .count ≡ length (scanned (stateOf l g c) w lo hi)
+    count-is t d = d .count ∙ ap length (scan-shown t d)
+
+    log-full : (a b : Range) → Spans (l .rows) (c .sizes .records) lo hi a → Meets (l .lows) (c .sizes .leaves) lo hi b
+        → scanLogFull (stateOf l g c) w lo hi ≡ either (less (standard .readLimit) (x .reads + span a)) (less (standard .leafSetLimit) (x .leaves + span b))
+    unfolding scanLogFull stateOf
+    log-full a b s t =
+        λ i. either (less (standard .readLimit) (reads-size i + reads-count a s i)) (less (standard .leafSetLimit) (versions-size i + versions-count b t i))
+
+    not-full : (t : Task) → MeasuredIn l g c w x lo hi t → scanLogFull (stateOf l g c) w lo hi ≡ false
+    not-full t d =
+        log-full (t .index) (t .met) (d .index) (d .met)
+        ∙ (λ i.
+        either (less-no {m = standard .readLimit} {n = x .reads + span (t .index)} (d .reads-fit) i)
+        (less-no {m = standard .leafSetLimit} {n = x .leaves + span (t .met)} (d .leaves-fit) i))
+
+    module _ (m n : ℕ) where
+      past-front : refusal (stateOf l g c) (scan w lo hi m n) ≡ firstCause (further (stateOf l g c) w lo hi m n)
+      past-front = scan-causes (stateOf l g c) w lo hi m n none (e .front-is l g c refl)
+
+      past-backward : lo ≤ hi
+          → refusal (stateOf l g c) (scan w lo hi m n)
+          ≡ firstCause (cause (scanLogFull (stateOf l g c) w lo hi) LogFull ∷ cause (less (min m n) (length (scanned (stateOf l g c) w lo hi))) ShortBuffer ∷ [])
+      unfolding further
+      past-backward h = past-front ∙ cause-fails (less hi lo) Backward _ (less-no {m = hi} {n = lo} h)
+
+      past-full : (t : Task) → MeasuredIn l g c w x lo hi t
+          → refusal (stateOf l g c) (scan w lo hi m n) ≡ firstCause (cause (less (min m n) (length (scanned (stateOf l g c) w lo hi))) ShortBuffer ∷ [])
+      past-full t d = past-backward (d .forward) ∙ cause-fails (scanLogFull (stateOf l g c) w lo hi) LogFull _ (not-full t d)
+
+      -- the refusal is the model's
+      declined-is : (r : Refusal) → DeclinedIn l g c w x lo hi m n r → refusal (stateOf l g c) (scan w lo hi m n) ≡ some r
+      unfolding further
+      declined-is r (backward q h) =
+          past-front ∙ cause-holds (less hi lo) Backward _ (less-yes {m = hi} {n = lo} h) ∙ ap (λ (y : Refusal). some y) (sym q)
+      declined-is r (full q a b f s t h) =
+          past-backward f
+          ∙ cause-holds (scanLogFull (stateOf l g c) w lo hi) LogFull _
+          (log-full a b s t
+          ∙ ⊎-elim
+          (λ i. ap (λ (d : Bool). either d (less (standard .leafSetLimit) (x .leaves + span b))) (less-yes {m = standard .readLimit} {n = x .reads + span a} i))
+          (λ i. ap (either (less (standard .readLimit) (x .reads + span a))) (less-yes {m = standard .leafSetLimit} {n = x .leaves + span b} i) ∙ either-last (less (standard .readLimit) (x .reads + span a)))
+          h)
+          ∙ ap (λ (y : Refusal). some y) (sym q)
+      declined-is r (short q t d h) =
+          past-full t d
+          ∙ cause-holds (less (min m n) (length (scanned (stateOf l g c) w lo hi))) ShortBuffer []
+          (less-yes {m = min m n} {n = length (scanned (stateOf l g c) w lo hi)}
+          (let s : t .count ≡ length (scanned (stateOf l g c) w lo hi) = count-is t d in ⊎-elim (λ i. omega arith) (λ i. omega arith) h))
+          ∙ ap (λ (y : Refusal). some y) (sym q)
+
+      pub scan-declined : (r : Refusal) → DeclinedIn l g c w x lo hi m n r → Goes l g c (scan w lo hi m n) l g c (refused r)
+      scan-declined r d = goes-refused k (declined-is r d) (mild (stateOf l g c) w lo hi m n r (declined-is r d))
+
+      -- the tests pass
+      pub passed-is : (t : Task) → PassedIn l g c w x lo hi m n t → refusal (stateOf l g c) (scan w lo hi m n) ≡ none
+      unfolding firstCause
+      passed-is t p =
+          let s : t .count ≡ length (scanned (stateOf l g c) w lo hi) = count-is t (p .measured) in
+          let a : t .count ≤ m = p .roomy .addresses in
+          let b : t .count ≤ n = p .roomy .values in
+          past-full t (p .measured)
+          ∙ cause-fails (less (min m n) (length (scanned (stateOf l g c) w lo hi))) ShortBuffer []
+          (less-no {m = min m n} {n = length (scanned (stateOf l g c) w lo hi)} (omega arith))

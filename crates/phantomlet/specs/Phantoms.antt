@@ -43,7 +43,7 @@ pendingIn m v e = both (same (versionAt (m .leaves) (e .key)) v) (present (e .it
 abbrev pub versionOf : MapState → ℕ → ℕ
 versionOf m i = getD (m .leaves) i firstLeaf .version
 
--- The two arrays agree with the map.
+-- The two columns agree with the map.
 pub record Phantomlet (m : MapState) (outside pending : List ℕ) : Type 0 where
   pub outside-is : (i : ℕ) → i < length (m .leaves) → getD outside i 0 ≡ howMany (outsideIn m (versionOf m i)) (m .slots)
   pub pending-is : (i : ℕ) → i < length (m .leaves) → getD pending i 0 ≡ howMany (pendingIn m (versionOf m i)) (m .slots)

@@ -1,5 +1,5 @@
-// The map for programs in other languages, as a static library. All state lies in arrays that the caller lends: the nine of
-// the engine, and the core in rows (`saved::Saved`). The caller keeps them as the last call left them, and begins with
+// The map for programs in other languages, as a static library. All state lies in arrays of rows that the caller lends: the
+// engine's six, and the core (`saved::Saved`). The caller keeps them as the last call left them, and begins with
 // `sections_fresh`.
 mod saved;
 

@@ -103,9 +103,6 @@ taken-most {s} c ks =
     (λ e. rw e (runs-bound (s .leafLimit) (s .run) (length ks) (length ks) (let i : s .run < s .leafLimit = c .smaller in omega arith)))
     (cases (atMost (length ks) (s .leafLimit)))
 
-pub taken-bound : (ks : List ℕ) → length ks ≤ standard .mapLimit → versionsTaken standard ks ≤ 129
-taken-bound ks h = let t : versionsTaken standard ks * 8 ≤ length ks + 8 = taken-most standard-cut ks in omega arith
-
 -- ---- the leaves made
 
 pub fresh-versions : (v : ℕ) (lows : List ℕ) (u : ℕ) → live (freshLeaves v lows) u ≡ true → (v < u) × (u ≤ v + length lows)

@@ -22,7 +22,8 @@ use Rattle.spec.specs.Maps as model
 use Rattle.laws.specs.LeafVersions.{GoodLeaves}
 use Rattle.laws.specs.LeafSwaps.{Kept}
 use Rattle.laws.specs.SettleLaws.{InLeaf, records-in-leaf, settle-keeps}
-use Rattle.laws.specs.LeafCuts.{standard-cut, taken-bound}
+use Rattle.laws.specs.LeafCuts.{standard-cut}
+use Rattle.laws.specs.VersionBounds.{versionsPerMerge, taken-per}
 use Rattle.laws.specs.MergeLaws.{merges}
 use Rattle.laws.specs.MapBounds.{Bounded, standard-leaves, merge-bounded}
 use Rattle.indexlet.specs.Words.{slotsOf}
@@ -224,7 +225,7 @@ module _ {l : Lent} {z : Sizes} (k : Counters) (h : Held l z (k .version)) (a i 
         let t : length (keys (filter (λ (r : Row Record). placed (l .lows) (z .leaves) i (r .key)) (recordsOf rows (w .records)))) ≡ length (filter (λ (r : Row Record). placed (l .lows) (z .leaves) i (r .key)) (recordsOf rows (w .records))) = length-keys (filter (λ (r : Row Record). placed (l .lows) (z .leaves) i (r .key)) (recordsOf rows (w .records))) in
         omega arith
 
-    pub resettling : k .version + 129 < 2 ^ 64 → Resettling (l .lows) rows (w .records) (z .leaves) i (k .version)
+    pub resettling : k .version + versionsPerMerge standard < 2 ^ 64 → Resettling (l .lows) rows (w .records) (z .leaves) i (k .version)
     unfolding ks settledTo
     resettling room =
         let b : length (settle standard (k .version) (mapOf l z .leaves) a ks) ≤ leafPlaces
@@ -232,7 +233,7 @@ module _ {l : Lent} {z : Sizes} (k : Counters) (h : Held l z (k .version)) (a i 
         let c : length (mapOf l z .leaves) ≡ z .leaves = many-leaves in
         let d : z .leaves ≤ leafPlaces = h .tables .lows .room in
         let e : length (mapOf l z .leaves) + versionsTaken standard ks ≤ leafPlaces + 1 = settle-room (k .version) (mapOf l z .leaves) a ks (good .covers) (omega arith) b in
-        let f : versionsTaken standard ks ≤ 129 = taken-bound ks ks-short in
+        let f : versionsTaken standard ks ≤ versionsPerMerge standard = taken-per standard-cut ks ks-short in
         record {
           rows-held = took .rows-held;
           lows-are = record { listed = h .tables .lows; first = first-low (l .lows) (l .versions) (z .leaves) (h .tables .lows-size) (h .tables .versions-size) (h .tables .lows .some) (h .tables .lows .room) good; narrow = h .tables .lows-narrow };

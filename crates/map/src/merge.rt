@@ -21,7 +21,9 @@ ghost use Prim.Native.Nat.{_+_, _^_, _<_, _≤_};
 ghost use lib.ListN.{length};
 ghost use Rattle.lists.specs.Tests.{pick, present};
 ghost use Rattle.lists.specs.Rows.{assign};
+ghost use Rattle.spec.specs.Records.{standard};
 ghost use Rattle.spec.specs.Slots.{slotCount};
+ghost use Rattle.laws.specs.VersionBounds.{versionsPerMerge};
 ghost use Rattle.indexlet.specs.Words.{contentIn};
 ghost use Rattle.index.specs.Views as index-views;
 ghost use Rattle.index.specs.LeafColumns.{lowsOf};
@@ -197,7 +199,7 @@ pub fn merge(
     a: Address,
 ) -> Merged
     requires { ⌜ Held (lent (now rows) (now leaves) (now slots)) z (k .version) ⌝ }
-    requires { ⌜ k .version + 129 < 2 ^ 64 ⌝ }
+    requires { ⌜ k .version + versionsPerMerge standard < 2 ^ 64 ⌝ }
     ensures { λ r. ⌜ Merges (lent (now (rows .entry)) (now (leaves .entry)) (now (slots .entry))) z k a (lent (now (rows .exit)) (now (leaves .exit)) (now (slots .exit))) r ⌝ }
 {
     let m = z.leaves;

@@ -14,7 +14,7 @@ pub struct Leaf {
 }
 
 // The most leaves that one merge can make: 1,024 records in runs of 8, and one more (document 01: "Leaves after a fold";
-// `taken-bound` of `laws`).
+// `versionsPerMerge` of `laws`).
 pub const MOST_RUNS: usize = 129;
 
 // The leaves that a merge has made so far, from the left.

@@ -35,7 +35,7 @@ abbrev pub mergedCore : Core → Merged → Core
 mergedCore c r = record { seats = c .seats; sizes = r .sizes; counters = r .counters }
 
 -- the version counter is far from its end
-pub version-room : {l : Lent} {g : Logs} {c : Core} → Ready l g c → c .counters .version + 129 < 2 ^ 64
+pub version-room : {l : Lent} {g : Logs} {c : Core} → Ready l g c → c .counters .version + versionsPerMerge standard < 2 ^ 64
 version-room {l} {g} {c} h =
     let e : c .counters .version ≤ versionsPerMerge standard * standard .writeLimit * standard .lastNumber = small in
     let p : versionsPerMerge standard ≡ 129 = standard-per in

@@ -3,6 +3,7 @@ use Prim.Native.Nat.{_-_}
 use native.Mathlib.Omega.{arith}
 use mathlib.Core.Path.{sym, _∙_}
 use borrow.Author.Needs.{needs}
+use Rattle.spec.specs.Slots.{slotCount}
 use Rattle.laws.specs.Probes.{home-less}
 use Rattle.indexlet.specs.SeekLaws.{Seeking, seek-start, seek-hit, seek-stop, seek-on, seek-end}
 use Rattle.indexlet.proofs.seek.Statement.{statement}
@@ -12,7 +13,7 @@ abbrev Inv-loop : tie.InvT-loop
 Inv-loop t a h d₀ d = Seeking t a h d
 
 abbrev μ-loop : tie.MeasureT-loop
-μ-loop t a h d₀ d = 256 - d
+μ-loop t a h d₀ d = slotCount - d
 
 loop-holds : tie.Need-loop-holds Inv-loop μ-loop
 loop-holds c = seek-start _ _ _ (c .pre)

@@ -4,6 +4,7 @@ use Prim.Native.Nat.{_-_}
 use native.Mathlib.Omega.{arith}
 use mathlib.Core.Path.{sym, _∙_}
 use borrow.Author.Needs.{needs}
+use Rattle.spec.specs.Slots.{slotCount}
 use Rattle.laws.specs.Probes.{home-less}
 use Rattle.indexlet.specs.WalkLaws.{Taking, take-start, take-small, take-ends, take-on, take-never}
 use Rattle.indexlet.proofs.take.Statement.{statement}
@@ -13,7 +14,7 @@ abbrev Inv-loop : tie.InvT-loop
 Inv-loop t₀ a h c d₀ t d = Taking t₀ a h t d
 
 abbrev μ-loop : tie.MeasureT-loop
-μ-loop t₀ a h c d₀ t d = 256 - d
+μ-loop t₀ a h c d₀ t d = slotCount - d
 
 loop-holds : tie.Need-loop-holds Inv-loop μ-loop
 loop-holds c = take-start _ _ _ (c .pre .0) (c .pre .1 .0)

@@ -1,5 +1,4 @@
 -- The end of the input: how many records there can be, their pairs one after the other, and the last line.
--- Assumes nothing.
 use Prim.Native.Nat.{ℕ, suc, _+_, _*_, _^_, _<_, _≤_}
 use native.Mathlib.Nat.{le-refl, le-trans, le-of-eq}
 use native.Mathlib.Omega.{arith}

@@ -1,5 +1,4 @@
 -- Document 01's full run, from the bytes of its input to those of its output; and short inputs.
--- Assumes nothing.
 use Prim.Native.Nat.{ℕ}
 use Prim.Native.Char.{code}
 use Prim.Native.String.{String}

@@ -1,5 +1,4 @@
 -- A step that is performed lists no more records than a scan's buffers have places.
--- Assumes nothing.
 use Prim.Native.Nat.{ℕ, _-_, _≤_, min}
 use native.Mathlib.Omega.{arith}
 use mathlib.Core.Path.{_≡_, ap, _∙_}

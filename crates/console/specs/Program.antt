@@ -1,7 +1,6 @@
 -- Document 01, "The script program": what the program writes, as a function of the bytes that it reads.
 -- A line feed ends a line. Each line is a step, and its answer is written. At the first malformed line, or a last line
 -- without its line feed, `?` is written and nothing more; else, at the end of the input, the present records.
--- Assumes nothing.
 use Prim.Native.Nat.{ℕ}
 use mathlib.Core.List.{List, [], _∷_, _++_}
 use Rattle.lists.specs.Tests.{pick, maybe, same}

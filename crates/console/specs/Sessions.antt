@@ -1,6 +1,5 @@
 -- A session: the engine's arrays and core, the parser, and the places in the input and in the output. What is promised of
 -- running it on: what was written and what is still due are what was due.
--- Assumes nothing.
 use Prim.Native.Nat.{ℕ, _+_, _-_, _<_, _≤_}
 use native.Mathlib.Omega.{arith}
 use mathlib.Core.Path.{_≡_, refl, sym, ap, _∙_}

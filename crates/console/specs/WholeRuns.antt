@@ -1,7 +1,6 @@
 -- A whole run of the program. The input comes in pieces; a piece is fed until all of it is read; what was written is taken
 -- away whenever it suits; at the end the rest is written. However the input is cut, and however often output is taken
 -- away, all that was written is `output` of the input: `told-end`, and after a malformed line `told-stopped`.
--- Assumes nothing.
 use Prim.Native.Nat.{ℕ, _≤_}
 use mathlib.Core.Path.{_≡_, sym, ap, _∙_}
 use mathlib.Core.Bool.{Bool, true}

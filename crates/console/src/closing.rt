@@ -1,4 +1,4 @@
-// The end of the input: all records, or the mark of a line without its line feed.
+// The end of the input: all records, or, after a line without its line feed, that it is malformed.
 use crate::session::Session;
 use looks::Next;
 use map::Leaves;

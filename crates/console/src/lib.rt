@@ -4,6 +4,6 @@
 pub const SCAN_PLACES: usize = 64;
 
 pub mod closing;
-pub mod lines;
-pub mod replies;
+mod lines;
+mod replies;
 pub mod session;

@@ -1,4 +1,4 @@
-// The steps that end a transaction: lock, install and abort.
+// Lock, install and abort: what comes before and after a validation, and what gives up.
 use crate::drops;
 use map::Leaves;
 use map::Records;

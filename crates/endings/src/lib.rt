@@ -1,4 +1,4 @@
-// The steps that end a transaction: lock, validate, install and abort.
+// The steps towards the end of a transaction: lock, validate, install and abort.
 pub mod commits;
 mod drops;
 pub mod validates;

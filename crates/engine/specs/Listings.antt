@@ -1,5 +1,4 @@
 -- A step lists no more records than the shorter of its buffers has places.
--- Assumes nothing.
 use Prim.Native.Nat.{ℕ, _≤_, min}
 use native.Mathlib.Omega.{arith}
 use mathlib.Core.Path.{_≡_, refl, sym, ap, _∙_, subst}

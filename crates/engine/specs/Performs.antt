@@ -1,5 +1,4 @@
 -- One step, whichever it is: what an operation and a reply mean, and what performing one promises.
--- Assumes nothing.
 use Prim.Native.Nat.{ℕ}
 use mathlib.Core.Path.{_≡_, refl, sym, ap, subst}
 use mathlib.Core.List.{List}

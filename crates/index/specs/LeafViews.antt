@@ -1,9 +1,9 @@
 -- The leaves of lows and versions, in parts; the leaf at a place is the leaf of the address that was searched for.
-use Prim.Native.Nat.{ℕ, zero, suc, _+_, _-_, _<_, _≤_}
+use Prim.Native.Nat.{ℕ, zero, suc, _<_, _≤_}
 use native.Mathlib.Nat.{not-suc-le-zero}
 use native.Mathlib.Omega.{arith}
 use mathlib.Core.Path.{_≡_, refl, sym, ap, _∙_}
-use mathlib.Core.Logic.{_⊎_, ⊎-elim}
+use mathlib.Core.Logic.{⊎-elim}
 use mathlib.Core.List.{List, [], _∷_, _++_, map}
 use lib.ListN.{length, take, drop, getD}
 use Rattle.lists.specs.Tests.{less, cases}
@@ -54,13 +54,6 @@ paired-getD [] us i e h = absurd (not-suc-le-zero h)
 paired-getD (x ∷ xs) [] i e h = absurd (omega arith)
 paired-getD (x ∷ xs) (u ∷ us) zero e h = refl
 paired-getD (x ∷ xs) (u ∷ us) (suc i) e h = paired-getD xs us i (omega arith) (omega arith)
-
-pub paired-versions : (xs us : List ℕ) → length xs ≡ length us → map (λ (l : Leaf). l .version) (paired xs us) ≡ us
-unfolding paired
-paired-versions [] [] e = refl
-paired-versions [] (u ∷ us) e = absurd (omega arith)
-paired-versions (x ∷ xs) [] e = absurd (omega arith)
-paired-versions (x ∷ xs) (u ∷ us) e = ap (λ (ls : List ℕ). u ∷ ls) (paired-versions xs us (omega arith))
 
 pub paired-lows : (xs us : List ℕ) → length xs ≡ length us → map (λ (l : Leaf). l .low) (paired xs us) ≡ xs
 unfolding paired

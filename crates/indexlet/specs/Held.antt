@@ -1,5 +1,4 @@
 -- What the indexlet's functions promise: of the words they are lent, of what they return.
--- Assumes nothing.
 use Prim.Native.Nat.{ℕ, zero, suc, _+_, _%_, _^_, _<_}
 use mathlib.Core.Path.{_≡_}
 use mathlib.Core.List.{List}

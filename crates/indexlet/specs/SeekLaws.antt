@@ -1,5 +1,4 @@
 -- The loop of a search: what is left of the search is the whole search. And what its end says of the model's search.
--- Assumes nothing.
 use Prim.Native.Nat.{ℕ, zero, suc, _+_, _-_, _%_, _<_, _≤_}
 use native.Mathlib.Numerals.{add-one}
 use native.Mathlib.Omega.{arith}

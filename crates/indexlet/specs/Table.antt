@@ -1,5 +1,4 @@
 -- The constant table as the code has it: its rule at each entry, its inverse, and home slots by it.
--- Assumes nothing.
 use Prim.Native.Nat.{ℕ, _+_, _*_, _/_, _%_, _^_, _<_}
 use native.Mathlib.Omega.{arith}
 use mathlib.Core.Path.{_≡_, refl, sym, ap, _∙_, subst}

@@ -1,6 +1,5 @@
 -- The loops that change counts on the way from a home slot: a new entry adds one to each slot passed, an entry that goes
 -- subtracts one.
--- Assumes nothing.
 use Prim.Native.Nat.{ℕ, suc, pred, _+_, _-_, _%_, _^_, _<_, _≤_, zero-le}
 use native.Mathlib.Numerals.{add-one}
 use native.Mathlib.Omega.{arith}

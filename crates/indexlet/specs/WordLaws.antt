@@ -1,7 +1,5 @@
 -- The laws of words: what a store leaves in each row, and the view after it.
--- Assumes nothing.
-use Prim.Native.Nat.{ℕ, zero, suc, _+_, _%_, _<_}
-use native.Mathlib.Numerals.{add-one}
+use Prim.Native.Nat.{ℕ, zero, suc, _%_, _<_}
 use native.Mathlib.Omega.{arith}
 use mathlib.Core.Path.{_≡_, refl, sym, ap, _∙_}
 use mathlib.Core.Logic.{⊎-elim}
@@ -15,7 +13,6 @@ use borrow.Author.Tests.{ne-eqb}
 use Rattle.lists.specs.Tests.{pick, both, maybe, present, same, cases, same-true, same-false, same-yes, same-no}
 use Rattle.lists.specs.Rows.{Row, row}
 use Rattle.lists.specs.Shifts.{length-tab, getD-tab}
-use Rattle.spec.specs.Records.{written, deleted}
 use Rattle.spec.specs.Slots.{slotCount, Content, isIdle, emptySlot, slotAt, vacant, holds}
 use Rattle.indexlet.specs.declared.Content.{Content as ContentWords}
 use Rattle.indexlet.specs.declared.Slot.{Slot as SlotWords}
@@ -127,26 +124,3 @@ idle-zero = refl
 pub pending-none : (c : ContentWords) → c .kind ≡ 0 → contentIn c .pending ≡ none
 unfolding contentIn pendingIn
 pending-none c e = ap (λ (k : ℕ). pendingIn k (c .value) (c .commit)) e
-
-pub pending-put : (c : ContentWords) → c .kind ≡ 1
-    → contentIn c .pending ≡ some (record { write = written (record { value = c .value }); commit = c .commit })
-unfolding contentIn pendingIn
-pending-put c e = ap (λ (k : ℕ). pendingIn k (c .value) (c .commit)) e
-
-pub pending-deleted : (c : ContentWords) → (c .kind ≡ 0 → ⊥) → (c .kind ≡ 1 → ⊥)
-    → contentIn c .pending ≡ some (record { write = deleted; commit = c .commit })
-unfolding contentIn pendingIn
-pending-deleted c n m = go (c .kind) n m
-  where
-    go : (k : ℕ) → (k ≡ 0 → ⊥) → (k ≡ 1 → ⊥) → pendingIn k (c .value) (c .commit) ≡ some (record { write = deleted; commit = c .commit })
-    go zero n m = absurd (n refl)
-    go (suc zero) n m = absurd (m refl)
-    go (suc (suc k)) n m = refl
-
-pub holder-none : (c : ContentWords) → c .lock ≡ 0 → contentIn c .holder ≡ none
-unfolding contentIn holderIn
-holder-none c e = ap holderIn e
-
-pub holder-some : (c : ContentWords) (w : ℕ) → c .lock ≡ w + 1 → contentIn c .holder ≡ some w
-unfolding contentIn holderIn
-holder-some c w e = ap holderIn (e ∙ add-one w)

@@ -1,6 +1,5 @@
 -- How the indexlet's slots stand in rows of words: its key, the kind of the pending write, its value, its commit
 -- number, the lock, the overflow count.
--- Assumes nothing.
 use Prim.Native.Nat.{ℕ, zero, suc}
 use mathlib.Core.List.{List, [], _∷_}
 use mathlib.Core.Option.{Option, none, some}

@@ -315,7 +315,7 @@ pub fn entry_of(b: u8) -> u8
 }
 
 // The home slot of an address: its bytes, highest first, through the table.
-pub fn home(a: Address) -> usize
+fn home(a: Address) -> usize
     ensures { λ r. ⌜ r ≡ homeSlot 4 a ⌝ }
 {
     let t = TABLE;

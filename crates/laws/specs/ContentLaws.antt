@@ -1,6 +1,5 @@
 -- The present contents have at each address its current record, and what a scan logs is the index addresses of its
 -- range, each with its current record.
--- Assumes nothing.
 use Prim.Native.Nat.{ℕ}
 use mathlib.Core.Path.{_≡_, refl, sym, ap, _∙_}
 use mathlib.Core.Logic.{_⊎_, ⊎-elim}

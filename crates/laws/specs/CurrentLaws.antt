@@ -1,5 +1,4 @@
 -- The current records of a map: lock and unlock alter none, and an install lays its writes over.
--- Assumes nothing.
 use Prim.Native.Nat.{ℕ}
 use mathlib.Core.Path.{_≡_, refl, ap, _∙_}
 use mathlib.Core.Logic.{⊎-elim}

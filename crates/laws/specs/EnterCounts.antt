@@ -1,5 +1,4 @@
 -- Any count over the entries changes, when something is said of one address, by that address's own terms.
--- Assumes nothing.
 use Prim.Native.Nat.{ℕ, _+_}
 use native.Mathlib.Omega.{arith}
 use mathlib.Core.Path.{_≡_, refl, sym, ap, _∙_}

@@ -1,5 +1,4 @@
 -- Entering: there is room, what changes, and that the invariant holds of empty slots and after each change.
--- Assumes nothing.
 use Prim.Native.Nat.{ℕ, _+_, _<_, _≤_, zero-le}
 use native.Mathlib.Omega.{arith}
 use mathlib.Core.Path.{_≡_, refl, sym, ap, _∙_, subst}

@@ -1,5 +1,4 @@
 -- The cut rule: how many runs there are, that each run gets an address, and the leaves that are made of them.
--- Assumes nothing.
 use Prim.Native.Nat.{ℕ, zero, suc, _+_, _*_, _-_, _<_, _≤_, zero-le}
 use native.Mathlib.Nat.{le-refl, not-suc-le-zero, suc-mul, zero-mul}
 use native.Mathlib.Omega.{arith}

@@ -1,5 +1,4 @@
 -- Every leaf but the first holds a record of the index, so there is at most one leaf more than there are records.
--- Assumes nothing.
 use Prim.Native.Nat.{ℕ, suc, _≤_, zero-le}
 use native.Mathlib.Nat.{le-trans, le-of-eq}
 use native.Mathlib.Omega.{arith}

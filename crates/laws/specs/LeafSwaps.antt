@@ -1,6 +1,5 @@
 -- Some leaves in a row replaced by fresh ones that start at the same address: the leaves stay good, every address keeps
 -- its version or gets a fresh one. Everything that a merge does to leaves is such a swap.
--- Assumes nothing.
 use Prim.Native.Nat.{ℕ, _+_, _<_, _≤_}
 use native.Mathlib.Omega.{arith}
 use mathlib.Core.Path.{_≡_, sym, ap, _∙_, subst}

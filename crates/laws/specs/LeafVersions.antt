@@ -1,5 +1,4 @@
 -- The laws of leaves: every address has one, no two versions are the same, what a scan's range meets.
--- Assumes nothing.
 use Prim.Native.Nat.{ℕ, suc, _+_, _<_, _≤_, zero-le}
 use native.Mathlib.Nat.{le-refl}
 use native.Mathlib.Omega.{arith}

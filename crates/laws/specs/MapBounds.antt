@@ -2,7 +2,6 @@
 -- a record, and refusals 10 and 11 keep the waiting and locked addresses, and those with the index, within their limits.
 -- Lock (under the tests of those refusals), unlock, install and merge keep it. From it follow that the index has at most
 -- `mapLimit` records and that there is at most one leaf more: document 01's 1,025 leaves are proved, not refused.
--- Assumes nothing.
 use Prim.Native.Nat.{_+_, ℕ, suc, _<_, _≤_, zero-le}
 use native.Mathlib.Nat.{le-trans, le-of-eq, lt-of-le-of-lt}
 use native.Mathlib.Omega.{arith}
@@ -234,14 +233,6 @@ module _ {s : Settings} {v : ℕ} {m : MapState} (b : Bounded s v m) (es : List 
       (addresses-within (merged-good (s .bytes) m es (b .slots)) (mergedWith s m es .records) (keys (m .records) ++ keys (entries (m .slots))) (index-after i)
       (λ k e. has-right k (keys (m .records)) (keys (entries (m .slots))) (busy-has (b .slots) k (busy-after k e))))
       (b .addresses)
-
-  -- the index has room for each entry on the way, not only for all of them at the end
-  pub merging-count : ((k : ℕ) → has k (keys es) ≡ true → has k (keys (entries (m .slots))) ≡ true)
-      → length (mergedWith s m es .records) ≤ s .mapLimit
-  merging-count i =
-      le-trans
-      (rising-within (mergedWith s m es .records) (keys (entries (mergedWith s m es .slots))) (merged-rising (s .bytes) m es (b .slots) (b .records)))
-      (addresses-after i)
 
 -- the entries that merge have entries, each
 pub merging-entered : (m : MapState) (a k : ℕ) → has k (keys (merging m a)) ≡ true → has k (keys (entries (m .slots))) ≡ true

@@ -1,6 +1,5 @@
 -- What the four changes of a map do, address by address: lock, unlock, install, and the first part of a merge, in which
 -- pending writes enter the index. Each keeps the slots good.
--- Assumes nothing.
 use Prim.Native.Nat.{ℕ, _<_, _≤_}
 use native.Mathlib.Nat.{le-trans, le-of-eq, lt-of-le-of-lt}
 use mathlib.Core.Path.{_≡_, refl, sym, ap, _∙_, subst}

@@ -1,6 +1,5 @@
 -- What a merge does, address by address. It alters no current record and no lock; of each address it keeps leaf version
 -- and index entry, or the old version is live no more.
--- Assumes nothing.
 use Prim.Native.Nat.{ℕ, _<_, _≤_}
 use native.Mathlib.Nat.{le-refl, le-add-right}
 use mathlib.Core.Path.{_≡_, refl, sym, ap, _∙_, subst}

@@ -1,6 +1,5 @@
 -- How many addresses have a pending write: lock and unlock add none, an install at most one for each write, and a merge
 -- that takes an entry in leaves fewer.
--- Assumes nothing.
 use Prim.Native.Nat.{ℕ, suc, _+_, _<_, _≤_}
 use native.Mathlib.Nat.{le-trans, le-of-eq}
 use mathlib.Core.Path.{_≡_, refl, sym, ap, _∙_}

@@ -1,6 +1,5 @@
 -- Going on from a home slot, counted on from 255 to 0: how far a slot lies, which slots a walk passes, and what the first
 -- slot is that passes a test.
--- Assumes nothing.
 use Prim.Native.Nat.{ℕ, zero, suc, _+_, _-_, _%_, _<_, _≤_}
 use native.Mathlib.Omega.{arith}
 use mathlib.Core.Path.{_≡_, refl, sym, ap, _∙_, subst}

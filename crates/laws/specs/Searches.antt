@@ -1,5 +1,4 @@
 -- The search rule: a search from the home slot, which may stop at a count of 0, finds what a plain look-up finds.
--- Assumes nothing.
 use Prim.Native.Nat.{ℕ, zero, suc, _+_, _%_, _<_, _≤_}
 use native.Mathlib.Omega.{arith}
 use mathlib.Core.Path.{_≡_, refl, sym, ap, _∙_, subst}
@@ -35,23 +34,6 @@ search-on k s d next t q = rw (t, same-no {m = s .overflow} {n = 0} q)
 pub search-step : (ss : List Slot) (k h n d : ℕ) → searchFrom ss k h (suc n) d ≡ searchAt k (slotAt ss (h + d)) d (searchFrom ss k h n (suc d))
 unfolding searchFrom
 search-step ss k h n d = refl
-
--- a search examines at most the slots that it may
-search-at-bound : (k : ℕ) (s : Slot) (d m : ℕ) (next : Searched) → suc d ≤ m → next .examined ≤ m → searchAt k s d next .examined ≤ m
-unfolding searchAt
-search-at-bound k s d m next a b =
-    ⊎-elim (λ t. rw t a) (λ t. rw t (⊎-elim (λ z. rw z a) (λ z. rw z b) (cases (same (s .overflow) 0)))) (cases (holds k s))
-
-search-from-bound : (ss : List Slot) (k h n d : ℕ) → searchFrom ss k h n d .examined ≤ d + n
-unfolding searchFrom
-search-from-bound ss k h zero d = omega arith
-search-from-bound ss k h (suc n) d =
-    search-at-bound k (slotAt ss (h + d)) d (d + suc n) (searchFrom ss k h n (suc d)) (omega arith)
-    (let z : searchFrom ss k h n (suc d) .examined ≤ suc d + n = search-from-bound ss k h n (suc d) in omega arith)
-
-pub search-bound : (bytes : ℕ) (ss : List Slot) (k : ℕ) → search bytes ss k .examined ≤ slotCount
-unfolding search
-search-bound bytes ss k = let z : searchFrom ss k (homeSlot bytes k) slotCount 0 .examined ≤ 0 + slotCount = search-from-bound ss k (homeSlot bytes k) slotCount 0 in omega arith
 
 -- an address that no slot holds is not found
 search-misses : (ss : List Slot) (k h : ℕ) → ((i : ℕ) → holds k (slotAt ss i) ≡ false) → (n d : ℕ) → searchFrom ss k h n d .found ≡ none

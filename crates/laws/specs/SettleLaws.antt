@@ -1,5 +1,4 @@
 -- The leaves after a merge: they are a swap, so they stay good, and every address keeps its version or gets a fresh one.
--- Assumes nothing.
 use Prim.Native.Nat.{ℕ, suc, _+_, _<_, _≤_}
 use native.Mathlib.Nat.{le-refl}
 use native.Mathlib.Omega.{arith}

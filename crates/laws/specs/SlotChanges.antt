@@ -1,5 +1,4 @@
 -- What entering something of an address does to the slots: one slot's entry changes, and the counts of the slots passed.
--- Assumes nothing.
 use Prim.Native.Nat.{ℕ, zero, suc, pred, _+_, _%_, _<_, _≤_, zero-le}
 use native.Mathlib.Nat.{not-suc-le-zero, le-of-suc-le-suc}
 use native.Mathlib.Omega.{arith}

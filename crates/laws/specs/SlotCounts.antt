@@ -1,16 +1,14 @@
 -- The invariant of the indexlet's slots. All of it is counting: the entries of a key, the entries, and the entries that
 -- passed a slot are sums over the slots. With it, entries as slots have them and as a list.
--- Assumes nothing.
 use Prim.Native.Nat.{ℕ, zero, suc, _+_, _<_, _≤_}
 use native.Mathlib.Nat.{not-suc-le-zero, le-of-suc-le-suc}
 use native.Mathlib.Omega.{arith}
 use mathlib.Core.Path.{_≡_, refl, sym, ap, _∙_, subst}
 use mathlib.Core.Logic.{_⊎_, inl, inr, ⊎-elim}
 use mathlib.Core.Bool.{Bool, true, false}
-use mathlib.Core.List.{List, [], _∷_, _++_, List·Memᴰ, List·Memᴰ·head, List·Memᴰ·tail, List·Memᴰ·cases-cons, List·Memᴰ·not-nil}
+use mathlib.Core.List.{List, [], _∷_, List·Memᴰ, List·Memᴰ·head, List·Memᴰ·tail, List·Memᴰ·cases-cons, List·Memᴰ·not-nil}
 use mathlib.Core.Option.{Option, none, some}
-use lib.ListN.{length, getD, take}
-use lib.Seq.{take-suc}
+use lib.ListN.{length, getD}
 use Rattle.lists.specs.Tests.{pick, maybe, present, same, less, cases, clash, same-true, same-yes, same-no, less-true, less-false}
 use Rattle.lists.specs.Rows.{Row, look}
 use Rattle.lists.specs.RowLaws.{look-here, look-there, look-nil}
@@ -169,25 +167,6 @@ slot-member (s ∷ ss) (suc i) e q =
     (λ n. subst (List·Memᴰ e) (sym (entries-none s ss n)) (slot-member ss i e q))
     (λ n. subst (List·Memᴰ e) (sym (entries-some s ss (n .0) (n .1))) (List·Memᴰ·tail (slot-member ss i e q)))
     (options (s .entry))
-
--- the entries of two runs of slots, one after the other
-pub entries-append : (xs ys : List Slot) → entries (xs ++ ys) ≡ entries xs ++ entries ys
-unfolding entries
-entries-append [] ys = refl
-entries-append (s ∷ xs) ys =
-    ⊎-elim
-    (λ q. entries-none s (xs ++ ys) q ∙ entries-append xs ys ∙ sym (ap (λ (es : List (Row Content)). es ++ entries ys) (entries-none s xs q)))
-    (λ q. entries-some s (xs ++ ys) (q .0) (q .1)
-    ∙ ap (λ (es : List (Row Content)). q .0 ∷ es) (entries-append xs ys)
-    ∙ sym (ap (λ (es : List (Row Content)). es ++ entries ys) (entries-some s xs (q .0) (q .1))))
-    (options (s .entry))
-
--- a walk over the slots comes to the entries in their order: the next slot's entry is the next one
-pub entries-next : (ss : List Slot) (i : ℕ) → i < length ss
-    → entries (take (suc i) ss) ≡ entries (take i ss) ++ maybe (entryAt ss i) [] (λ (e : Row Content). e ∷ [])
-unfolding entries
-entries-next ss i h =
-    ap entries (take-suc ss i emptySlot h) ∙ entries-append (take i ss) (getD ss i emptySlot ∷ [])
 
 -- ---- the slot that holds a key
 

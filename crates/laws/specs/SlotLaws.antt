@@ -1,6 +1,5 @@
 -- Laws of the indexlet: what it says of each address after a change, that its entries are those of which it says something,
 -- and how a sum over the entries changes.
--- Assumes nothing.
 use Prim.Native.Nat.{ℕ, _+_, _<_, _≤_}
 use native.Mathlib.Omega.{arith}
 use mathlib.Core.Path.{_≡_, refl, sym, ap, _∙_, subst}
@@ -19,7 +18,7 @@ use Rattle.lists.specs.Rows.{Different}
 use Rattle.laws.specs.SlotChanges.{changed-tally, kept, Entered}
 use Rattle.laws.specs.SlotCounts.{entryAt, tally, count, keyed, entries-some, entries-none, count-cons, keyed-here, look-absent, look-held, Place, member-slot, lookup}
 pub use Rattle.laws.specs.SlotCounts.{Good}
-pub use Rattle.laws.specs.Searches.{search-finds, search-bound}
+pub use Rattle.laws.specs.Searches.{search-finds}
 use Rattle.laws.specs.Entering.{Entering, entering, keyed-other, entered-good}
 pub use Rattle.laws.specs.Entering.{Room, goes, stands, fits, enter-idle, enter-present, enter-absent, kept-entry, enter-good, fresh-good}
 

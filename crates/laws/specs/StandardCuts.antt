@@ -1,6 +1,5 @@
 -- The cut rule at document 01's numbers in closed form: up to 16 addresses stay whole; of n, 17 or more, there are n / 8
 -- runs, and each but the first starts at an address whose place is a multiple of 8.
--- Assumes nothing.
 use Prim.Native.Nat.{ℕ, zero, suc, _+_, _*_, _-_, _/_, _<_, _≤_}
 use native.Mathlib.Nat.{le-refl, not-suc-le-zero}
 use native.Mathlib.Omega.{arith}

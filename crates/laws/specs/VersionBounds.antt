@@ -1,6 +1,5 @@
 -- How many versions a merge takes: at most `versionsPerMerge` (129 under document 01's limits), and each merge that takes
 -- any uses up a pending write. So the versions given grow no faster than the pending writes go.
--- Assumes nothing.
 use Prim.Native.Nat.{ℕ, suc, _+_, _*_, _/_, _<_, _≤_}
 use native.Mathlib.Nat.{le-refl, le-trans, le-of-eq, mul-suc, mul-le-mul-left, le-div-iff-mul-le, add-div-right}
 use native.Mathlib.Omega.{arith}

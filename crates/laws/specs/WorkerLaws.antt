@@ -1,14 +1,13 @@
 -- Workers, stages and causes: what stands at a worker after a change of one, that a stage is one of four, what a granted
 -- step has passed and what a refused one has met.
--- Assumes nothing.
-use Prim.Native.Nat.{ℕ, zero, suc, _<_, _≤_}
+use Prim.Native.Nat.{ℕ, zero, suc, _<_}
 use native.Mathlib.Omega.{arith}
 use mathlib.Core.Path.{_≡_, refl, sym, ap, _∙_}
 use mathlib.Core.Logic.{_⊎_, inl, inr, ⊎-elim}
 use mathlib.Core.Bool.{Bool, true, false, not}
 use mathlib.Core.List.{List, [], _∷_}
 use mathlib.Core.Option.{Option, none, some}
-use lib.ListN.{length, getD, set, replicate, List·getD-eq-default}
+use lib.ListN.{length, getD, set, replicate}
 use lib.Seq.{getD-set-same, getD-set-other}
 use Rattle.lists.specs.Tests.{pick, either, less, cases, clash, less-true, less-yes}
 use Rattle.lists.specs.Rows.{any}
@@ -38,11 +37,6 @@ set-same xs w x h = getD-set-same xs w x freeWorker h
 
 pub set-other : (xs : List Worker) (w : ℕ) (x : Worker) (v : ℕ) → (v ≡ w → ⊥) → getD (set xs w x) v freeWorker ≡ getD xs v freeWorker
 set-other xs w x v d = getD-set-other xs w v x freeWorker d
-
--- a worker that there is not is free
-pub worker-none : (σ : State) (w : ℕ) → length (σ .workers) ≤ w → workerOf σ w ≡ freeWorker
-unfolding workerOf
-worker-none σ w h = List·getD-eq-default (σ .workers) freeWorker h
 
 pub worker-fresh : (s : Settings) (w : ℕ) → workerOf (fresh s) w ≡ freeWorker
 unfolding workerOf

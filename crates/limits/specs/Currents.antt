@@ -1,6 +1,5 @@
 -- The current records change by a granted install only, which lays the worker's writes over. In particular a merge
 -- alters none.
--- Assumes nothing.
 use Prim.Native.Nat.{ℕ}
 use mathlib.Core.Path.{_≡_, refl, ap, _∙_}
 use mathlib.Core.Logic.{⊎-elim}

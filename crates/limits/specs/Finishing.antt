@@ -1,5 +1,4 @@
 -- Validate, install and merge keep the invariant.
--- Assumes nothing.
 use Prim.Native.Nat.{ℕ, suc, _+_, _*_, _<_, _≤_, zero-le, suc-le-suc}
 use native.Mathlib.Nat.{le-refl, le-step}
 use mathlib.Core.Path.{_≡_, refl, sym, ap, _∙_, subst}

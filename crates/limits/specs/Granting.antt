@@ -1,5 +1,4 @@
 -- What a granted step has passed, step by step: the tests of document 01's refusals, as facts.
--- Assumes nothing.
 use Prim.Native.Nat.{ℕ, _+_, _<_, _≤_}
 use mathlib.Core.Path.{_≡_, refl}
 use mathlib.Core.Logic.{_⊎_, inl, inr, ⊎-elim}

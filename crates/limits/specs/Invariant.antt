@@ -5,17 +5,15 @@
 -- The bound of the versions is a potential. A merge takes at most `versionsPerMerge` versions and uses up a pending write;
 -- an install turns a checked worker into at most `writeLimit` pending writes; a validation makes a checked worker and
 -- takes a commit number.
--- Assumes nothing.
 use Prim.Native.Nat.{ℕ, zero, suc, _+_, _*_, _^_, _<_, _≤_, zero-le}
 use native.Mathlib.Nat.{le-of-eq, mul-zero, mul-le-mul-left}
 use native.Mathlib.Omega.{arith}
 use mathlib.Core.Path.{_≡_, refl, sym, ap, _∙_, subst}
-use mathlib.Core.Logic.{⊎-elim}
 use mathlib.Core.Bool.{true, false}
 use mathlib.Core.List.{List}
 use mathlib.Core.Option.{some}
 use lib.ListN.{length, replicate, length-replicate}
-use Rattle.lists.specs.Tests.{pick, less, cases, clash, less-true, less-false}
+use Rattle.lists.specs.Tests.{pick, clash}
 use Rattle.lists.specs.Options.{both-options}
 use Rattle.lists.specs.Rows.{look, has, Rising}
 use Rattle.lists.specs.RowLaws.{rising-nil}
@@ -26,7 +24,7 @@ use Rattle.spec.specs.Steps.{Worker, freeWorker, State, fresh, workerOf, writeK
 use Rattle.laws.specs.MapBounds.{Bounded, fresh-bounded}
 use Rattle.laws.specs.PendingCounts.{pendingCount, none-pending}
 use Rattle.laws.specs.VersionBounds.{standard-per, versionsPerMerge}
-use Rattle.laws.specs.WorkerLaws.{GoodSettings, worker-none, worker-fresh, hasLocks}
+use Rattle.laws.specs.WorkerLaws.{GoodSettings, worker-fresh, hasLocks}
 
 -- A worker within the limits s, n the last commit number given.
 pub record GoodWorker (s : Settings) (n : ℕ) (x : Worker) : Type 0 where
@@ -63,16 +61,6 @@ pub record Kept (σ : State) : Type 0 where
       ≤ versionsPerMerge (σ .settings) * σ .settings .writeLimit * σ .counters .number
 
 -- ---- what follows
-
--- who holds a lock is one of the workers
-pub held-inside : {σ : State} → Kept σ → (w k : ℕ) → contentOf (σ .map .slots) k .holder ≡ some w → w < length (σ .workers)
-held-inside {σ} h w k e =
-    ⊎-elim (λ t. less-true w (length (σ .workers)) t)
-    (λ t. clash (h .held-by w k e .0) (ap (λ (x : Worker). hasLocks (x .stage)) (worker-none σ w (less-false w (length (σ .workers)) t)) ∙ free-locks))
-    (cases (less w (length (σ .workers))))
-  where
-    free-locks : hasLocks (freeWorker .stage) ≡ false
-    free-locks = unfold hasLocks isLocked isChecked in refl
 
 pub version-limit : {σ : State} → Kept σ
     → σ .counters .version ≤ versionsPerMerge (σ .settings) * σ .settings .writeLimit * σ .settings .lastNumber

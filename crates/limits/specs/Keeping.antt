@@ -1,7 +1,6 @@
 -- Every step keeps the invariant (`next-kept`), and so it holds after every list of steps from a fresh map. Under
 -- document 01's limits no list of steps passes any of them (`every-run`): 1,024 records, 1,025 leaves, 192 waiting and
 -- locked addresses, a worker's 64, 32 and 16, 1,000,000 commit numbers, and the versions that these allow.
--- Assumes nothing.
 use Prim.Native.Nat.{_+_, ℕ, suc, _*_, _≤_}
 use mathlib.Core.Path.{_≡_, refl, sym, ap, _∙_, subst}
 use mathlib.Core.Logic.{⊎-elim}

@@ -1,5 +1,4 @@
 -- Lock and the end of a transaction (abort, and refusals 12, 13 and 14) keep the invariant.
--- Assumes nothing.
 use Prim.Native.Nat.{ℕ, _<_}
 use native.Mathlib.Nat.{le-refl}
 use mathlib.Core.Path.{_≡_, refl, sym, ap, _∙_}

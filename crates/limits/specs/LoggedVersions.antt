@@ -1,5 +1,4 @@
 -- A logged leaf version was given: it is not above the last one. Every step keeps this.
--- Assumes nothing.
 use Prim.Native.Nat.{ℕ, _≤_}
 use native.Mathlib.Nat.{le-trans}
 use mathlib.Core.Path.{sym, subst}

@@ -1,5 +1,4 @@
 -- One worker moves on, perhaps with the map and the counters: what of it keeps the invariant.
--- Assumes nothing.
 use Prim.Native.Nat.{ℕ, suc, _+_, _*_, _<_, _≤_}
 use native.Mathlib.Nat.{le-trans, mul-suc, mul-add, mul-le-mul-left}
 use native.Mathlib.Omega.{arith}

@@ -1,6 +1,5 @@
 -- The steps of an open worker keep the invariant: begin, read, scan, put, remove. Each rewrites its own worker, which has
 -- no locks before nor after it.
--- Assumes nothing.
 use Prim.Native.Nat.{ℕ, _+_, _<_, _≤_, zero-le}
 use native.Mathlib.Nat.{le-refl, le-trans, le-of-eq}
 use native.Mathlib.Omega.{arith}

@@ -1,6 +1,5 @@
 -- A refused step leaves the state as it is, unless the refusal is 12, 13 or 14; these happen at a validation only, of a
 -- locked worker, and end its transaction.
--- Assumes nothing.
 use Prim.Native.Nat.{ℕ}
 use mathlib.Core.Path.{_≡_, refl, ap, _∙_}
 use mathlib.Core.Bool.{Bool, true, false}

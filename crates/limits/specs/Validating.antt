@@ -1,6 +1,5 @@
 -- Validation is granted exactly when each logged record or absence is unchanged and not locked by another worker, each
 -- scanned leaf is the same leaf and hides no key, and a commit number is left. And install in its stage is never refused.
--- Assumes nothing.
 use Prim.Native.Nat.{ℕ, _<_}
 use mathlib.Core.Path.{_≡_, refl, sym, ap, _∙_, subst}
 use mathlib.Core.Logic.{_⊎_, inl, inr, ⊎-elim, _↔_}

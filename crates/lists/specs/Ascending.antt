@@ -1,10 +1,9 @@
 -- Strictly rising numbers: what stands at a place, what is left after a cut, membership; the keys of rising rows.
--- Assumes nothing.
 use Prim.Native.Nat.{ℕ, zero, suc, _+_, _<_, _≤_}
-use native.Mathlib.Nat.{le-refl, le-trans, le-step, not-suc-le-zero}
+use native.Mathlib.Nat.{le-refl, le-step, not-suc-le-zero}
 use native.Mathlib.Omega.{arith}
 use mathlib.Core.Path.{_≡_, refl, sym, ap, _∙_}
-use mathlib.Core.Logic.{_⊎_, ⊎-elim}
+use mathlib.Core.Logic.{⊎-elim}
 use mathlib.Core.Bool.{Bool, true}
 use mathlib.Core.List.{List, [], _∷_, List·Memᴰ, List·Memᴰ·head, List·Memᴰ·tail, List·Memᴰ·not-nil, List·Memᴰ·cases-cons}
 use lib.ListN.{length, drop, getD}
@@ -16,11 +15,6 @@ use Rattle.lists.specs.RowLaws.{from-weaken}
 unfoldable pub Ascends : ℕ → List ℕ → Type 0
 Ascends lo [] = Unit {0}
 Ascends lo (k ∷ ks) = (lo ≤ k) × Ascends (suc k) ks
-
-pub ascends-weaken : {lo lo' : ℕ} (ks : List ℕ) → lo' ≤ lo → Ascends lo ks → Ascends lo' ks
-unfolding Ascends
-ascends-weaken [] h f = tt
-ascends-weaken (k ∷ ks) h f = (le-trans h (f .0), f .1)
 
 pub ascends-mem : {lo k : ℕ} {ks : List ℕ} → Ascends lo ks → List·Memᴰ k ks → lo ≤ k
 unfolding Ascends

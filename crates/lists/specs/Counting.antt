@@ -1,5 +1,4 @@
 -- How many different numbers stand in a list: at most as many as in a list that has them all.
--- Assumes nothing.
 use Prim.Native.Nat.{ℕ, suc, _+_, _≤_, zero-le, suc-le-suc}
 use native.Mathlib.Nat.{le-trans, le-of-eq}
 use mathlib.Core.Path.{_≡_, refl, sym, ap, _∙_}

@@ -1,5 +1,4 @@
 -- Search by halving steps: from a base, a step is taken or not, and the next step is half as long.
--- Assumes nothing.
 use Prim.Native.Nat.{ℕ, zero, suc, _+_, _-_, _/_, _<_, _≤_, zero-le}
 use native.Mathlib.Nat.{le-refl}
 use native.Mathlib.Omega.{arith}

@@ -11,6 +11,4 @@ pub mod Halving
 pub mod Places
 pub mod Shifts
 pub mod Mapped
-pub mod Stores
-pub mod Ranges
 pub mod Texts

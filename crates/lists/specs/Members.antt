@@ -1,5 +1,4 @@
 -- What stands in a list of rows, and what a look-up finds.
--- Assumes nothing.
 use Prim.Native.Nat.{ℕ}
 use mathlib.Core.Path.{_≡_, refl, sym, _∙_}
 use mathlib.Core.Logic.{⊎-elim}

@@ -1,5 +1,4 @@
 -- Numbers that stand in a list, as a test and as membership; lists put together; how long rows get by an insertion.
--- Assumes nothing.
 use Prim.Native.Nat.{ℕ, suc, _≤_, zero-le, suc-le-suc}
 use native.Mathlib.Nat.{le-trans, le-step, le-of-eq}
 use mathlib.Core.Path.{_≡_, sym, ap, _∙_, subst}

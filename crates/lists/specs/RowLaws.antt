@@ -1,11 +1,10 @@
 -- The laws of rows: what a look-up finds after each change, that keys go on rising, and that two lists of rows with
 -- rising keys are equal if every look-up finds the same in both.
--- Assumes nothing.
 use Prim.Native.Nat.{ℕ, suc, _<_, _≤_, zero-le}
 use native.Mathlib.Nat.{le-refl, le-trans, le-step}
 use native.Mathlib.Omega.{arith}
 use mathlib.Core.Path.{_≡_, refl, sym, ap, _∙_, subst}
-use mathlib.Core.Logic.{_⊎_, ⊎-elim}
+use mathlib.Core.Logic.{⊎-elim}
 use mathlib.Core.Bool.{Bool, true, false}
 use mathlib.Core.List.{List, [], _∷_, List·Memᴰ, List·Memᴰ·head, List·Memᴰ·tail}
 use mathlib.Core.Option.{Option, none, some, Option·getD, Option·map}
@@ -92,10 +91,6 @@ pub from-weaken : {A : Type 0} (rs : List (Row A)) {lo lo' : ℕ} → lo' ≤ lo
 unfolding From
 from-weaken [] h f = tt
 from-weaken (r ∷ rs) h f = (le-trans h (f .0), f .1)
-
-pub from-rising : {A : Type 0} (lo : ℕ) (rs : List (Row A)) → From lo rs → Rising rs
-unfolding Rising
-from-rising lo rs f = from-weaken rs zero-le f
 
 pub look-low : {A : Type 0} (rs : List (Row A)) {lo : ℕ} (k : ℕ) → k < lo → From lo rs → look rs k ≡ none
 unfolding From look

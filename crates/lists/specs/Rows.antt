@@ -1,5 +1,4 @@
 -- Rows: lists of a key and an item. Look-up, writing and dropping by key, overlay, range; rising keys; when two are equal.
--- Assumes nothing.
 use Prim.Native.Nat.{ℕ, suc, _≤_}
 use mathlib.Core.Path.{_≡_}
 use mathlib.Core.Bool.{Bool, true, false}

@@ -1,5 +1,4 @@
 -- A list with a part of it overwritten: what a loop of stores leaves that shifts elements or fills places in a row.
--- Assumes nothing.
 use Prim.Native.Nat.{ℕ, zero, suc, _+_, _-_, _<_, _≤_, zero-le}
 use native.Mathlib.Nat.{le-refl, not-suc-le-zero, add-zero, zero-add}
 use native.Mathlib.Omega.{arith}

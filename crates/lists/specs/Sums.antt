@@ -1,5 +1,4 @@
 -- Sums over a list, of numbers made of the place and the element: what a store changes, and what a sum says of its terms.
--- Assumes nothing.
 use Prim.Native.Nat.{ℕ, zero, suc, _+_, _<_, _≤_, suc-le-suc}
 use native.Mathlib.Nat.{not-suc-le-zero, le-of-suc-le-suc}
 use native.Mathlib.Omega.{arith}

@@ -1,6 +1,5 @@
 -- Comparisons of two numbers as Bools that stay shut, so that goals stay short, and their cases.
 -- A closed comparison still computes where `same`, `less` and `atMost` are unfolded.
--- Assumes nothing.
 use Prim.Native.Nat.{ℕ, _<_, _≤_}
 use mathlib.Core.Path.{_≡_, refl, sym, _∙_}
 use mathlib.Core.Bool.{Bool, true, false}

@@ -1,5 +1,4 @@
 -- The current record of an address, by what the indexlet says of it.
--- Assumes nothing.
 use Prim.Native.Nat.{ℕ, zero, suc}
 use native.Mathlib.Omega.{arith}
 use mathlib.Core.Path.{_≡_, refl, sym, ap, _∙_}

@@ -1,5 +1,4 @@
 -- The contents one after the other: what no candidate holds, what the first candidate holds, and how a count goes on.
--- Assumes nothing.
 use Prim.Native.Nat.{ℕ, suc, _+_, _<_, _≤_, zero-le, suc-le-suc, min}
 use native.Mathlib.Nat.{le-refl, le-trans, not-suc-le-zero}
 use native.Mathlib.Omega.{arith}

@@ -1,5 +1,4 @@
 -- The contents one after the other: the first record from an address on, and how many there are.
--- Assumes nothing.
 use Prim.Native.Nat.{ℕ, _+_, _<_, _≤_}
 use mathlib.Core.Path.{_≡_}
 use mathlib.Core.List.{List, [], _∷_}

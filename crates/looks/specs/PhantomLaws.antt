@@ -1,12 +1,11 @@
 -- The test for phantoms on words: counting the worker's own addresses in a leaf, and what the count says.
-use Prim.Native.Nat.{ℕ, zero, suc, _+_, _*_, _-_, _<_, _≤_, zero-le}
-use native.Mathlib.Nat.{le-refl, not-suc-le-zero}
+use Prim.Native.Nat.{ℕ, zero, suc, _+_, _<_, _≤_, zero-le}
+use native.Mathlib.Nat.{not-suc-le-zero}
 use native.Mathlib.Omega.{arith}
-use native.Mathlib.Numerals.{add-one}
-use mathlib.Core.Path.{_≡_, refl, sym, ap, _∙_, subst}
+use mathlib.Core.Path.{_≡_, refl, sym, ap, _∙_}
 use mathlib.Core.Logic.{⊎-elim}
 use mathlib.Core.Bool.{Bool, true, false, not}
-use mathlib.Core.List.{List, [], _∷_, _++_, List·Memᴰ, List·Memᴰ·head, List·Memᴰ·tail}
+use mathlib.Core.List.{List, [], _∷_}
 use mathlib.Core.Option.{some}
 use lib.Dec.{ltb}
 use lib.ListN.{length, take, getD}
@@ -14,12 +13,11 @@ use lib.Seq.{length-take-le}
 use Rattle.lists.specs.Tests.{pick, both, either, present, same, less, cases, clash, same-true, same-false, same-yes, same-no}
 use Rattle.lists.specs.Rows.{look, keys, filter}
 use Rattle.lists.specs.RowLaws.{rising-different}
-use Rattle.spec.specs.Leaves.{Leaf, firstLeaf, leafOf, versionAt, live}
+use Rattle.spec.specs.Leaves.{Leaf, firstLeaf, versionAt, live}
 use Rattle.spec.specs.Slots.{Content, contentOf}
 use Rattle.spec.specs.Maps.{hides}
-use Rattle.spec.specs.Steps.{State, phantomIn}
-use Rattle.laws.specs.LeafParts.{LowsFrom, Apart, live-head, live-later}
-use Rattle.laws.specs.LeafVersions.{GoodLeaves, version-live, Standing, standing, leaf-of-low}
+use Rattle.laws.specs.LeafParts.{Apart, live-head, live-later}
+use Rattle.laws.specs.LeafVersions.{version-live}
 use Rattle.indexlet.specs.declared.Content.{Content as ContentWords}
 use Rattle.indexlet.specs.Words.{pendingIn, contentIn, slotsOf}
 use Rattle.index.specs.declared.records.Found.{Found}
@@ -31,11 +29,11 @@ use Rattle.phantomlet.specs.LeafTests.{filter-same}
 use Rattle.phantomlet.specs.MergeCounts.{pick-most}
 use Rattle.phantomlet.specs.Phantoms.{howMany, outsideIn}
 use Rattle.map.specs.Views.{SlotRows, LeafRows, RecordRows, Lent, mapOf}
+use Rattle.index.specs.LeafColumns.{versionsOf, outsideOf, leafAt, column-getD}
 use Rattle.index.specs.declared.leaves.Leaf.{Leaf as LeafWords}
-use Rattle.index.specs.LeafColumns.{lowsOf, versionsOf, outsideOf, leafAt, column-getD}
 use Rattle.map.specs.WriteWalks.{writeAt, restKeys, keys-all, keys-cons, keys-none}
 use Rattle.sets.specs.Writes.{WriteRows, writesOf}
-use Rattle.map.specs.Held.{Tables, Held}
+use Rattle.map.specs.Held.{Tables}
 use Rattle.looks.specs.LookViews.{LeafAt}
 use Rattle.looks.specs.ScanLaws.{length-leaves, leaf-read, leaf-found}
 use Rattle.phantomlet.specs.HidingLaws.{length-filter, silentAt, Locking, hides-count, hides-none}
@@ -285,30 +283,3 @@ module _ (l : Lent) (z : Sizes) (b : Holding l z) where
         (stays w v low i at e
         ∙ hides-count (mapOf l z) w v (keys (writesOf ws n)) (tables .words .good) locking (getD outside i 0) mine (outside-there low i v at e)
         (c ∙ ap (λ (ks : List ℕ). length ks) (filter-same (silentIn rows lows slots (z .records) (z .leaves) i) (silentAt (mapOf l z) v) (keys (writesOf ws n)) (λ a. silent-same i v a (at .inside) (version-there low i v at e)))))
-
--- ---- the model's test
-
-pub phantom-model : (σ : State) (w v : ℕ) → phantomIn σ w v ≡ phantomAt (σ .map) w v
-unfolding phantomIn phantomAt
-phantom-model σ w v = refl
-
--- ---- a logged leaf
-
-member-part : (pre : List Leaf) (l : Leaf) (post : List Leaf) → List·Memᴰ l (pre ++ (l ∷ post))
-member-part [] l post = List·Memᴰ·head refl
-member-part (x ∷ pre) l post = List·Memᴰ·tail (member-part pre l post)
-
--- a version whose leaf, if it is live, has the low that was logged
-pub logged-low : {u : ℕ} {ls : List Leaf} (version low : ℕ) → GoodLeaves u ls → ((l : Leaf) → List·Memᴰ l ls → l .version ≡ version → l .low ≡ low) → Logged ls version low
-unfolding versionAt
-logged-low {u} {ls} version low good h =
-    record {
-      stays = λ e.
-          let s : Standing version ls = standing version ls e in
-          let f : LowsFrom 0 (s .before ++ (s .leaf ∷ s .after)) = subst (LowsFrom 0) (s .parts) (good .rising) in
-          let m : List·Memᴰ (s .leaf) ls = subst (List·Memᴰ (s .leaf)) (sym (s .parts)) (member-part (s .before) (s .leaf) (s .after)) in
-          ap (λ (k : ℕ). leafOf ls k .version) (sym (h (s .leaf) m (s .version)))
-          ∙ ap (λ (zs : List Leaf). leafOf zs (s .leaf .low) .version) (s .parts)
-          ∙ ap (λ (l : Leaf). l .version) (leaf-of-low (s .before) (s .leaf) (s .after) f)
-          ∙ s .version;
-    }

@@ -1,5 +1,4 @@
 -- The rows with keys in a range stand side by side, between two places; so do the leaves that meet a range.
--- Assumes nothing.
 use Prim.Native.Nat.{ℕ, zero, suc, _+_, _-_, _<_, _≤_, zero-le, suc-le-suc}
 use native.Mathlib.Nat.{le-refl, le-trans}
 use native.Mathlib.Omega.{arith}

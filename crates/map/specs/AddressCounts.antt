@@ -1,6 +1,5 @@
 -- How many different addresses the index, the indexlet and a write set have together: the records, the entries that lie
 -- outside of the index, and the addresses of the write set that are new.
--- Assumes nothing.
 use Prim.Native.Nat.{ℕ, zero, suc, _+_, _^_, _<_, _≤_, zero-le, suc-le-suc}
 use native.Mathlib.Nat.{le-trans, le-step, le-antisymm, le-of-eq}
 use native.Mathlib.Omega.{arith}

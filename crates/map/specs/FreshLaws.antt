@@ -1,5 +1,4 @@
 -- An empty map in the byColumns arrays: one leaf with version 0, no record, no entry.
--- Assumes nothing.
 use Prim.Native.Nat.{ℕ, zero, suc, _<_, zero-le}
 use native.Mathlib.Nat.{not-suc-le-zero}
 use native.Mathlib.Omega.{arith}

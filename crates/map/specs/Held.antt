@@ -1,6 +1,5 @@
 -- The invariant of the lent arrays. `Tables` is what every change of one address keeps; `Held` adds the limits of
 -- document 01. `fresh` establishes it, and every public function that changes the arrays keeps it.
--- Assumes nothing.
 use Prim.Native.Nat.{ℕ, _^_, _<_}
 use mathlib.Core.Path.{_≡_}
 use lib.ListN.{length, getD}

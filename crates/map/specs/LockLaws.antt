@@ -1,5 +1,4 @@
 -- The laws behind lock, unlock and install: one address after the other, and the limits in the end.
--- Assumes nothing.
 use Prim.Native.Nat.{ℕ, zero, suc, _+_, _-_, _<_, _≤_}
 use native.Mathlib.Nat.{lt-of-le-of-lt}
 use native.Mathlib.Numerals.{add-one}

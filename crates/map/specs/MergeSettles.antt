@@ -1,6 +1,5 @@
 -- The second part of a merge: the leaf settles around the records that it has now. There is room for the leaves and the
 -- versions that it makes, and their lows are addresses.
--- Assumes nothing.
 use Prim.Native.Nat.{ℕ, zero, suc, _+_, _-_, _^_, _<_, _≤_, suc-le-suc}
 use native.Mathlib.Nat.{not-suc-le-zero, le-of-suc-le-suc}
 use native.Mathlib.Omega.{arith}

@@ -1,7 +1,6 @@
 -- The first part of a merge: a walk over the slots that takes the pending writes of a leaf into the index. What is left
 -- to take in is always what the slots had to begin with, from the walk's place on; and if no lock was counted, the slots
 -- behind the walk have no entry of the leaf.
--- Assumes nothing.
 use Prim.Native.Nat.{ℕ, zero, suc, _+_, _^_, _<_, _≤_, zero-le}
 use native.Mathlib.Nat.{not-suc-le-zero, le-trans, le-of-eq, le-refl}
 use native.Mathlib.Omega.{arith}

@@ -1,6 +1,5 @@
 -- The laws behind `say`: a count over the entries changes by the address's own terms, at the leaf of the address and
 -- nowhere else.
--- Assumes nothing.
 use Prim.Native.Nat.{ℕ, zero, suc, _+_, _-_, _^_, _<_, _≤_, zero-le}
 use native.Mathlib.Nat.{le-refl, le-trans, le-of-eq, not-suc-le-zero, le-of-suc-le-suc}
 use native.Mathlib.Omega.{arith}

@@ -1,7 +1,6 @@
 -- What the program keeps from turn to turn: all that `console` asks.
--- Assumes nothing.
 use Prim.Native.Nat.{ℕ, _+_, _≤_}
-use native.Mathlib.Nat.{le-refl, le-trans}
+use native.Mathlib.Nat.{le-trans}
 use native.Mathlib.Omega.{arith}
 use mathlib.Core.Path.{_≡_, refl, sym, ap, _∙_, subst}
 use mathlib.Core.List.{List, []}
@@ -35,9 +34,6 @@ pub record Next (x : Session) (size : ℕ) (w : Work) : Type 0 where
   pub fits : w .count ≤ size
 
 -- ---- laws
-
-pub keeps-same : (x : Session) → Keeps x x
-keeps-same x = record { core-is = refl; parser-is = refl; at-most = le-refl (x .at) }
 
 pub keeps-places : (x : Session) {y : Session} {n a : ℕ} → y ≡ withPlaces x n a → a ≤ x .at → Keeps x y
 keeps-places x {y} {n} {a} e h = subst (Keeps x) (sym e) (record { core-is = refl; parser-is = refl; at-most = h })

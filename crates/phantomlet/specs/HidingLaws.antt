@@ -1,6 +1,5 @@
 -- When a leaf hides a key from a worker, by counting. Of the entries in the leaf at addresses that the index lacks, those
 -- that hide nothing from worker w are its own locks at which no write is pending: addresses of its write set.
--- Assumes nothing.
 use Prim.Native.Nat.{ℕ, suc, _+_, _<_, _≤_, zero-le, suc-le-suc}
 use native.Mathlib.Omega.{arith}
 use mathlib.Core.Path.{_≡_, refl, sym, ap, _∙_, subst}

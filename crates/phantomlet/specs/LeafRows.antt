@@ -1,5 +1,4 @@
 -- The records of a leaf stand in a row: from the place of its low on, up to the place of the next low.
--- Assumes nothing.
 use Prim.Native.Nat.{ℕ, zero, suc, _+_, _-_, _^_, _<_, _≤_, zero-le}
 use native.Mathlib.Nat.{not-suc-le-zero}
 use native.Mathlib.Omega.{arith}

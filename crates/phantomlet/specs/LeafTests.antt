@@ -1,10 +1,9 @@
 -- Whether an address lies in a leaf, by the leaf's place among the lows and by its version: the two tests agree.
--- Assumes nothing.
 use Prim.Native.Nat.{ℕ, zero, suc, _+_, _<_, _≤_}
 use native.Mathlib.Nat.{not-suc-le-zero, le-of-suc-le-suc}
 use native.Mathlib.Omega.{arith}
 use mathlib.Core.Path.{_≡_, refl, sym, ap, _∙_, subst, fun-ext}
-use mathlib.Core.Logic.{_⊎_, ⊎-elim}
+use mathlib.Core.Logic.{⊎-elim}
 use mathlib.Core.Bool.{Bool, true, false}
 use mathlib.Core.List.{List, [], _∷_, map}
 use mathlib.Core.Option.{Option}
@@ -155,13 +154,3 @@ pending-merging m a v e =
     ap (λ (n : ℕ). both (same (versionAt (m .leaves) (x .key)) n) (present (x .item .pending))) e
     ∙ both-comm (same (versionAt (m .leaves) (x .key)) (versionAt (m .leaves) a)) (present (x .item .pending)))
     ∙ many-entries (mergesAt (m .leaves) a) (m .slots)
-
--- ---- where a search ended
-
-pub placed-yes : (lows : List ℕ) (m i k q : ℕ) → AtLeaf lows m k q → q ≡ i → placed lows m i k ≡ true
-unfolding placed
-placed-yes lows m i k q at e = same-yes {m = lowPlace k (take m lows)} {n = i} (sym (at .is) ∙ e)
-
-pub placed-no : (lows : List ℕ) (m i k q : ℕ) → AtLeaf lows m k q → (q ≡ i → ⊥) → placed lows m i k ≡ false
-unfolding placed
-placed-no lows m i k q at n = same-no {m = lowPlace k (take m lows)} {n = i} (λ e. n (at .is ∙ e))

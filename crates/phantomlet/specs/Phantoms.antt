@@ -1,7 +1,6 @@
 -- The phantomlet: for each leaf two numbers, how many entries of the indexlet lie in it at addresses that the index
 -- lacks, and how many pending writes lie in it. A leaf hides a key from worker w exactly if the first number exceeds the
 -- count of entries there that say nothing but a lock of w's own.
--- Assumes nothing.
 use Prim.Native.Nat.{ℕ, _+_, _<_}
 use mathlib.Core.Path.{_≡_, refl}
 use mathlib.Core.Bool.{Bool, true, false, not}

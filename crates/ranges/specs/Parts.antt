@@ -38,16 +38,6 @@ module _ {A : Type 0} where
   getD-walk f i (suc n) zero d h = ap f (let e : i ≡ i + 0 = omega arith in e)
   getD-walk f i (suc n) (suc k) d h = getD-walk f (suc i) n k d (omega arith) ∙ ap f (let e : suc i + k ≡ i + suc k = omega arith in e)
 
-  pub walk-same : (f g : ℕ → A) (i n : ℕ) → ((k : ℕ) → k < n → f (i + k) ≡ g (i + k)) → walk f i n ≡ walk g i n
-  unfolding walk
-  walk-same f g i zero h = refl
-  walk-same f g i (suc n) h =
-      let z : i ≡ i + 0 = omega arith in
-      λ a. (ap f z ∙ h 0 (omega arith) ∙ ap g (sym z)) a
-      ∷ walk-same f g (suc i) n (λ k l.
-      let p : suc i + k ≡ i + suc k = omega arith in
-      ap f p ∙ h (suc k) (omega arith) ∙ ap g (sym p)) a
-
   -- one more element, from what is left to what is done
   pub done-one : (xs ys zs us : List A) (x : A) → us ≡ xs ++ (x ∷ []) → ys ≡ x ∷ zs → us ++ zs ≡ xs ++ ys
   done-one xs ys zs us x e q =

@@ -1,5 +1,4 @@
 -- Codes by the tests that the code makes, and a coded step by what its code means.
--- Assumes nothing.
 use Prim.Native.Nat.{ℕ, _^_, _<_, _≤_}
 use mathlib.Core.Path.{_≡_, refl, sym, ap, _∙_, subst}
 use mathlib.Core.Bool.{Bool}

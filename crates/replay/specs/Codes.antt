@@ -1,5 +1,4 @@
 -- Steps and answers in numbers: what a code means, which numbers an answer is, and what a coded step promises.
--- Assumes nothing.
 use Prim.Native.Nat.{ℕ, _^_}
 use mathlib.Core.Path.{_≡_}
 use mathlib.Core.List.{List, [], _∷_}

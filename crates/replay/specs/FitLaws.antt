@@ -1,5 +1,4 @@
 -- Whether the longest answer finds room.
--- Assumes nothing.
 use Prim.Native.Nat.{ℕ, _-_, _/_, _<_, _≤_, min}
 use native.Mathlib.Omega.{arith}
 use mathlib.Core.Path.{_≡_, sym, ap, _∙_}

@@ -1,6 +1,5 @@
 -- A list of coded steps, run from a fresh map: which steps are taken, what is written, and what the run promises, demand 3
 -- included.
--- Assumes nothing.
 use Prim.Native.Nat.{ℕ, _+_, _-_, _*_, min}
 use mathlib.Core.Path.{_≡_}
 use mathlib.Core.List.{List, [], _∷_, _++_, map}

@@ -1,5 +1,4 @@
 -- A scan's buffers after a step: its records in the first places, and the rest as it was.
--- Assumes nothing.
 use Prim.Native.Nat.{ℕ, zero, suc, _+_, _-_, _*_, _<_, _≤_, min}
 use native.Mathlib.Nat.{zero-add}
 use native.Mathlib.Omega.{arith}

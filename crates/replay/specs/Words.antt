@@ -1,5 +1,4 @@
 -- Answers put into words: the text of a reply, three words and a scan's records.
--- Assumes nothing.
 use Prim.Native.Nat.{ℕ, suc, _+_, _*_, _<_, _≤_}
 use native.Mathlib.Nat.{le-antisymm}
 use native.Mathlib.Numerals.{add-one}
@@ -54,11 +53,6 @@ pairs-append : (xs ys : List (Row Payload)) → pairWords (xs ++ ys) ≡ pairWor
 unfolding pairWords
 pairs-append [] ys = refl
 pairs-append (x ∷ xs) ys = ap (λ (ws : List ℕ). x .key ∷ x .item .value ∷ ws) (pairs-append xs ys)
-
-pub length-pairs : (rs : List (Row Payload)) → length (pairWords rs) ≡ 2 * length rs
-unfolding pairWords
-length-pairs [] = refl
-length-pairs (r ∷ rs) = let e : length (pairWords rs) ≡ 2 * length rs = length-pairs rs in let k : suc (suc (length (pairWords rs))) ≡ 2 * suc (length rs) = omega arith in k
 
 pairs-snoc : (n : ℕ) (ks vs : List ℕ) → pairWords (rowsIn (suc n) ks vs) ≡ pairWords (rowsIn n ks vs) ++ (getD ks n 0 ∷ getD vs n 0 ∷ [])
 unfolding rowsIn pairWords

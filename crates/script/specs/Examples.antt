@@ -1,6 +1,5 @@
 -- Document 01's full run as text: each line read, what it says, and what is written for its answer. The steps and answers
 -- are those of the model's run, which is proved in `spec`. Then lines that are malformed, each for one cause.
--- Assumes nothing.
 use Prim.Native.Nat.{ℕ}
 use Prim.Native.Char.{code}
 use Prim.Native.String.{String}

@@ -1,6 +1,5 @@
 -- Document 01, "The script program": what a line of a script says. A line is its bytes, without the line feed.
 -- It is a letter and decimal numbers, with single spaces between; what is anything else is malformed (none).
--- Assumes nothing.
 use Prim.Native.Nat.{ℕ, _+_, _-_, _*_, _^_}
 use mathlib.Core.Bool.{Bool}
 use mathlib.Core.List.{List, [], _∷_}

@@ -1,5 +1,4 @@
 -- A letter and its numbers, by the tests that the code makes: a number too wide, a letter known, a letter not known.
--- Assumes nothing.
 use Prim.Native.Nat.{ℕ, _^_, _<_, _≤_}
 use mathlib.Core.Path.{_≡_, refl, sym, ap, _∙_}
 use mathlib.Core.Bool.{Bool, true, false}

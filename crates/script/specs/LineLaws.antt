@@ -1,11 +1,10 @@
 -- What an event says of the current line of a whole input: the bytes up to its first line feed, whatever comes after.
--- Assumes nothing.
 use Prim.Native.Nat.{ℕ}
 use mathlib.Core.Path.{_≡_, refl, sym, ap, _∙_}
 use mathlib.Core.Logic.{⊎-elim}
 use mathlib.Core.Bool.{false}
 use mathlib.Core.List.{List, [], _∷_, _++_, append-assoc}
-use mathlib.Core.Option.{none, some}
+use mathlib.Core.Option.{some}
 use Rattle.lists.specs.Tests.{same, cases, clash, same-yes}
 use Rattle.lists.specs.Rows.{has}
 use Rattle.lists.specs.Counting.{has-cons}
@@ -32,17 +31,6 @@ feed-same (x ∷ l) (y ∷ m) a b h g e =
     let s : l ≡ m = feed-same l m a b (tail-clear x l h) (tail-clear y m g) r in
     cc
 
--- bytes without a line feed begin the line
-feed-begins : (l m a b : List ℕ) → has 10 m ≡ false → l ++ (10 ∷ a) ≡ m ++ b → (rest : List ℕ) × (l ≡ m ++ rest)
-feed-begins l [] a b g e = (l, refl)
-feed-begins [] (y ∷ m) a b g e = let q : y ≡ 10 = cc in absurd (head-clear y m g q)
-feed-begins (x ∷ l) (y ∷ m) a b g e =
-    let q : x ≡ y = cc in
-    let r : l ++ (10 ∷ a) ≡ m ++ b = cc in
-    let s = feed-begins l m a b (tail-clear y m g) r in
-    let t : l ≡ m ++ s .0 = s .1 in
-    (s .0, cc)
-
 whole-same : {l k bs : List ℕ} (a b : List ℕ) → Whole k bs → has 10 l ≡ false → l ++ (10 ∷ a) ≡ bs ++ b → l ≡ k
 whole-same {l} {k} {bs} a b w h e =
     feed-same l k a b h (w .unbroken) (e ∙ ap (λ (x : List ℕ). x ++ b) (w .fed) ∙ append-assoc k (10 ∷ []) b)
@@ -52,13 +40,3 @@ pub line-told : (p : Parser) (x : Line) (bs l a b : List ℕ) → Says (event.Li
     → meaning l ≡ some x
 unfolding Says
 line-told p x bs l a b s h e = ap meaning (whole-same a b (s .1) h e) ∙ s .2
-
--- if a malformed line was told, the current line says nothing
-pub malformed-told : (p : Parser) (bs l a b : List ℕ) → Says event.Malformed p bs → has 10 l ≡ false → l ++ (10 ∷ a) ≡ bs ++ b
-    → meaning l ≡ none
-unfolding Says
-malformed-told p bs l a b s h e =
-    ⊎-elim
-    (λ w. ap meaning (whole-same a b (w .1) h e) ∙ w .2)
-    (λ w. let r = feed-begins l bs a b (w .0) e in ap meaning (r .1) ∙ w .1 (r .0))
-    (s .0)

@@ -1,5 +1,4 @@
 -- Document 01, "The script program": the text that the program writes, as bytes.
--- Assumes nothing.
 use Prim.Native.Nat.{ℕ, zero, suc, _+_, _/_, _%_}
 use mathlib.Core.List.{List, [], _∷_, _++_}
 use mathlib.Core.Option.{none, some}
@@ -97,5 +96,3 @@ endLine rs = 69 ∷ field (length rs) ++ pairs (λ (r : Record). r .payload .val
 -- after a malformed line
 abbrev pub malformedLine : List ℕ
 malformedLine = 63 ∷ 10 ∷ []
-
--- ---- what is promised

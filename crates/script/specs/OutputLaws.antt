@@ -1,24 +1,16 @@
 -- Decimal digits, how many there are, and what is written for a number, for pairs and for an answer.
--- Assumes nothing.
 use Prim.Native.Nat.{ℕ, zero, suc, _+_, _-_, _*_, _/_, _%_, _^_, _<_, _≤_}
 use native.Mathlib.Nat.{le-refl, pow-suc}
 use native.Mathlib.Numerals.{add-one}
 use native.Mathlib.Omega.{arith}
 use mathlib.Core.Path.{_≡_, refl, sym, ap, _∙_, subst}
 use mathlib.Core.Logic.{⊎-elim}
-use mathlib.Core.List.{List, [], _∷_, _++_, map, append-assoc, append-nil}
-use mathlib.Core.Option.{none, some}
+use mathlib.Core.List.{List, [], _∷_, _++_, append-assoc, append-nil}
 use lib.ListN.{length, getD, take, set, length-append}
 use lib.Seq.{sets, length-sets, set-comm, append-snoc, take-suc, length-take-le}
 use Rattle.lists.specs.Tests.{pick, less, cases, less-yes, less-no, less-true, less-false}
-use Rattle.lists.specs.Rows.{Row, keys}
 use Rattle.lists.specs.Texts.{Wrote, wrote-join}
-use Rattle.spec.specs.declared.Refusal.{Refusal}
-use Rattle.spec.specs.Refusals.{numberOf}
-use Rattle.spec.specs.Records.{Payload}
-use Rattle.spec.specs.Steps.{refused, done, found, listed, numbered, counted}
-use Rattle.script.specs.declared.Line.{Line}
-use Rattle.script.specs.Output.{digitsWithin, decimal, field, absent, pair, pairs, pairsOf, letterOf, answerText, answerLine}
+use Rattle.script.specs.Output.{digitsWithin, decimal, field, pair, pairsOf}
 
 -- ---- the equations that a reader expects
 
@@ -208,12 +200,6 @@ pair-most k v h g =
     let e : length (field k ++ field v) ≡ length (field k) + length (field v) = length-append (field k) (field v) in
     omega (arith, field-most k h, field-most v g)
 
--- the pairs of rows are those of their keys and values
-pub pairs-rows : {A : Type 0} (v : A → ℕ) (rs : List (Row A)) → pairsOf (keys rs) (map (λ (r : Row A). v (r .item)) rs) ≡ pairs v rs
-unfolding pairsOf keys pairs
-pairs-rows v [] = refl
-pairs-rows v (r ∷ rs) = ap (λ (x : List ℕ). pair (r .key) (v (r .item)) ++ x) (pairs-rows v rs)
-
 pairs-snoc : (ks vs : List ℕ) (k v : ℕ) → length ks ≡ length vs → pairsOf (ks ++ (k ∷ [])) (vs ++ (v ∷ [])) ≡ pairsOf ks vs ++ pair k v
 unfolding pairsOf
 pairs-snoc [] [] k v e = append-nil (pair k v)
@@ -251,35 +237,3 @@ pub pairing-end : {ks vs l m : List ℕ} {at j : ℕ} (i n : ℕ) → Pairing ks
 pairing-end {ks} {vs} {l} {m} {at} {j} i n p h g =
     let e : i ≡ n = omega arith in
     subst (λ (x : ℕ). Wrote l at (pairsOf (take x ks) (take x vs)) m j) e (p .wrote)
-
--- ---- a line by its answer, as the functions write it
-
-pub line-refused : (l : Line) (r : Refusal) → answerLine l (refused r) ≡ (letterOf l ∷ field (numberOf r)) ++ (10 ∷ [])
-unfolding answerLine answerText
-line-refused l r = refl
-
-pub line-done : (l : Line) → answerLine l done ≡ (letterOf l ∷ field 0) ++ (10 ∷ [])
-unfolding answerLine answerText
-line-done l = refl
-
-pub line-absent : (l : Line) → answerLine l (found none) ≡ (letterOf l ∷ field 0) ++ absent ++ (10 ∷ [])
-unfolding answerLine answerText
-line-absent l = refl
-
-pub line-found : (l : Line) (p : Payload) → answerLine l (found (some p)) ≡ (letterOf l ∷ field 0) ++ field (p .value) ++ (10 ∷ [])
-unfolding answerLine answerText
-line-found l p = refl
-
-pub line-numbered : (l : Line) (n : ℕ) → answerLine l (numbered n) ≡ (letterOf l ∷ field 0) ++ field n ++ (10 ∷ [])
-unfolding answerLine answerText
-line-numbered l n = refl
-
-pub line-counted : (l : Line) (n : ℕ) → answerLine l (counted n) ≡ (letterOf l ∷ field 0) ++ field n ++ (10 ∷ [])
-unfolding answerLine answerText
-line-counted l n = refl
-
-pub line-listed : (l : Line) (rs : List (Row Payload))
-    → answerLine l (listed rs) ≡ (letterOf l ∷ field 0) ++ field (length rs) ++ pairsOf (keys rs) (map (λ (r : Row Payload). r .item .value) rs) ++ (10 ∷ [])
-unfolding answerLine answerText
-line-listed l rs =
-    ap (λ (x : List ℕ). (letterOf l ∷ field 0) ++ field (length rs) ++ x ++ (10 ∷ [])) (sym (pairs-rows (λ (p : Payload). p .value) rs))

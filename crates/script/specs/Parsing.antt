@@ -1,6 +1,5 @@
 -- The parser: what it is after the bytes of a line so far, and what a call of it tells. What a reader has to believe of
 -- reading is `Reads`, with `Says`; how the parser keeps what it knows (`continued`) only ties one call to the next.
--- Assumes nothing.
 use Prim.Native.Nat.{ℕ, _+_}
 use mathlib.Core.Path.{_≡_}
 use mathlib.Core.Logic.{_⊎_}

@@ -1,6 +1,5 @@
 -- What the parser's own functions promise: of the bytes taken, in terms of the parser before them. How turns join, and how
 -- they come to what is promised of the line's bytes.
--- Assumes nothing.
 use Prim.Native.Nat.{ℕ, _+_, _-_, _*_, _^_, _<_, _≤_}
 use native.Mathlib.Numerals.{add-one}
 use native.Mathlib.Omega.{arith}

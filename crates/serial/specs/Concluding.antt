@@ -1,5 +1,4 @@
 -- From the invariant to the claim of demand 3.
--- Assumes nothing.
 use Prim.Native.Nat.{ℕ, suc, zero-le, suc-le-suc}
 use native.Mathlib.Nat.{le-trans, le-of-eq}
 use native.Mathlib.Omega.{arith}

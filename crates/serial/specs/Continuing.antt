@@ -1,6 +1,5 @@
 -- Begin, read, scan, put, remove, lock, and the end of a transaction that is not installed keep the invariant: each only
 -- rewrites its own worker, and of the map at most its own locks.
--- Assumes nothing.
 use Prim.Native.Nat.{ℕ, _+_, _<_, _≤_, zero-le}
 use native.Mathlib.Nat.{le-trans, le-step, le-of-eq}
 use native.Mathlib.Omega.{arith}

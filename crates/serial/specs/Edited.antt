@@ -1,7 +1,6 @@
 -- The theorem needs each of its tests: with one of them dropped or weakened, a closed run of the edited rule breaks the
 -- claim. Each of these was a plausible rule; a scan, a read or a lock would be lost on a customer's map.
 -- (Numbers by the order of installs: `byInstall` among the lies of crate `spec`.)
--- Assumes nothing.
 use Prim.Native.Nat.{ℕ}
 use native.Mathlib.Omega.{arith}
 use mathlib.Core.Path.{_≡_, refl}

@@ -3,11 +3,10 @@
 -- `writesOf` reads the write set off a transaction's events. `listAfter-before`, `listAfter-other` and `listAfter-mine`
 -- say what one more installed transaction changes: nothing below its number, nothing at keys that it does not write, and
 -- at its own keys, from its number on, its own write, if no writer of the key has a larger number.
--- Assumes nothing.
 use Prim.Native.Nat.{ℕ, zero, suc, _<_, _≤_}
 use native.Mathlib.Omega.{arith}
 use mathlib.Core.Path.{_≡_, refl, sym, ap, _∙_}
-use mathlib.Core.Logic.{_⊎_, ⊎-elim}
+use mathlib.Core.Logic.{⊎-elim}
 use mathlib.Core.Bool.{true}
 use mathlib.Core.List.{List, [], _∷_, _++_, List·Memᴰ, List·Memᴰ·head, List·Memᴰ·tail}
 use mathlib.Core.Option.{Option, none, some}
@@ -106,12 +105,6 @@ rising-afterAll n l (e ∷ es) h = rising-afterAll n (after n l (e .step)) es (r
 
 -- ---- one event more
 
-pub afterAll-snoc : (n : ℕ) (l : List (Row Record)) (es : List Event) (e : Event)
-    → afterAll n l (es ++ (e ∷ [])) ≡ after n (afterAll n l es) (e .step)
-unfolding afterAll
-afterAll-snoc n l [] e = refl
-afterAll-snoc n l (f ∷ es) e = afterAll-snoc n (after n l (f .step)) es e
-
 pub allAgree-snoc : (n : ℕ) (l : List (Row Record)) (es : List Event) (e : Event)
     → AllAgree n l es → Agrees (afterAll n l es) (e .step) (e .answer) → AllAgree n l (es ++ (e ∷ []))
 unfolding afterAll AllAgree
@@ -152,11 +145,6 @@ look-member (r ∷ ts) n t e =
 pub listAfter-none : (ts : List (Row Transaction)) (m : ℕ) → look ts (suc m) ≡ none → listAfter ts (suc m) ≡ listAfter ts m
 unfolding listAfter
 listAfter-none ts m e = rw e
-
-pub listAfter-some : (ts : List (Row Transaction)) (m : ℕ) (t : Transaction) → look ts (suc m) ≡ some t
-    → listAfter ts (suc m) ≡ afterAll (suc m) (listAfter ts m) (t .events)
-unfolding listAfter
-listAfter-some ts m t e = rw e
 
 rising-fed : (o : Option Transaction) (n : ℕ) (l : List (Row Record)) → Rising l
     → Rising (maybe o l (λ (t : Transaction). afterAll n l (t .events)))

@@ -1,5 +1,4 @@
 -- Validate, install and merge keep the invariant.
--- Assumes nothing.
 use Prim.Native.Nat.{ℕ, suc, _<_}
 use native.Mathlib.Nat.{le-refl, le-step}
 use mathlib.Core.Path.{_≡_, refl, sym, ap, _∙_, subst}
@@ -65,22 +64,33 @@ untouched σ ρ w i k r e v d c = unwritten (go (look (workerOf σ v .writes) k)
         (i .working v (checked-busy (workerOf σ v .stage) c) .locked (checked-not-open (workerOf σ v .stage) c) k (ap present q)))
         e
 
-idle-unhidden : (w : ℕ) (c : Content) → isIdle c ≡ true → hiding w c ≡ false
-unfolding hiding heldByOther
-idle-unhidden w c e =
-    ap (λ (p : Option Pending). either (present p) (maybe (c .holder) false (λ (h : ℕ). not (same h w)))) (idle-pending c e)
-    ∙ ap (λ (h : Option ℕ). maybe h false (λ (h : ℕ). not (same h w))) (idle-holder c e)
+-- nothing is said of the key that worker w would have to know: no write is pending, no other worker has the lock
+abbrev Quiet : ℕ → Content → Type 0
+Quiet w c = (present (c .pending) ≡ false) × (heldByOther w c ≡ false)
+
+idle-quiet : (w : ℕ) (c : Content) → isIdle c ≡ true → Quiet w c
+unfolding heldByOther
+idle-quiet w c e = (
+  ap (λ (p : Option Pending). present p) (idle-pending c e),
+  ap (λ (h : Option ℕ). maybe h false (λ (h : ℕ). not (same h w))) (idle-holder c e),
+)
 
 module _ {σ : State} {ρ : Reading} {w : ℕ} (h : Sound σ ρ) (p : Validatable σ w) where
-  -- a key of a logged leaf that the index lacks is not hidden
+  -- a key of a logged leaf that the index lacks is not hidden: what that means is told here, and nowhere else
   unhidden : (v : ℕ) → List·Memᴰ v (workerOf σ w .versions) → (k : ℕ) → versionAt (σ .map .leaves) k ≡ v
-      → present (look (σ .map .records) k) ≡ false → hiding w (contentOf (σ .map .slots) k) ≡ false
+      → present (look (σ .map .records) k) ≡ false → Quiet w (contentOf (σ .map .slots) k)
   unhidden v m k e n =
       ⊎-elim
-      (λ t. idle-unhidden w (contentOf (σ .map .slots) k) t)
-      (λ t. tested t)
+      (λ t. idle-quiet w (contentOf (σ .map .slots) k) t)
+      (λ t. quiet (tested t))
       (cases (isIdle (contentOf (σ .map .slots) k)))
     where
+      quiet : hiding w (contentOf (σ .map .slots) k) ≡ false → Quiet w (contentOf (σ .map .slots) k)
+      quiet q = (
+        either-left (present (contentOf (σ .map .slots) k .pending)) (heldByOther w (contentOf (σ .map .slots) k)) (unfold hiding in q),
+        either-right (present (contentOf (σ .map .slots) k .pending)) (heldByOther w (contentOf (σ .map .slots) k)) (unfold hiding in q),
+      )
+
       no-hide : hides (σ .map) w v ≡ false
       no-hide = unfold phantomIn in either-right (not (live (σ .map .leaves) v)) (hides (σ .map) w v) (any-false (phantomIn σ w) (workerOf σ w .versions) (p .no-phantom) v m)
 
@@ -113,17 +123,14 @@ module _ {σ : State} {ρ : Reading} {w : ℕ} (h : Sound σ ρ) (p : Validatabl
             live-version (h .fine .leaves) v
             (not-false (live (σ .map .leaves) v)
             (unfold phantomIn in either-left (not (live (σ .map .leaves) v)) (hides (σ .map) w v) (any-false (phantomIn σ w) (workerOf σ w .versions) (p .no-phantom) v m)));
-        leaf-empty = λ v m k e n. absent k n (unhidden v m k e n);
-        leaf-free =
-            λ v m k e n.
-            untouched σ ρ w (h .invariant) k none
-            (either-right (present (contentOf (σ .map .slots) k .pending)) (heldByOther w (contentOf (σ .map .slots) k)) (unfold hiding in unhidden v m k e n));
+        leaf-empty = λ v m k e n. absent k n (unhidden v m k e n .0);
+        leaf-free = λ v m k e n. untouched σ ρ w (h .invariant) k none (unhidden v m k e n .1);
       }
     where
-      absent : (k : ℕ) → present (look (σ .map .records) k) ≡ false → hiding w (contentOf (σ .map .slots) k) ≡ false → current (σ .map) k ≡ none
+      absent : (k : ℕ) → present (look (σ .map .records) k) ≡ false → present (contentOf (σ .map .slots) k .pending) ≡ false → current (σ .map) k ≡ none
       absent k n q =
           unfold current in
-          ap (λ (o : Option Pending). maybe o (look (σ .map .records) k) outcomeOf) (gone (contentOf (σ .map .slots) k .pending) (either-left (present (contentOf (σ .map .slots) k .pending)) (heldByOther w (contentOf (σ .map .slots) k)) (unfold hiding in q)))
+          ap (λ (o : Option Pending). maybe o (look (σ .map .records) k) outcomeOf) (gone (contentOf (σ .map .slots) k .pending) q)
           ∙ gone (look (σ .map .records) k) n
         where
           gone : {A : Type 0} (o : Option A) → present o ≡ false → o ≡ none

@@ -1,6 +1,5 @@
 -- An install keeps the invariant: the transaction's writes enter the list at its number, below which nothing changes; no
 -- writer of its keys has a larger number, since it holds their locks; and nobody checked after it saw what it changes.
--- Assumes nothing.
 use Prim.Native.Nat.{ℕ, suc, _<_, _≤_, zero-le, suc-le-suc}
 use native.Mathlib.Nat.{le-refl, le-trans, le-of-eq}
 use native.Mathlib.Omega.{arith}

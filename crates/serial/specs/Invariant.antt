@@ -7,7 +7,6 @@
 --   the index, by a leaf version which, as long as it is live, is still the key's leaf, and the index lacks the key;
 -- - once it has number m + 1, each observation equals what the transactions numbered up to m leave, and no checked
 --   transaction that may still be installed among those would change it (`Valid`).
--- Assumes nothing.
 use Prim.Native.Nat.{ℕ, suc, _<_, _≤_}
 use mathlib.Core.Path.{_≡_}
 use mathlib.Core.Bool.{Bool, true, false}

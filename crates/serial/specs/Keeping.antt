@@ -1,6 +1,5 @@
 -- The invariant is kept: one lemma for every step that only rewrites its own worker, and one each for a validation, an
 -- install, and a merge. A step that changes nothing is a merge that moves nothing.
--- Assumes nothing.
 use Prim.Native.Nat.{ℕ, _<_, _≤_}
 use native.Mathlib.Nat.{le-trans, le-of-eq}
 use native.Mathlib.Omega.{arith}

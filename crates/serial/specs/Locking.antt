@@ -1,5 +1,4 @@
 -- Begin, lock, and the end of a transaction that is not installed keep the invariant.
--- Assumes nothing.
 use Prim.Native.Nat.{ℕ, _<_, _≤_}
 use native.Mathlib.Nat.{le-refl, le-trans, le-step, le-of-eq}
 use mathlib.Core.Path.{_≡_, refl, sym, ap, _∙_, subst}

@@ -1,6 +1,5 @@
 -- The model seen through the theorem's facts, and what holds of its state after every step: the slots are good, records
 -- and write sets rise, and the leaves are good.
--- Assumes nothing.
 use Prim.Native.Nat.{ℕ, zero, suc, _<_, _≤_}
 use native.Mathlib.Nat.{le-refl, le-step}
 use native.Mathlib.Omega.{arith}

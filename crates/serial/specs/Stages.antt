@@ -1,5 +1,4 @@
 -- A stage is one of four.
--- Assumes nothing.
 use mathlib.Core.Path.{_≡_, refl}
 use mathlib.Core.Bool.{true, false}
 use Rattle.lists.specs.Tests.{clash}
@@ -67,7 +66,3 @@ open-not-checked = refl
 pub free-free : isFree Free ≡ true
 unfolding isFree
 free-free = refl
-
-pub checked-checked : isChecked Checked ≡ true
-unfolding isChecked
-checked-checked = refl

@@ -1,5 +1,4 @@
 -- Demand 3 over the model: every list of steps from a fresh map is a serial run.
--- Assumes nothing.
 use Prim.Native.Nat.{ℕ, zero, suc, _<_}
 use native.Mathlib.Nat.{le-trans, le-of-eq, lt-of-le-of-lt}
 use mathlib.Core.Path.{_≡_, refl, sym, ap, _∙_}

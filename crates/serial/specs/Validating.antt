@@ -1,6 +1,5 @@
 -- A granted validation keeps the invariant: the new transaction comes after all others, what it observed is what stands
 -- now, and nobody who may still be installed before it would change that.
--- Assumes nothing.
 use Prim.Native.Nat.{ℕ, suc, _<_, _≤_}
 use native.Mathlib.Nat.{le-refl, le-trans, le-step, le-of-eq}
 use native.Mathlib.Omega.{arith}

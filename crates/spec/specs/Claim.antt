@@ -5,7 +5,6 @@
 -- The claim speaks of a history (the steps taken, with their answers) and of the contents at the end. A transaction is
 -- read off the history: the steps granted at one worker from a granted begin to a granted install, with no other begin
 -- granted there between. Its commit number is what its validation answered.
--- Assumes nothing.
 use Prim.Native.Nat.{ℕ, zero, suc, _<_, _≤_}
 use mathlib.Core.Path.{_≡_}
 use mathlib.Core.Bool.{Bool, true, false}
@@ -20,7 +19,7 @@ use Rattle.spec.specs.Sequential.{afterAll, AllAgree}
 -- ---- the transactions of a history
 
 -- A transaction, as far as it has been read: the places of its begin and its install in the history, the commit number
--- (0 before its validation), and its granted steps with their answers.
+-- (0 before its validation), and the granted steps between the two with their answers.
 pub record Transaction : Type 0 where
   pub begun : ℕ
   pub ended : ℕ

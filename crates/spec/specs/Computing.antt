@@ -1,5 +1,4 @@
 -- To compute a closed run on the model, unfold `model`, and to compute what the claim says of one, unfold `claim`.
--- Assumes nothing.
 use Rattle.lists.specs.Tests.{same, less, atMost, within}
 use Rattle.lists.specs.Rows.{look, insert, delete, assign, lay, between, keys, mapItems, any, filter, has, distinct, Different}
 use Rattle.spec.specs.Records.{outcome, ownView, payloadOf, samePayload, sameRecord}

@@ -3,7 +3,6 @@
 -- Leaves are listed by rising low address and cover all addresses: a leaf reaches up to the low of the next one.
 -- An address lies in a leaf if the leaf is the last one whose low is not above it; since no two leaves have the same
 -- version (document 01: mark), "in the leaf with version v" is "its leaf has version v".
--- Assumes nothing.
 use Prim.Native.Nat.{ℕ, zero, suc, _-_}
 use mathlib.Core.Bool.{Bool}
 use mathlib.Core.List.{List, [], _∷_, _++_, map}

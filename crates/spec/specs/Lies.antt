@@ -1,5 +1,4 @@
 -- The claim bites: histories that no correct engine gives, one for each kind of lie, do not meet it.
--- Assumes nothing.
 use Prim.Native.Nat.{ℕ, _<_}
 use native.Mathlib.Omega.{arith}
 use mathlib.Core.Path.{_≡_, refl, ap}

@@ -1,6 +1,5 @@
 -- Document 01: the map. Present records, hidden keys, the counts behind refusals 10 and 11, and the four changes: lock,
 -- unlock, install, fold.
--- Assumes nothing.
 use Prim.Native.Nat.{ℕ, _+_}
 use mathlib.Core.Bool.{Bool, false, not}
 use mathlib.Core.List.{List, [], _∷_, _++_, map}

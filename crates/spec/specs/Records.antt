@@ -2,7 +2,6 @@
 --
 -- Addresses, values and numbers are natural numbers: no width stands here. What a record carries besides its commit
 -- number is one type, `Payload`, compared by one test.
--- Assumes nothing.
 use Prim.Native.Nat.{ℕ}
 use mathlib.Core.Bool.{Bool, true, false}
 use mathlib.Core.Option.{Option, none, some}

@@ -1,5 +1,4 @@
 -- Document 01, "Refusals by number": the number of each refusal, and which of them end the transaction.
--- Assumes nothing.
 use Prim.Native.Nat.{ℕ}
 use mathlib.Core.Bool.{Bool, true, false}
 use Rattle.spec.specs.declared.Refusal.{Refusal}

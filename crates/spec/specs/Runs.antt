@@ -1,5 +1,4 @@
 -- The starred runs of document 01, "Runs to keep": one table, and one fact proved over it by computing.
--- Assumes nothing.
 use Prim.Native.Nat.{ℕ}
 use mathlib.Core.Path.{_≡_, refl}
 use mathlib.Core.List.{List, [], _∷_, map}
@@ -43,10 +42,6 @@ Holds (script h rs) =
 abbrev pub AllHold : List Run → Type 0
 AllHold [] = Unit {0}
 AllHold (r ∷ rs) = Holds r × AllHold rs
-
--- a transaction of worker w that has been begun, from its lock to its install, numbered n
-abbrev committed : ℕ → ℕ → List Event
-committed w n = event (lock w) done ∷ event (validate w) (numbered n) ∷ event (install w) done ∷ []
 
 -- one section is put at 4,096; a scan before its merge meets a phantom, one after it shows it
 abbrev pub fullRun : List Event

@@ -1,7 +1,6 @@
 -- Document 01, "The plain sorted list": entries of address, value and stamp by rising address, at first none, without
 -- limits; and what it answers when a transaction's steps are run on it alone.
 -- Nothing here knows leaves, slots, locks or refusals.
--- Assumes nothing.
 use Prim.Native.Nat.{ℕ}
 use mathlib.Core.Path.{_≡_}
 use mathlib.Core.List.{List, [], _∷_}

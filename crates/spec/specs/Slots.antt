@@ -2,7 +2,6 @@
 --
 -- What the indexlet says of an address is a plain look-up among its entries (`contentOf`). The search rule, by which
 -- a search goes from the home slot and may stop early, is a second definition (`search`).
--- Assumes nothing.
 use Prim.Native.Nat.{ℕ, zero, suc, pred, _+_, _*_, _/_, _%_, _^_}
 use mathlib.Core.Bool.{Bool, false, not}
 use mathlib.Core.List.{List, [], _∷_}

@@ -1,6 +1,5 @@
 -- Document 01, "Seats and steps" and "Refusals by number": workers, the ten steps, when each is refused, what a granted
 -- one answers and changes, and a run of steps.
--- Assumes nothing.
 use Prim.Native.Nat.{ℕ, suc, _+_, min}
 use mathlib.Core.Bool.{Bool, true, false, not}
 use mathlib.Core.List.{List, [], _∷_, _++_, map}

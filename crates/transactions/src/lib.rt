@@ -1,5 +1,5 @@
-// The transactions: eight workers over one map, the ten steps of document 01 and their refusals. Its upper crate: it
-// knows the map only by its promises.
+// Where document 01's upper crate begins: eight workers over one map, which it knows only by its promises. Here are what
+// every step shares, who may take one, a fresh start, begin and merge; the other steps are in `accesses` and `endings`.
 pub mod admits;
 pub mod begins;
 pub mod merges;

@@ -1,4 +1,4 @@
--- `indexlet::enter` meets its contract: an entry goes, stays away, is rewritten or is new. Assumes nothing.
+-- `indexlet::enter` meets its contract: an entry goes, stays away, is rewritten or is new.
 use native.Mathlib.Omega.{arith}
 use mathlib.Core.Path.{sym, _∙_}
 use borrow.Author.Needs.{needs}

@@ -1,4 +1,4 @@
--- `indexlet::entry_of` meets its contract by the table's rule. Assumes nothing.
+-- `indexlet::entry_of` meets its contract by the table's rule.
 use borrow.Author.Needs.{needs}
 use Rattle.lists.specs.Shifts.{tabFrom, tab}
 use Rattle.spec.specs.Slots.{tableEntry}

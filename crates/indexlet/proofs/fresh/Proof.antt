@@ -1,4 +1,3 @@
--- `indexlet::fresh` meets its contract. Assumes nothing.
 use Rattle.indexlet.specs.EnterLaws.{fresh-words}
 use Rattle.indexlet.proofs.fresh.Statement.{statement}
 use Rattle.indexlet.proofs.fresh.Tie as tie

@@ -1,4 +1,4 @@
--- `indexlet::home` meets its contract: each byte goes through the table by the table's rule. Assumes nothing.
+-- `indexlet::home` meets its contract: each byte goes through the table by the table's rule.
 use Prim.Native.Nat.{_<_, _^_}
 use native.Mathlib.Omega.{arith}
 use borrow.Author.Needs.{needs}

@@ -1,4 +1,3 @@
--- `indexlet::idle` meets its contract. Assumes nothing.
 use mathlib.Core.Path.{sym}
 use Rattle.indexlet.specs.WordLaws.{idle-waiting, idle-lock}
 use Rattle.indexlet.proofs.idle.Statement.{statement}

@@ -1,4 +1,4 @@
--- `indexlet::look_up` meets its contract: by where the search ended. Assumes nothing.
+-- `indexlet::look_up` meets its contract: by where the search ended.
 use borrow.Author.Needs.{needs}
 use Rattle.indexlet.specs.EnterLaws.{look-hit, look-miss}
 use Rattle.indexlet.proofs.look_up.Statement.{statement}

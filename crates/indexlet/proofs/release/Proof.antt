@@ -1,5 +1,4 @@
 -- `indexlet::release` meets its contract. The invariant: the counts of the slots passed so far are one less.
--- Assumes nothing.
 use Prim.Native.Nat.{_-_}
 use native.Mathlib.Omega.{arith}
 use mathlib.Core.Path.{refl}

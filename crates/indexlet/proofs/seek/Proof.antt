@@ -1,4 +1,4 @@
--- `indexlet::seek` meets its contract. The invariant: what is left of the search is the whole search. Assumes nothing.
+-- `indexlet::seek` meets its contract. The invariant: what is left of the search is the whole search.
 use Prim.Native.Nat.{_-_}
 use native.Mathlib.Omega.{arith}
 use mathlib.Core.Path.{sym, _∙_}

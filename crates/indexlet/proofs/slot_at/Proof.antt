@@ -1,4 +1,3 @@
--- `indexlet::slot_at` meets its contract. Assumes nothing.
 use borrow.Author.Needs.{needs}
 use Rattle.indexlet.specs.EnterLaws.{reads-row}
 use Rattle.indexlet.proofs.slot_at.Statement.{statement}

@@ -1,5 +1,4 @@
 -- `indexlet::take` meets its contract. The invariant: the slots passed had entries, and their counts are one more.
--- Assumes nothing.
 use Prim.Native.Nat.{_-_}
 use native.Mathlib.Omega.{arith}
 use mathlib.Core.Path.{sym, _∙_}

@@ -1,4 +1,4 @@
--- `looks::count_records` meets its contract. The invariant: those counted and those left are all. Assumes nothing.
+-- `looks::count_records` meets its contract. The invariant: those counted and those left are all.
 use Prim.Native.Nat.{_-_}
 use native.Mathlib.Omega.{arith}
 use borrow.Author.Needs.{needs}

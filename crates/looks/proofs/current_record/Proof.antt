@@ -1,4 +1,4 @@
--- `looks::current_record` meets its contract: by what the indexlet says of the address. Assumes nothing.
+-- `looks::current_record` meets its contract: by what the indexlet says of the address.
 use borrow.Author.Needs.{needs}
 use Rattle.looks.specs.CurrentLaws.{sees-found, sees-nothing, sees-pending}
 use Rattle.looks.proofs.current_record.Statement.{statement}

@@ -1,4 +1,4 @@
--- `looks::index_from` meets its contract: by whether the index has such an address. Assumes nothing.
+-- `looks::index_from` meets its contract: by whether the index has such an address.
 use native.Mathlib.Omega.{arith}
 use Rattle.looks.specs.NextLaws.{index-past, index-here}
 use borrow.Author.Needs.{needs}

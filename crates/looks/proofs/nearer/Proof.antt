@@ -1,4 +1,4 @@
--- `looks::nearer` meets its contract: by each of its tests. Assumes nothing.
+-- `looks::nearer` meets its contract: by each of its tests.
 use mathlib.Core.Path.{sym, _∙_}
 use Rattle.looks.specs.NextLaws.{nearer-idle, nearer-below, nearer-above, nearer-here}
 use borrow.Author.Needs.{needs}

@@ -1,4 +1,4 @@
--- `looks::next_record` meets its contract. The invariant: no record stands between the start and here. Assumes nothing.
+-- `looks::next_record` meets its contract. The invariant: no record stands between the start and here.
 use Prim.Native.Nat.{_-_}
 use native.Mathlib.Omega.{arith}
 use borrow.Author.Needs.{needs}

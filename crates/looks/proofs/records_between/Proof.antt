@@ -1,4 +1,4 @@
--- `looks::records_between` meets its contract: by whether the index has hi. Assumes nothing.
+-- `looks::records_between` meets its contract: by whether the index has hi.
 use Rattle.looks.specs.ScanLaws.{spans-past, spans-other, spans-last}
 use borrow.Author.Needs.{needs}
 use Rattle.looks.proofs.records_between.Statement.{statement}

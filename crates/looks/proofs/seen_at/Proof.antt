@@ -1,4 +1,4 @@
--- `looks::seen_at` meets its contract: by what the indexlet says of the address. Assumes nothing.
+-- `looks::seen_at` meets its contract: by what the indexlet says of the address.
 use mathlib.Core.Path.{refl}
 use Rattle.looks.specs.ScanLaws.{narrow-address, seen-there, row-found}
 use Rattle.looks.specs.CurrentLaws.{sees-found, sees-pending}

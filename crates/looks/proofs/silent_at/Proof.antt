@@ -1,4 +1,4 @@
--- `looks::silent_at` meets its contract: by each of its tests. Assumes nothing.
+-- `looks::silent_at` meets its contract: by each of its tests.
 use Rattle.looks.specs.PhantomLaws.{silent-elsewhere, silent-pending, silent-found, silent-yes}
 use borrow.Author.Needs.{needs}
 use Rattle.looks.proofs.silent_at.Statement.{statement}

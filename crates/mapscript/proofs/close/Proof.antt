@@ -1,4 +1,4 @@
--- `close` is safe: all that is asked holds, and there is room for the last line. Assumes nothing.
+-- `close` is safe: all that is asked holds, and there is room for the last line.
 use borrow.Author.Needs.{needs}
 use Rattle.mapscript.specs.Works.{end-room, end-started, finish-within}
 use Rattle.mapscript.proofs.close.Statement.{statement}

@@ -1,4 +1,4 @@
--- `main` is safe and ends. The invariant: what is kept from turn to turn holds; the measure: the turns left. Assumes nothing.
+-- `main` is safe and ends. The invariant: what is kept from turn to turn holds; the measure: the turns left.
 use native.Mathlib.Omega.{arith}
 use mathlib.Core.Path.{_≡_, refl, sym}
 use lib.ListN.{length}

@@ -1,4 +1,4 @@
--- `read_more` meets its contract: the session has new input, or there is none. Assumes nothing.
+-- `read_more` meets its contract: the session has new input, or there is none.
 use borrow.Author.Needs.{needs}
 use Prim.Native.Nat.{zero-le}
 use native.Mathlib.Nat.{le-refl}

@@ -1,4 +1,4 @@
--- `settle` meets its contract: the session is as before, but for the output's place. Assumes nothing.
+-- `settle` meets its contract: the session is as before, but for the output's place.
 use borrow.Author.Needs.{needs}
 use Prim.Native.Nat.{zero-le}
 use native.Mathlib.Nat.{le-refl}

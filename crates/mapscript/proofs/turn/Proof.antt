@@ -1,4 +1,4 @@
--- `turn` meets its contract: what is kept from turn to turn holds again. Assumes nothing.
+-- `turn` meets its contract: what is kept from turn to turn holds again.
 use borrow.Author.Needs.{needs}
 use mathlib.Core.Path.{sym}
 use lib.Seq.{length-take-le}

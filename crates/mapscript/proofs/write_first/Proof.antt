@@ -1,4 +1,4 @@
--- `write_first` is safe: there are that many bytes. Assumes nothing.
+-- `write_first` is safe: there are that many bytes.
 use borrow.Author.Needs.{needs}
 use mathlib.Core.Path.{sym}
 use lib.Seq.{length-take-le}

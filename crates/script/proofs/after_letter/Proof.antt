@@ -1,4 +1,4 @@
--- `script::after_letter` meets its contract: the byte after the letter is a space, or the line is malformed. Assumes nothing.
+-- `script::after_letter` meets its contract: the byte after the letter is a space, or the line is malformed.
 use native.Mathlib.Omega.{arith}
 use borrow.Author.Needs.{needs}
 use Rattle.script.specs.TurnLaws.{turn-byte, letter-good, letter-bad}

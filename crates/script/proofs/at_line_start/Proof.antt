@@ -1,4 +1,4 @@
--- `script::at_line_start` meets its contract: a parser that has read bytes is not at the start, and no other one is. Assumes nothing.
+-- `script::at_line_start` meets its contract: a parser that has read bytes is not at the start, and no other one is.
 use mathlib.Core.Path.{ap}
 use borrow.Author.Needs.{needs}
 use Rattle.script.specs.Parsing.{started}

@@ -1,4 +1,4 @@
--- `script::complete` meets its contract: each count of numbers has its own function. Assumes nothing.
+-- `script::complete` meets its contract: each count of numbers has its own function.
 use mathlib.Core.Path.{sym, _∙_}
 use borrow.Author.Needs.{needs}
 use Rattle.script.specs.LetterLaws.{complete-as}

@@ -1,4 +1,4 @@
--- `script::digits` meets its contract. The invariant: the bytes passed are digits, and take the number begun to what it is now. Assumes nothing.
+-- `script::digits` meets its contract. The invariant: the bytes passed are digits, and take the number begun to what it is now.
 use Prim.Native.Nat.{_-_}
 use native.Mathlib.Omega.{arith}
 use mathlib.Core.Path.{sym, _∙_}

@@ -1,4 +1,4 @@
--- `script::field` meets its contract: the run of digits, and then what the byte after it says. Assumes nothing.
+-- `script::field` meets its contract: the run of digits, and then what the byte after it says.
 use native.Mathlib.Omega.{arith}
 use mathlib.Core.Logic.{⊎-elim, inl, inr}
 use mathlib.Core.Path.{refl}

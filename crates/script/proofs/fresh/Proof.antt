@@ -1,4 +1,3 @@
--- `script::fresh` meets its contract. Assumes nothing.
 use Rattle.script.specs.Turns.{after-fresh}
 use Rattle.script.proofs.fresh.Statement.{statement}
 use Rattle.script.proofs.fresh.Tie as tie

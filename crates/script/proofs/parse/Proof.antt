@@ -1,4 +1,4 @@
--- `script::parse` meets its contract. The invariant: the bytes passed take the parser given to the parser now. Assumes nothing.
+-- `script::parse` meets its contract. The invariant: the bytes passed take the parser given to the parser now.
 use Prim.Native.Nat.{_-_}
 use native.Mathlib.Omega.{arith}
 use lib.ListN.{length}

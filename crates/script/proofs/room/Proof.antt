@@ -1,4 +1,3 @@
--- `script::room` meets its contract. Assumes nothing.
 use native.Mathlib.Omega.{arith}
 use mathlib.Core.Path.{sym}
 use Rattle.lists.specs.Tests.{less-yes, less-no}

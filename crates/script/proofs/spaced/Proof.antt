@@ -1,4 +1,4 @@
--- `script::spaced` meets its contract: the number read becomes one of those before. Assumes nothing.
+-- `script::spaced` meets its contract: the number read becomes one of those before.
 use mathlib.Core.Path.{refl}
 use borrow.Author.Needs.{needs}
 use Rattle.script.specs.TurnLaws.{space-none, space-one, space-two}

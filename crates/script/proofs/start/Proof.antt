@@ -1,4 +1,4 @@
--- `script::start` meets its contract: the first byte is the letter, or the line is malformed. Assumes nothing.
+-- `script::start` meets its contract: the first byte is the letter, or the line is malformed.
 use native.Mathlib.Omega.{arith}
 use mathlib.Core.Logic.{inl, inr}
 use borrow.Author.Needs.{needs}

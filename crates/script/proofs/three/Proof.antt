@@ -1,4 +1,4 @@
--- `script::three` meets its contract: at each `return` the tests and the letter say which line it is. Assumes nothing.
+-- `script::three` meets its contract: at each `return` the tests and the letter say which line it is.
 use borrow.Author.Needs.{needs}
 use Rattle.script.specs.LetterLaws.{three-wide, three-wide', three-put, three-scan, three-scan-wide, three-other}
 use Rattle.script.proofs.three.Statement.{statement}

@@ -1,4 +1,4 @@
--- `script::turn` meets its contract: each state has its own function. Assumes nothing.
+-- `script::turn` meets its contract: each state has its own function.
 use borrow.Author.Needs.{needs}
 use Rattle.script.specs.Parsing.{inNumber}
 use Rattle.script.specs.Turns.{turns-as}

@@ -1,4 +1,4 @@
--- `script::two` meets its contract: at each `return` the tests and the letter say which line it is. Assumes nothing.
+-- `script::two` meets its contract: at each `return` the tests and the letter say which line it is.
 use borrow.Author.Needs.{needs}
 use Rattle.lists.specs.Tests.{same}
 use Rattle.script.specs.Grammar.{twoNumbers}

@@ -1,4 +1,4 @@
--- `closing::finish` meets its contract, case by case. Assumes nothing.
+-- `closing::finish` meets its contract, case by case.
 use native.Mathlib.Omega.{arith}
 use Rattle.lists.specs.Texts.{wrote-length}
 use Rattle.map.specs.Parts.{records-held, slots-held}

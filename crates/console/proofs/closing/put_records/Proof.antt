@@ -1,4 +1,4 @@
--- `closing::put_records` meets its contract. The invariant: the pairs below an address are written. Assumes nothing.
+-- `closing::put_records` meets its contract. The invariant: the pairs below an address are written.
 use Prim.Native.Nat.{_-_}
 use native.Mathlib.Omega.{arith}
 use mathlib.Core.Path.{refl}

@@ -1,4 +1,4 @@
--- `lines::op_of` meets its contract, line by line. Assumes nothing.
+-- `lines::op_of` meets its contract, line by line.
 use borrow.Author.Needs.{needs}
 use mathlib.Core.Path.{refl}
 use Rattle.console.specs.Replies.{asks}

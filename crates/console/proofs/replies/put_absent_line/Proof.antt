@@ -1,4 +1,4 @@
--- `replies::put_absent_line` meets its contract: an answer, the mark of absence and a byte. Assumes nothing.
+-- `replies::put_absent_line` meets its contract: an answer, the mark of absence and a byte.
 use native.Mathlib.Omega.{arith}
 use borrow.Author.Needs.{needs}
 use Rattle.lists.specs.Texts.{wrote-join}

@@ -1,4 +1,4 @@
--- `replies::put_listed_line` meets its contract: an answer, a field, the pairs and a byte. Assumes nothing.
+-- `replies::put_listed_line` meets its contract: an answer, a field, the pairs and a byte.
 use native.Mathlib.Omega.{arith}
 use denote.Ref.{now}
 use borrow.Author.Needs.{needs}

@@ -1,4 +1,4 @@
--- `replies::put_reply` meets its contract, reply by reply. Assumes nothing.
+-- `replies::put_reply` meets its contract, reply by reply.
 use borrow.Author.Needs.{needs}
 use Prim.Native.Nat.{_≤_}
 use native.Mathlib.Omega.{arith}

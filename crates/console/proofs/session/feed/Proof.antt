@@ -1,4 +1,4 @@
--- `session::feed` meets its contract. The invariant: what was written and what is still due are what was due. Assumes nothing.
+-- `session::feed` meets its contract. The invariant: what was written and what is still due are what was due.
 use mathlib.Core.Path.{sym, _∙_}
 use Rattle.map.specs.Views.{lent}
 use Rattle.transactions.specs.Views.{logs}

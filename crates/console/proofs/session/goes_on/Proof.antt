@@ -1,4 +1,4 @@
--- `session::goes_on` meets its contract, test by test. Assumes nothing.
+-- `session::goes_on` meets its contract, test by test.
 use native.Mathlib.Omega.{arith}
 use Rattle.console.specs.SessionLaws.{goes-stopped, goes-used, goes-full, goes-yes}
 use Rattle.console.proofs.session.goes_on.Statement.{statement}

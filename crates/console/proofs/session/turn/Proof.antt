@@ -1,4 +1,4 @@
--- `session::turn` meets its contract, event by event. Assumes nothing.
+-- `session::turn` meets its contract, event by event.
 use borrow.Author.Needs.{needs}
 use native.Mathlib.Omega.{arith}
 use Rattle.lists.specs.Texts.{wrote-length}

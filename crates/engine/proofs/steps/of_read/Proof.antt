@@ -1,4 +1,4 @@
--- `steps::of_read` meets its contract: by what the answer is. Assumes nothing.
+-- `steps::of_read` meets its contract: by what the answer is.
 use Rattle.engine.specs.Performs.{read-is}
 use borrow.Author.Needs.{needs}
 use Rattle.engine.proofs.steps.of_read.Statement.{statement}

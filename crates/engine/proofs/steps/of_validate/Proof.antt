@@ -1,4 +1,4 @@
--- `steps::of_validate` meets its contract: by what the answer is. Assumes nothing.
+-- `steps::of_validate` meets its contract: by what the answer is.
 use Rattle.engine.specs.Performs.{validate-is}
 use borrow.Author.Needs.{needs}
 use Rattle.engine.proofs.steps.of_validate.Statement.{statement}

@@ -1,5 +1,4 @@
 -- `steps::perform` meets its contract: the promise of the function that it calls, under the operation's name.
--- Assumes nothing.
 use mathlib.Core.Path.{refl}
 use Rattle.engine.specs.Performs.{quiet-plain, quiet-merge, quiet-as, performs-quiet, performs-as}
 use borrow.Author.Needs.{needs}

@@ -1,5 +1,4 @@
 -- `steps::take_access` meets its contract: the promise of the entry that it calls, under the operation's name.
--- Assumes nothing.
 use mathlib.Core.Path.{refl}
 use Rattle.engine.specs.Performs.{accesses, quiet-plain, quiet-read, performs-quiet, performs-scan}
 use borrow.Author.Needs.{needs}

@@ -1,5 +1,4 @@
 -- `steps::take_ending` meets its contract: the promise of the entry that it calls, under the operation's name.
--- Assumes nothing.
 use mathlib.Core.Path.{refl}
 use Rattle.engine.specs.Performs.{ending-is, quiet-plain, quiet-validate}
 use borrow.Author.Needs.{needs}

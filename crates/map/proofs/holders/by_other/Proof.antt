@@ -1,4 +1,4 @@
--- `map::holders::by_other` meets its contract: by the lock. Assumes nothing.
+-- `map::holders::by_other` meets its contract: by the lock.
 use borrow.Author.Needs.{needs}
 use Rattle.map.specs.LockLaws.{free-other, taken-other}
 use Rattle.map.proofs.holders.by_other.Statement.{statement}

@@ -1,4 +1,4 @@
--- `map::holders::locked_by_other` meets its contract: the test of what the indexlet says. Assumes nothing.
+-- `map::holders::locked_by_other` meets its contract: the test of what the indexlet says.
 use mathlib.Core.Path.{ap, sym, _∙_}
 use Rattle.spec.specs.Maps.{heldByOther}
 use borrow.Author.Needs.{needs}

@@ -1,4 +1,4 @@
--- `map::locks::addresses_with` meets its contract: the sum and what the rows that are left add stay the same. Assumes nothing.
+-- `map::locks::addresses_with` meets its contract: the sum and what the rows that are left add stay the same.
 use Prim.Native.Nat.{_+_, _-_, _≤_, zero-le}
 use native.Mathlib.Omega.{arith}
 use lib.ListN.{length}

@@ -1,4 +1,4 @@
--- `map::locks::by_own` meets its contract: by the lock. Assumes nothing.
+-- `map::locks::by_own` meets its contract: by the lock.
 use borrow.Author.Needs.{needs}
 use Rattle.map.specs.LockLaws.{free-own, taken-own}
 use Rattle.map.proofs.locks.by_own.Statement.{statement}

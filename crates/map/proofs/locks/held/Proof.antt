@@ -1,4 +1,4 @@
--- `map::locks::held` meets its contract: the rows that are left say what all rows say. Assumes nothing.
+-- `map::locks::held` meets its contract: the rows that are left say what all rows say.
 use Prim.Native.Nat.{_-_, _≤_, zero-le}
 use native.Mathlib.Omega.{arith}
 use mathlib.Core.Path.{_≡_, sym, ap, _∙_}

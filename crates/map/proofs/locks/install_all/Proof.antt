@@ -1,4 +1,4 @@
--- `map::locks::install_all` meets its contract: the map with the rows that are left installed stays the same. Assumes nothing.
+-- `map::locks::install_all` meets its contract: the map with the rows that are left installed stays the same.
 use Prim.Native.Nat.{_-_, _≤_, zero-le}
 use native.Mathlib.Omega.{arith}
 use Rattle.spec.specs.Records.{standard}

@@ -1,4 +1,4 @@
--- `map::locks::installed` meets its contract: the kind, value and number of the write, and no lock. Assumes nothing.
+-- `map::locks::installed` meets its contract: the kind, value and number of the write, and no lock.
 use borrow.Author.Needs.{needs}
 use Rattle.map.specs.LockLaws.{installs}
 use Rattle.map.proofs.locks.installed.Statement.{statement}

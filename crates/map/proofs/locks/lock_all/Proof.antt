@@ -1,4 +1,4 @@
--- `map::locks::lock_all` meets its contract: the map with the rows that are left locked stays the same. Assumes nothing.
+-- `map::locks::lock_all` meets its contract: the map with the rows that are left locked stays the same.
 use Prim.Native.Nat.{_-_, _≤_, zero-le}
 use native.Mathlib.Omega.{arith}
 use Rattle.lists.specs.Rows.{keys}

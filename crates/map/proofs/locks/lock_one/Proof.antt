@@ -1,4 +1,4 @@
--- `map::locks::lock_one` meets its contract: what is said is the content with the lock. Assumes nothing.
+-- `map::locks::lock_one` meets its contract: what is said is the content with the lock.
 use Rattle.laws.specs.SlotLaws.{fits}
 use borrow.Author.Needs.{needs}
 use Rattle.map.specs.LockLaws.{said-as, lock-said}

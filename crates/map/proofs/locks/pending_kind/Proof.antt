@@ -1,4 +1,4 @@
--- `map::locks::pending_kind` meets its contract: by the kind. Assumes nothing.
+-- `map::locks::pending_kind` meets its contract: by the kind.
 use Rattle.map.specs.LockLaws.{kind-put, kind-delete}
 use Rattle.map.proofs.locks.pending_kind.Statement.{statement}
 use Rattle.map.proofs.locks.pending_kind.Tie as tie

@@ -1,4 +1,4 @@
--- `map::locks::unknown_at` meets its contract: by the look-up in the index. Assumes nothing.
+-- `map::locks::unknown_at` meets its contract: by the look-up in the index.
 use borrow.Author.Needs.{needs}
 use Rattle.map.specs.AddressCounts.{unknown-one, unknown-none}
 use Rattle.map.proofs.locks.unknown_at.Statement.{statement}

@@ -1,4 +1,4 @@
--- `map::locks::unlock_all` meets its contract: the map with the rows that are left unlocked stays the same. Assumes nothing.
+-- `map::locks::unlock_all` meets its contract: the map with the rows that are left unlocked stays the same.
 use Prim.Native.Nat.{_-_, _≤_, zero-le}
 use native.Mathlib.Omega.{arith}
 use Rattle.lists.specs.Rows.{keys}

@@ -1,4 +1,4 @@
--- `map::locks::unlock_one` meets its contract: what is said is the content without the lock, where w has it. Assumes nothing.
+-- `map::locks::unlock_one` meets its contract: what is said is the content without the lock, where w has it.
 use mathlib.Core.Path.{sym, _∙_}
 use Rattle.spec.specs.Slots.{idle}
 use borrow.Author.Needs.{needs}

@@ -1,4 +1,4 @@
--- `map::locks::unsaid_at` meets its contract: by the test of what the indexlet says. Assumes nothing.
+-- `map::locks::unsaid_at` meets its contract: by the test of what the indexlet says.
 use borrow.Author.Needs.{needs}
 use Rattle.map.specs.AddressCounts.{unsaid-one, unsaid-none}
 use Rattle.map.proofs.locks.unsaid_at.Statement.{statement}

@@ -1,4 +1,4 @@
--- `map::locks::with_lock` meets its contract: only the lock differs. Assumes nothing.
+-- `map::locks::with_lock` meets its contract: only the lock differs.
 use Rattle.map.specs.LockLaws.{holding-words}
 use Rattle.map.proofs.locks.with_lock.Statement.{statement}
 use Rattle.map.proofs.locks.with_lock.Tie as tie

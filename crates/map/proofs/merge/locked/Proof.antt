@@ -1,4 +1,4 @@
--- `map::merge::locked` meets its contract: lock 0 is no lock. Assumes nothing.
+-- `map::merge::locked` meets its contract: lock 0 is no lock.
 use Rattle.map.specs.MergeWalks.{lock-none, lock-some}
 use Rattle.map.proofs.merge.locked.Statement.{statement}
 use Rattle.map.proofs.merge.locked.Tie as tie

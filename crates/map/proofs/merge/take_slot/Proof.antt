@@ -1,5 +1,4 @@
 -- `map::merge::take_slot` meets its contract: the address lies in another leaf, or nothing is pending, or it is taken in.
--- Assumes nothing.
 use Rattle.indexlet.specs.Words.{contentIn}
 use Rattle.index.specs.Views.{recordFrom}
 use Rattle.phantomlet.specs.LeafCounts.{leaf-outside, leaf-inside, reaches-yes, reaches-no}

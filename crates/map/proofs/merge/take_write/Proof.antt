@@ -1,4 +1,4 @@
--- `map::merge::take_write` meets its contract: what a pending write leaves is a record, or none. Assumes nothing.
+-- `map::merge::take_write` meets its contract: what a pending write leaves is a record, or none.
 use mathlib.Core.Path.{subst}
 use mathlib.Core.Option.{Option}
 use borrow.Author.Needs.{needs}

@@ -1,4 +1,4 @@
--- `map::say::outside_term` meets its contract: by the two tests. Assumes nothing.
+-- `map::say::outside_term` meets its contract: by the two tests.
 use borrow.Author.Needs.{needs}
 use Rattle.map.specs.SayLaws.{term-idle, term-outside, term-inside}
 use Rattle.map.proofs.say.outside_term.Statement.{statement}

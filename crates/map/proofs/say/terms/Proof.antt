@@ -1,4 +1,4 @@
--- `map::say::terms` meets its contract: what the callees answer, of what the indexlet says and of c. Assumes nothing.
+-- `map::say::terms` meets its contract: what the callees answer, of what the indexlet says and of c.
 use mathlib.Core.Path.{ap, sym, _∙_}
 use mathlib.Core.Bool.{Bool}
 use Rattle.spec.specs.Slots.{isIdle}

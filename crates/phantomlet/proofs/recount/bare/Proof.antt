@@ -1,4 +1,3 @@
--- `phantomlet::recount::bare` meets its contract. Assumes nothing.
 use mathlib.Core.Path.{refl}
 use Rattle.lists.specs.Tests.{atMost}
 use Rattle.phantomlet.specs.MergeCounts.{bare-some, bare-none}

@@ -1,4 +1,4 @@
--- `phantomlet::recount::reaches` meets its contract: one comparison does. Assumes nothing.
+-- `phantomlet::recount::reaches` meets its contract: one comparison does.
 use Rattle.phantomlet.specs.LeafCounts.{one-comparison}
 use borrow.Author.Needs.{needs}
 use Rattle.phantomlet.proofs.recount.reaches.Statement.{statement}

@@ -1,4 +1,4 @@
--- `codes::decode` meets its contract: at each return the tests say what the code means. Assumes nothing.
+-- `codes::decode` meets its contract: at each return the tests say what the code means.
 use mathlib.Core.Path.{_∙_}
 use Rattle.lists.specs.Tests.{same}
 use Rattle.replay.specs.Codes.{oneNumber}

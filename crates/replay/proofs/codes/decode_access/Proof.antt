@@ -1,4 +1,4 @@
--- `codes::decode_access` meets its contract: at each return the tests say what the code means. Assumes nothing.
+-- `codes::decode_access` meets its contract: at each return the tests say what the code means.
 use Rattle.lists.specs.Tests.{same}
 use Rattle.replay.specs.Codes.{accessOf}
 use Rattle.replay.specs.CodeLaws.{access-wide, access-kind, access-scan, access-scan-wide, access-other}

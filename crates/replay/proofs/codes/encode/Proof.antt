@@ -1,4 +1,4 @@
--- `codes::encode` meets its contract: by what the reply is. Assumes nothing.
+-- `codes::encode` meets its contract: by what the reply is.
 use Prim.Native.Nat.{ℕ}
 use mathlib.Core.Path.{_∙_, ap}
 use Rattle.replay.specs.Codes.{codedAs}

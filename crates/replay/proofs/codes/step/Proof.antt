@@ -1,4 +1,4 @@
--- `codes::step` meets its contract: what its code means is done, or nothing. Assumes nothing.
+-- `codes::step` meets its contract: what its code means is done, or nothing.
 use Rattle.replay.specs.CodeLaws.{steps-meant, steps-unmeant}
 use borrow.Author.Needs.{needs}
 use Rattle.replay.proofs.codes.step.Statement.{statement}

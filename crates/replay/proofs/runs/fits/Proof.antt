@@ -1,4 +1,4 @@
--- `runs::fits` meets its contract: the shorter buffer against half the room. Assumes nothing.
+-- `runs::fits` meets its contract: the shorter buffer against half the room.
 use native.Mathlib.Omega.{arith}
 use Rattle.replay.specs.FitLaws.{fits-few, fits-half}
 use Rattle.replay.proofs.runs.fits.Statement.{statement}

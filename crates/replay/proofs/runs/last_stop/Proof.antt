@@ -1,4 +1,4 @@
--- `runs::last_stop` meets its contract: by the words left over. Assumes nothing.
+-- `runs::last_stop` meets its contract: by the words left over.
 use mathlib.Core.Path.{sym, ap}
 use mathlib.Core.Bool.{Bool}
 use Rattle.lists.specs.Tests.{pick, same-yes, same-no}

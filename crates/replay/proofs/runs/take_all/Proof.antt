@@ -1,5 +1,4 @@
 -- `runs::take_all` meets its contract. The invariant: the run of all words is that of the codes taken, and then of the rest.
--- Assumes nothing.
 use Prim.Native.Nat.{_-_}
 use native.Mathlib.Omega.{arith}
 use mathlib.Core.Path.{refl, _∙_}

@@ -1,4 +1,4 @@
--- `runs::take_code` meets its contract: full, without meaning, or taken. Assumes nothing.
+-- `runs::take_code` meets its contract: full, without meaning, or taken.
 use Rattle.replay.specs.FitLaws.{fits-yes, fits-no}
 use Rattle.replay.specs.RunLaws.{turns-full, turns-unmeant, turns-taken, performs-roomy}
 use borrow.Author.Needs.{needs}

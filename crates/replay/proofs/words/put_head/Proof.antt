@@ -1,4 +1,4 @@
--- `words::put_head` meets its contract: two words and one. Assumes nothing.
+-- `words::put_head` meets its contract: two words and one.
 use borrow.Author.Needs.{needs}
 use Rattle.lists.specs.Texts.{wrote-join}
 use Rattle.replay.proofs.words.put_head.Statement.{statement}

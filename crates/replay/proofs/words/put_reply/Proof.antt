@@ -1,4 +1,4 @@
--- `words::put_reply` meets its contract: three words, and a scan's records. Assumes nothing.
+-- `words::put_reply` meets its contract: three words, and a scan's records.
 use native.Mathlib.Omega.{arith}
 use mathlib.Core.Path.{refl}
 use Rattle.lists.specs.Texts.{wrote-length}

@@ -1,4 +1,4 @@
--- `words::put_rows` meets its contract. The invariant: the first i records are written. Assumes nothing.
+-- `words::put_rows` meets its contract. The invariant: the first i records are written.
 use Prim.Native.Nat.{_-_, _≤_}
 use native.Mathlib.Omega.{arith}
 use Rattle.lists.specs.Texts.{wrote-length}

@@ -1,4 +1,4 @@
--- `words::put_two` meets its contract: two stores. Assumes nothing.
+-- `words::put_two` meets its contract: two stores.
 use native.Mathlib.Omega.{arith}
 use lib.ListN.{length-set}
 use Rattle.replay.specs.Words.{wrote-two}

@@ -1,4 +1,4 @@
--- `script::text::put_answer` meets its contract: a byte and a field. Assumes nothing.
+-- `script::text::put_answer` meets its contract: a byte and a field.
 use borrow.Author.Needs.{needs}
 use Rattle.lists.specs.Texts.{wrote-join}
 use Rattle.script.proofs.text.put_answer.Statement.{statement}

@@ -1,4 +1,4 @@
--- `script::text::put_field` meets its contract: a byte and a number. Assumes nothing.
+-- `script::text::put_field` meets its contract: a byte and a number.
 use borrow.Author.Needs.{needs}
 use Rattle.lists.specs.Texts.{wrote-join}
 use Rattle.script.specs.Output.{field}

@@ -1,4 +1,4 @@
--- `script::text::put_granted_line` meets its contract: an answer, a field and a byte. Assumes nothing.
+-- `script::text::put_granted_line` meets its contract: an answer, a field and a byte.
 use native.Mathlib.Omega.{arith}
 use borrow.Author.Needs.{needs}
 use Rattle.lists.specs.Texts.{wrote-join}

@@ -1,4 +1,4 @@
--- `script::text::put_malformed` meets its contract: two bytes. Assumes nothing.
+-- `script::text::put_malformed` meets its contract: two bytes.
 use borrow.Author.Needs.{needs}
 use Rattle.lists.specs.Texts.{wrote-join}
 use Rattle.script.proofs.text.put_malformed.Statement.{statement}

@@ -1,4 +1,4 @@
--- `script::text::put_number` meets its contract: a number is its last digits, as many as it has. Assumes nothing.
+-- `script::text::put_number` meets its contract: a number is its last digits, as many as it has.
 use borrow.Author.Needs.{needs}
 use Rattle.script.specs.OutputLaws.{wrote-digit, wrote-number}
 use Rattle.script.proofs.text.put_number.Statement.{statement}

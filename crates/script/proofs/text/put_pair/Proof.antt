@@ -1,4 +1,4 @@
--- `script::text::put_pair` meets its contract: two fields; the first leaves room for the second. Assumes nothing.
+-- `script::text::put_pair` meets its contract: two fields; the first leaves room for the second.
 use native.Mathlib.Omega.{arith}
 use borrow.Author.Needs.{needs}
 use Rattle.lists.specs.Texts.{wrote-join}

@@ -1,4 +1,4 @@
--- `script::text::put_pairs` meets its contract. The invariant: the first i pairs are written. Assumes nothing.
+-- `script::text::put_pairs` meets its contract. The invariant: the first i pairs are written.
 use Prim.Native.Nat.{_-_, _≤_}
 use native.Mathlib.Omega.{arith}
 use Rattle.lists.specs.Texts.{wrote-length}

@@ -1,4 +1,4 @@
--- `script::text::spell` meets its contract. The invariant: the digits after place i are written, and the rest has the others. Assumes nothing.
+-- `script::text::spell` meets its contract. The invariant: the digits after place i are written, and the rest has the others.
 use native.Mathlib.Omega.{arith}
 use Rattle.script.specs.OutputLaws.{Spelling, spelling-none, spelling-digit, spelling-end, spelling-length}
 use Rattle.script.proofs.text.spell.Statement.{statement}

@@ -1,4 +1,4 @@
--- `script::text::width` meets its contract. The invariant: the digits counted and those of the rest are all. Assumes nothing.
+-- `script::text::width` meets its contract. The invariant: the digits counted and those of the rest are all.
 use Prim.Native.Nat.{_+_}
 use native.Mathlib.Omega.{arith}
 use mathlib.Core.Path.{_≡_}

@@ -9,3 +9,5 @@ pub mod Closings
 pub mod Finishes
 pub mod Examples
 pub mod WholeRuns
+pub mod SerialOutput
+pub mod SerialOutputLaws

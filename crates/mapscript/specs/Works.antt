@@ -1,5 +1,5 @@
 -- What the program keeps from turn to turn: all that `console` asks.
-use Prim.Native.Nat.{ℕ, _+_, _≤_}
+use Prim.Native.Nat.{ℕ, _≤_}
 use native.Mathlib.Nat.{le-trans}
 use native.Mathlib.Omega.{arith}
 use mathlib.Core.Path.{_≡_, refl, sym, ap, _∙_, subst}
@@ -12,21 +12,22 @@ use Rattle.transactions.specs.Ready.{Ready}
 use Rattle.script.specs.Parsing.{After}
 use Rattle.console.specs.declared.session.Session.{Session}
 use Rattle.console.specs.Sessions.{Started, Begins, withPlaces}
-use Rattle.console.specs.Finishes.{longestEnd, Finishes}
+use Rattle.console.specs.Finishes.{Finishes}
 use Rattle.mapscript.specs.declared.Work.{Work}
 
--- the engine is ready, the parser has read some bytes of a line, and the places lie in buffers of so many bytes
-pub record WorkReady (l : Lent) (g : Logs) (w : Work) (room size : ℕ) : Type 0 where
+-- The engine is ready, the parser has read some bytes of a line, nothing that is due waits to be written, and the bytes of
+-- input lie in a buffer of so many.
+pub record WorkReady (l : Lent) (g : Logs) (w : Work) (size : ℕ) : Type 0 where
   pub ready : Ready l g (w .session .core)
   pub started : Started (w .session .parser)
-  pub room-left : w .session .at ≤ room
+  pub written : w .session .at ≡ 0
   pub count-fits : w .count ≤ size
 
--- the same session, but for its places
+-- the same session, but for its places: its output is taken away
 pub record Keeps (x y : Session) : Type 0 where
   pub core-is : y .core ≡ x .core
   pub parser-is : y .parser ≡ x .parser
-  pub at-most : y .at ≤ x .at
+  pub written : y .at ≡ 0
 
 -- a session after a read or a write, with the bytes of input that there are
 pub record Next (x : Session) (size : ℕ) (w : Work) : Type 0 where
@@ -35,41 +36,29 @@ pub record Next (x : Session) (size : ℕ) (w : Work) : Type 0 where
 
 -- ---- laws
 
-pub keeps-places : (x : Session) {y : Session} {n a : ℕ} → y ≡ withPlaces x n a → a ≤ x .at → Keeps x y
-keeps-places x {y} {n} {a} e h = subst (Keeps x) (sym e) (record { core-is = refl; parser-is = refl; at-most = h })
+pub keeps-written : (x : Session) {y : Session} {n : ℕ} → y ≡ withPlaces x n 0 → Keeps x y
+keeps-written x e = subst (Keeps x) (sym e) (record { core-is = refl; parser-is = refl; written = refl })
 
-pub holds-next : {l : Lent} {g : Logs} {x : Session} {w : Work} {room size : ℕ} → Ready l g (x .core) → Started (x .parser) → x .at ≤ room
-    → Next x size w → WorkReady l g w room size
-holds-next {l} {g} {x} {w} {room} {size} r s h n =
+pub holds-next : {l : Lent} {g : Logs} {x : Session} {w : Work} {size : ℕ} → Ready l g (x .core) → Started (x .parser) → Next x size w → WorkReady l g w size
+holds-next {l} {g} r s n =
     record {
       ready = subst (Ready l g) (sym (n .keeps .core-is)) r;
       started = subst Started (sym (n .keeps .parser-is)) s;
-      room-left = le-trans (n .keeps .at-most) h;
+      written = n .keeps .written;
       count-fits = n .fits;
     }
 
-pub holds-start : {l : Lent} {g : Logs} {x : Session} {w : Work} (room size : ℕ) → Begins l g x → w .session ≡ x → w .count ≡ 0 → WorkReady l g w room size
-holds-start {l} {g} {x} {w} room size b e c =
+pub holds-start : {l : Lent} {g : Logs} {x : Session} {w : Work} (size : ℕ) → Begins l g x → w .session ≡ x → w .count ≡ 0 → WorkReady l g w size
+holds-start {l} {g} size b e c =
     record {
       ready = subst (λ (y : Session). Ready l g (y .core)) (sym e) (b .fresh .ready);
       started = record { seen = []; after = subst (λ (y : Session). After [] (y .parser)) (sym e) (b .after) };
-      room-left = let q : w .session .at ≡ 0 = ap (λ (y : Session). y .at) e ∙ b .at-is in omega arith;
+      written = ap (λ (y : Session). y .at) e ∙ b .at-is;
       count-fits = omega arith;
     }
 
 pub next-within : {x : Session} {m n : ℕ} {w : Work} → Next x m w → m ≤ n → Next x n w
 next-within h k = record { keeps = h .keeps; fits = le-trans (h .fits) k }
-
--- with its output written, there is room for the last line
-pub end-room : {l : Lent} {g : Logs} (x : Session) {y : Session} {n m : ℕ} → y ≡ withPlaces x n 0 → Ready l g (x .core) → longestEnd ≤ m
-    → Ready l g (y .core) × (y .at + longestEnd ≤ m)
-end-room {l} {g} x {y} {n} {m} e r h = (
-  subst (λ (z : Session). Ready l g (z .core)) (sym e) r,
-  (let q : y .at ≡ 0 = ap (λ (z : Session). z .at) e in omega arith),
-)
-
-pub end-started : (x : Session) {y : Session} {n : ℕ} → y ≡ withPlaces x n 0 → Started (x .parser) → Started (y .parser)
-end-started x e s = subst (λ (z : Session). Started (z .parser)) (sym e) s
 
 -- the last line lies in the output
 pub finish-within : {l : Lent} {g : Logs} {x : Session} {old new : List ℕ} {next : ℕ} → Started (x .parser) → Finishes l g x old new next → next ≤ length new

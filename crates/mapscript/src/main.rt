@@ -24,6 +24,7 @@ use spec::READ_LIMIT;
 use spec::WORKERS;
 use spec::WRITE_LIMIT;
 ghost use Prim.Native.Nat.{_≤_};
+ghost use mathlib.Core.Path.{_≡_};
 ghost use lib.ListN.{length};
 ghost use Rattle.map.specs.Views.{lent};
 ghost use Rattle.transactions.specs.Views.{logs};
@@ -45,7 +46,7 @@ fn read_more(input: &mut [u8], x: Session) -> Work
     ensures { λ r. ⌜ Next x (length (now (input .exit))) r ⌝ }
 {
     let got = libc::read(STDIN_FILENO, input);
-    let y = session::at_places(x, 0, x.at);
+    let y = session::at_places(x, 0, 0);
     if got < 0 {
         return Work {
             session: y,
@@ -78,34 +79,26 @@ fn write_first(out: &[u8], n: usize) -> bool
     io::write_all(STDOUT_FILENO, &out[..n])
 }
 
-// After the lines that had room: if there are more, the output is full, and is written.
+// After the lines that had room: whatever is due for them is written, before anything else is read or run.
 fn settle(out: &[u8], x: Session, count: usize) -> Work
     requires { ⌜ x .at ≤ length (now out) ⌝ }
     ensures { λ r. ⌜ Next x count r ⌝ }
 {
-    if x.stopped {
-        return Work {
-            session: x,
-            count,
-            going: false,
-            failed: false,
-        };
-    }
-    if count <= x.next {
-        return Work {
-            session: x,
-            count,
-            going: true,
-            failed: false,
-        };
-    }
     let written = write_first(out, x.at);
     let y = session::at_places(x, x.next, 0);
+    if !written {
+        return Work {
+            session: y,
+            count,
+            going: false,
+            failed: true,
+        };
+    }
     Work {
         session: y,
         count,
-        going: written,
-        failed: !written,
+        going: !x.stopped,
+        failed: false,
     }
 }
 
@@ -121,8 +114,8 @@ fn advance(
     writes: &mut WriteSets,
     w: Work,
 ) -> Work
-    requires { ⌜ WorkReady (lent (now rows) (now leaves) (now slots)) (logs (now reads) (now leafsets) (now writes)) w (length (now out)) (length (now input)) ⌝ }
-    ensures { λ r. ⌜ WorkReady (lent (now (rows .exit)) (now (leaves .exit)) (now (slots .exit))) (logs (now (reads .exit)) (now (leafsets .exit)) (now (writes .exit))) r (length (now (out .exit))) (length (now (input .exit))) ⌝ }
+    requires { ⌜ WorkReady (lent (now rows) (now leaves) (now slots)) (logs (now reads) (now leafsets) (now writes)) w (length (now input)) ⌝ }
+    ensures { λ r. ⌜ WorkReady (lent (now (rows .exit)) (now (leaves .exit)) (now (slots .exit))) (logs (now (reads .exit)) (now (leafsets .exit)) (now (writes .exit))) r (length (now (input .exit))) ⌝ }
 {
     let x = w.session;
     let count = w.count;
@@ -143,7 +136,7 @@ fn advance(
     settle(out, y, count)
 }
 
-// The end: the output so far, and the last line.
+// The end: the last line, unless a read or a write failed.
 fn close(
     out: &mut [u8],
     rows: &Records,
@@ -156,17 +149,13 @@ fn close(
 )
     requires { ⌜ Ready (lent (now rows) (now leaves) (now slots)) (logs (now reads) (now leafsets) (now writes)) (w .session .core) ⌝ }
     requires { ⌜ Started (w .session .parser) ⌝ }
-    requires { ⌜ (w .session .at ≤ length (now out)) × (longestEnd ≤ length (now out)) ⌝ }
+    requires { ⌜ (w .session .at ≡ 0) × (longestEnd ≤ length (now out)) ⌝ }
 {
     if w.failed {
         return;
     }
     let x = w.session;
-    if !write_first(out, x.at) {
-        return;
-    }
-    let y = session::at_places(x, x.next, 0);
-    let last = closing::finish(out, rows, leaves, slots, reads, leafsets, writes, y);
+    let last = closing::finish(out, rows, leaves, slots, reads, leafsets, writes, x);
     write_first(out, last);
 }
 

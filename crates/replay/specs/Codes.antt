@@ -3,8 +3,8 @@ use Prim.Native.Nat.{ℕ, _^_}
 use mathlib.Core.Path.{_≡_}
 use mathlib.Core.List.{List, [], _∷_}
 use mathlib.Core.Option.{none, some}
-use lib.ListN.{length}
-use Rattle.lists.specs.Tests.{pick, same, less}
+use lib.ListN.{length, take, drop}
+use Rattle.lists.specs.Tests.{pick, both, same, less, atMost}
 use Rattle.lists.specs.Rows.{Row}
 use Rattle.spec.specs.Records.{Payload}
 use Rattle.spec.specs.Refusals.{numberOf}
@@ -16,41 +16,47 @@ use Rattle.engine.specs.declared.steps.Access.the-variants as access
 use Rattle.engine.specs.declared.steps.Ending.the-variants as ending
 use Rattle.engine.specs.declared.steps.Op.{Op}
 use Rattle.engine.specs.declared.steps.Op.the-variants as op
+use Rattle.engine.specs.declared.steps.Performed.{Performed}
 use Rattle.engine.specs.declared.steps.Reply.{Reply}
 use Rattle.engine.specs.declared.steps.Reply.the-variants as reply
 use Rattle.engine.specs.Performs.{Performs}
 use Rattle.replay.specs.declared.codes.Code.{Code}
-use Rattle.replay.specs.declared.codes.Decoded.{Decoded}
-use Rattle.replay.specs.declared.codes.Decoded.the-variants.{Meant, Meaningless}
+use Rattle.replay.specs.declared.decodes.Decoded.{Decoded}
+use Rattle.replay.specs.declared.decodes.Decoded.the-variants.{Meant, Meaningless}
 use Rattle.replay.specs.declared.codes.Coded.{Coded}
 use Rattle.replay.specs.declared.codes.Stepped.{Stepped}
 
 -- ---- steps
 
--- read, scan, put, remove: the seat, the address or the lower end, and the upper end or the value
-unfoldable pub accessOf : ℕ → ℕ → ℕ → ℕ → Decoded
-accessOf k w b d =
-    pick (same k 1) (Meant (op.Access w (access.Read b)))
-    (pick (same k 2) (pick (less d (2 ^ 32)) (Meant (op.Access w (access.Scan b d))) Meaningless)
-    (pick (same k 3) (Meant (op.Access w (access.Put b d)))
-    (pick (same k 4) (Meant (op.Access w (access.Remove b))) Meaningless)))
+-- a scan: the seat, the ends of the range, and the places that it wants, of lent buffers of m and n places
+unfoldable pub decodedScan : ℕ → ℕ → Code → Decoded
+decodedScan m n k =
+    pick (both (less (k .c) (2 ^ 32)) (both (atMost (k .d) m) (atMost (k .e) n)))
+    (Meant (op.Access (k .a) (access.Scan (k .b) (k .c))) (k .d) (k .e))
+    Meaningless
 
-unfoldable pub decodedAccess : ℕ → ℕ → ℕ → ℕ → Decoded
-decodedAccess k w b d = pick (less b (2 ^ 32)) (accessOf k w b d) Meaningless
+-- read, scan, put, remove: the seat, the address or the lower end, and the upper end or the value; all but a scan want no places
+unfoldable pub decodedAccess : ℕ → ℕ → Code → Decoded
+decodedAccess m n k =
+    pick (less (k .b) (2 ^ 32))
+    (pick (same (k .kind) 1) (Meant (op.Access (k .a) (access.Read (k .b))) 0 0)
+    (pick (same (k .kind) 2) (decodedScan m n k)
+    (pick (same (k .kind) 3) (Meant (op.Access (k .a) (access.Put (k .b) (k .c))) 0 0)
+    (pick (same (k .kind) 4) (Meant (op.Access (k .a) (access.Remove (k .b))) 0 0) Meaningless))))
+    Meaningless
 
--- begin, lock, validate, install and abort have a seat, a fold an address; else as given
-unfoldable pub oneNumber : ℕ → ℕ → Decoded → Decoded
-oneNumber k a other =
-    pick (same k 0) (Meant (op.Begin a))
-    (pick (same k 5) (Meant (op.Ending a ending.Lock))
-    (pick (same k 6) (Meant (op.Ending a ending.Validate))
-    (pick (same k 7) (Meant (op.Ending a ending.Install))
-    (pick (same k 8) (Meant (op.Ending a ending.Abort)) (pick (same k 9) (Meant (op.Merge a)) other)))))
-
--- what a code means; a seat or an address has 32 bits
-unfoldable pub decoded : Code → Decoded
-decoded k =
-    pick (less (k .a) (2 ^ 32)) (oneNumber (k .kind) (k .a) (decodedAccess (k .kind) (k .a) (k .b) (k .d))) Meaningless
+-- What a code means with lent buffers of m and n places: the operation, and how many places it wants. Begin, lock, validate,
+-- install and abort have a seat, a fold an address. A seat or an address has 32 bits.
+unfoldable pub decoded : ℕ → ℕ → Code → Decoded
+decoded m n k =
+    pick (less (k .a) (2 ^ 32))
+    (pick (same (k .kind) 0) (Meant (op.Begin (k .a)) 0 0)
+    (pick (same (k .kind) 5) (Meant (op.Ending (k .a) ending.Lock) 0 0)
+    (pick (same (k .kind) 6) (Meant (op.Ending (k .a) ending.Validate) 0 0)
+    (pick (same (k .kind) 7) (Meant (op.Ending (k .a) ending.Install) 0 0)
+    (pick (same (k .kind) 8) (Meant (op.Ending (k .a) ending.Abort) 0 0)
+    (pick (same (k .kind) 9) (Meant (op.Merge (k .a)) 0 0) (decodedAccess m n k)))))))
+    Meaningless
 
 -- ---- answers
 
@@ -88,14 +94,20 @@ wordsOf (counted n) = 0 ∷ 5 ∷ n ∷ []
 
 -- ---- a step
 
+-- A step performed with the first m places of the address buffer and the first n of the value buffer; the others are as they were.
+pub record PerformsFirst (l : Lent) (g : Logs) (c : Core) (o : Op) (m n : ℕ) (ks vs : List ℕ) (l' : Lent) (g' : Logs) (ks' vs' : List ℕ) (r : Performed) : Type 0 where
+  pub performs : Performs l g c o (take m ks) (take n vs) l' g' (take m ks') (take n vs') r
+  pub addresses : drop m ks' ≡ drop m ks
+  pub values : drop n vs' ≡ drop n vs
+
 -- a step that was taken, and its answer in numbers
-pub record Told (l : Lent) (g : Logs) (c : Core) (o : Op) (ks vs : List ℕ) (l' : Lent) (g' : Logs) (ks' vs' : List ℕ) (r : Stepped) : Type 0 where
+pub record CodeTaken (l : Lent) (g : Logs) (c : Core) (o : Op) (m n : ℕ) (ks vs : List ℕ) (l' : Lent) (g' : Logs) (ks' vs' : List ℕ) (r : Stepped) : Type 0 where
   pub reply : Reply
-  pub performs : Performs l g c o ks vs l' g' ks' vs' (record { core = r .core; reply = reply })
+  pub performs : PerformsFirst l g c o m n ks vs l' g' ks' vs' (record { core = r .core; reply = reply })
   pub answer : r .answer ≡ codedOf reply
 
 -- nothing was done
-pub record Left (l : Lent) (g : Logs) (c : Core) (ks vs : List ℕ) (l' : Lent) (g' : Logs) (ks' vs' : List ℕ) (r : Stepped) : Type 0 where
+pub record Unchanged (l : Lent) (g : Logs) (c : Core) (ks vs : List ℕ) (l' : Lent) (g' : Logs) (ks' vs' : List ℕ) (r : Stepped) : Type 0 where
   pub map : l' ≡ l
   pub logs : g' ≡ g
   pub addresses : ks' ≡ ks
@@ -103,6 +115,6 @@ pub record Left (l : Lent) (g : Logs) (c : Core) (ks vs : List ℕ) (l' : Lent) 
   pub outcome : r ≡ record { core = c; answer = noMeaning }
 
 -- A step in coded form: the arrays, the core and the buffers before it, and those after it.
-pub record Steps (l : Lent) (g : Logs) (c : Core) (k : Code) (ks vs : List ℕ) (l' : Lent) (g' : Logs) (ks' vs' : List ℕ) (r : Stepped) : Type 0 where
-  pub told : (o : Op) → decoded k ≡ Meant o → Told l g c o ks vs l' g' ks' vs' r
-  pub unmeant : decoded k ≡ Meaningless → Left l g c ks vs l' g' ks' vs' r
+pub record CodedStep (l : Lent) (g : Logs) (c : Core) (k : Code) (ks vs : List ℕ) (l' : Lent) (g' : Logs) (ks' vs' : List ℕ) (r : Stepped) : Type 0 where
+  pub meant : (o : Op) (m n : ℕ) → decoded (length ks) (length vs) k ≡ Meant o m n → CodeTaken l g c o m n ks vs l' g' ks' vs' r
+  pub meaningless : decoded (length ks) (length vs) k ≡ Meaningless → Unchanged l g c ks vs l' g' ks' vs' r

@@ -1,7 +1,9 @@
 pub mod Codes
 pub mod CodeLaws
+pub mod PartLaws
 pub mod Replays
 pub mod Words
+pub mod WordLaws
 pub mod FitLaws
 pub mod ShownLaws
 pub mod RunLaws

@@ -11,10 +11,11 @@ use Rattle.lists.specs.Rows.{Row}
 use Rattle.lists.specs.Texts.{Wrote, wrote-join, wrote-length}
 use Rattle.spec.specs.Records.{standard, Payload}
 use Rattle.spec.specs.Maps.{MapState, contents}
-use Rattle.spec.specs.Steps.{State, fresh, Answer, refused, done, found, listed, numbered, counted, answer, next, Event, final, history}
+use Rattle.spec.specs.Steps.{State, Step, fresh, Answer, refused, done, found, listed, numbered, counted, answer, next, Event, final, history}
 use Rattle.spec.specs.Runs.{stepsOf}
 use Rattle.spec.specs.Claim.{SerialRun}
 use Rattle.serial.specs.Theorem.{theorem}
+use Rattle.calls.specs.CallLaws.{map-in}
 use Rattle.map.specs.Views.{Lent, mapOf}
 use Rattle.transactions.specs.declared.Core.{Core}
 use Rattle.transactions.specs.Views.{Logs, stateOf}
@@ -23,14 +24,14 @@ use Rattle.transactions.specs.Starts.{Fresh}
 use Rattle.engine.specs.declared.steps.Op.{Op}
 use Rattle.engine.specs.Performs.{stepIn}
 use Rattle.replay.specs.declared.codes.Code.{Code}
-use Rattle.replay.specs.declared.codes.Decoded.{Decoded}
-use Rattle.replay.specs.declared.codes.Decoded.the-variants.{Meant, Meaningless}
+use Rattle.replay.specs.declared.decodes.Decoded.{Decoded}
+use Rattle.replay.specs.declared.decodes.Decoded.the-variants.{Meant, Meaningless}
 use Rattle.replay.specs.declared.runs.Stop.{Stop}
 use Rattle.replay.specs.declared.runs.Stop.the-variants as stop
-use Rattle.replay.specs.declared.runs.Turn.{Turn}
+use Rattle.replay.specs.declared.runs.AfterCode.{AfterCode}
 use Rattle.replay.specs.Codes.{decoded, wordsOf}
-use Rattle.replay.specs.Replays.{Ran, ended, event, after, byMeaning, codeOf, longest, ran, allWords, leftIn, addressOf, valueOf, listedIn, runOf, Replays}
-use Rattle.replay.specs.RunLaws.{codeAt, drop-four, before, chained, tally, Turns}
+use Rattle.replay.specs.Replays.{Ran, ended, event, followedBy, byMeaning, stepWords, codeOf, longestAnswer, ran, allWords, leftIn, addressOf, valueOf, listedIn, runOf, Replays}
+use Rattle.replay.specs.RunLaws.{codeAt, wordsFrom, drop-code, allFollowedBy, chained, tally, TakesCode}
 
 -- ---- a run is the model's
 
@@ -42,9 +43,9 @@ models-ended : (t : Stop) (σ : State) → Models σ (ended t σ)
 unfolding history final
 models-ended t σ = record { answers = refl; state = refl }
 
-models-after : (σ : State) (o : Op) (m n : ℕ) (r : Ran) → Models (next σ (stepIn o m n)) r → Models σ (after (event (stepIn o m n) (answer σ (stepIn o m n))) r)
+models-step : (σ : State) (o : Op) (m n : ℕ) (r : Ran) → Models (next σ (stepIn o m n)) r → Models σ (followedBy (event (stepIn o m n) (answer σ (stepIn o m n))) r)
 unfolding history final
-models-after σ o m n r h =
+models-step σ o m n r h =
     record { answers = ap (λ (es : List Event). event (stepIn o m n) (answer σ (stepIn o m n)) ∷ es) (h .answers); state = h .state }
 
 pub ran-model : (m n : ℕ) (σ : State) (room : ℕ) (ws : List ℕ) → Models σ (ran m n σ room ws)
@@ -53,20 +54,27 @@ ran-model m n σ room [] = models-ended stop.Complete σ
 ran-model m n σ room (k ∷ []) = models-ended stop.Meaningless σ
 ran-model m n σ room (k ∷ a ∷ []) = models-ended stop.Meaningless σ
 ran-model m n σ room (k ∷ a ∷ b ∷ []) = models-ended stop.Meaningless σ
-ran-model m n σ room (k ∷ a ∷ b ∷ d ∷ ws) =
-    go (less room (longest m n)) (decoded (codeOf k a b d))
-    (λ (o : Op). ran-model m n (next σ (stepIn o m n)) (room - length (wordsOf (answer σ (stepIn o m n)))) ws)
+ran-model m n σ room (k ∷ a ∷ b ∷ c ∷ []) = models-ended stop.Meaningless σ
+ran-model m n σ room (k ∷ a ∷ b ∷ c ∷ d ∷ []) = models-ended stop.Meaningless σ
+ran-model m n σ room (k ∷ a ∷ b ∷ c ∷ d ∷ e ∷ ws) =
+    go (decoded m n (codeOf k a b c d e))
+    (λ (s : Step). ran-model m n (next σ s) (room - length (wordsOf (answer σ s))) ws)
   where
-    go : (f : Bool) (x : Decoded)
-        → ((o : Op) → Models (next σ (stepIn o m n)) (ran m n (next σ (stepIn o m n)) (room - length (wordsOf (answer σ (stepIn o m n)))) ws))
-        → Models σ (pick f (ended stop.Full σ)
+    rest : Step → Ran
+    rest s = ran m n (next σ s) (room - length (wordsOf (answer σ s))) ws
+
+    on : (f : Bool) (o : Op) (p q : ℕ) → Models (next σ (stepIn o p q)) (rest (stepIn o p q))
+        → Models σ (pick f (ended stop.Full σ) (followedBy (event (stepIn o p q) (answer σ (stepIn o p q))) (rest (stepIn o p q))))
+    on true o p q ih = models-ended stop.Full σ
+    on false o p q ih = models-step σ o p q (rest (stepIn o p q)) ih
+
+    go : (x : Decoded) → ((s : Step) → Models (next σ s) (rest s))
+        → Models σ
         (byMeaning x (ended stop.Meaningless σ)
-        (λ (o : Op). after (event (stepIn o m n) (answer σ (stepIn o m n)))
-        (ran m n (next σ (stepIn o m n)) (room - length (wordsOf (answer σ (stepIn o m n)))) ws))))
-    go true x ih = models-ended stop.Full σ
-    go false Meaningless ih = models-ended stop.Meaningless σ
-    go false (Meant o) ih =
-        models-after σ o m n (ran m n (next σ (stepIn o m n)) (room - length (wordsOf (answer σ (stepIn o m n)))) ws) (ih o)
+        (λ (o : Op) (p q : ℕ). pick (less room (longestAnswer p q)) (ended stop.Full σ)
+        (followedBy (event (stepIn o p q) (answer σ (stepIn o p q))) (rest (stepIn o p q)))))
+    go Meaningless ih = models-ended stop.Meaningless σ
+    go (Meant o p q) ih = on (less room (longestAnswer p q)) o p q (ih (stepIn o p q))
 
 -- demand 3 of a run
 pub ran-serial : (m n room : ℕ) (ws : List ℕ) → SerialRun (ran m n (fresh standard) room ws .events) (contents (ran m n (fresh standard) room ws .state .map))
@@ -81,13 +89,15 @@ ran-serial m n room ws =
 abbrev pub restStop : ℕ → Stop
 restStop n = pick (same n 0) stop.Complete stop.Meaningless
 
-ran-rest : (m n : ℕ) (σ : State) (room : ℕ) (ws : List ℕ) → length ws < 4 → ran m n σ room ws ≡ ended (restStop (length ws)) σ
+ran-rest : (m n : ℕ) (σ : State) (room : ℕ) (ws : List ℕ) → length ws < stepWords → ran m n σ room ws ≡ ended (restStop (length ws)) σ
 unfolding ran same
 ran-rest m n σ room [] h = refl
 ran-rest m n σ room (k ∷ []) h = refl
 ran-rest m n σ room (k ∷ a ∷ []) h = refl
 ran-rest m n σ room (k ∷ a ∷ b ∷ []) h = refl
-ran-rest m n σ room (k ∷ a ∷ b ∷ d ∷ ws) h = absurd (let z : ⊥ = omega arith in z)
+ran-rest m n σ room (k ∷ a ∷ b ∷ c ∷ []) h = refl
+ran-rest m n σ room (k ∷ a ∷ b ∷ c ∷ d ∷ []) h = refl
+ran-rest m n σ room (k ∷ a ∷ b ∷ c ∷ d ∷ e ∷ ws) h = absurd (let z : ⊥ = omega arith in z)
 
 -- ---- buffers
 
@@ -116,10 +126,6 @@ words-append (e ∷ es) fs =
     ap (λ (ws : List ℕ). wordsOf (e .answer) ++ ws) (words-append es fs) ∙ sym (append-assoc (wordsOf (e .answer)) (allWords es) (allWords fs))
 
 -- ---- the promise, once the run is known
-
-pub map-in : (l : Lent) (g : Logs) (c : Core) → stateOf l g c .map ≡ mapOf l (c .sizes)
-unfolding stateOf
-map-in l g c = refl
 
 ends : {words ks₀ vs₀ out₀ : List ℕ} {l : Lent} {g : Logs} {c : Core} {ks vs out : List ℕ} {at i : ℕ} {x : Stop} {es : List Event} → Ready l g c
     → runOf words ks₀ vs₀ out₀ ≡ record { events = es; stop = x; state = stateOf l g c } → i ≡ length es → Wrote out₀ 0 (allWords es) out at
@@ -150,9 +156,9 @@ pub record Replaying (words ks₀ vs₀ out₀ : List ℕ) (l : Lent) (g : Logs)
   pub events : List Event
   pub ready : Ready l g c
   pub wrote : Wrote out₀ 0 (allWords events) out at
-  pub run : runOf words ks₀ vs₀ out₀ ≡ before events (ran (length ks₀) (length vs₀) (stateOf l g c) (length out₀ - at) (drop (4 * i) words))
+  pub run : runOf words ks₀ vs₀ out₀ ≡ allFollowedBy events (ran (length ks₀) (length vs₀) (stateOf l g c) (length out₀ - at) (drop (stepWords * i) words))
   pub count : i ≡ length events
-  pub inside : i ≤ length words / 4
+  pub inside : i ≤ length words / stepWords
   pub addresses : ks ≡ leftIn addressOf events ks₀
   pub values : vs ≡ leftIn valueOf events vs₀
 
@@ -190,8 +196,8 @@ module _ {words ks₀ vs₀ out₀ : List ℕ} {l : Lent} {g : Logs} {c : Core} 
       let o : length out ≡ length out₀ = replaying-out in
       omega arith
 
-module _ {l l' : Lent} {g g' : Logs} {c : Core} {k : Code} {ks vs out ks' vs' out' : List ℕ} {at : ℕ} {t : Turn}
-    (u : Turns l g c k ks vs out at l' g' ks' vs' out' t)
+module _ {l l' : Lent} {g g' : Logs} {c : Core} {k : Code} {ks vs out ks' vs' out' : List ℕ} {at : ℕ} {t : AfterCode}
+    (u : TakesCode l g c k ks vs out at l' g' ks' vs' out' t)
   where
     pub turned-addresses : length ks' ≡ length ks
     turned-addresses = ap length (u .addresses) ∙ left-length addressOf (u .events) ks
@@ -202,31 +208,31 @@ module _ {l l' : Lent} {g g' : Logs} {c : Core} {k : Code} {ks vs out ks' vs' ou
     pub turned-out : length out' ≡ length out
     turned-out = wrote-length (u .wrote)
 
-    pub turns-as : {j : Code} → k ≡ j → Turns l g c j ks vs out at l' g' ks' vs' out' t
-    turns-as e = subst (λ (x : Code). Turns l g c x ks vs out at l' g' ks' vs' out' t) e u
+    pub takes-as : {j : Code} → k ≡ j → TakesCode l g c j ks vs out at l' g' ks' vs' out' t
+    takes-as e = subst (λ (x : Code). TakesCode l g c x ks vs out at l' g' ks' vs' out' t) e u
 
-module _ {words ks₀ vs₀ out₀ : List ℕ} {l l' : Lent} {g g' : Logs} {c : Core} {ks vs out ks' vs' out' : List ℕ} {at i : ℕ} {t : Turn}
-    (h : Replaying words ks₀ vs₀ out₀ l g c ks vs out at i) (u : Turns l g c (codeAt words i) ks vs out at l' g' ks' vs' out' t)
-    (whole : 4 * i + 4 ≤ length words)
+module _ {words ks₀ vs₀ out₀ : List ℕ} {l l' : Lent} {g g' : Logs} {c : Core} {ks vs out ks' vs' out' : List ℕ} {at i : ℕ} {t : AfterCode}
+    (h : Replaying words ks₀ vs₀ out₀ l g c ks vs out at i) (u : TakesCode l g c (codeAt words i) ks vs out at l' g' ks' vs' out' t)
+    (whole : stepWords * i + stepWords ≤ length words)
   where
-    -- the run after the turn
+    -- the run after the code
     turned : runOf words ks₀ vs₀ out₀
-        ≡ before (h .events)
+        ≡ allFollowedBy (h .events)
         (chained (u .events) (t .stop) (stateOf l' g' (t .core))
-        (ran (length ks₀) (length vs₀) (stateOf l' g' (t .core)) (length out₀ - t .at) (drop (4 * (i + 1)) words)))
+        (ran (length ks₀) (length vs₀) (stateOf l' g' (t .core)) (length out₀ - t .at) (drop (stepWords * (i + 1)) words)))
     turned =
         let m : length ks ≡ length ks₀ = replaying-addresses h in
         let n : length vs ≡ length vs₀ = replaying-values h in
         let o : length out ≡ length out₀ = replaying-out h in
-        let rest = drop (4 * (i + 1)) words in
+        let rest = drop (stepWords * (i + 1)) words in
         h .run
-        ∙ ap (λ (ws : List ℕ). before (h .events) (ran (length ks₀) (length vs₀) (stateOf l g c) (length out₀ - at) ws)) (drop-four words i whole)
-        ∙ ap (before (h .events))
-        (subst (λ (x : ℕ). ran x (length vs₀) (stateOf l g c) (length out₀ - at) (codeAt words i .kind ∷ codeAt words i .a ∷ codeAt words i .b ∷ codeAt words i .d ∷ rest)
+        ∙ ap (λ (ws : List ℕ). allFollowedBy (h .events) (ran (length ks₀) (length vs₀) (stateOf l g c) (length out₀ - at) ws)) (drop-code words i whole)
+        ∙ ap (allFollowedBy (h .events))
+        (subst (λ (x : ℕ). ran x (length vs₀) (stateOf l g c) (length out₀ - at) (wordsFrom (codeAt words i) rest)
         ≡ chained (u .events) (t .stop) (stateOf l' g' (t .core)) (ran x (length vs₀) (stateOf l' g' (t .core)) (length out₀ - t .at) rest)) m
-        (subst (λ (x : ℕ). ran (length ks) x (stateOf l g c) (length out₀ - at) (codeAt words i .kind ∷ codeAt words i .a ∷ codeAt words i .b ∷ codeAt words i .d ∷ rest)
+        (subst (λ (x : ℕ). ran (length ks) x (stateOf l g c) (length out₀ - at) (wordsFrom (codeAt words i) rest)
         ≡ chained (u .events) (t .stop) (stateOf l' g' (t .core)) (ran (length ks) x (stateOf l' g' (t .core)) (length out₀ - t .at) rest)) n
-        (subst (λ (x : ℕ). ran (length ks) (length vs) (stateOf l g c) (x - at) (codeAt words i .kind ∷ codeAt words i .a ∷ codeAt words i .b ∷ codeAt words i .d ∷ rest)
+        (subst (λ (x : ℕ). ran (length ks) (length vs) (stateOf l g c) (x - at) (wordsFrom (codeAt words i) rest)
         ≡ chained (u .events) (t .stop) (stateOf l' g' (t .core)) (ran (length ks) (length vs) (stateOf l' g' (t .core)) (x - t .at) rest)) o (u .run rest))))
 
     all-wrote : Wrote out₀ 0 (allWords (h .events ++ u .events)) out' (t .at)
@@ -243,14 +249,14 @@ module _ {words ks₀ vs₀ out₀ : List ℕ} {l l' : Lent} {g g' : Logs} {c : 
         let one : length (u .events) ≡ 1 = u .count ∙ ap tally e in
         let many : length (h .events ++ u .events) ≡ length (h .events) + length (u .events) = length-append (h .events) (u .events) in
         let had : i ≡ length (h .events) = h .count in
-        let r = ran (length ks₀) (length vs₀) (stateOf l' g' (t .core)) (length out₀ - t .at) (drop (4 * (i + 1)) words) in
+        let r = ran (length ks₀) (length vs₀) (stateOf l' g' (t .core)) (length out₀ - t .at) (drop (stepWords * (i + 1)) words) in
         record {
           events = h .events ++ u .events;
           ready = u .ready;
           wrote = all-wrote;
           run =
               turned
-              ∙ ap (λ (x : Stop). before (h .events) (chained (u .events) x (stateOf l' g' (t .core)) r)) e
+              ∙ ap (λ (x : Stop). allFollowedBy (h .events) (chained (u .events) x (stateOf l' g' (t .core)) r)) e
               ∙ ap (λ (es : List Event). record { events = es; stop = r .stop; state = r .state }) (sym (append-assoc (h .events) (u .events) (r .events)));
           count = omega arith;
           inside = omega arith;
@@ -258,7 +264,7 @@ module _ {words ks₀ vs₀ out₀ : List ℕ} {l l' : Lent} {g g' : Logs} {c : 
           values = all-values;
         }
 
-    -- a turn that stops takes no step
+    -- a code at which the run stops takes no step
     stopped : (x : Stop) → t .stop ≡ x → tally x ≡ 0 → u .events ≡ []
     stopped x e z = no-events (u .events) (u .count ∙ ap tally e ∙ z)
 
@@ -267,12 +273,12 @@ module _ {words ks₀ vs₀ out₀ : List ℕ} {l l' : Lent} {g g' : Logs} {c : 
     replays-stop x e z q =
         let none : u .events ≡ [] = stopped x e z in
         let all : h .events ++ u .events ≡ h .events = ap (λ (es : List Event). h .events ++ es) none ∙ append-nil (h .events) in
-        let r = ran (length ks₀) (length vs₀) (stateOf l' g' (t .core)) (length out₀ - t .at) (drop (4 * (i + 1)) words) in
+        let r = ran (length ks₀) (length vs₀) (stateOf l' g' (t .core)) (length out₀ - t .at) (drop (stepWords * (i + 1)) words) in
         ends (u .ready)
         (turned
-        ∙ ap (λ (y : Stop). before (h .events) (chained (u .events) y (stateOf l' g' (t .core)) r)) e
-        ∙ ap (λ (es : List Event). before (h .events) (chained es x (stateOf l' g' (t .core)) r)) none
-        ∙ ap (before (h .events)) (q r (stateOf l' g' (t .core)))
+        ∙ ap (λ (y : Stop). allFollowedBy (h .events) (chained (u .events) y (stateOf l' g' (t .core)) r)) e
+        ∙ ap (λ (es : List Event). allFollowedBy (h .events) (chained es x (stateOf l' g' (t .core)) r)) none
+        ∙ ap (allFollowedBy (h .events)) (q r (stateOf l' g' (t .core)))
         ∙ ap (λ (es : List Event). record { events = es; stop = x; state = stateOf l' g' (t .core) }) (append-nil (h .events)))
         (h .count)
         (subst (λ (es : List Event). Wrote out₀ 0 (allWords es) out' (t .at)) all all-wrote)
@@ -281,16 +287,16 @@ module _ {words ks₀ vs₀ out₀ : List ℕ} {l l' : Lent} {g g' : Logs} {c : 
 
 -- no code is left
 pub replays-end : {words ks₀ vs₀ out₀ : List ℕ} {l : Lent} {g : Logs} {c : Core} {ks vs out : List ℕ} {at : ℕ} {x : Stop} (i : ℕ)
-    → Replaying words ks₀ vs₀ out₀ l g c ks vs out at i → length words / 4 ≤ i → x ≡ restStop (length words % 4)
+    → Replaying words ks₀ vs₀ out₀ l g c ks vs out at i → length words / stepWords ≤ i → x ≡ restStop (length words % stepWords)
     → Replays words ks₀ vs₀ out₀ l g ks vs out (record { core = c; taken = i; written = at; stop = x })
 replays-end {words} {ks₀} {vs₀} {out₀} {l} {g} {c} {at} {x} i h b e =
-    let a : i ≤ length words / 4 = h .inside in
-    let d : length (drop (4 * i) words) ≡ length words - 4 * i = length-drop (4 * i) words in
-    let n : length (drop (4 * i) words) ≡ length words % 4 = d ∙ (let z : length words - 4 * i ≡ length words % 4 = omega arith in z) in
+    let a : i ≤ length words / stepWords = h .inside in
+    let d : length (drop (stepWords * i) words) ≡ length words - stepWords * i = length-drop (stepWords * i) words in
+    let n : length (drop (stepWords * i) words) ≡ length words % stepWords = d ∙ (let z : length words - stepWords * i ≡ length words % stepWords = omega arith in z) in
     ends (h .ready)
     (h .run
-    ∙ ap (before (h .events))
-    (ran-rest (length ks₀) (length vs₀) (stateOf l g c) (length out₀ - at) (drop (4 * i) words) (let z : length (drop (4 * i) words) < 4 = omega arith in z)
+    ∙ ap (allFollowedBy (h .events))
+    (ran-rest (length ks₀) (length vs₀) (stateOf l g c) (length out₀ - at) (drop (stepWords * i) words) (let z : length (drop (stepWords * i) words) < stepWords = omega arith in z)
     ∙ ap (λ (y : ℕ). ended (restStop y) (stateOf l g c)) n
     ∙ ap (λ (y : Stop). ended y (stateOf l g c)) (sym e))
     ∙ ap (λ (es : List Event). record { events = es; stop = x; state = stateOf l g c }) (append-nil (h .events)))

@@ -18,8 +18,8 @@ use Rattle.transactions.specs.Ready.{Ready}
 use Rattle.engine.specs.declared.steps.Op.{Op}
 use Rattle.engine.specs.Performs.{stepIn}
 use Rattle.replay.specs.declared.codes.Code.{Code}
-use Rattle.replay.specs.declared.codes.Decoded.{Decoded}
-use Rattle.replay.specs.declared.codes.Decoded.the-variants.{Meant, Meaningless}
+use Rattle.replay.specs.declared.decodes.Decoded.{Decoded}
+use Rattle.replay.specs.declared.decodes.Decoded.the-variants.{Meant, Meaningless}
 use Rattle.replay.specs.declared.runs.Stop.{Stop}
 use Rattle.replay.specs.declared.runs.Stop.the-variants as stop
 use Rattle.replay.specs.declared.runs.Replayed.{Replayed}
@@ -39,34 +39,40 @@ ended t σ = record { events = []; stop = t; state = σ }
 abbrev pub event : Step → Answer → Event
 event s a = record { step = s; answer = a }
 
--- one step more, before those
-abbrev pub after : Event → Ran → Ran
-after e r = record { events = e ∷ r .events; stop = r .stop; state = r .state }
+-- one step, and then those
+abbrev pub followedBy : Event → Ran → Ran
+followedBy e r = record { events = e ∷ r .events; stop = r .stop; state = r .state }
 
-abbrev pub byMeaning : Decoded → Ran → (Op → Ran) → Ran
-byMeaning (Meant o) r f = f o
+abbrev pub byMeaning : Decoded → Ran → (Op → ℕ → ℕ → Ran) → Ran
+byMeaning (Meant o p q) r f = f o p q
 byMeaning Meaningless r f = r
 
-abbrev pub codeOf : ℕ → ℕ → ℕ → ℕ → Code
-codeOf k a b d = record { kind = k; a = a; b = b; d = d }
+-- the words of a step
+abbrev pub stepWords : ℕ
+stepWords = 6
 
--- the longest answer, in words, with scan buffers of so many places
-abbrev pub longest : ℕ → ℕ → ℕ
-longest m n = 3 + 2 * min m n
+abbrev pub codeOf : ℕ → ℕ → ℕ → ℕ → ℕ → ℕ → Code
+codeOf k a b c d e = record { kind = k; a = a; b = b; c = c; d = d; e = e }
 
--- The run of a list of words, four to a step, from a state, with scan buffers of m and n places and room for so many words
--- of answers. It stops where the longest answer would find no room, at a code with no meaning, or at the end; words that
--- make no whole code have no meaning.
+-- the longest answer of a step that wants so many places, in words
+abbrev pub longestAnswer : ℕ → ℕ → ℕ
+longestAnswer p q = 3 + 2 * min p q
+
+-- The run of a list of words, so many to a step, from a state, with lent scan buffers of m and n places and room for so many
+-- words of answers. It stops at a code with no meaning, where the longest answer of a step would find no room, or at the end;
+-- words that make no whole code have no meaning.
 unfoldable pub ran : ℕ → ℕ → State → ℕ → List ℕ → Ran
 ran m n σ room [] = ended stop.Complete σ
 ran m n σ room (k ∷ []) = ended stop.Meaningless σ
 ran m n σ room (k ∷ a ∷ []) = ended stop.Meaningless σ
 ran m n σ room (k ∷ a ∷ b ∷ []) = ended stop.Meaningless σ
-ran m n σ room (k ∷ a ∷ b ∷ d ∷ ws) =
-    pick (less room (longest m n)) (ended stop.Full σ)
-    (byMeaning (decoded (codeOf k a b d)) (ended stop.Meaningless σ)
-    (λ (o : Op). after (event (stepIn o m n) (answer σ (stepIn o m n)))
-    (ran m n (next σ (stepIn o m n)) (room - length (wordsOf (answer σ (stepIn o m n)))) ws)))
+ran m n σ room (k ∷ a ∷ b ∷ c ∷ []) = ended stop.Meaningless σ
+ran m n σ room (k ∷ a ∷ b ∷ c ∷ d ∷ []) = ended stop.Meaningless σ
+ran m n σ room (k ∷ a ∷ b ∷ c ∷ d ∷ e ∷ ws) =
+    byMeaning (decoded m n (codeOf k a b c d e)) (ended stop.Meaningless σ)
+    (λ (o : Op) (p q : ℕ). pick (less room (longestAnswer p q)) (ended stop.Full σ)
+    (followedBy (event (stepIn o p q) (answer σ (stepIn o p q)))
+    (ran m n (next σ (stepIn o p q)) (room - length (wordsOf (answer σ (stepIn o p q)))) ws)))
 
 -- ---- what is written
 

@@ -12,13 +12,13 @@ use Rattle.ranges.specs.Walks.{rowsIn, Beyond}
 use Rattle.engine.specs.declared.steps.Reply.{Reply}
 use Rattle.engine.specs.declared.steps.Reply.the-variants as reply
 use Rattle.engine.specs.Performs.{replyIn, placesIn}
-use Rattle.replay.specs.Replays.{listedIn, addressOf, valueOf, longest}
+use Rattle.replay.specs.Replays.{listedIn, addressOf, valueOf, longestAnswer}
 use Rattle.replay.specs.Words.{Roomy}
 
 -- room for the longest answer is room for this one
-pub roomy : (p : Reply) (ks vs ks' vs' out : List ℕ) (at : ℕ) → placesIn p ≤ min (length ks) (length vs) → length ks' ≡ length ks → length vs' ≡ length vs
-    → at ≤ length out → longest (length ks) (length vs) ≤ length out - at → Roomy p ks' vs' out at
-roomy p ks vs ks' vs' out at h e f i r =
+pub roomy : (p : Reply) (m n : ℕ) (ks vs ks' vs' out : List ℕ) (at : ℕ) → placesIn p ≤ min m n → (m ≤ length ks) × (n ≤ length vs)
+    → length ks' ≡ length ks → length vs' ≡ length vs → at ≤ length out → longestAnswer m n ≤ length out - at → Roomy p ks' vs' out at
+roomy p m n ks vs ks' vs' out at h b e f i r =
     record {
       addresses = let k : placesIn p ≤ length ks' = omega arith in k;
       values = let k : placesIn p ≤ length vs' = omega arith in k;

@@ -14,24 +14,25 @@ use Rattle.spec.specs.Computing.{model}
 use Rattle.spec.specs.Runs.{Run, home, leaves, script, stepsOf, starred, Holds}
 use Rattle.map.specs.Views.{Lent, mapOf}
 use Rattle.transactions.specs.Views.{Logs, stateOf}
+use Rattle.calls.specs.CallLaws.{map-in}
 use Rattle.replay.specs.declared.runs.Stop.the-variants as stop
 use Rattle.replay.specs.declared.runs.Replayed.{Replayed}
-use Rattle.replay.specs.Codes.{accessOf, decodedAccess, oneNumber, decoded, pairWords, wordsOf}
+use Rattle.replay.specs.Codes.{decodedScan, decodedAccess, decoded, pairWords, wordsOf}
 use Rattle.replay.specs.Replays.{Ran, ran, allWords, Replays}
-use Rattle.replay.specs.LoopLaws.{ran-model, map-in}
+use Rattle.replay.specs.LoopLaws.{ran-model}
 
--- a step in coded form; the places of a scan's buffers are those lent
+-- a step in coded form
 abbrev pub codeFor : Step → List ℕ
-codeFor (begin w) = 0 ∷ w ∷ 0 ∷ 0 ∷ []
-codeFor (read w k) = 1 ∷ w ∷ k ∷ 0 ∷ []
-codeFor (scan w lo hi m n) = 2 ∷ w ∷ lo ∷ hi ∷ []
-codeFor (put w k p) = 3 ∷ w ∷ k ∷ p .value ∷ []
-codeFor (remove w k) = 4 ∷ w ∷ k ∷ 0 ∷ []
-codeFor (lock w) = 5 ∷ w ∷ 0 ∷ 0 ∷ []
-codeFor (validate w) = 6 ∷ w ∷ 0 ∷ 0 ∷ []
-codeFor (install w) = 7 ∷ w ∷ 0 ∷ 0 ∷ []
-codeFor (abort w) = 8 ∷ w ∷ 0 ∷ 0 ∷ []
-codeFor (merge a) = 9 ∷ a ∷ 0 ∷ 0 ∷ []
+codeFor (begin w) = 0 ∷ w ∷ 0 ∷ 0 ∷ 0 ∷ 0 ∷ []
+codeFor (read w k) = 1 ∷ w ∷ k ∷ 0 ∷ 0 ∷ 0 ∷ []
+codeFor (scan w lo hi m n) = 2 ∷ w ∷ lo ∷ hi ∷ m ∷ n ∷ []
+codeFor (put w k p) = 3 ∷ w ∷ k ∷ p .value ∷ 0 ∷ 0 ∷ []
+codeFor (remove w k) = 4 ∷ w ∷ k ∷ 0 ∷ 0 ∷ 0 ∷ []
+codeFor (lock w) = 5 ∷ w ∷ 0 ∷ 0 ∷ 0 ∷ 0 ∷ []
+codeFor (validate w) = 6 ∷ w ∷ 0 ∷ 0 ∷ 0 ∷ 0 ∷ []
+codeFor (install w) = 7 ∷ w ∷ 0 ∷ 0 ∷ 0 ∷ 0 ∷ []
+codeFor (abort w) = 8 ∷ w ∷ 0 ∷ 0 ∷ 0 ∷ 0 ∷ []
+codeFor (merge a) = 9 ∷ a ∷ 0 ∷ 0 ∷ 0 ∷ 0 ∷ []
 
 abbrev pub codesFor : List Event → List ℕ
 codesFor [] = []
@@ -86,6 +87,6 @@ shows h rs e k ks vs out l g ks' vs' out' r a b c p =
     }
 
 pub starred-replay : AllHoldOf starred
-unfolding model ran decoded oneNumber decodedAccess accessOf wordsOf pairWords
+unfolding model ran decoded decodedAccess decodedScan wordsOf pairWords
 starred-replay =
     (refl, (refl, (refl, (refl, (refl, (refl, (refl, (shows _ _ (refl, refl) (refl, refl), (shows _ _ (refl, refl) (refl, refl), (shows _ _ (refl, refl) (refl, refl), (shows _ _ (refl, refl) (refl, refl), (shows _ _ (refl, refl) (refl, refl), (shows _ _ (refl, refl) (refl, refl), (shows _ _ (refl, refl) (refl, refl), tt))))))))))))))

@@ -1,9 +1,10 @@
 // A list of steps in coded form, run from a fresh map.
-use crate::codes;
 use crate::codes::Code;
-use crate::codes::Decoded;
+use crate::codes::STEP_WORDS;
+use crate::decodes;
+use crate::decodes::Decoded;
+use crate::parts;
 use crate::words;
-use engine::steps;
 use map::Leaves;
 use map::Records;
 use map::Slots;
@@ -21,11 +22,11 @@ ghost use Rattle.map.specs.Views.{lent};
 ghost use Rattle.transactions.specs.Views.{logs};
 ghost use Rattle.transactions.specs.Ready.{Ready};
 ghost use Rattle.transactions.specs.Starts.{Fresh};
-ghost use Rattle.replay.specs.Replays.{longest, Replays};
-ghost use Rattle.replay.specs.RunLaws.{codeAt, Turns};
+ghost use Rattle.replay.specs.Replays.{stepWords, longestAnswer, Replays};
+ghost use Rattle.replay.specs.RunLaws.{codeAt, TakesCode};
 ghost use Rattle.replay.specs.LoopLaws.{restStop};
 
-// Why no more steps were taken: there are none; a code has no meaning; the answer buffer has no room for the longest answer.
+// Why no more steps were taken: there are none; a code has no meaning; the answer buffer has no room for its longest answer.
 pub enum Stop {
     Complete,
     Meaningless,
@@ -41,15 +42,15 @@ pub struct Replayed {
 }
 
 // After one code: the core, the place after the answers, and whether it was taken (complete).
-struct Turn {
+struct AfterCode {
     core: Core,
     at: usize,
     stop: Stop,
 }
 
-// There is room for the longest answer with scan buffers of m and n places.
+// There is room for the longest answer of a step that wants m and n places.
 fn fits(room: usize, m: usize, n: usize) -> bool
-    ensures { λ r. ⌜ r ≡ not (less room (longest m n)) ⌝ }
+    ensures { λ r. ⌜ r ≡ not (less room (longestAnswer m n)) ⌝ }
 {
     if room < 3 {
         return false;
@@ -63,15 +64,17 @@ fn fits(room: usize, m: usize, n: usize) -> bool
 
 // The code at place i, which is not the largest number.
 fn code_at(steps: &[u64], i: usize) -> Code
-    requires { ⌜ 4 * i + 4 ≤ length (now steps) ⌝ }
+    requires { ⌜ stepWords * i + stepWords ≤ length (now steps) ⌝ }
     ensures { λ r. ⌜ r ≡ codeAt (now (steps .entry)) i ⌝ }
     ensures { λ _. ⌜ i + 1 < 2 ^ 64 ⌝ }
 {
     Code {
-        kind: steps[4 * i],
-        a: steps[4 * i + 1],
-        b: steps[4 * i + 2],
-        d: steps[4 * i + 3],
+        kind: steps[STEP_WORDS * i],
+        a: steps[STEP_WORDS * i + 1],
+        b: steps[STEP_WORDS * i + 2],
+        c: steps[STEP_WORDS * i + 3],
+        d: steps[STEP_WORDS * i + 4],
+        e: steps[STEP_WORDS * i + 5],
     }
 }
 
@@ -89,25 +92,25 @@ fn take_code(
     c: Core,
     k: Code,
     at: usize,
-) -> Turn
+) -> AfterCode
     requires { ⌜ Ready (lent (now rows) (now leaves) (now slots)) (logs (now reads) (now leafsets) (now writes)) c ⌝ }
     requires { ⌜ at ≤ length (now out) ⌝ }
-    ensures { λ r. ⌜ Turns (lent (now (rows .entry)) (now (leaves .entry)) (now (slots .entry)))
+    ensures { λ r. ⌜ TakesCode (lent (now (rows .entry)) (now (leaves .entry)) (now (slots .entry)))
         (logs (now (reads .entry)) (now (leafsets .entry)) (now (writes .entry))) c k (now (addresses .entry)) (now (values .entry)) (now (out .entry)) at
         (lent (now (rows .exit)) (now (leaves .exit)) (now (slots .exit))) (logs (now (reads .exit)) (now (leafsets .exit)) (now (writes .exit)))
         (now (addresses .exit)) (now (values .exit)) (now (out .exit)) r ⌝ }
 {
-    if !fits(out.len() - at, addresses.len(), values.len()) {
-        return Turn {
-            core: c,
-            at,
-            stop: Stop::Full,
-        };
-    }
-    let d = codes::decode(k);
+    let d = decodes::decode(k, addresses.len(), values.len());
     match d {
-        Decoded::Meant(op) => {
-            let p = steps::perform(
+        Decoded::Meant(op, m, n) => {
+            if !fits(out.len() - at, m, n) {
+                return AfterCode {
+                    core: c,
+                    at,
+                    stop: Stop::Full,
+                };
+            }
+            let p = parts::perform_first(
                 addresses,
                 values,
                 rows,
@@ -118,17 +121,19 @@ fn take_code(
                 writes,
                 c,
                 op,
+                m,
+                n,
             );
             let core = p.core;
             let reply = p.reply;
-            let next = words::put_reply(out, at, addresses, values, reply);
-            Turn {
+            let next = words::put_answer_words(out, at, addresses, values, reply);
+            AfterCode {
                 core,
                 at: next,
                 stop: Stop::Complete,
             }
         }
-        Decoded::Meaningless => Turn {
+        Decoded::Meaningless => AfterCode {
             core: c,
             at,
             stop: Stop::Meaningless,
@@ -138,9 +143,9 @@ fn take_code(
 
 // Words past the last whole code have no meaning.
 fn last_stop(steps: &[u64]) -> Stop
-    ensures { λ r. ⌜ r ≡ restStop (length (now (steps .entry)) % 4) ⌝ }
+    ensures { λ r. ⌜ r ≡ restStop (length (now (steps .entry)) % stepWords) ⌝ }
 {
-    if steps.len() % 4 == 0 {
+    if steps.len() % STEP_WORDS == 0 {
         return Stop::Complete;
     }
     Stop::Meaningless
@@ -165,7 +170,7 @@ fn take_all(
         (lent (now (rows .exit)) (now (leaves .exit)) (now (slots .exit))) (logs (now (reads .exit)) (now (leafsets .exit)) (now (writes .exit)))
         (now (addresses .exit)) (now (values .exit)) (now (out .exit)) r ⌝ }
 {
-    let count = steps.len() / 4;
+    let count = steps.len() / STEP_WORDS;
     let mut core = start;
     let mut at = 0;
     let mut i = 0;
@@ -220,7 +225,7 @@ fn take_all(
     }
 }
 
-// Runs a list of steps, four words to each (`Code`), from a fresh map in the lent arrays, whatever they hold, and writes the
+// Runs a list of steps, STEP_WORDS words to each (`Code`), from a fresh map in the lent arrays, whatever they hold, and writes the
 // answers one after the other. The buffers may have any lengths.
 pub fn replay(
     out: &mut [u64],

@@ -1,15 +1,59 @@
-// Answers in numbers, put into lent words at a place. Each function answers the place after what it wrote.
-use crate::codes;
+// Answers in numbers, and put into lent words at a place: each function that does answers the place after what it wrote.
 use crate::codes::Coded;
 use engine::steps::Reply;
+use spec::number_of;
+ghost use mathlib.Core.Path.{_≡_};
 ghost use mathlib.Core.List.{[], _∷_};
 ghost use Prim.Native.Nat.{_+_, _*_, _≤_};
 ghost use lib.ListN.{length};
 ghost use Rattle.lists.specs.Texts.{Wrote};
 ghost use Rattle.ranges.specs.Walks.{rowsIn};
 ghost use Rattle.engine.specs.Performs.{replyIn};
-ghost use Rattle.replay.specs.Codes.{pairWords, wordsOf};
+ghost use Rattle.replay.specs.Codes.{codedOf, pairWords, wordsOf};
 ghost use Rattle.replay.specs.Words.{headWords, Roomy};
+
+// A reply in numbers.
+pub fn encode(p: Reply) -> Coded
+    ensures { λ r. ⌜ r ≡ codedOf p ⌝ }
+{
+    match p {
+        Reply::Granted => Coded {
+            number: 0,
+            told: 0,
+            value: 0,
+        },
+        Reply::Value(v) => Coded {
+            number: 0,
+            told: 1,
+            value: v,
+        },
+        Reply::Absent => Coded {
+            number: 0,
+            told: 2,
+            value: 0,
+        },
+        Reply::Listed(n) => Coded {
+            number: 0,
+            told: 3,
+            value: n as u64,
+        },
+        Reply::Numbered(n) => Coded {
+            number: 0,
+            told: 4,
+            value: n,
+        },
+        Reply::Counted(n) => Coded {
+            number: 0,
+            told: 5,
+            value: n as u64,
+        },
+        Reply::Refused(r) => Coded {
+            number: number_of(r),
+            told: 0,
+            value: 0,
+        },
+    }
+}
 
 fn put_two(out: &mut [u64], at: usize, a: u64, b: u64) -> usize
     requires { ⌜ at + 2 ≤ length (now out) ⌝ }
@@ -52,12 +96,18 @@ fn put_rows(out: &mut [u64], at: usize, addresses: &[u32], values: &[u64], n: us
     next
 }
 
-// A reply, with a scan's records.
-pub fn put_reply(out: &mut [u64], at: usize, addresses: &[u32], values: &[u64], p: Reply) -> usize
+// The words of an answer: its three, and a scan's records.
+pub fn put_answer_words(
+    out: &mut [u64],
+    at: usize,
+    addresses: &[u32],
+    values: &[u64],
+    p: Reply,
+) -> usize
     requires { ⌜ Roomy p (now addresses) (now values) (now out) at ⌝ }
     ensures { λ r. ⌜ Wrote (now (out .entry)) at (wordsOf (replyIn p (now (addresses .entry)) (now (values .entry)))) (now (out .exit)) r ⌝ }
 {
-    let a = codes::encode(p);
+    let a = encode(p);
     let next = put_head(out, at, a);
     match p {
         Reply::Granted => next,

@@ -18,22 +18,27 @@ use Rattle.replay.specs.declared.codes.Stepped.{Stepped}
 use Rattle.replay.specs.declared.runs.Stop.{Stop}
 use Rattle.replay.specs.declared.runs.Stop.the-variants.{Complete, Meaningless, Full}
 use Rattle.replay.specs.declared.runs.Replayed.{Replayed}
-use Rattle.replay.specs.Codes.{codedAs, Steps}
-use Rattle.sections.specs.Saved.{coreIn}
+use Rattle.replay.specs.Codes.{codedAs, CodedStep}
+use Rattle.replay.specs.Replays.{codeOf}
+use Rattle.sections.specs.Saved.{savedCore}
 
 -- ---- a step
+
+-- a step in its words
+abbrev pub codeIn : List ℕ → Code
+codeIn ws = codeOf (getD ws 0 0) (getD ws 1 0) (getD ws 2 0) (getD ws 3 0) (getD ws 4 0) (getD ws 5 0)
 
 -- an answer in three words
 abbrev pub codedIn : List ℕ → Coded
 codedIn ws = codedAs (getD ws 0 0) (getD ws 1 0) (getD ws 2 0)
 
 abbrev pub steppedIn : List (List ℕ) → List ℕ → Stepped
-steppedIn core answer = record { core = coreIn core; answer = codedIn answer }
+steppedIn core answer = record { core = savedCore core; answer = codedIn answer }
 
 -- a coded step, from the core in the rows to the core in the rows
-pub record Takes (l : Lent) (g : Logs) (core : List (List ℕ)) (k : Code) (ks vs : List ℕ) (l' : Lent) (g' : Logs) (core' : List (List ℕ)) (ks' vs' answer : List ℕ) : Type 0 where
-  pub ready : Ready l' g' (coreIn core')
-  pub steps : Steps l g (coreIn core) k ks vs l' g' ks' vs' (steppedIn core' answer)
+pub record ExportedStep (l : Lent) (g : Logs) (core : List (List ℕ)) (k : Code) (ks vs : List ℕ) (l' : Lent) (g' : Logs) (core' : List (List ℕ)) (ks' vs' answer : List ℕ) : Type 0 where
+  pub ready : Ready l' g' (savedCore core')
+  pub step : CodedStep l g (savedCore core) k ks vs l' g' ks' vs' (steppedIn core' answer)
 
 -- ---- a list of steps
 
@@ -45,21 +50,21 @@ stopNumber Full = 2
 unfoldable pub stopOf : ℕ → Stop
 stopOf n = pick (same n 0) Complete (pick (same n 1) Meaningless Full)
 
-pub record Counts (ws : List ℕ) (taken written : ℕ) : Type 0 where
+pub record CountsAre (ws : List ℕ) (taken written : ℕ) : Type 0 where
   pub taken-is : getD ws 0 0 ≡ taken
   pub written-is : getD ws 1 0 ≡ written
 
 abbrev pub replayedIn : List (List ℕ) → List ℕ → ℕ → Replayed
 replayedIn core counts n =
-    record { core = coreIn core; taken = getD counts 0 0; written = getD counts 1 0; stop = stopOf n }
+    record { core = savedCore core; taken = getD counts 0 0; written = getD counts 1 0; stop = stopOf n }
 
 -- ---- the contents, one after the other
 
 -- a record in three words: address, value, serial number
-abbrev pub rowWords : Row Record → List ℕ
-rowWords r = r .key ∷ r .item .payload .value ∷ r .item .commit ∷ []
+abbrev pub recordWords : Row Record → List ℕ
+recordWords r = r .key ∷ r .item .payload .value ∷ r .item .commit ∷ []
 
 -- the first record of the contents from an address on, in words that it leaves if there is none
-pub record Gives (l : Lent) (core : List (List ℕ)) (from : ℕ) (old new : List ℕ) (r : Bool) : Type 0 where
-  pub there : r ≡ present (firstFrom from (contents (mapOf l (coreIn core .sizes))))
-  pub words : new ≡ maybe (firstFrom from (contents (mapOf l (coreIn core .sizes)))) old rowWords
+pub record NextRecord (l : Lent) (core : List (List ℕ)) (from : ℕ) (old new : List ℕ) (r : Bool) : Type 0 where
+  pub there : r ≡ present (firstFrom from (contents (mapOf l (savedCore core .sizes))))
+  pub words : new ≡ maybe (firstFrom from (contents (mapOf l (savedCore core .sizes)))) old recordWords

@@ -24,8 +24,8 @@ stageNumber Locked = 2
 stageNumber Checked = 3
 
 -- the seat of a row
-unfoldable pub seatIn : List ℕ → Worker
-seatIn r =
+unfoldable pub savedWorker : List ℕ → Worker
+savedWorker r =
     record {
       stage = stageOf (getD r 0 0);
       number = getD r 1 0 % 2 ^ 32;
@@ -35,24 +35,24 @@ seatIn r =
     }
 
 -- all seats
-abbrev pub seatsIn : List (List ℕ) → List Worker
-seatsIn rs = firstRows seatIn rs (standard .workers)
+abbrev pub savedWorkers : List (List ℕ) → List Worker
+savedWorkers rs = firstRows savedWorker rs (standard .workers)
 
-abbrev pub sizesIn : List ℕ → Sizes
-sizesIn r = record { records = getD r 0 0; leaves = getD r 1 0; entries = getD r 2 0; outside = getD r 3 0 }
+abbrev pub savedSizes : List ℕ → Sizes
+savedSizes r = record { records = getD r 0 0; leaves = getD r 1 0; entries = getD r 2 0; outside = getD r 3 0 }
 
-abbrev pub countersIn : List ℕ → Counters
-countersIn r = record { number = getD r 0 0; version = getD r 1 0 }
+abbrev pub savedCounters : List ℕ → Counters
+savedCounters r = record { number = getD r 0 0; version = getD r 1 0 }
 
-unfoldable pub coreIn : List (List ℕ) → Core
-coreIn rs =
+unfoldable pub savedCore : List (List ℕ) → Core
+savedCore rs =
     record {
-      workers = seatsIn rs;
-      sizes = sizesIn (getD rs (standard .workers) []);
-      counters = countersIn (getD rs (standard .workers + 1) []);
+      workers = savedWorkers rs;
+      sizes = savedSizes (getD rs (standard .workers) []);
+      counters = savedCounters (getD rs (standard .workers + 1) []);
     }
 
 -- rows of a core that hold these seats
 pub record Seated (rs : List (List ℕ)) (xs : List Worker) : Type 0 where
   pub rows : length rs ≡ standard .workers + 2
-  pub workers : seatsIn rs ≡ xs
+  pub workers : savedWorkers rs ≡ xs

@@ -18,7 +18,7 @@ use Rattle.sets.specs.SetLaws.{length-rows, row-at}
 use Rattle.map.specs.declared.Sizes.{Sizes}
 use Rattle.counters.specs.declared.Counters.{Counters}
 use Rattle.transactions.specs.declared.Core.{Core}
-use Rattle.sections.specs.Saved.{stageOf, stageNumber, seatIn, seatsIn, sizesIn, countersIn, coreIn, Seated}
+use Rattle.sections.specs.Saved.{stageOf, stageNumber, savedWorker, savedWorkers, savedSizes, savedCounters, savedCore, Seated}
 
 -- ---- a seat
 
@@ -33,16 +33,16 @@ stage-back Open = refl
 stage-back Locked = refl
 stage-back Checked = refl
 
-pub seat-read : (r : List ℕ) {s : Stage} {n x l e : ℕ} → s ≡ stageOf (getD r 0 0) → n ≡ getD r 1 0 % 2 ^ 32
+pub worker-read : (r : List ℕ) {s : Stage} {n x l e : ℕ} → s ≡ stageOf (getD r 0 0) → n ≡ getD r 1 0 % 2 ^ 32
     → x ≡ getD r 2 0 % 2 ^ 8 → l ≡ getD r 3 0 % 2 ^ 8 → e ≡ getD r 4 0 % 2 ^ 8
-    → record { stage = s; number = n; reads = x; leaves = l; writes = e } ≡ seatIn r
-unfolding seatIn
-seat-read r a n b c d = λ i. record { stage = a i; number = n i; reads = b i; leaves = c i; writes = d i }
+    → record { stage = s; number = n; reads = x; leaves = l; writes = e } ≡ savedWorker r
+unfolding savedWorker
+worker-read r a n b c d = λ i. record { stage = a i; number = n i; reads = b i; leaves = c i; writes = d i }
 
-pub seat-put : (x : Worker) {s : ℕ} → s ≡ stageNumber (x .stage) → x .number < 2 ^ 32 → x .reads < 2 ^ 8 → x .leaves < 2 ^ 8 → x .writes < 2 ^ 8
-    → seatIn (s ∷ x .number ∷ x .reads ∷ x .leaves ∷ x .writes ∷ []) ≡ x
-unfolding seatIn
-seat-put x e n a b c =
+pub worker-put : (x : Worker) {s : ℕ} → s ≡ stageNumber (x .stage) → x .number < 2 ^ 32 → x .reads < 2 ^ 8 → x .leaves < 2 ^ 8 → x .writes < 2 ^ 8
+    → savedWorker (s ∷ x .number ∷ x .reads ∷ x .leaves ∷ x .writes ∷ []) ≡ x
+unfolding savedWorker
+worker-put x e n a b c =
     let p : x .number % 2 ^ 32 ≡ x .number = omega arith in
     let q : x .reads % 2 ^ 8 ≡ x .reads = omega arith in
     let l : x .leaves % 2 ^ 8 ≡ x .leaves = omega arith in
@@ -54,14 +54,14 @@ seat-put x e n a b c =
 -- the first i rows and the first i seats say the same
 pub record Saving (rs : List (List ℕ)) (xs : List Worker) (i : ℕ) : Type 0 where
   pub workers : length xs ≡ standard .workers
-  pub at : (j : ℕ) → j < i → seatIn (getD rs j []) ≡ getD xs j freed
+  pub at : (j : ℕ) → j < i → savedWorker (getD rs j []) ≡ getD xs j freed
 
 pub saving-start : (rs : List (List ℕ)) (xs : List Worker) → length xs ≡ standard .workers → Saving rs xs 0
 saving-start rs xs q = record { workers = q; at = λ j h. absurd (not-suc-le-zero h) }
 
 module _ {rs : List (List ℕ)} {xs : List Worker} {i : ℕ} (h : i < standard .workers) (s : Saving rs xs i) where
   -- the next seat is read
-  pub saving-read : (x : Worker) → x ≡ seatIn (getD rs i []) → Saving rs (set xs i x) (i + 1)
+  pub saving-read : (x : Worker) → x ≡ savedWorker (getD rs i []) → Saving rs (set xs i x) (i + 1)
   saving-read x e =
       let l : length xs ≡ standard .workers = s .workers in
       record {
@@ -69,32 +69,32 @@ module _ {rs : List (List ℕ)} {xs : List Worker} {i : ℕ} (h : i < standard .
         at = λ j k.
             ⊎-elim
             (λ t. let q : j ≡ i = same-true j i t in
-            ap (λ (u : ℕ). seatIn (getD rs u [])) q ∙ sym e ∙ sym (getD-set-same xs i x freed (omega arith)) ∙ ap (λ (u : ℕ). getD (set xs i x) u freed) (sym q))
+            ap (λ (u : ℕ). savedWorker (getD rs u [])) q ∙ sym e ∙ sym (getD-set-same xs i x freed (omega arith)) ∙ ap (λ (u : ℕ). getD (set xs i x) u freed) (sym q))
             (λ f. let d : j ≡ i → ⊥ = same-false j i f in
             s .at j (omega arith) ∙ sym (getD-set-other xs i j x freed d))
             (cases (same j i));
       }
 
   -- the next row is put
-  pub saving-put : (r : List ℕ) → length rs ≡ standard .workers + 2 → seatIn r ≡ getD xs i freed → Saving (set rs i r) xs (i + 1)
+  pub saving-put : (r : List ℕ) → length rs ≡ standard .workers + 2 → savedWorker r ≡ getD xs i freed → Saving (set rs i r) xs (i + 1)
   saving-put r l e =
       record {
         workers = s .workers;
         at = λ j k.
             ⊎-elim
             (λ t. let q : j ≡ i = same-true j i t in
-            ap (λ (u : ℕ). seatIn (getD (set rs i r) u [])) q ∙ ap seatIn (getD-set-same rs i r [] (omega arith)) ∙ e ∙ ap (λ (u : ℕ). getD xs u freed) (sym q))
+            ap (λ (u : ℕ). savedWorker (getD (set rs i r) u [])) q ∙ ap savedWorker (getD-set-same rs i r [] (omega arith)) ∙ e ∙ ap (λ (u : ℕ). getD xs u freed) (sym q))
             (λ f. let d : j ≡ i → ⊥ = same-false j i f in
-            ap seatIn (getD-set-other rs i j r [] d) ∙ s .at j (omega arith))
+            ap savedWorker (getD-set-other rs i j r [] d) ∙ s .at j (omega arith))
             (cases (same j i));
       }
 
-pub saving-end : {rs : List (List ℕ)} {xs : List Worker} {i : ℕ} → Saving rs xs i → standard .workers ≤ i → seatsIn rs ≡ xs
+pub saving-end : {rs : List (List ℕ)} {xs : List Worker} {i : ℕ} → Saving rs xs i → standard .workers ≤ i → savedWorkers rs ≡ xs
 saving-end {rs} {xs} {i} s h =
-    let l : length (seatsIn rs) ≡ standard .workers = length-rows seatIn rs (standard .workers) in
+    let l : length (savedWorkers rs) ≡ standard .workers = length-rows savedWorker rs (standard .workers) in
     let m : length xs ≡ standard .workers = s .workers in
-    ext-getD freed (seatsIn rs) xs (l ∙ sym m)
-    (λ j k. row-at seatIn rs (standard .workers) j freed (omega arith) ∙ s .at j (omega arith))
+    ext-getD freed (savedWorkers rs) xs (l ∙ sym m)
+    (λ j k. row-at savedWorker rs (standard .workers) j freed (omega arith) ∙ s .at j (omega arith))
 
 -- ---- the core
 
@@ -104,10 +104,10 @@ rows-same f rs us n h =
     ext-getD (f []) (firstRows f rs n) (firstRows f us n) (l ∙ sym (length-rows f us n))
     (λ j k. row-at f rs n j (f []) (omega arith) ∙ ap f (h j (omega arith)) ∙ sym (row-at f us n j (f []) (omega arith)))
 
-pub core-read : (rs : List (List ℕ)) {xs : List Worker} {z : Sizes} → xs ≡ seatsIn rs → z ≡ sizesIn (getD rs (standard .workers) [])
-    → record { workers = xs; sizes = z; counters = countersIn (getD rs (standard .workers + 1) []) } ≡ coreIn rs
-unfolding coreIn
-core-read rs e f = λ i. record { workers = e i; sizes = f i; counters = countersIn (getD rs (standard .workers + 1) []) }
+pub core-read : (rs : List (List ℕ)) {xs : List Worker} {z : Sizes} → xs ≡ savedWorkers rs → z ≡ savedSizes (getD rs (standard .workers) [])
+    → record { workers = xs; sizes = z; counters = savedCounters (getD rs (standard .workers + 1) []) } ≡ savedCore rs
+unfolding savedCore
+core-read rs e f = λ i. record { workers = e i; sizes = f i; counters = savedCounters (getD rs (standard .workers + 1) []) }
 
 -- the rows of the sizes and the counters
 abbrev sizesRow : Sizes → List ℕ
@@ -123,24 +123,24 @@ module _ (core : Core) (rs : List (List ℕ)) where
   abbrev whole : List (List ℕ)
   whole = set withSizes (standard .workers + 1) (countersRow (core .counters))
 
-  seats-same : seatsIn whole ≡ seatsIn rs
+  seats-same : savedWorkers whole ≡ savedWorkers rs
   seats-same =
-      rows-same seatIn whole rs (standard .workers)
+      rows-same savedWorker whole rs (standard .workers)
       (λ j h.
       getD-set-other withSizes (standard .workers + 1) j (countersRow (core .counters)) [] (λ q. let z : ⊥ = omega arith in z)
       ∙ getD-set-other rs (standard .workers) j (sizesRow (core .sizes)) [] (λ q. let z : ⊥ = omega arith in z))
 
   -- they are put after the seats
-  pub core-put : Seated rs (core .workers) → coreIn whole ≡ core
-  unfolding coreIn
+  pub core-put : Seated rs (core .workers) → savedCore whole ≡ core
+  unfolding savedCore
   core-put s =
       let l : length rs ≡ standard .workers + 2 = s .rows in
       let m : length withSizes ≡ length rs = length-set rs (standard .workers) (sizesRow (core .sizes)) in
       λ i. record {
         workers = (seats-same ∙ s .workers) i;
         sizes =
-            sizesIn
+            savedSizes
             ((getD-set-other withSizes (standard .workers + 1) (standard .workers) (countersRow (core .counters)) [] (λ q. let z : ⊥ = omega arith in z)
             ∙ getD-set-same rs (standard .workers) (sizesRow (core .sizes)) [] (omega arith)) i);
-        counters = countersIn (getD-set-same withSizes (standard .workers + 1) (countersRow (core .counters)) [] (omega arith) i);
+        counters = savedCounters (getD-set-same withSizes (standard .workers + 1) (countersRow (core .counters)) [] (omega arith) i);
       }

@@ -11,6 +11,7 @@ use queries::Next;
 use replay::codes;
 use replay::codes::Code;
 use replay::codes::Coded;
+use replay::codes::StepWords;
 use replay::runs;
 use replay::runs::Stop;
 use sets::LeafSets;
@@ -22,9 +23,24 @@ ghost use Rattle.map.specs.Views.{lent};
 ghost use Rattle.transactions.specs.Views.{logs};
 ghost use Rattle.transactions.specs.Ready.{Ready};
 ghost use Rattle.transactions.specs.Starts.{Fresh};
-ghost use Rattle.replay.specs.Replays.{codeOf, Replays};
-ghost use Rattle.sections.specs.Saved.{coreIn};
-ghost use Rattle.sections.specs.Exports.{codedIn, Takes, stopNumber, Counts, replayedIn, Gives};
+ghost use Rattle.replay.specs.Replays.{Replays};
+ghost use Rattle.sections.specs.Saved.{savedCore};
+ghost use Rattle.sections.specs.Exports.{codeIn, codedIn, ExportedStep, stopNumber, CountsAre, replayedIn, NextRecord};
+
+// An answer in words.
+pub const ANSWER_WORDS: usize = 3;
+
+pub type AnswerWords = [u64; ANSWER_WORDS];
+
+// How many steps were taken, and how many words of answers were written.
+pub const COUNT_WORDS: usize = 2;
+
+pub type CountWords = [u64; COUNT_WORDS];
+
+// A record in words: address, value, serial number.
+pub const FOUND_WORDS: usize = 3;
+
+pub type FoundWords = [u64; FOUND_WORDS];
 
 // Makes the arrays a fresh map, whatever they hold.
 #[no_mangle]
@@ -37,24 +53,37 @@ pub extern "C" fn sections_fresh(
     leafsets: &mut LeafSets,
     writes: &mut WriteSets,
 )
-    ensures { λ _. ⌜ Fresh (lent (now (rows .exit)) (now (leaves .exit)) (now (slots .exit))) (logs (now (reads .exit)) (now (leafsets .exit)) (now (writes .exit))) (coreIn (now (core .exit))) ⌝ }
+    ensures { λ _. ⌜ Fresh (lent (now (rows .exit)) (now (leaves .exit)) (now (slots .exit))) (logs (now (reads .exit)) (now (leafsets .exit)) (now (writes .exit))) (savedCore (now (core .exit))) ⌝ }
 {
     let c = starts::fresh_state(rows, leaves, slots, reads, leafsets, writes);
     saved::store(core, c);
 }
 
-fn put_answer(answer: &mut [u64; 3], a: Coded)
+fn put_answer(answer: &mut AnswerWords, a: Coded)
     ensures { λ _. ⌜ codedIn (now (answer .exit)) ≡ a ⌝ }
 {
     let all = [a.number, a.told, a.value];
     *answer = all;
 }
 
+fn code_in(step: &StepWords) -> Code
+    ensures { λ r. ⌜ r ≡ codeIn (now (step .entry)) ⌝ }
+{
+    Code {
+        kind: step[0],
+        a: step[1],
+        b: step[2],
+        c: step[3],
+        d: step[4],
+        e: step[5],
+    }
+}
+
 // One step in coded form (`replay::codes::Code`), its answer in three numbers (`Coded`), and a scan's records in the first
 // places of its buffers.
 #[no_mangle]
 pub extern "C" fn sections_step(
-    answer: &mut [u64; 3],
+    answer: &mut AnswerWords,
     addresses: &mut [u32],
     values: &mut [u64],
     core: &mut Saved,
@@ -64,18 +93,16 @@ pub extern "C" fn sections_step(
     reads: &mut ReadSets,
     leafsets: &mut LeafSets,
     writes: &mut WriteSets,
-    kind: u64,
-    a: u64,
-    b: u64,
-    d: u64,
+    step: &StepWords,
 )
-    requires { ⌜ Ready (lent (now rows) (now leaves) (now slots)) (logs (now reads) (now leafsets) (now writes)) (coreIn (now core)) ⌝ }
-    ensures { λ _. ⌜ Takes (lent (now (rows .entry)) (now (leaves .entry)) (now (slots .entry)))
-        (logs (now (reads .entry)) (now (leafsets .entry)) (now (writes .entry))) (now (core .entry)) (codeOf kind a b d) (now (addresses .entry)) (now (values .entry))
+    requires { ⌜ Ready (lent (now rows) (now leaves) (now slots)) (logs (now reads) (now leafsets) (now writes)) (savedCore (now core)) ⌝ }
+    ensures { λ _. ⌜ ExportedStep (lent (now (rows .entry)) (now (leaves .entry)) (now (slots .entry)))
+        (logs (now (reads .entry)) (now (leafsets .entry)) (now (writes .entry))) (now (core .entry)) (codeIn (now (step .entry))) (now (addresses .entry)) (now (values .entry))
         (lent (now (rows .exit)) (now (leaves .exit)) (now (slots .exit))) (logs (now (reads .exit)) (now (leafsets .exit)) (now (writes .exit))) (now (core .exit))
         (now (addresses .exit)) (now (values .exit)) (now (answer .exit)) ⌝ }
 {
     let c = saved::load(core);
+    let k = code_in(step);
     let s = codes::step(
         addresses,
         values,
@@ -86,7 +113,7 @@ pub extern "C" fn sections_step(
         leafsets,
         writes,
         c,
-        Code { kind, a, b, d },
+        k,
     );
     let next = s.core;
     let told = s.answer;
@@ -104,19 +131,19 @@ fn stop_number(s: Stop) -> u64
     }
 }
 
-fn put_counts(counts: &mut [u64; 2], taken: usize, written: usize)
-    ensures { λ _. ⌜ Counts (now (counts .exit)) taken written ⌝ }
+fn put_counts(counts: &mut CountWords, taken: usize, written: usize)
+    ensures { λ _. ⌜ CountsAre (now (counts .exit)) taken written ⌝ }
 {
     let all = [taken as u64, written as u64];
     *counts = all;
 }
 
-// A list of steps, four numbers to each, from a fresh map (`replay::runs::replay`, whose promise is demand 3). It counts the
+// A list of steps, six numbers to each, from a fresh map (`replay::runs::replay`, whose promise is demand 3). It counts the
 // steps taken and the words of answers written, and returns why no more were taken: 0 there are none, 1 a code has no
 // meaning, 2 no room for answers.
 #[no_mangle]
 pub extern "C" fn sections_replay(
-    counts: &mut [u64; 2],
+    counts: &mut CountWords,
     out: &mut [u64],
     addresses: &mut [u32],
     values: &mut [u64],
@@ -156,7 +183,7 @@ pub extern "C" fn sections_replay(
 // false, and the words are left.
 #[no_mangle]
 pub extern "C" fn sections_next(
-    found: &mut [u64; 3],
+    found: &mut FoundWords,
     core: &Saved,
     rows: &Records,
     leaves: &Leaves,
@@ -166,8 +193,8 @@ pub extern "C" fn sections_next(
     writes: &WriteSets,
     from: u64,
 ) -> bool
-    requires { ⌜ Ready (lent (now rows) (now leaves) (now slots)) (logs (now reads) (now leafsets) (now writes)) (coreIn (now core)) ⌝ }
-    ensures { λ r. ⌜ Gives (lent (now (rows .entry)) (now (leaves .entry)) (now (slots .entry))) (now (core .entry)) from (now (found .entry)) (now (found .exit)) r ⌝ }
+    requires { ⌜ Ready (lent (now rows) (now leaves) (now slots)) (logs (now reads) (now leafsets) (now writes)) (savedCore (now core)) ⌝ }
+    ensures { λ r. ⌜ NextRecord (lent (now (rows .entry)) (now (leaves .entry)) (now (slots .entry))) (now (core .entry)) from (now (found .entry)) (now (found .exit)) r ⌝ }
 {
     let c = saved::load(core);
     let sizes = c.sizes;

@@ -10,7 +10,7 @@ ghost use mathlib.Core.Path.{_≡_};
 ghost use Prim.Native.Nat.{_%_, _^_, _<_};
 ghost use lib.ListN.{length};
 ghost use Rattle.spec.specs.Records.{standard};
-ghost use Rattle.sections.specs.Saved.{stageOf, stageNumber, seatIn, seatsIn, sizesIn, coreIn, Seated};
+ghost use Rattle.sections.specs.Saved.{stageOf, stageNumber, savedWorker, savedWorkers, savedSizes, savedCore, Seated};
 
 // How many words a row has.
 pub const CORE_WORDS: usize = 5;
@@ -61,8 +61,8 @@ fn low_byte(n: u64) -> u8
 }
 
 // The seat of a row.
-fn seat_in(row: Row) -> Worker
-    ensures { λ r. ⌜ r ≡ seatIn row ⌝ }
+fn worker_in(row: Row) -> Worker
+    ensures { λ r. ⌜ r ≡ savedWorker row ⌝ }
 {
     let stage = stage_of(row[0]);
     let number = low_word(row[1]);
@@ -78,8 +78,8 @@ fn seat_in(row: Row) -> Worker
     }
 }
 
-fn seats_in(words: &Saved) -> [Worker; WORKERS]
-    ensures { λ r. ⌜ r ≡ seatsIn (now (words .entry)) ⌝ }
+fn workers_in(words: &Saved) -> [Worker; WORKERS]
+    ensures { λ r. ⌜ r ≡ savedWorkers (now (words .entry)) ⌝ }
 {
     let free = Worker {
         stage: Stage::Free,
@@ -92,7 +92,7 @@ fn seats_in(words: &Saved) -> [Worker; WORKERS]
     let mut i = 0;
     while i < WORKERS {
         let row = words[i];
-        let x = seat_in(row);
+        let x = worker_in(row);
         workers[i] = x;
         i += 1;
     }
@@ -100,7 +100,7 @@ fn seats_in(words: &Saved) -> [Worker; WORKERS]
 }
 
 fn sizes_in(row: Row) -> Sizes
-    ensures { λ r. ⌜ r ≡ sizesIn row ⌝ }
+    ensures { λ r. ⌜ r ≡ savedSizes row ⌝ }
 {
     let records = size(row[0]);
     let leaves = size(row[1]);
@@ -116,9 +116,9 @@ fn sizes_in(row: Row) -> Sizes
 
 // The core that the words hold.
 pub fn load(words: &Saved) -> Core
-    ensures { λ r. ⌜ r ≡ coreIn (now (words .entry)) ⌝ }
+    ensures { λ r. ⌜ r ≡ savedCore (now (words .entry)) ⌝ }
 {
-    let workers = seats_in(words);
+    let workers = workers_in(words);
     let sizes = sizes_in(words[WORKERS]);
     let row = words[WORKERS + 1];
     let counters = Counters {
@@ -133,8 +133,8 @@ pub fn load(words: &Saved) -> Core
 }
 
 // The row of a seat.
-fn seat_row(x: Worker) -> Row
-    ensures { λ r. ⌜ seatIn r ≡ x ⌝ }
+fn worker_row(x: Worker) -> Row
+    ensures { λ r. ⌜ savedWorker r ≡ x ⌝ }
 {
     let s = x.stage;
     let stage = stage_number(s);
@@ -147,7 +147,7 @@ fn seat_row(x: Worker) -> Row
     ]
 }
 
-fn seat_rows(workers: [Worker; WORKERS]) -> Saved
+fn worker_rows(workers: [Worker; WORKERS]) -> Saved
     requires { ⌜ length workers ≡ standard .workers ⌝ }
     ensures { λ r. ⌜ Seated r workers ⌝ }
 {
@@ -155,7 +155,7 @@ fn seat_rows(workers: [Worker; WORKERS]) -> Saved
     let mut rows = [none; WORKERS + 2];
     let mut i = 0;
     while i < WORKERS {
-        let row = seat_row(workers[i]);
+        let row = worker_row(workers[i]);
         rows[i] = row;
         i += 1;
     }
@@ -165,12 +165,12 @@ fn seat_rows(workers: [Worker; WORKERS]) -> Saved
 // Puts the core into the words.
 pub fn store(words: &mut Saved, core: Core)
     requires { ⌜ length (core .workers) ≡ standard .workers ⌝ }
-    ensures { λ _. ⌜ coreIn (now (words .exit)) ≡ core ⌝ }
+    ensures { λ _. ⌜ savedCore (now (words .exit)) ≡ core ⌝ }
 {
     let workers = core.workers;
     let z = core.sizes;
     let k = core.counters;
-    let mut rows = seat_rows(workers);
+    let mut rows = worker_rows(workers);
     let sizes = [
         z.records as u64,
         z.leaves as u64,

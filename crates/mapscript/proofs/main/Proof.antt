@@ -10,7 +10,7 @@ use Rattle.mapscript.proofs.main.Tie as tie
 
 abbrev Inv-loop : tie.InvT-loop
 Inv-loop input₀ out₀ rows₀ leaves₀ slots₀ reads₀ leafsets₀ writes₀ w₀ turns₀ input out rows leaves slots reads leafsets writes w turns =
-    WorkReady (lent rows leaves slots) (logs reads leafsets writes) w (length out) (length input)
+    WorkReady (lent rows leaves slots) (logs reads leafsets writes) w (length input)
     × (65536 ≡ length out) × (65536 ≡ length input)
 
 abbrev μ-loop : tie.MeasureT-loop
@@ -27,7 +27,7 @@ fresh-session-requires : tie.Need-fresh-session-requires Inv-loop μ-loop
 fresh-session-requires c κs = tt
 
 loop-holds : tie.Need-loop-holds Inv-loop μ-loop
-loop-holds c = (holds-start _ _ (c .fresh-session .ensures) refl refl, c .before .before .before .before .before .before .before .large-buffer2 .ensures, c .before .before .before .before .before .before .before .before .large-buffer .ensures)
+loop-holds c = (holds-start _ (c .fresh-session .ensures) refl refl, c .before .before .before .before .before .before .before .large-buffer2 .ensures, c .before .before .before .before .before .before .before .before .large-buffer .ensures)
 
 slice-aggregate-advance : tie.Need-slice-aggregate-advance Inv-loop μ-loop
 slice-aggregate-advance c = c .before .before .before .loop .inv .2
@@ -53,7 +53,7 @@ slice-aggregate-close c = c .before .before .loop .inv .1
 close-requires : tie.Need-close-requires Inv-loop μ-loop
 close-requires c κs =
     let i = c .before .before .before .before .before .before .before .before .loop .inv in
-    (i .0 .ready, (i .0 .started, (i .0 .room-left, omega (arith, i .1))))
+    (i .0 .ready, (i .0 .started, (i .0 .written, omega (arith, i .1))))
 
 returns : tie.Need-returns Inv-loop μ-loop
 returns c = tt

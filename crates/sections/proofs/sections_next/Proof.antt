@@ -1,5 +1,5 @@
 -- `sections_next` meets its contract: the first record, or none.
-use Rattle.sections.specs.ExportLaws.{ready-loaded, gives-one, gives-none}
+use Rattle.sections.specs.ExportLaws.{ready-loaded, next-record-one, next-record-none}
 use borrow.Author.Needs.{needs}
 use Rattle.map.specs.Parts.{records-held, slots-held}
 use Rattle.sections.proofs.sections_next.Statement.{statement}
@@ -23,10 +23,10 @@ enum-told : tie.Need-enum-told
 enum-told c = search needs
 
 returns : tie.Need-returns
-returns c = gives-one _ _ (c .before .before .before .before .before .load .ensures) (c .before .before .before .next-record .ensures) (c .before .next .given .1)
+returns c = next-record-one _ _ (c .before .before .before .before .before .load .ensures) (c .before .before .before .next-record .ensures) (c .before .next .given .1)
 
 returns-2 : tie.Need-returns-2
-returns-2 c = gives-none _ _ (c .before .before .before .before .load .ensures) (c .before .before .next-record .ensures) (c .enum-told .given .1)
+returns-2 c = next-record-none _ _ (c .before .before .before .before .load .ensures) (c .before .before .next-record .ensures) (c .enum-told .given .1)
 
 pub sections-next-spec : {M : Type 1} → statement M
 sections-next-spec =

@@ -1,5 +1,5 @@
 -- `sections_step` meets its contract: `codes::step` between a core loaded and a core stored.
-use Rattle.sections.specs.ExportLaws.{ready-loaded, steps-workers, takes}
+use Rattle.sections.specs.ExportLaws.{ready-loaded, steps-workers, exported-step}
 use borrow.Author.Needs.{needs}
 use Rattle.sections.proofs.sections_step.Statement.{statement}
 use Rattle.sections.proofs.sections_step.Tie as tie
@@ -7,11 +7,14 @@ use Rattle.sections.proofs.sections_step.Tie as tie
 load-requires : tie.Need-load-requires
 load-requires c κs = search needs
 
+code-in-requires : tie.Need-code-in-requires
+code-in-requires c κs = search needs
+
 step-requires : tie.Need-step-requires
-step-requires c κs = ready-loaded _ (c .before .before .before .before .before .before .before .before .load .ensures) (c .before .before .before .before .before .before .before .before .before .before .before .before .pre)
+step-requires c κs = ready-loaded _ (c .before .before .before .before .before .before .before .before .before .load .ensures) (c .before .before .before .before .before .before .before .before .before .before .before .before .before .pre)
 
 store-requires : tie.Need-store-requires
-store-requires c κs = steps-workers (ready-loaded _ (c .before .before .before .before .before .before .before .before .before .before .before .before .before .before .before .before .load .ensures) (c .before .before .before .before .before .before .before .before .before .before .before .before .before .before .before .before .before .before .before .before .pre)) (c .before .before .before .before .before .before .before .step .ensures)
+store-requires c κs = steps-workers (ready-loaded _ (c .before .before .before .before .before .before .before .before .before .before .before .before .before .before .before .before .before .load .ensures) (c .before .before .before .before .before .before .before .before .before .before .before .before .before .before .before .before .before .before .before .before .before .pre)) (c .before .before .before .before .before .before .before .step .ensures)
 
 put-answer-requires : tie.Need-put-answer-requires
 put-answer-requires c κs = search needs
@@ -23,13 +26,14 @@ same-length-2 : tie.Need-same-length-2
 same-length-2 c = search needs
 
 returns : tie.Need-returns
-returns c = takes (c .before .before .before .before .before .before .before .before .before .before .step .result) (c .before .before .before .before .before .before .before .before .before .before .before .before .before .before .before .before .before .before .before .load .ensures) (c .before .before .before .before .before .before .before .before .before .before .before .before .before .before .before .before .before .before .before .before .before .before .before .pre) (c .before .before .before .before .before .before .before .before .before .before .step .ensures) (c .before .before .store .ensures) (c .put-answer .ensures)
+returns c = exported-step (c .before .before .before .before .before .before .before .before .before .before .step .result) (c .before .before .before .before .before .before .before .before .before .before .before .before .before .before .before .before .before .before .before .before .load .ensures) (c .before .before .before .before .before .before .before .before .before .before .before .before .before .before .before .before .before .before .before .code-in .ensures) (c .before .before .before .before .before .before .before .before .before .before .before .before .before .before .before .before .before .before .before .before .before .before .before .before .pre) (c .before .before .before .before .before .before .before .before .before .before .step .ensures) (c .before .before .store .ensures) (c .put-answer .ensures)
 
 pub sections-step-spec : {M : Type 1} → statement M
 sections-step-spec =
     tie.close
     (tie.spec
     load-requires
+    code-in-requires
     step-requires
     store-requires
     put-answer-requires

@@ -3,7 +3,7 @@
 use super::program::{Feed, Program};
 use super::{runs, Check, Script, Subject};
 use crate::damage;
-use crate::profiles::{Profile, PROFILES};
+use crate::profiles::{self, Profile, PROFILES};
 use std::ops::Range;
 use std::path::Path;
 
@@ -57,19 +57,33 @@ fn pieces() -> Vec<Script> {
     scripts
 }
 
+/// Lines for a client that waits, as many as a day at a terminal may have.
+fn conversations() -> Vec<Script> {
+    random(&Size { seeds: 3..4, steps: 10_000 }, profiles::find("ordinary", 0))
+}
+
+/// A way to come to the program, and the scripts that do.
+type Way = (Program, fn() -> Vec<Script>);
+
 /// What `mapscript` is held to.
 pub struct Programs {
     piped: Program,
-    fed: Vec<Program>,
+    fed: Vec<Way>,
 }
 
 impl Programs {
     pub fn new(path: &Path) -> Self {
         let program = |feed| Program { path: path.into(), feed };
-        Programs {
-            piped: program(Feed::Pipe),
-            fed: FEEDS.map(|sizes| program(Feed::Packets(sizes))).into(),
+        let mut fed: Vec<Way> = Vec::new();
+        for sizes in FEEDS {
+            fed.push((program(Feed::Packets(sizes)), pieces));
+            fed.push((program(Feed::Awaited(sizes)), pieces));
         }
+        for feed in [Feed::Lines, Feed::Awaited(&[3]), Feed::Awaited(&[40, 1, 70]), Feed::Broken] {
+            fed.push((program(feed), conversations));
+        }
+        fed.push((program(Feed::Unreadable), conversations));
+        Programs { piped: program(Feed::Pipe), fed }
     }
 
     /// The gate's comparison.
@@ -78,9 +92,9 @@ impl Programs {
         scripts.extend(damaged(0..12));
         scripts.extend(runs::all());
         let mut checks = by_script(&self.piped, scripts);
-        for fed in &self.fed {
+        for (fed, scripts) in &self.fed {
             let check = |script| Check { group: fed.name(), script, subject: fed };
-            checks.extend(pieces().into_iter().map(check));
+            checks.extend(scripts().into_iter().map(check));
         }
         checks
     }

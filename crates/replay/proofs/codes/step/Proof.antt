@@ -1,5 +1,5 @@
 -- `codes::step` meets its contract: what its code means is done, or nothing.
-use Rattle.replay.specs.CodeLaws.{steps-meant, steps-unmeant}
+use Rattle.replay.specs.CodeLaws.{meant-lends, step-meant, step-meaningless}
 use borrow.Author.Needs.{needs}
 use Rattle.replay.proofs.codes.step.Statement.{statement}
 use Rattle.replay.proofs.codes.step.Tie as tie
@@ -10,8 +10,8 @@ decode-requires c κs = search needs
 enum-known-d : tie.Need-enum-known-d
 enum-known-d c = search needs
 
-perform-requires : tie.Need-perform-requires
-perform-requires c κs = search needs
+perform-first-requires : tie.Need-perform-first-requires
+perform-first-requires c κs = (c .before .before .before .before .before .before .before .before .before .before .before .before .before .before .pre, meant-lends _ _ _ (c .before .before .before .before .before .before .before .before .before .before .before .decode .ensures) (c .before .before .before .before .before .before .before .before .before .d .given .1))
 
 encode-requires : tie.Need-encode-requires
 encode-requires c κs = search needs
@@ -26,10 +26,10 @@ same-length-2 : tie.Need-same-length-2
 same-length-2 c = search needs
 
 returns : tie.Need-returns
-returns c = steps-meant (c .before .before .before .before .before .before .perform .result) (c .before .before .before .before .before .before .before .before .before .before .before .before .before .before .before .before .before .before .decode .ensures) (c .before .before .before .before .before .before .before .before .before .before .before .before .before .before .before .before .d .given .1) (c .before .before .before .before .before .before .perform .ensures) (c .encode .ensures)
+returns c = step-meant (c .before .before .before .before .before .before .perform-first .result) (c .before .before .before .before .before .before .before .before .before .before .before .before .before .before .before .before .before .before .decode .ensures) (c .before .before .before .before .before .before .before .before .before .before .before .before .before .before .before .before .d .given .1) (c .before .before .before .before .before .before .perform-first .ensures) (c .encode .ensures)
 
 returns-2 : tie.Need-returns-2
-returns-2 c = steps-unmeant (c .before .before .decode .ensures) (c .enum-told .given .1)
+returns-2 c = step-meaningless (c .before .before .decode .ensures) (c .enum-told .given .1)
 
 pub step-spec : {M : Type 1} → statement M
 step-spec =
@@ -37,7 +37,7 @@ step-spec =
     (tie.spec
     decode-requires
     enum-known-d
-    perform-requires
+    perform-first-requires
     encode-requires
     enum-told
     same-length

@@ -6,7 +6,7 @@ use borrow.Author.Needs.{needs}
 use Rattle.map.specs.Views.{lent}
 use Rattle.transactions.specs.Views.{logs}
 use Rattle.replay.specs.declared.runs.Stop.the-variants as stop
-use Rattle.replay.specs.LoopLaws.{Replaying, replaying-start, replaying-on, replaying-at, replaying-out, replaying-addresses, replaying-values, turned-out, turned-addresses, turned-values, turns-as, replays-stop, replays-end}
+use Rattle.replay.specs.LoopLaws.{Replaying, replaying-start, replaying-on, replaying-at, replaying-out, replaying-addresses, replaying-values, turned-out, turned-addresses, turned-values, takes-as, replays-stop, replays-end}
 use Rattle.replay.proofs.runs.take_all.Statement.{statement}
 use Rattle.replay.proofs.runs.take_all.Tie as tie
 
@@ -37,7 +37,7 @@ loop-less : tie.Need-loop-less Inv-loop μ-loop
 loop-less c = omega (arith, c .before .before .before .before .before .before .before .before .before .before .before .before .before .before .before .before .before .before .before .before .loop-test .taken)
 
 loop-again : tie.Need-loop-again Inv-loop μ-loop
-loop-again c = replaying-on (c .before .before .before .before .before .before .before .before .before .before .before .before .before .before .before .before .before .before .before .before .before .loop .inv) (turns-as (c .before .before .before .before .before .before .before .before .before .take-code .ensures) (c .before .before .before .before .before .before .before .before .before .before .before .before .before .before .before .before .before .before .before .code-at .ensures .0)) (omega (arith, c .before .before .before .before .before .before .before .before .before .before .before .before .before .before .before .before .before .before .before .before .loop-test .taken)) (c .enum-told .given .1)
+loop-again c = replaying-on (c .before .before .before .before .before .before .before .before .before .before .before .before .before .before .before .before .before .before .before .before .before .loop .inv) (takes-as (c .before .before .before .before .before .before .before .before .before .take-code .ensures) (c .before .before .before .before .before .before .before .before .before .before .before .before .before .before .before .before .before .before .before .code-at .ensures .0)) (omega (arith, c .before .before .before .before .before .before .before .before .before .before .before .before .before .before .before .before .before .before .before .before .loop-test .taken)) (c .enum-told .given .1)
 
 enum-told-2 : tie.Need-enum-told-2 Inv-loop μ-loop
 enum-told-2 c = search needs
@@ -52,7 +52,7 @@ same-length-3 : tie.Need-same-length-3 Inv-loop μ-loop
 same-length-3 c = turned-values (c .before .before .before .before .before .before .before .before .before .take-code .ensures) ∙ replaying-values (c .before .before .before .before .before .before .before .before .before .before .before .before .before .before .before .before .before .before .before .before .before .loop .inv)
 
 returns : tie.Need-returns Inv-loop μ-loop
-returns c = replays-stop (c .before .before .before .before .before .before .before .before .before .before .before .before .before .before .before .before .before .before .before .before .before .loop .inv) (turns-as (c .before .before .before .before .before .before .before .before .before .take-code .ensures) (c .before .before .before .before .before .before .before .before .before .before .before .before .before .before .before .before .before .before .before .code-at .ensures .0)) (omega (arith, c .before .before .before .before .before .before .before .before .before .before .before .before .before .before .before .before .before .before .before .before .loop-test .taken)) stop.Meaningless (c .enum-told2 .given .1) refl (λ r σ. refl)
+returns c = replays-stop (c .before .before .before .before .before .before .before .before .before .before .before .before .before .before .before .before .before .before .before .before .before .loop .inv) (takes-as (c .before .before .before .before .before .before .before .before .before .take-code .ensures) (c .before .before .before .before .before .before .before .before .before .before .before .before .before .before .before .before .before .before .before .code-at .ensures .0)) (omega (arith, c .before .before .before .before .before .before .before .before .before .before .before .before .before .before .before .before .before .before .before .before .loop-test .taken)) stop.Meaningless (c .enum-told2 .given .1) refl (λ r σ. refl)
 
 enum-told-3 : tie.Need-enum-told-3 Inv-loop μ-loop
 enum-told-3 c = search needs
@@ -67,7 +67,7 @@ same-length-6 : tie.Need-same-length-6 Inv-loop μ-loop
 same-length-6 c = turned-values (c .before .before .before .before .before .before .before .before .before .take-code .ensures) ∙ replaying-values (c .before .before .before .before .before .before .before .before .before .before .before .before .before .before .before .before .before .before .before .before .before .loop .inv)
 
 returns-2 : tie.Need-returns-2 Inv-loop μ-loop
-returns-2 c = replays-stop (c .before .before .before .before .before .before .before .before .before .before .before .before .before .before .before .before .before .before .before .before .before .loop .inv) (turns-as (c .before .before .before .before .before .before .before .before .before .take-code .ensures) (c .before .before .before .before .before .before .before .before .before .before .before .before .before .before .before .before .before .before .before .code-at .ensures .0)) (omega (arith, c .before .before .before .before .before .before .before .before .before .before .before .before .before .before .before .before .before .before .before .before .loop-test .taken)) stop.Full (c .enum-told3 .given .1) refl (λ r σ. refl)
+returns-2 c = replays-stop (c .before .before .before .before .before .before .before .before .before .before .before .before .before .before .before .before .before .before .before .before .before .loop .inv) (takes-as (c .before .before .before .before .before .before .before .before .before .take-code .ensures) (c .before .before .before .before .before .before .before .before .before .before .before .before .before .before .before .before .before .before .before .code-at .ensures .0)) (omega (arith, c .before .before .before .before .before .before .before .before .before .before .before .before .before .before .before .before .before .before .before .before .loop-test .taken)) stop.Full (c .enum-told3 .given .1) refl (λ r σ. refl)
 
 last-stop-requires : tie.Need-last-stop-requires Inv-loop μ-loop
 last-stop-requires c κs = tt

@@ -1,9 +1,16 @@
--- `runs::take_code` meets its contract: full, without meaning, or taken.
+-- `runs::take_code` meets its contract: without meaning, full, or taken.
+use Rattle.replay.specs.CodeLaws.{meant-lends}
 use Rattle.replay.specs.FitLaws.{fits-yes, fits-no}
-use Rattle.replay.specs.RunLaws.{turns-full, turns-unmeant, turns-taken, performs-roomy}
+use Rattle.replay.specs.RunLaws.{code-unmeant, code-full, code-taken, performs-roomy}
 use borrow.Author.Needs.{needs}
 use Rattle.replay.proofs.runs.take_code.Statement.{statement}
 use Rattle.replay.proofs.runs.take_code.Tie as tie
+
+decode-requires : tie.Need-decode-requires
+decode-requires c κs = search needs
+
+enum-known-d : tie.Need-enum-known-d
+enum-known-d c = search needs
 
 sub-fits : tie.Need-sub-fits
 sub-fits c = search needs
@@ -12,19 +19,13 @@ fits-requires : tie.Need-fits-requires
 fits-requires c κs = search needs
 
 returns : tie.Need-returns
-returns c = turns-full _ _ _ _ _ (c .before .before .before .before .before .pre .0) (c .before .before .before .before .before .pre .1) (fits-no _ _ _ (c .before .fits2 .ensures) (c .if1 .taken))
+returns c = code-full _ _ _ _ (c .before .before .before .before .before .before .before .before .before .pre .0) (c .before .before .before .before .before .before .before .before .before .pre .1) (c .before .before .before .before .before .decode .ensures) (c .before .before .before .d .given .1) (fits-no _ _ _ (c .before .fits2 .ensures) (c .if1 .taken))
 
-decode-requires : tie.Need-decode-requires
-decode-requires c κs = search needs
+perform-first-requires : tie.Need-perform-first-requires
+perform-first-requires c κs = (c .before .before .before .before .before .before .before .before .before .before .before .before .before .before .before .before .before .pre .0, meant-lends _ _ _ (c .before .before .before .before .before .before .before .before .before .before .before .before .before .decode .ensures) (c .before .before .before .before .before .before .before .before .before .before .before .d .given .1))
 
-enum-known-d : tie.Need-enum-known-d
-enum-known-d c = search needs
-
-perform-requires : tie.Need-perform-requires
-perform-requires c κs = search needs
-
-put-reply-requires : tie.Need-put-reply-requires
-put-reply-requires c κs = performs-roomy _ _ (c .before .before .before .before .before .before .before .before .perform .ensures) (c .before .before .before .before .before .before .before .before .before .before .before .before .before .before .before .before .before .before .before .before .before .before .before .before .before .before .pre .1) (fits-yes _ _ _ (c .before .before .before .before .before .before .before .before .before .before .before .before .before .before .before .before .before .before .before .before .before .before .fits2 .ensures) (c .before .before .before .before .before .before .before .before .before .before .before .before .before .before .before .before .before .before .before .before .before .if1 .left))
+put-answer-words-requires : tie.Need-put-answer-words-requires
+put-answer-words-requires c κs = performs-roomy _ _ (meant-lends _ _ _ (c .before .before .before .before .before .before .before .before .before .before .before .before .before .before .before .before .before .before .before .before .before .before .decode .ensures) (c .before .before .before .before .before .before .before .before .before .before .before .before .before .before .before .before .before .before .before .before .d .given .1)) (c .before .before .before .before .before .before .before .before .perform-first .ensures) (c .before .before .before .before .before .before .before .before .before .before .before .before .before .before .before .before .before .before .before .before .before .before .before .before .before .before .pre .1) (fits-yes _ _ _ (c .before .before .before .before .before .before .before .before .before .before .before .before .before .before .before .before .before .before .fits2 .ensures) (c .before .before .before .before .before .before .before .before .before .before .before .before .before .before .before .before .before .if1 .left))
 
 enum-told : tie.Need-enum-told
 enum-told c = search needs
@@ -39,22 +40,22 @@ same-length-3 : tie.Need-same-length-3
 same-length-3 c = search needs
 
 returns-2 : tie.Need-returns-2
-returns-2 c = turns-taken (c .before .before .before .before .before .before .before .before .before .before .before .perform .result) (fits-yes _ _ _ (c .before .before .before .before .before .before .before .before .before .before .before .before .before .before .before .before .before .before .before .before .before .before .before .before .before .fits2 .ensures) (c .before .before .before .before .before .before .before .before .before .before .before .before .before .before .before .before .before .before .before .before .before .before .before .before .if1 .left)) (c .before .before .before .before .before .before .before .before .before .before .before .before .before .before .before .before .before .before .before .before .before .before .before .decode .ensures) (c .before .before .before .before .before .before .before .before .before .before .before .before .before .before .before .before .before .before .before .before .before .d .given .1) (c .before .before .before .before .before .before .before .before .before .before .before .perform .ensures) (c .before .before .put-reply .ensures)
+returns-2 c = code-taken (c .before .before .before .before .before .before .before .before .before .before .before .perform-first .result) (fits-yes _ _ _ (c .before .before .before .before .before .before .before .before .before .before .before .before .before .before .before .before .before .before .before .before .before .fits2 .ensures) (c .before .before .before .before .before .before .before .before .before .before .before .before .before .before .before .before .before .before .before .before .if1 .left)) (c .before .before .before .before .before .before .before .before .before .before .before .before .before .before .before .before .before .before .before .before .before .before .before .before .before .decode .ensures) (c .before .before .before .before .before .before .before .before .before .before .before .before .before .before .before .before .before .before .before .before .before .before .before .d .given .1) (c .before .before .before .before .before .before .before .before .before .before .before .perform-first .ensures) (c .before .before .put-answer-words .ensures)
 
 returns-3 : tie.Need-returns-3
-returns-3 c = turns-unmeant _ _ _ _ (c .before .before .before .before .before .before .before .before .pre .0) (c .before .before .before .before .before .before .before .before .pre .1) (fits-yes _ _ _ (c .before .before .before .before .fits2 .ensures) (c .before .before .before .if1 .left)) (c .before .before .decode .ensures) (c .enum-told .given .1)
+returns-3 c = code-unmeant _ _ _ _ (c .before .before .before .before .before .before .pre .0) (c .before .before .before .before .before .before .pre .1) (c .before .before .decode .ensures) (c .enum-told .given .1)
 
 pub take-code-spec : {M : Type 1} → statement M
 take-code-spec =
     tie.close
     (tie.spec
+    decode-requires
+    enum-known-d
     sub-fits
     fits-requires
     returns
-    decode-requires
-    enum-known-d
-    perform-requires
-    put-reply-requires
+    perform-first-requires
+    put-answer-words-requires
     enum-told
     same-length
     same-length-2

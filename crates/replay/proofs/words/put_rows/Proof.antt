@@ -2,7 +2,7 @@
 use Prim.Native.Nat.{_-_, _≤_}
 use native.Mathlib.Omega.{arith}
 use Rattle.lists.specs.Texts.{wrote-length}
-use Rattle.replay.specs.Words.{Putting, putting-none, putting-on, putting-end}
+use Rattle.replay.specs.WordLaws.{Putting, putting-none, putting-on, putting-end}
 use mathlib.Core.Path.{refl}
 use Rattle.replay.proofs.words.put_rows.Statement.{statement}
 use Rattle.replay.proofs.words.put_rows.Tie as tie

@@ -1,7 +1,7 @@
 -- `words::put_two` meets its contract: two stores.
 use native.Mathlib.Omega.{arith}
 use lib.ListN.{length-set}
-use Rattle.replay.specs.Words.{wrote-two}
+use Rattle.replay.specs.WordLaws.{wrote-two}
 use borrow.Author.Needs.{needs}
 use Rattle.replay.proofs.words.put_two.Statement.{statement}
 use Rattle.replay.proofs.words.put_two.Tie as tie

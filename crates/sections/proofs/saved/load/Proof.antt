@@ -4,8 +4,8 @@ use borrow.Author.Needs.{needs}
 use Rattle.sections.proofs.saved.load.Statement.{statement}
 use Rattle.sections.proofs.saved.load.Tie as tie
 
-seats-in-requires : tie.Need-seats-in-requires
-seats-in-requires c κs = search needs
+workers-in-requires : tie.Need-workers-in-requires
+workers-in-requires c κs = search needs
 
 element-copy-out-sizes-in : tie.Need-element-copy-out-sizes-in
 element-copy-out-sizes-in c = search needs
@@ -29,13 +29,13 @@ array-read-t18 : tie.Need-array-read-t18
 array-read-t18 c = search needs
 
 returns : tie.Need-returns
-returns c = core-read _ (c .before .before .before .seats-in .ensures) (c .before .sizes-in .ensures)
+returns c = core-read _ (c .before .before .before .workers-in .ensures) (c .before .sizes-in .ensures)
 
 pub load-spec : {M : Type 1} → statement M
 load-spec =
     tie.close
     (tie.spec
-    seats-in-requires
+    workers-in-requires
     element-copy-out-sizes-in
     sizes-in-requires
     add-row

@@ -4,8 +4,8 @@ use borrow.Author.Needs.{needs}
 use Rattle.sections.proofs.saved.store.Statement.{statement}
 use Rattle.sections.proofs.saved.store.Tie as tie
 
-seat-rows-requires : tie.Need-seat-rows-requires
-seat-rows-requires c κs = search needs
+worker-rows-requires : tie.Need-worker-rows-requires
+worker-rows-requires c κs = search needs
 
 array-set-from-rows : tie.Need-array-set-from-rows
 array-set-from-rows c = search needs
@@ -20,13 +20,13 @@ array-set-from-rows-2 : tie.Need-array-set-from-rows-2
 array-set-from-rows-2 c = search needs
 
 returns : tie.Need-returns
-returns c = core-put _ _ (c .seat-rows .ensures)
+returns c = core-put _ _ (c .worker-rows .ensures)
 
 pub store-spec : {M : Type 1} → statement M
 store-spec =
     tie.close
     (tie.spec
-    seat-rows-requires
+    worker-rows-requires
     array-set-from-rows
     add-rows
     mul-rows

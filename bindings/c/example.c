@@ -1,0 +1,98 @@
+/* A morning with the section map: two jobs, a phantom, a fold. Build it with
+ *
+ *     cc -std=c11 -I bindings/c bindings/c/example.c target/staticlib/libsections.a
+ *
+ * It prints what example.stdout has. */
+#include "sections.h"
+
+#include <inttypes.h>
+#include <stdio.h>
+
+/* A map is 94 KB: static memory suits it. */
+static struct sections map;
+
+static void say(const char *step, enum sections_refusal refusal)
+{
+    printf("%s: %d, %s\n", step, refusal, sections_word(refusal));
+}
+
+/* A job edits, locks what it edited, validates and installs. Any of these may be refused; only then is there more to do. */
+static enum sections_refusal enter(uint32_t seat, uint32_t address, uint64_t length)
+{
+    enum sections_refusal refusal = sections_begin(&map, seat);
+    if (!refusal)
+        refusal = sections_put(&map, seat, address, length);
+    if (!refusal)
+        refusal = sections_lock(&map, seat);
+    if (!refusal)
+        refusal = sections_validate(&map, seat).refusal;
+    if (!refusal)
+        refusal = sections_install(&map, seat);
+    return refusal;
+}
+
+/* A scan writes into buffers of the caller. This many places always suffice; with fewer it may be refused by 8. */
+static uint32_t addresses[SECTIONS_SCAN_LIMIT];
+static uint64_t lengths[SECTIONS_SCAN_LIMIT];
+static const struct sections_buffers buffers = {addresses, SECTIONS_SCAN_LIMIT, lengths, SECTIONS_SCAN_LIMIT};
+
+static void look(uint32_t seat)
+{
+    struct sections_count found = sections_scan(&map, seat, 0, 16383, &buffers);
+    say("scan", found.refusal);
+    for (size_t i = 0; i < found.count; i++)
+        printf("  section at %" PRIu32 ", %" PRIu64 " bytes\n", addresses[i], lengths[i]);
+}
+
+int main(void)
+{
+    sections_init(&map);
+
+    /* The boot code, by a job at seat 0. */
+    say("enter", enter(0, 4096, 8192));
+
+    /* A scan does not show what waits in the indexlet, so the job that relied on it is ended at its validation. */
+    sections_begin(&map, 1);
+    look(1);
+    sections_lock(&map, 1);
+    say("validate", sections_validate(&map, 1).refusal);
+
+    /* A fold takes it into the index, and now it is seen. */
+    struct sections_count fold = sections_fold(&map, 0);
+    printf("fold: %zu waiting edit\n", fold.count);
+    sections_begin(&map, 1);
+    look(1);
+
+    /* A read gives a value, or says that there is none. */
+    struct sections_value here = sections_read(&map, 1, 4096), there = sections_read(&map, 1, 0);
+    printf("read: %" PRIu64 " bytes at 4096, %s at 0\n", here.value, there.present ? "something" : "nothing");
+
+    /* What a copy of the map goes through, the map does not see. */
+    static struct sections trial;
+    trial = map;
+    sections_remove(&trial, 1, 4096);
+    sections_lock(&trial, 1);
+    sections_validate(&trial, 1);
+    sections_install(&trial, 1);
+
+    /* The job goes on in the map, and gets the next serial number. */
+    sections_put(&map, 1, 12288, 1024);
+    sections_lock(&map, 1);
+    struct sections_serial job = sections_validate(&map, 1);
+    say("validate", job.refusal);
+    printf("serial number %" PRIu32 "\n", job.serial);
+    sections_install(&map, 1);
+
+    /* All present records, those that wait too. */
+    struct sections_record r;
+    for (bool more = sections_first(&map, &r); more; more = sections_after(&map, &r))
+        printf("address %" PRIu32 ", value %" PRIu64 ", stamp %" PRIu32 "\n", r.address, r.value, r.stamp);
+
+    /* A list of steps in one call, from a fresh map: three words for each answer. */
+    struct sections_code list[] = {sections_code_begin(0), sections_code_put(0, 4096, 32), sections_code_begin(0)};
+    uint64_t answers[9];
+    struct sections_ran ran = sections_run(&trial, list, 3, NULL, answers, 9);
+    printf("list: %zu of 3 steps taken\n", ran.taken);
+    say("the last", (enum sections_refusal)answers[6]);
+    return ran.stop != SECTIONS_COMPLETE;
+}

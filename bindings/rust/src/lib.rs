@@ -1,0 +1,239 @@
+//! The section map of document 01, over its proved static library.
+//!
+//! Up to eight jobs, one at a seat, enter sections into one map: each begins,
+//! reads, scans, puts and removes, then locks, validates and installs. The
+//! installed jobs have the answers that they would have if run alone, one after
+//! the other by serial number; a job for which that fails is refused.
+//!
+//! ```
+//! use sections::{Refusal, Sections};
+//!
+//! let mut map = Sections::new();
+//! map.begin(0)?;
+//! map.put(0, 4096, 32)?;
+//! map.lock(0)?;
+//! let serial = map.validate(0)?;
+//! map.install(0)?;
+//! assert_eq!(serial.get(), 1);
+//!
+//! // What waits in the indexlet is not scanned, and a job that missed it is ended.
+//! map.begin(1)?;
+//! assert_eq!(map.scan_all(1, 4000, 5000)?, []);
+//! map.lock(1)?;
+//! assert_eq!(map.validate(1), Err(Refusal::Phantom));
+//!
+//! // A fold takes it into the index.
+//! assert_eq!(map.fold(4096)?, 1);
+//! map.begin(1)?;
+//! assert_eq!(map.scan_all(1, 4000, 5000)?, [(4096, 32)]);
+//! # Ok::<(), Refusal>(())
+//! ```
+#![deny(unsafe_code)]
+#![warn(missing_docs)]
+
+mod contents;
+mod declared;
+mod refusal;
+mod replay;
+mod steps;
+
+pub use contents::{Contents, Record};
+pub use refusal::Refusal;
+pub use steps::{Answer, Step};
+
+use declared::{Map, COUNT, VALUE};
+use std::fmt;
+
+/// A seat's number: 0 to 7, any other is refused.
+pub type Seat = u32;
+
+/// Where a section starts.
+pub type Address = u32;
+
+/// What a record holds: a section's length, to the map any number.
+pub type Value = u64;
+
+/// How many seats a map has.
+pub const SEATS: usize = declared::SEATS;
+
+/// The most records that a granted scan can show: those that it logs, and the
+/// job's own edits.
+pub const SCAN_LIMIT: usize = declared::READ_LIMIT + declared::WRITE_LIMIT;
+
+/// The number that a validated job has, from 1: installed jobs are as if run in
+/// the order of their numbers. A record has the one of the job that wrote it as
+/// its stamp.
+#[derive(Clone, Copy, PartialEq, Eq, PartialOrd, Ord, Hash, Debug)]
+pub struct SerialNumber(u64);
+
+impl SerialNumber {
+    /// As a number.
+    pub fn get(self) -> u64 {
+        self.0
+    }
+}
+
+impl fmt::Display for SerialNumber {
+    fn fmt(&self, out: &mut fmt::Formatter) -> fmt::Result {
+        self.0.fmt(out)
+    }
+}
+
+/// One map with its eight seats, 94 KB. A clone goes on by itself.
+#[derive(Clone)]
+pub struct Sections {
+    map: Box<Map>,
+}
+
+/// Each step of document 01. A refused step changes nothing, unless the refusal
+/// ends the job ([`Refusal::ends_job`]).
+impl Sections {
+    /// A fresh map: no record, every seat free.
+    pub fn new() -> Self {
+        Sections { map: declared::fresh() }
+    }
+
+    /// Begins a job at a free seat.
+    pub fn begin(&mut self, seat: Seat) -> Result<(), Refusal> {
+        self.call(Step::Begin { seat }).map(drop)
+    }
+
+    /// The value at an address, or absent: the job's own edit, or else the present
+    /// record, which is logged.
+    ///
+    /// ```
+    /// # use sections::{Refusal, Sections};
+    /// let mut map = Sections::new();
+    /// map.begin(0)?;
+    /// map.put(0, 4096, 32)?;
+    /// assert_eq!(map.read(0, 4096)?, Some(32));
+    /// assert_eq!(map.read(0, 8192)?, None);
+    /// # Ok::<(), Refusal>(())
+    /// ```
+    pub fn read(&mut self, seat: Seat, address: Address) -> Result<Option<Value>, Refusal> {
+        let [told, value] = self.call(Step::Read { seat, address })?;
+        Ok((told == VALUE).then_some(value))
+    }
+
+    /// The records from lo to hi, both included, into two buffers, of which the
+    /// shorter one decides: how many there are. Other places are left.
+    ///
+    /// ```
+    /// # use sections::{Refusal, Sections};
+    /// let mut map = Sections::new();
+    /// map.begin(0)?;
+    /// map.put(0, 4096, 32)?;
+    /// let (mut addresses, mut values) = ([0; 2], [0; 3]);
+    /// assert_eq!(map.scan(0, 0, 9999, &mut addresses, &mut values)?, 1);
+    /// assert_eq!((addresses, values), ([4096, 0], [32, 0, 0]));
+    /// assert_eq!(map.scan(0, 0, 9999, &mut [], &mut values), Err(Refusal::ShortBuffer));
+    /// # Ok::<(), Refusal>(())
+    /// ```
+    pub fn scan(
+        &mut self,
+        seat: Seat,
+        lo: Address,
+        hi: Address,
+        addresses: &mut [Address],
+        values: &mut [Value],
+    ) -> Result<usize, Refusal> {
+        let places = (addresses.len(), values.len());
+        let step = Step::Scan { seat, lo, hi, addresses: places.0, values: places.1 };
+        let [_, count] = granted(declared::step(&mut self.map, &step.code(), addresses, values))?;
+        Ok(count as usize)
+    }
+
+    /// The same into a vector, with as many places as a scan can need.
+    pub fn scan_all(
+        &mut self,
+        seat: Seat,
+        lo: Address,
+        hi: Address,
+    ) -> Result<Vec<(Address, Value)>, Refusal> {
+        let (mut addresses, mut values) = ([0; SCAN_LIMIT], [0; SCAN_LIMIT]);
+        let count = self.scan(seat, lo, hi, &mut addresses, &mut values)?;
+        Ok(addresses.into_iter().zip(values).take(count).collect())
+    }
+
+    /// An edit: a record at the address.
+    pub fn put(&mut self, seat: Seat, address: Address, value: Value) -> Result<(), Refusal> {
+        self.call(Step::Put { seat, address, value }).map(drop)
+    }
+
+    /// An edit: no record at the address.
+    pub fn remove(&mut self, seat: Seat, address: Address) -> Result<(), Refusal> {
+        self.call(Step::Remove { seat, address }).map(drop)
+    }
+
+    /// Locks all edited addresses, or none.
+    pub fn lock(&mut self, seat: Seat) -> Result<(), Refusal> {
+        self.call(Step::Lock { seat }).map(drop)
+    }
+
+    /// Compares the log with the map, and takes the next serial number.
+    pub fn validate(&mut self, seat: Seat) -> Result<SerialNumber, Refusal> {
+        self.call(Step::Validate { seat }).map(|[_, number]| SerialNumber(number))
+    }
+
+    /// Lets the edits of a validated job into the indexlet, and frees the seat.
+    pub fn install(&mut self, seat: Seat) -> Result<(), Refusal> {
+        self.call(Step::Install { seat }).map(drop)
+    }
+
+    /// Drops the job.
+    pub fn abort(&mut self, seat: Seat) -> Result<(), Refusal> {
+        self.call(Step::Abort { seat }).map(drop)
+    }
+
+    /// Takes all waiting edits of the leaf around an address into the index: how
+    /// many there were.
+    pub fn fold(&mut self, address: Address) -> Result<usize, Refusal> {
+        self.call(Step::Fold { address }).map(|[_, count]| count as usize)
+    }
+
+    /// Any step, with buffers of its own for a scan.
+    ///
+    /// ```
+    /// # use sections::{Answer, Sections, Step};
+    /// let mut map = Sections::new();
+    /// assert_eq!(map.perform(Step::Begin { seat: 0 }), Ok(Answer::Granted));
+    /// assert_eq!(map.perform(Step::Read { seat: 0, address: 9 }), Ok(Answer::Value(None)));
+    /// ```
+    pub fn perform(&mut self, step: Step) -> Result<Answer, Refusal> {
+        let (mut addresses, mut values) = (vec![0; step.places().0], vec![0; step.places().1]);
+        let words = declared::step(&mut self.map, &step.code(), &mut addresses, &mut values);
+        let told = granted(words)?;
+        let count = if words[1] == COUNT { words[2] as usize } else { 0 };
+        Ok(step.answer(told, addresses.into_iter().zip(values).take(count).collect()))
+    }
+
+    /// A step that needs no buffers.
+    fn call(&mut self, step: Step) -> Result<[u64; 2], Refusal> {
+        granted(declared::step(&mut self.map, &step.code(), &mut [], &mut []))
+    }
+}
+
+/// What is told, and by which number, if the step was granted. A coded step of
+/// this crate has a meaning, so any other number is one of the table.
+fn granted([number, told, value]: declared::Words) -> Result<[u64; 2], Refusal> {
+    match Refusal::from_number(number) {
+        Some(refusal) => Err(refusal),
+        None => {
+            assert_eq!(number, 0, "the library answered a number that this crate does not know");
+            Ok([told, value])
+        }
+    }
+}
+
+impl Default for Sections {
+    fn default() -> Self {
+        Sections::new()
+    }
+}
+
+/// As its contents.
+impl fmt::Debug for Sections {
+    fn fmt(&self, out: &mut fmt::Formatter) -> fmt::Result {
+        out.debug_list().entries(self).finish()
+    }
+}

@@ -1,0 +1,52 @@
+//! Lists of steps in one call.
+
+use crate::declared::{self, COUNT};
+use crate::{granted, Address, Answer, Refusal, Sections, Step};
+
+/// Words of an answer, and words of a record after those of a scan.
+const HEAD: usize = 3;
+const PAIR: usize = 2;
+
+impl Sections {
+    /// Runs a list of steps on a fresh map: the map after it, and their answers.
+    /// It is for this call that the serial run is proved as one promise.
+    ///
+    /// ```
+    /// use sections::{Answer, Refusal, Sections, Step};
+    /// let steps = [
+    ///     Step::Begin { seat: 0 },
+    ///     Step::Put { seat: 0, address: 4096, value: 32 },
+    ///     Step::Scan { seat: 0, lo: 0, hi: 9999, addresses: 1, values: 1 },
+    ///     Step::Scan { seat: 0, lo: 0, hi: 9999, addresses: 0, values: 1 },
+    /// ];
+    /// let (_, answers) = Sections::replay(&steps);
+    /// assert_eq!(answers[2], Ok(Answer::Found(vec![(4096, 32)])));
+    /// assert_eq!(answers[3], Err(Refusal::ShortBuffer));
+    /// ```
+    pub fn replay(steps: &[Step]) -> (Self, Vec<Result<Answer, Refusal>>) {
+        let codes: Vec<u64> = steps.iter().flat_map(|step| step.code()).collect();
+        let most = |f: fn((usize, usize)) -> usize| {
+            steps.iter().map(|step| f(step.places())).max().unwrap_or(0)
+        };
+        let (mut addresses, mut values) = (vec![0; most(|p| p.0)], vec![0; most(|p| p.1)]);
+        let room = steps.iter().map(|step| HEAD + PAIR * step.places().0.min(step.places().1));
+        let mut words = vec![0; room.sum()];
+        let (map, ran) = declared::replay(&codes, &mut addresses, &mut values, &mut words);
+        assert_eq!(ran.taken, steps.len() as u64, "each step has a meaning and room");
+        let mut rest = &words[..ran.written as usize];
+        let answers = steps.iter().map(|&step| answer(step, &mut rest)).collect();
+        (Sections { map }, answers)
+    }
+}
+
+/// Takes one answer off the words.
+fn answer(step: Step, words: &mut &[u64]) -> Result<Answer, Refusal> {
+    let (head, rest) = words.split_first_chunk::<HEAD>().expect("an answer for each step");
+    *words = rest;
+    let [told, value] = granted(*head)?;
+    let pairs = if told == COUNT { value as usize } else { 0 };
+    let (found, rest) = words.split_at(PAIR * pairs);
+    *words = rest;
+    let found = found.chunks_exact(PAIR).map(|pair| (pair[0] as Address, pair[1])).collect();
+    Ok(step.answer([told, value], found))
+}

@@ -1,0 +1,106 @@
+//! Steps and answers as data, for lists of them.
+
+use crate::declared::{Code, VALUE};
+use crate::{Address, Seat, SerialNumber, Value};
+
+/// A step with its arguments.
+#[derive(Clone, Copy, PartialEq, Eq, Hash, Debug)]
+#[non_exhaustive]
+#[allow(missing_docs)]
+pub enum Step {
+    Begin {
+        seat: Seat,
+    },
+    Read {
+        seat: Seat,
+        address: Address,
+    },
+    /// From lo to hi, both included, into buffers of so many places.
+    Scan {
+        seat: Seat,
+        lo: Address,
+        hi: Address,
+        addresses: usize,
+        values: usize,
+    },
+    Put {
+        seat: Seat,
+        address: Address,
+        value: Value,
+    },
+    Remove {
+        seat: Seat,
+        address: Address,
+    },
+    Lock {
+        seat: Seat,
+    },
+    Validate {
+        seat: Seat,
+    },
+    Install {
+        seat: Seat,
+    },
+    Abort {
+        seat: Seat,
+    },
+    Fold {
+        address: Address,
+    },
+}
+
+/// What a granted step answers.
+#[derive(Clone, PartialEq, Eq, Hash, Debug)]
+#[non_exhaustive]
+pub enum Answer {
+    /// It was done.
+    Granted,
+    /// Of a read: the value, or absent.
+    Value(Option<Value>),
+    /// Of a scan: addresses and values, by rising address.
+    Found(Vec<(Address, Value)>),
+    /// Of a validate.
+    Serial(SerialNumber),
+    /// Of a fold: how many edits it took into the index.
+    Folded(usize),
+}
+
+impl Step {
+    pub(crate) fn code(self) -> Code {
+        let (kind, numbers) = match self {
+            Step::Begin { seat } => (0, [seat.into(), 0, 0, 0, 0]),
+            Step::Read { seat, address } => (1, [seat.into(), address.into(), 0, 0, 0]),
+            Step::Scan { seat, lo, hi, addresses, values } => {
+                (2, [seat.into(), lo.into(), hi.into(), addresses as u64, values as u64])
+            }
+            Step::Put { seat, address, value } => (3, [seat.into(), address.into(), value, 0, 0]),
+            Step::Remove { seat, address } => (4, [seat.into(), address.into(), 0, 0, 0]),
+            Step::Lock { seat } => (5, [seat.into(), 0, 0, 0, 0]),
+            Step::Validate { seat } => (6, [seat.into(), 0, 0, 0, 0]),
+            Step::Install { seat } => (7, [seat.into(), 0, 0, 0, 0]),
+            Step::Abort { seat } => (8, [seat.into(), 0, 0, 0, 0]),
+            Step::Fold { address } => (9, [address.into(), 0, 0, 0, 0]),
+        };
+        let [a, b, c, d, e] = numbers;
+        [kind, a, b, c, d, e]
+    }
+
+    /// The places of a scan's buffers.
+    pub(crate) fn places(self) -> (usize, usize) {
+        match self {
+            Step::Scan { addresses, values, .. } => (addresses, values),
+            _ => (0, 0),
+        }
+    }
+
+    /// What two words and a scan's records tell, if the step was granted.
+    pub(crate) fn answer(self, [told, value]: [u64; 2], found: Vec<(Address, Value)>) -> Answer {
+        match self {
+            Step::Read { .. } => Answer::Value((told == VALUE).then_some(value)),
+            Step::Scan { .. } => Answer::Found(found),
+            Step::Validate { .. } => Answer::Serial(SerialNumber(value)),
+            Step::Fold { .. } => Answer::Folded(value as usize),
+            _ => Answer::Granted,
+        }
+    }
+}

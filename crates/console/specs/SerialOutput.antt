@@ -1,0 +1,60 @@
+-- Demand 3, of what the script program reads and writes: the history is read off the lines of the input and the lines of the
+-- output, and the contents off the last line.
+use Prim.Native.Nat.{ℕ}
+use mathlib.Core.List.{List, [], _∷_, _++_}
+use mathlib.Core.Option.{Option, none, some}
+use Rattle.lists.specs.Tests.{pick, maybe, same}
+use Rattle.lists.specs.Rows.{Row}
+use Rattle.spec.specs.declared.Refusal.{Refusal}
+use Rattle.spec.specs.Records.{Payload, Record}
+use Rattle.spec.specs.Steps.{Step, begin, read, scan, put, remove, lock, validate, install, abort, merge, Answer, refused, done, found, listed, numbered, counted, Event}
+use Rattle.spec.specs.Claim.{SerialRun}
+use Rattle.script.specs.declared.Line.{Line}
+use Rattle.script.specs.Grammar.{meaning}
+use Rattle.script.specs.Parsing.{filled}
+use Rattle.script.specs.Output.{stepOf, answerLine, endLine}
+use Rattle.console.specs.Program.{places}
+
+-- ---- the input
+
+-- What the lines of an input say, when the bytes `line` of the current line are read; none if a line is malformed, or the last
+-- one has no line feed.
+unfoldable pub linesFrom : List ℕ → List ℕ → Option (List Line)
+linesFrom line [] = pick (filled line) none (some [])
+linesFrom line (b ∷ bs) =
+    pick (same b 10)
+    (maybe (meaning line) none (λ (l : Line). maybe (linesFrom [] bs) none (λ (ls : List Line). some (l ∷ ls))))
+    (linesFrom (line ++ (b ∷ [])) bs)
+
+abbrev pub linesOf : List ℕ → Option (List Line)
+linesOf input = linesFrom [] input
+
+-- ---- the output
+
+-- what a step can be answered: any refusal, or what it tells when it is granted
+pub data Answers : Step → Answer → Type 0 where
+  not-granted : (s : Step) (r : Refusal) → Answers s (refused r)
+  begun : (w : ℕ) → Answers (begin w) done
+  value : (w k : ℕ) (o : Option Payload) → Answers (read w k) (found o)
+  records : (w lo hi m n : ℕ) (rs : List (Row Payload)) → Answers (scan w lo hi m n) (listed rs)
+  written : (w k : ℕ) (p : Payload) → Answers (put w k p) done
+  removed : (w k : ℕ) → Answers (remove w k) done
+  locked : (w : ℕ) → Answers (lock w) done
+  number : (w n : ℕ) → Answers (validate w) (numbered n)
+  installed : (w : ℕ) → Answers (install w) done
+  aborted : (w : ℕ) → Answers (abort w) done
+  count : (a n : ℕ) → Answers (merge a) (counted n)
+
+-- The lines of an input and the bytes of an output, read side by side: each line of the input with the line of the output that
+-- tells its answer, and at the end the line of the contents.
+pub data Transcript : List Line → List ℕ → List Event → List (Row Record) → Type 0 where
+  end-line : (rs : List (Row Record)) → Transcript [] (endLine rs) [] rs
+  answer-line : {ls : List Line} {text : List ℕ} {h : List Event} {rs : List (Row Record)} (l : Line) (a : Answer) → Answers (stepOf places l) a
+      → Transcript ls text h rs → Transcript (l ∷ ls) (answerLine l a ++ text) (record { step = stepOf places l; answer = a } ∷ h) rs
+
+-- The output for these lines is that of a serial run.
+pub record SerialOutput (ls : List Line) (text : List ℕ) : Type 0 where
+  pub events : List Event
+  pub contents : List (Row Record)
+  pub transcript : Transcript ls text events contents
+  pub serial : SerialRun events contents

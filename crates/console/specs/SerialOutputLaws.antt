@@ -1,0 +1,100 @@
+-- What the program writes for an input without a malformed line is the output of a serial run.
+use Prim.Native.Nat.{ℕ}
+use native.Mathlib.Omega.{arith}
+use mathlib.Core.Path.{_≡_, refl, sym, ap, _∙_, subst}
+use mathlib.Core.Bool.{Bool, true, false}
+use mathlib.Core.List.{List, [], _∷_, _++_}
+use mathlib.Core.Option.{Option, none, some}
+use Rattle.lists.specs.Tests.{pick, maybe, same}
+use Rattle.spec.specs.declared.Refusal.{Refusal}
+use Rattle.spec.specs.Records.{standard}
+use Rattle.spec.specs.Maps.{contents}
+use Rattle.spec.specs.Steps.{State, Step, begin, read, scan, put, remove, lock, validate, install, abort, merge, Answer, refused, fresh, refusal, granted, answer, next, final, history}
+use Rattle.serial.specs.Theorem.{theorem}
+use Rattle.script.specs.declared.Line.{Line}
+use Rattle.script.specs.Grammar.{meaning}
+use Rattle.script.specs.Parsing.{filled}
+use Rattle.script.specs.Output.{stepOf, answerLine, endLine, malformedLine}
+use Rattle.console.specs.Program.{places, writtenFrom, output}
+use Rattle.console.specs.SerialOutput.{linesFrom, linesOf, Answers, not-granted, begun, value, records, written, removed, locked, number, installed, aborted, count, Transcript, end-line, answer-line, SerialOutput}
+
+-- ---- what the model answers is an answer to the step
+
+granted-answers : (σ : State) (s : Step) → Answers s (granted σ s)
+unfolding granted
+granted-answers σ (begin w) = begun w
+granted-answers σ (read w k) = value w k _
+granted-answers σ (scan w lo hi m n) = records w lo hi m n _
+granted-answers σ (put w k p) = written w k p
+granted-answers σ (remove w k) = removed w k
+granted-answers σ (lock w) = locked w
+granted-answers σ (validate w) = number w _
+granted-answers σ (install w) = installed w
+granted-answers σ (abort w) = aborted w
+granted-answers σ (merge a) = count a _
+
+answers : (σ : State) (s : Step) → Answers s (answer σ s)
+unfolding answer
+answers σ s = go (refusal σ s)
+  where
+    go : (o : Option Refusal) → Answers s (maybe o (granted σ s) refused)
+    go none = granted-answers σ s
+    go (some r) = not-granted s r
+
+-- ---- the lines of the output, from any state
+
+abbrev stepsIn : List Line → List Step
+stepsIn [] = []
+stepsIn (l ∷ ls) = stepOf places l ∷ stepsIn ls
+
+abbrev Transcribes : State → List Line → List ℕ → Type 0
+Transcribes σ ls text = Transcript ls text (history σ (stepsIn ls)) (contents (final σ (stepsIn ls) .map))
+
+transcribes-none : (σ : State) (ls : List Line) → some [] ≡ some ls → Transcribes σ ls (endLine (contents (σ .map)))
+unfolding history final
+transcribes-none σ [] e = end-line (contents (σ .map))
+transcribes-none σ (l ∷ ls) e = let z : _≡_ {A = ℕ} 0 1 = cc in absurd (omega arith)
+
+transcribes-line : (σ : State) (l : Line) (ls ms : List Line) (text : List ℕ) → some (l ∷ ls) ≡ some ms → Transcribes (next σ (stepOf places l)) ls text
+    → Transcribes σ ms (answerLine l (answer σ (stepOf places l)) ++ text)
+unfolding history final
+transcribes-line σ l ls ms text e t =
+    subst (λ (xs : List Line). Transcribes σ xs (answerLine l (answer σ (stepOf places l)) ++ text)) (let q : l ∷ ls ≡ ms = cc in q)
+    (answer-line l (answer σ (stepOf places l)) (answers σ (stepOf places l)) t)
+
+no-lines : {A : Type 0} (ls : List Line) → none ≡ some ls → A
+no-lines ls e = let z : _≡_ {A = ℕ} 0 1 = cc in absurd (omega arith)
+
+transcribes : (σ : State) (line bs : List ℕ) (ls : List Line) → linesFrom line bs ≡ some ls → Transcribes σ ls (writtenFrom σ line bs)
+unfolding linesFrom writtenFrom
+transcribes σ line [] ls e = go (filled line) e
+  where
+    go : (b : Bool) → pick b none (some []) ≡ some ls → Transcribes σ ls (pick b malformedLine (endLine (contents (σ .map))))
+    go true q = no-lines ls q
+    go false q = transcribes-none σ ls q
+transcribes σ line (b ∷ bs) ls e =
+    go (same b 10) (meaning line) (linesFrom [] bs) e (λ l ms q. transcribes (next σ (stepOf places l)) [] bs ms q) (λ q. transcribes σ (line ++ (b ∷ [])) bs ls q)
+  where
+    go : (x : Bool) (o : Option Line) (p : Option (List Line))
+        → pick x (maybe o none (λ (l : Line). maybe p none (λ (ms : List Line). some (l ∷ ms)))) (linesFrom (line ++ (b ∷ [])) bs) ≡ some ls
+        → ((l : Line) (ms : List Line) → p ≡ some ms → Transcribes (next σ (stepOf places l)) ms (writtenFrom (next σ (stepOf places l)) [] bs))
+        → (linesFrom (line ++ (b ∷ [])) bs ≡ some ls → Transcribes σ ls (writtenFrom σ (line ++ (b ∷ [])) bs))
+        → Transcribes σ ls
+        (pick x
+        (maybe o malformedLine
+        (λ (l : Line). answerLine l (answer σ (stepOf places l)) ++ writtenFrom (next σ (stepOf places l)) [] bs))
+        (writtenFrom σ (line ++ (b ∷ [])) bs))
+    go true none p q f g = no-lines ls q
+    go true (some l) none q f g = no-lines ls q
+    go true (some l) (some ms) q f g = transcribes-line σ l ms ls (writtenFrom (next σ (stepOf places l)) [] bs) q (f l ms refl)
+    go false o p q f g = g q
+
+-- Demand 3 of the program's output.
+pub output-serial : (input : List ℕ) (ls : List Line) → linesOf input ≡ some ls → SerialOutput ls (output input)
+output-serial input ls e =
+    record {
+      events = history (fresh standard) (stepsIn ls);
+      contents = contents (final (fresh standard) (stepsIn ls) .map);
+      transcript = transcribes (fresh standard) [] input ls e;
+      serial = theorem (stepsIn ls);
+    }

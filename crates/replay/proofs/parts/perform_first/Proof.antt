@@ -1,0 +1,44 @@
+-- `parts::perform_first` meets its contract: the parts come back, and the rest is as it was.
+use Rattle.replay.specs.PartLaws.{performs-first}
+use mathlib.Core.Path.{sym}
+use lib.Seq.{length-take-le}
+use borrow.Author.Needs.{needs}
+use Rattle.replay.proofs.parts.perform_first.Statement.{statement}
+use Rattle.replay.proofs.parts.perform_first.Tie as tie
+
+slice-relend-prefix-perform : tie.Need-slice-relend-prefix-perform
+slice-relend-prefix-perform c = search needs
+
+slice-aggregate-perform : tie.Need-slice-aggregate-perform
+slice-aggregate-perform c = sym (length-take-le _ _ (c .before .before .before .pre .1 .0))
+
+slice-relend-prefix-perform-2 : tie.Need-slice-relend-prefix-perform-2
+slice-relend-prefix-perform-2 c = search needs
+
+slice-aggregate-perform-2 : tie.Need-slice-aggregate-perform-2
+slice-aggregate-perform-2 c = sym (length-take-le _ _ (c .before .before .before .before .pre .1 .1))
+
+perform-requires : tie.Need-perform-requires
+perform-requires c κs = search needs
+
+same-length : tie.Need-same-length
+same-length c = search needs
+
+same-length-2 : tie.Need-same-length-2
+same-length-2 c = search needs
+
+returns : tie.Need-returns
+returns c = performs-first _ _ _ _ (c .before .before .before .before .before .before .before .before .before .before .before .before .before .before .before .pre .1) (c .before .before .before .before .perform .ensures)
+
+pub perform-first-spec : {M : Type 1} → statement M
+perform-first-spec =
+    tie.close
+    (tie.spec
+    slice-relend-prefix-perform
+    slice-aggregate-perform
+    slice-relend-prefix-perform-2
+    slice-aggregate-perform-2
+    perform-requires
+    same-length
+    same-length-2
+    returns)

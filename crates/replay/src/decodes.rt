@@ -1,0 +1,77 @@
+// What a code means.
+use crate::codes::Code;
+use engine::steps::Access;
+use engine::steps::Ending;
+use engine::steps::Op;
+use spec::WIDE;
+ghost use mathlib.Core.Path.{_≡_};
+ghost use Prim.Native.Nat.{_^_, _<_};
+ghost use Rattle.replay.specs.Codes.{decodedScan, decodedAccess, decoded};
+
+// An operation, with how many places of the address buffer and of the value buffer it wants; or no meaning.
+pub enum Decoded {
+    Meant(Op, usize, usize),
+    Meaningless,
+}
+
+// A scan, if the lent buffers, of m and n places, have as many as it wants.
+fn decode_scan(k: Code, m: usize, n: usize) -> Decoded
+    requires { ⌜ (k .a < 2 ^ 32) × (k .b < 2 ^ 32) ⌝ }
+    ensures { λ r. ⌜ r ≡ decodedScan m n k ⌝ }
+{
+    let p = k.d as usize;
+    let q = k.e as usize;
+    if k.c >= WIDE {
+        return Decoded::Meaningless;
+    }
+    if p > m {
+        return Decoded::Meaningless;
+    }
+    if q > n {
+        return Decoded::Meaningless;
+    }
+    Decoded::Meant(
+        Op::Access(k.a as u32, Access::Scan(k.b as u32, k.c as u32)),
+        p,
+        q,
+    )
+}
+
+fn decode_access(k: Code, m: usize, n: usize) -> Decoded
+    requires { ⌜ k .a < 2 ^ 32 ⌝ }
+    ensures { λ r. ⌜ r ≡ decodedAccess m n k ⌝ }
+{
+    if k.b >= WIDE {
+        return Decoded::Meaningless;
+    }
+    let w = k.a as u32;
+    let a = k.b as u32;
+    let kind = k.kind;
+    match kind {
+        1 => Decoded::Meant(Op::Access(w, Access::Read(a)), 0, 0),
+        2 => decode_scan(k, m, n),
+        3 => Decoded::Meant(Op::Access(w, Access::Put(a, k.c)), 0, 0),
+        4 => Decoded::Meant(Op::Access(w, Access::Remove(a)), 0, 0),
+        _ => Decoded::Meaningless,
+    }
+}
+
+// The step that a code means, if it means one with buffers of m and n places.
+pub fn decode(k: Code, m: usize, n: usize) -> Decoded
+    ensures { λ r. ⌜ r ≡ decoded m n k ⌝ }
+{
+    if k.a >= WIDE {
+        return Decoded::Meaningless;
+    }
+    let a = k.a as u32;
+    let kind = k.kind;
+    match kind {
+        0 => Decoded::Meant(Op::Begin(a), 0, 0),
+        5 => Decoded::Meant(Op::Ending(a, Ending::Lock), 0, 0),
+        6 => Decoded::Meant(Op::Ending(a, Ending::Validate), 0, 0),
+        7 => Decoded::Meant(Op::Ending(a, Ending::Install), 0, 0),
+        8 => Decoded::Meant(Op::Ending(a, Ending::Abort), 0, 0),
+        9 => Decoded::Meant(Op::Merge(a), 0, 0),
+        _ => decode_access(k, m, n),
+    }
+}

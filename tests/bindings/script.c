@@ -1,0 +1,99 @@
+/* Answers a script as mapscript does, by the functions of sections.h. Its lines must be well formed. */
+#include "sections.h"
+
+#include <inttypes.h>
+#include <stdio.h>
+
+#define PLACES 64
+
+static struct sections map;
+static uint32_t addresses[PLACES];
+static uint64_t values[PLACES];
+static const struct sections_buffers buffers = {addresses, PLACES, values, PLACES};
+
+static uint64_t number(void)
+{
+    uint64_t n = 0;
+    for (int c = getchar(); c >= '0' && c <= '9'; c = getchar())
+        n = 10 * n + (uint64_t)(c - '0');
+    return n;
+}
+
+static uint32_t number32(void)
+{
+    return (uint32_t)number();
+}
+
+static void scan(uint32_t seat, uint32_t lo, uint32_t hi)
+{
+    struct sections_count found = sections_scan(&map, seat, lo, hi, &buffers);
+    printf(found.refusal ? "%d" : "%d %zu", found.refusal, found.count);
+    for (size_t i = 0; i < found.count; i++)
+        printf(" %" PRIu32 " %" PRIu64, addresses[i], values[i]);
+}
+
+static void read(uint32_t seat, uint32_t address)
+{
+    struct sections_value read = sections_read(&map, seat, address);
+    printf("%d", read.refusal);
+    if (read.present)
+        printf(" %" PRIu64, read.value);
+    else if (!read.refusal)
+        printf(" -");
+}
+
+static void validate(uint32_t seat)
+{
+    struct sections_serial job = sections_validate(&map, seat);
+    printf(job.refusal ? "%d" : "%d %" PRIu32, job.refusal, job.serial);
+}
+
+static void fold(uint32_t address)
+{
+    struct sections_count folded = sections_fold(&map, address);
+    printf("%d %zu", folded.refusal, folded.count);
+}
+
+static void edit(char letter, uint32_t seat, uint32_t address)
+{
+    printf("%d", letter == 'P' ? sections_put(&map, seat, address, number()) : sections_remove(&map, seat, address));
+}
+
+static void answer(char letter, uint32_t first)
+{
+    uint32_t second;
+    switch (letter) {
+    case 'B': printf("%d", sections_begin(&map, first)); break;
+    case 'L': printf("%d", sections_lock(&map, first)); break;
+    case 'I': printf("%d", sections_install(&map, first)); break;
+    case 'A': printf("%d", sections_abort(&map, first)); break;
+    case 'V': validate(first); break;
+    case 'M': fold(first); break;
+    case 'R': read(first, number32()); break;
+    case 'S':
+        second = number32();
+        scan(first, second, number32());
+        break;
+    default: edit(letter, first, number32());
+    }
+}
+
+int main(void)
+{
+    sections_init(&map);
+    for (int letter = getchar(); letter != EOF; letter = getchar()) {
+        getchar();
+        printf("%c ", letter);
+        answer((char)letter, number32());
+        printf("\n");
+    }
+    size_t count = 0;
+    struct sections_record r;
+    for (bool more = sections_first(&map, &r); more; more = sections_after(&map, &r))
+        count++;
+    printf("E %zu", count);
+    for (bool more = sections_first(&map, &r); more; more = sections_after(&map, &r))
+        printf(" %" PRIu32 " %" PRIu64, r.address, r.value);
+    printf("\n");
+    return 0;
+}

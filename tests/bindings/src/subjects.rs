@@ -1,0 +1,56 @@
+//! The library, held to the second model on whole scripts.
+
+use crate::{answer_of, by_method, script_step};
+use plain::compare::Subject;
+use plain::script::{steps, write_answer, write_contents};
+use plain::step::Buffers;
+use sections::{Sections, Step};
+use std::io;
+
+/// Step by step.
+pub struct Stepwise;
+
+/// All steps in one call.
+pub struct Replaying;
+
+impl Subject for Stepwise {
+    fn name(&self) -> String {
+        "step by step".into()
+    }
+
+    fn answers(&self, script: &[u8]) -> io::Result<Vec<u8>> {
+        let mut map = Sections::new();
+        let mut buffers = Buffers::default();
+        let mut text = Vec::new();
+        for step in steps(script) {
+            let answer = by_method(&mut map, step, &mut buffers);
+            write_answer(&mut text, step, answer, &buffers);
+        }
+        write_contents(&mut text, &pairs(&map));
+        Ok(text)
+    }
+}
+
+impl Subject for Replaying {
+    fn name(&self) -> String {
+        "in one call".into()
+    }
+
+    fn answers(&self, script: &[u8]) -> io::Result<Vec<u8>> {
+        let steps = steps(script);
+        let list: Vec<Step> = steps.iter().map(|&step| script_step(step)).collect();
+        let (map, answers) = Sections::replay(&list);
+        let mut text = Vec::new();
+        for (step, answer) in steps.into_iter().zip(answers) {
+            let mut buffers = Buffers::default();
+            let answer = answer_of(answer, &mut buffers.addresses, &mut buffers.values);
+            write_answer(&mut text, step, answer, &buffers);
+        }
+        write_contents(&mut text, &pairs(&map));
+        Ok(text)
+    }
+}
+
+fn pairs(map: &Sections) -> Vec<(u32, u64)> {
+    map.iter().map(|record| (record.address, record.value)).collect()
+}

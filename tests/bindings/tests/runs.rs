@@ -1,0 +1,134 @@
+//! Document 01's runs that are not starred, and the edges of the map.
+
+use sections::{Answer, Record, Refusal, Sections, Step};
+
+/// A whole job of puts.
+fn enter(map: &mut Sections, seat: u32, addresses: impl Iterator<Item = u32>) -> u64 {
+    let job = || {
+        map.begin(seat)?;
+        addresses.into_iter().try_for_each(|at| map.put(seat, at, u64::from(at) + 7))?;
+        map.lock(seat)?;
+        let serial = map.validate(seat)?;
+        map.install(seat)?;
+        Ok::<u64, Refusal>(serial.get())
+    };
+    job().expect("it is granted")
+}
+
+#[test]
+fn waiting_addresses() -> Result<(), Refusal> {
+    let mut map = Sections::new();
+    for job in 0..12 {
+        assert_eq!(enter(&mut map, job % 8, 16 * job..16 * job + 16), u64::from(job) + 1);
+    }
+    map.begin(0)?;
+    map.put(0, 192, 1)?;
+    assert_eq!(map.lock(0), Err(Refusal::IndexletFull));
+    map.begin(1)?;
+    map.put(1, 191, 1)?;
+    map.lock(1)?;
+    assert_eq!(map.fold(0), Ok(192));
+    map.lock(0)
+}
+
+#[test]
+fn edited_addresses() -> Result<(), Refusal> {
+    let mut map = Sections::new();
+    map.begin(7)?;
+    (0..16).try_for_each(|address| map.put(7, address, 1))?;
+    assert_eq!(map.put(7, 16, 1), Err(Refusal::EditsFull));
+    assert_eq!(map.remove(7, 16), Err(Refusal::EditsFull));
+    map.put(7, 15, 2)?;
+    map.remove(7, 15)
+}
+
+/// One record, and buffers of 0, 1 and more places, equal or not.
+#[test]
+fn short_buffers() -> Result<(), Refusal> {
+    let mut map = Sections::new();
+    enter(&mut map, 0, 3..4);
+    map.fold(3)?;
+    map.begin(0)?;
+    let mut places = |m: usize, n: usize| {
+        let (mut addresses, mut values) = (vec![70; m], vec![80; n]);
+        let answer = map.scan(0, 0, 9, &mut addresses, &mut values);
+        (answer, addresses, values)
+    };
+    let short = Err(Refusal::ShortBuffer);
+    assert_eq!(places(0, 0), (short, vec![], vec![]));
+    assert_eq!(places(0, 2), (short, vec![], vec![80, 80]));
+    assert_eq!(places(2, 0), (short, vec![70, 70], vec![]));
+    assert_eq!(places(1, 1), (Ok(1), vec![3], vec![10]));
+    assert_eq!(places(1, 3), (Ok(1), vec![3], vec![10, 80, 80]));
+    assert_eq!(places(3, 2), (Ok(1), vec![3, 70, 70], vec![10, 80]));
+    Ok(())
+}
+
+/// 64 records that are logged, and 16 of the job's own beside them: no scan shows
+/// more, and `scan_all` has places for these.
+#[test]
+fn the_longest_scan() -> Result<(), Refusal> {
+    let mut map = Sections::new();
+    for job in 0..4 {
+        enter(&mut map, 0, 32 * job..32 * job + 16);
+    }
+    map.fold(0)?;
+    map.begin(0)?;
+    (16..32).try_for_each(|address| map.put(0, address, 1))?;
+    assert_eq!(map.scan_all(0, 0, 200)?.len(), sections::SCAN_LIMIT);
+    assert_eq!(map.scan_all(0, 0, 200), Err(Refusal::LogFull));
+    Ok(())
+}
+
+#[test]
+fn contents_one_by_one() -> Result<(), Refusal> {
+    let mut map = Sections::new();
+    assert_eq!(map.iter().next(), None);
+    enter(&mut map, 2, [0, 9, u32::MAX].into_iter());
+    map.fold(0)?;
+    enter(&mut map, 2, 4..5);
+    let all: Vec<Record> = map.iter().collect();
+    let plain = |record: &Record| (record.address, record.value, record.stamp.get());
+    let expected = [(0, 7, 1), (4, 11, 2), (9, 16, 1), (u32::MAX, u64::from(u32::MAX) + 7, 1)];
+    assert_eq!(all.iter().map(plain).collect::<Vec<_>>(), expected);
+    assert_eq!(map.iter_from(5).collect::<Vec<_>>(), all[2..]);
+    assert_eq!(map.iter_from(10).collect::<Vec<_>>(), all[3..]);
+    Ok(())
+}
+
+/// What a clone goes through, the map does not see.
+#[test]
+fn clones_go_on_by_themselves() {
+    let mut map = Sections::new();
+    enter(&mut map, 0, 1..3);
+    let mut clone = map.clone();
+    enter(&mut clone, 0, 5..6);
+    assert_eq!((map.iter().count(), clone.iter().count()), (2, 3));
+    assert_eq!((enter(&mut map, 0, 7..8), enter(&mut clone, 0, 7..8)), (2, 3));
+}
+
+#[test]
+fn an_empty_list() {
+    let (map, answers) = Sections::replay(&[]);
+    assert_eq!((map.iter().count(), answers.len()), (0, 0));
+    let (_, answers) = Sections::replay(&[Step::Abort { seat: 3 }, Step::Fold { address: 0 }]);
+    assert_eq!(answers, [Err(Refusal::SeatFree), Ok(Answer::Folded(0))]);
+}
+
+/// A map may go to another thread, and be looked at by several.
+#[test]
+fn maps_between_threads() {
+    let mut map = Sections::new();
+    enter(&mut map, 0, 1..3);
+    let count = std::thread::scope(|scope| {
+        let looks = [0, 2].map(|from| {
+            scope.spawn({
+                let map = &map;
+                move || map.iter_from(from).count()
+            })
+        });
+        looks.map(|look| look.join().expect("it looks"))
+    });
+    assert_eq!(count, [2, 1]);
+    assert_eq!(std::thread::spawn(move || map.iter().count()).join().expect("it looks"), 2);
+}

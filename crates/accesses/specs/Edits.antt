@@ -29,12 +29,12 @@ use Rattle.map.specs.Views.{Lent}
 use Rattle.transactions.specs.declared.Core.{Core}
 use Rattle.transactions.specs.declared.begins.Plain.the-variants.{Granted, Refused}
 use Rattle.transactions.specs.declared.begins.Done.{Done}
-use Rattle.transactions.specs.Answering.{Comes, comes-granted, cause-holds, cause-fails, front, front-first}
+use Rattle.transactions.specs.Answering.{Yields, yields-granted, cause-holds, cause-fails, front, front-first}
 use Rattle.transactions.specs.Admits.{Turned, Entered}
-use Rattle.transactions.specs.Views.{Logs, logs, stateOf, withSeat, state-with}
-use Rattle.transactions.specs.Ready.{Within, Ready, Goes, goes, goes-refused}
+use Rattle.transactions.specs.Views.{Logs, logs, stateOf, coreWith, state-with}
+use Rattle.transactions.specs.Ready.{Within, Ready, Refines, refines, refines-refused}
 use Rattle.transactions.specs.Begins.{plainIn}
-use Rattle.transactions.specs.SeatLaws.{seated, within, stored-seat}
+use Rattle.transactions.specs.CoreLaws.{worker-is, within, stored-worker}
 
 -- the step that gives worker w this write
 abbrev pub editing : ℕ → ℕ → Write → Step
@@ -47,8 +47,8 @@ fullAt ws n a = both (not (present (look (writesOf ws n) a))) (not (less n (stan
 
 -- The step, whatever the other arrays hold: ws are the write sets before it, us those after it.
 pub record Edits (ws : List WriteRows) (c : Core) (w a : ℕ) (e : Write) (us : List WriteRows) (r : Done) : Type 0 where
-  pub goes-so : (l : Lent) (rs : List ReadRows) (ls : List LeafSetRows) → Ready l (logs rs ls ws) c
-      → Goes l (logs rs ls ws) c (editing w a e) l (logs rs ls us) (r .core) (plainIn (r .answer))
+  pub refines-so : (l : Lent) (rs : List ReadRows) (ls : List LeafSetRows) → Ready l (logs rs ls ws) c
+      → Refines l (logs rs ls ws) c (editing w a e) l (logs rs ls us) (r .core) (plainIn (r .answer))
 
 -- ---- whether there is room
 
@@ -92,23 +92,23 @@ refusal-front : (σ : State) (w a : ℕ) (e : Write) (o : Option Refusal) → fr
 refusal-front σ w a e o q =
     refusal-editing σ w a e ∙ ap (λ (p : Option Refusal). maybe p (firstCause (cause (writesFull σ w a) WritesFull ∷ [])) some) q
 
-pub edit-refused : {ws : List WriteRows} {c : Core} {w a : ℕ} {e : Write} {r : Refusal} → Turned isOpen (c .seats) w r
+pub edit-refused : {ws : List WriteRows} {c : Core} {w a : ℕ} {e : Write} {r : Refusal} → Turned isOpen (c .workers) w r
     → Edits ws c w a e ws (record { core = c; answer = Refused r })
 edit-refused {ws} {c} {w} {a} {e} {r} t =
     record {
-      goes-so = λ l rs ls k.
+      refines-so = λ l rs ls k.
           let q : refusal (stateOf l (logs rs ls ws) c) (editing w a e) ≡ some r
           = refusal-front (stateOf l (logs rs ls ws) c) w a e (some r) (t .front-is l (logs rs ls ws) c refl) in
-          goes-refused k q (mild (stateOf l (logs rs ls ws) c) w a e r q);
+          refines-refused k q (mild (stateOf l (logs rs ls ws) c) w a e r q);
     }
 
 -- ---- the worker in the open stage
 
-module _ (l : Lent) (g : Logs) (c : Core) (w : ℕ) (x : Worker) (k : Ready l g c) (t : Entered isOpen (c .seats) w x) where
+module _ (l : Lent) (g : Logs) (c : Core) (w : ℕ) (x : Worker) (k : Ready l g c) (t : Entered isOpen (c .workers) w x) where
   full-is : (a : ℕ) → writesFull (stateOf l g c) w a ≡ fullAt (getD (g .writes) w []) (x .writes) a
   unfolding writesFull ownWrite workerIn stateOf
   full-is a =
-      ap (λ (y : model.Worker). both (not (present (look (y .writes) a))) (not (less (length (y .writes)) (standard .writeLimit)))) (seated isOpen l g c w x k t)
+      ap (λ (y : model.Worker). both (not (present (look (y .writes) a))) (not (less (length (y .writes)) (standard .writeLimit)))) (worker-is isOpen l g c w x k t)
       ∙ ap (λ (n : ℕ). both (not (present (look (writesOf (getD (g .writes) w []) (x .writes)) a))) (not (less n (standard .writeLimit))))
       (length-rows writeIn (getD (g .writes) w []) (x .writes))
 
@@ -118,12 +118,12 @@ module _ (l : Lent) (g : Logs) (c : Core) (w : ℕ) (x : Worker) (k : Ready l g 
       refusal-front (stateOf l g c) w a e none (t .front-is l g c refl)
       ∙ ap (λ (d : Bool). firstCause (cause d WritesFull ∷ [])) (full-is a ∙ sym q)
 
-pub edit-full : {ws : List WriteRows} {c : Core} {w a : ℕ} {e : Write} {x : Worker} {b : Bool} → Entered isOpen (c .seats) w x
+pub edit-full : {ws : List WriteRows} {c : Core} {w a : ℕ} {e : Write} {x : Worker} {b : Bool} → Entered isOpen (c .workers) w x
     → b ≡ fullAt (getD ws w []) (x .writes) a → b ≡ true → Edits ws c w a e ws (record { core = c; answer = Refused WritesFull })
 edit-full {ws} {c} {w} {a} {e} {x} {b} t q f =
     record {
-      goes-so = λ l rs ls k.
-          goes-refused k (refusal-is l (logs rs ls ws) c w x k t a e b q ∙ cause-holds b WritesFull [] f) refl;
+      refines-so = λ l rs ls k.
+          refines-refused k (refusal-is l (logs rs ls ws) c w x k t a e b q ∙ cause-holds b WritesFull [] f) refl;
     }
 
 -- ---- granted
@@ -138,42 +138,42 @@ unfolding effect
 effect-editing σ w a (written p) = refl
 effect-editing σ w a deleted = refl
 
-pub edit-granted : {ws : List WriteRows} {us : WriteRows} {c o : Core} {w a kind value : ℕ} {x : Worker} {b : Bool} {n : ℕ} → Entered isOpen (c .seats) w x
-    → b ≡ fullAt (getD ws w []) (x .writes) a → b ≡ false → PutsWrite (getD ws w []) (x .writes) a kind value us n → o ≡ withSeat c w (withWrites x n)
+pub edit-granted : {ws : List WriteRows} {us : WriteRows} {c o : Core} {w a kind value : ℕ} {x : Worker} {b : Bool} {n : ℕ} → Entered isOpen (c .workers) w x
+    → b ≡ fullAt (getD ws w []) (x .writes) a → b ≡ false → PutsWrite (getD ws w []) (x .writes) a kind value us n → o ≡ coreWith c w (withWrites x n)
     → Edits ws c w a (writeOf kind value) (set ws w us) (record { core = o; answer = Granted })
 unfolding firstCause
 edit-granted {ws} {us} {c} {o} {w} {a} {kind} {value} {x} {b} {n} t q f p s =
     record {
-      goes-so = λ l rs ls k.
-          subst (λ (o : Core). Goes l (logs rs ls ws) c (editing w a (writeOf kind value)) l (logs rs ls (set ws w us)) o (plainIn Granted)) (sym s)
+      refines-so = λ l rs ls k.
+          subst (λ (o : Core). Refines l (logs rs ls ws) c (editing w a (writeOf kind value)) l (logs rs ls (set ws w us)) o (plainIn Granted)) (sym s)
           (let σ = stateOf l (logs rs ls ws) c in
           let e = writeOf kind value in
-          let g : Comes σ (editing w a e) (granted σ (editing w a e)) (effect σ (editing w a e))
-          = comes-granted σ (editing w a e) (refusal-is l (logs rs ls ws) c w x k t a e b q ∙ cause-fails b WritesFull [] f) in
-          let d : Comes σ (editing w a e) done (effect σ (editing w a e))
-          = subst (λ (o : Answer). Comes σ (editing w a e) o (effect σ (editing w a e))) (granted-editing σ w a e) g in
-          goes k d
+          let g : Yields σ (editing w a e) (granted σ (editing w a e)) (effect σ (editing w a e))
+          = yields-granted σ (editing w a e) (refusal-is l (logs rs ls ws) c w x k t a e b q ∙ cause-fails b WritesFull [] f) in
+          let d : Yields σ (editing w a e) done (effect σ (editing w a e))
+          = subst (λ (o : Answer). Yields σ (editing w a e) o (effect σ (editing w a e))) (granted-editing σ w a e) g in
+          refines k d
           (state-with l (logs rs ls ws) (logs rs ls (set ws w us)) c w (withWrites x n)
           (record { reads = λ v m d. refl; leaves = λ v m d. refl; writes = λ v m d. other-set (λ (s : WriteRows). writesOf s m) ws w us v d })
           ∙ ap (withWorker σ w)
-          (write-in rs ls ws w x us n a kind value (k .stored .writes) (t .inside) p ∙ ap (writing a e) (sym (seated isOpen l (logs rs ls ws) c w x k t)))
+          (write-in rs ls ws w x us n a kind value (k .stored .writes) (t .inside) p ∙ ap (writing a e) (sym (worker-is isOpen l (logs rs ls ws) c w x k t)))
           ∙ sym (effect-editing σ w a e))
-          (stored-seat l rs ls ws rs (set ws w us) c w (withWrites x n) (t .inside) (k .stored) (k .stored .reads) (each-set w us (k .stored .writes) (p .set .held))
+          (stored-worker l rs ls ws rs (set ws w us) c w (withWrites x n) (t .inside) (k .stored) (k .stored .reads) (each-set w us (k .stored .writes) (p .set .held))
           (let h : Within x = within isOpen l (logs rs ls ws) c w x k t in record { reads = h .reads; leaves = h .leaves; writes = p .set .room })
           (ap (λ (y : Worker). y .leaves) (t .is))));
     }
 
 -- ---- the two steps
 
-pub put-goes : {ws us : List WriteRows} {c : Core} {w a : ℕ} {r : Done} {l : Lent} {rs : List ReadRows} {ls : List LeafSetRows} (value : ℕ) → Edits ws c w a (writeOf 1 value) us r
+pub put-refines : {ws us : List WriteRows} {c : Core} {w a : ℕ} {r : Done} {l : Lent} {rs : List ReadRows} {ls : List LeafSetRows} (value : ℕ) → Edits ws c w a (writeOf 1 value) us r
     → Ready l (logs rs ls ws) c
-    → Goes l (logs rs ls ws) c (put w a (record { value = value })) l (logs rs ls us) (r .core) (plainIn (r .answer))
-put-goes {ws} {us} {c} {w} {a} {r} {l} {rs} {ls} value e k =
-    subst (λ (x : Write). Goes l (logs rs ls ws) c (editing w a x) l (logs rs ls us) (r .core) (plainIn (r .answer)))
-    (put-kind 1 value refl) (e .goes-so l rs ls k)
+    → Refines l (logs rs ls ws) c (put w a (record { value = value })) l (logs rs ls us) (r .core) (plainIn (r .answer))
+put-refines {ws} {us} {c} {w} {a} {r} {l} {rs} {ls} value e k =
+    subst (λ (x : Write). Refines l (logs rs ls ws) c (editing w a x) l (logs rs ls us) (r .core) (plainIn (r .answer)))
+    (put-kind 1 value refl) (e .refines-so l rs ls k)
 
-pub remove-goes : {ws us : List WriteRows} {c : Core} {w a : ℕ} {r : Done} {l : Lent} {rs : List ReadRows} {ls : List LeafSetRows} → Edits ws c w a (writeOf 2 0) us r
-    → Ready l (logs rs ls ws) c → Goes l (logs rs ls ws) c (remove w a) l (logs rs ls us) (r .core) (plainIn (r .answer))
-remove-goes {ws} {us} {c} {w} {a} {r} {l} {rs} {ls} e k =
-    subst (λ (x : Write). Goes l (logs rs ls ws) c (editing w a x) l (logs rs ls us) (r .core) (plainIn (r .answer)))
-    (deletion-kind 2 0 (λ q. let z : ⊥ = omega arith in z)) (e .goes-so l rs ls k)
+pub remove-refines : {ws us : List WriteRows} {c : Core} {w a : ℕ} {r : Done} {l : Lent} {rs : List ReadRows} {ls : List LeafSetRows} → Edits ws c w a (writeOf 2 0) us r
+    → Ready l (logs rs ls ws) c → Refines l (logs rs ls ws) c (remove w a) l (logs rs ls us) (r .core) (plainIn (r .answer))
+remove-refines {ws} {us} {c} {w} {a} {r} {l} {rs} {ls} e k =
+    subst (λ (x : Write). Refines l (logs rs ls ws) c (editing w a x) l (logs rs ls us) (r .core) (plainIn (r .answer)))
+    (deletion-kind 2 0 (λ q. let z : ⊥ = omega arith in z)) (e .refines-so l rs ls k)

@@ -28,25 +28,25 @@ use Rattle.sets.specs.Reads as reads
 use Rattle.sets.specs.Leaves.{LeafSetRows}
 use Rattle.sets.specs.Writes.{WriteRows, foundIn, writesIn}
 use Rattle.sets.specs.SetLaws.{each-set, other-set, length-rows}
-use Rattle.looks.specs.LookViews.{Sees}
+use Rattle.queries.specs.QueryViews.{Sees}
 use Rattle.map.specs.Views.{leavesIn, byColumns, SlotRows, RecordRows, Lent}
 use Rattle.transactions.specs.declared.Core.{Core}
 use Rattle.accesses.specs.declared.reads.ReadAnswer.{ReadAnswer}
 use Rattle.accesses.specs.declared.reads.ReadAnswer.the-variants.{Value, Absent, Refused}
 use Rattle.accesses.specs.declared.reads.ReadDone.{ReadDone}
 use Rattle.accesses.specs.declared.reads.Taken.{Taken}
-use Rattle.transactions.specs.Answering.{Comes, comes-granted, cause-holds, cause-fails, front, front-first}
+use Rattle.transactions.specs.Answering.{Yields, yields-granted, cause-holds, cause-fails, front, front-first}
 use Rattle.transactions.specs.Admits.{Turned, Entered}
-use Rattle.transactions.specs.Views.{Logs, logs, stateOf, withSeat, state-with}
-use Rattle.transactions.specs.Ready.{Within, Ready, Goes, goes, goes-refused}
-use Rattle.transactions.specs.SeatLaws.{Writable, ready-writable, seated, within, stored-seat}
+use Rattle.transactions.specs.Views.{Logs, logs, stateOf, coreWith, state-with}
+use Rattle.transactions.specs.Ready.{Within, Ready, Refines, refines, refines-refused}
+use Rattle.transactions.specs.CoreLaws.{Writable, ready-writable, worker-is, within, stored-worker}
 use Rattle.map.specs.Parts.{RecordsHeld, SlotsHeld, records-held, slots-held}
 
 -- document 01's answer
-abbrev pub readIn : ReadAnswer → Answer
-readIn (Value v) = found (some (record { value = v }))
-readIn Absent = found none
-readIn (Refused r) = refused r
+abbrev pub readAnswer : ReadAnswer → Answer
+readAnswer (Value v) = found (some (record { value = v }))
+readAnswer Absent = found none
+readAnswer (Refused r) = refused r
 
 -- What the arrays hold for a read that is logged.
 pub record Loggable (rs : List ReadRows) (rows : RecordRows) (slots : SlotRows) (c : Core) : Type 0 where
@@ -68,16 +68,16 @@ ready-readable k =
     }
 
 -- The current record is the one that was seen, and it is logged.
-pub record Takes (rs : ReadRows) (rows : RecordRows) (slots : SlotRows) (records n a : ℕ) (us : ReadRows) (r : Taken) : Type 0 where
+pub record LogsCurrent (rs : ReadRows) (rows : RecordRows) (slots : SlotRows) (records n a : ℕ) (us : ReadRows) (r : Taken) : Type 0 where
   pub logs : LogsRead rs n a (r .seen) us (r .count)
   pub sees : Sees rows records slots a (r .seen)
 
 -- The step, whatever the other arrays hold: rs are the read sets before it, us those after it.
 pub record Tells (rs : List ReadRows) (rows : RecordRows) (slots : SlotRows) (ws : List WriteRows) (c : Core) (w a : ℕ) (us : List ReadRows) (r : ReadDone) : Type 0 where
-  pub goes-so : (lows versions outside pending : List ℕ) (ls : List LeafSetRows)
+  pub refines-so : (lows versions outside pending : List ℕ) (ls : List LeafSetRows)
       → Ready (byColumns rows lows versions outside pending slots) (logs rs ls ws) c
-      → Goes (byColumns rows lows versions outside pending slots) (logs rs ls ws) c (read w a)
-      (byColumns rows lows versions outside pending slots) (logs us ls ws) (r .core) (readIn (r .answer))
+      → Refines (byColumns rows lows versions outside pending slots) (logs rs ls ws) c (read w a)
+      (byColumns rows lows versions outside pending slots) (logs us ls ws) (r .core) (readAnswer (r .answer))
 
 -- The step of a worker that has no write at the address.
 pub record TellsCurrent (rs : List ReadRows) (rows : RecordRows) (slots : SlotRows) (c : Core) (w : ℕ) (x : Worker) (a : ℕ) (us : List ReadRows) (r : ReadDone) : Type 0 where
@@ -85,12 +85,12 @@ pub record TellsCurrent (rs : List ReadRows) (rows : RecordRows) (slots : SlotRo
 
 -- ---- what was seen
 
-pub shown-there : (s : Current) → s .there ≡ true → readIn (Value (s .value)) ≡ found (payloadOf (recordIn s))
+pub shown-there : (s : Current) → s .there ≡ true → readAnswer (Value (s .value)) ≡ found (payloadOf (recordIn s))
 unfolding payloadOf
 shown-there s e =
     ap (λ (b : Bool). found (payloadOf (pick b (some (record { payload = record { value = s .value }; commit = s .commit })) none))) (sym e)
 
-pub shown-none : (s : Current) → s .there ≡ false → readIn Absent ≡ found (payloadOf (recordIn s))
+pub shown-none : (s : Current) → s .there ≡ false → readAnswer Absent ≡ found (payloadOf (recordIn s))
 unfolding payloadOf
 shown-none s e =
     ap (λ (b : Bool). found (payloadOf (pick b (some (record { payload = record { value = s .value }; commit = s .commit })) none))) (sym e)
@@ -108,23 +108,23 @@ mild : (σ : State) (w a : ℕ) (r : Refusal) → refusal σ (read w a) ≡ some
 unfolding refusal causes noWorker workerFree wrongStage any
 mild σ w a r q = mild-cause (causes σ (read w a)) r refl q
 
-pub read-refused : {rs : List ReadRows} {rows : RecordRows} {slots : SlotRows} {ws : List WriteRows} {c : Core} {w a : ℕ} {r : Refusal} → Turned isOpen (c .seats) w r
+pub read-refused : {rs : List ReadRows} {rows : RecordRows} {slots : SlotRows} {ws : List WriteRows} {c : Core} {w a : ℕ} {r : Refusal} → Turned isOpen (c .workers) w r
     → Tells rs rows slots ws c w a rs (record { core = c; answer = Refused r })
 read-refused {rs} {rows} {slots} {ws} {c} {w} {a} {r} t =
     record {
-      goes-so = λ lows versions outside pending ls k.
+      refines-so = λ lows versions outside pending ls k.
           let l = byColumns rows lows versions outside pending slots in
           let σ = stateOf l (logs rs ls ws) c in
           let q : refusal σ (read w a) ≡ some r = refusal-front σ w a (some r) (t .front-is l (logs rs ls ws) c refl) in
-          goes-refused k q (mild σ w a r q);
+          refines-refused k q (mild σ w a r q);
     }
 
 -- ---- the worker in the open stage
 
-module _ (l : Lent) (g : Logs) (c : Core) (w : ℕ) (x : Worker) (k : Ready l g c) (t : Entered isOpen (c .seats) w x) (a : ℕ) where
+module _ (l : Lent) (g : Logs) (c : Core) (w : ℕ) (x : Worker) (k : Ready l g c) (t : Entered isOpen (c .workers) w x) (a : ℕ) where
   own-is : ownWrite (stateOf l g c) w a ≡ look (writesIn (g .writes) w (x .writes)) a
   unfolding ownWrite workerIn
-  own-is = ap (λ (y : model.Worker). look (y .writes) a) (seated isOpen l g c w x k t)
+  own-is = ap (λ (y : model.Worker). look (y .writes) a) (worker-is isOpen l g c w x k t)
 
   full-is : (o : Option Write) → look (writesIn (g .writes) w (x .writes)) a ≡ o
       → readLogFull (stateOf l g c) w a ≡ both (not (present o)) (not (less (x .reads) (standard .readLimit)))
@@ -132,7 +132,7 @@ module _ (l : Lent) (g : Logs) (c : Core) (w : ℕ) (x : Worker) (k : Ready l g 
   full-is o q =
       ap (λ (p : Option Write). both (not (present p)) (not (less (length (workerOf (stateOf l g c) w .reads)) (standard .readLimit)))) (own-is ∙ q)
       ∙ ap (λ (n : ℕ). both (not (present o)) (not (less n (standard .readLimit))))
-      (ap (λ (y : model.Worker). length (y .reads)) (seated isOpen l g c w x k t)
+      (ap (λ (y : model.Worker). length (y .reads)) (worker-is isOpen l g c w x k t)
       ∙ length-rows reads.readIn (getD (g .reads) w []) (x .reads))
 
   refusal-is : (o : Option Write) → look (writesIn (g .writes) w (x .writes)) a ≡ o
@@ -141,13 +141,13 @@ module _ (l : Lent) (g : Logs) (c : Core) (w : ℕ) (x : Worker) (k : Ready l g 
       refusal-front (stateOf l g c) w a none (t .front-is l g c refl)
       ∙ ap (λ (d : Bool). firstCause (cause d LogFull ∷ [])) (full-is o q)
 
-pub read-full : {rs : List ReadRows} {rows : RecordRows} {slots : SlotRows} {c : Core} {w a : ℕ} {x : Worker} → Entered isOpen (c .seats) w x → standard .readLimit ≤ x .reads
+pub read-full : {rs : List ReadRows} {rows : RecordRows} {slots : SlotRows} {c : Core} {w a : ℕ} {x : Worker} → Entered isOpen (c .workers) w x → standard .readLimit ≤ x .reads
     → TellsCurrent rs rows slots c w x a rs (record { core = c; answer = Refused LogFull })
 read-full {rs} {rows} {slots} {c} {w} {a} {x} t h =
     record {
       tells = λ ws q. record {
-        goes-so = λ lows versions outside pending ls k.
-            goes-refused k
+        refines-so = λ lows versions outside pending ls k.
+            refines-refused k
             (refusal-is (byColumns rows lows versions outside pending slots) (logs rs ls ws) c w x k t a none q
             ∙ cause-holds (not (less (x .reads) (standard .readLimit))) LogFull [] (ap not (less-no {m = x .reads} {n = standard .readLimit} h)))
             refl;
@@ -185,37 +185,37 @@ unfolding effect readRows
 effect-is σ w a o q =
     ap (λ (p : Option Write). withWorker σ w (logged (maybe p (row a (current (σ .map) a) ∷ []) (λ (e : Write). [])) [] (workerOf σ w))) q
 
-comes-read : (σ : State) (w a : ℕ) (o : Option Write) → ownWrite σ w a ≡ o → refusal σ (read w a) ≡ none
-    → Comes σ (read w a) (found (maybe o (payloadOf (current (σ .map) a)) ownView))
+yields-read : (σ : State) (w a : ℕ) (o : Option Write) → ownWrite σ w a ≡ o → refusal σ (read w a) ≡ none
+    → Yields σ (read w a) (found (maybe o (payloadOf (current (σ .map) a)) ownView))
     (withWorker σ w (logged (maybe o (row a (current (σ .map) a) ∷ []) (λ (e : Write). [])) [] (workerOf σ w)))
-comes-read σ w a o q n =
-    let k : Comes σ (read w a) (granted σ (read w a)) (effect σ (read w a)) = comes-granted σ (read w a) n in
+yields-read σ w a o q n =
+    let k : Yields σ (read w a) (granted σ (read w a)) (effect σ (read w a)) = yields-granted σ (read w a) n in
     record { answers = k .answers ∙ granted-is σ w a o q; leaves = k .leaves ∙ effect-is σ w a o q }
 
-read-own : {rs : List ReadRows} {rows : RecordRows} {slots : SlotRows} {ws : List WriteRows} {c : Core} {w a : ℕ} {x : Worker} (e : Write) (v : ReadAnswer) → Entered isOpen (c .seats) w x
-    → look (writesIn ws w (x .writes)) a ≡ some e → readIn v ≡ found (ownView e)
+read-own : {rs : List ReadRows} {rows : RecordRows} {slots : SlotRows} {ws : List WriteRows} {c : Core} {w a : ℕ} {x : Worker} (e : Write) (v : ReadAnswer) → Entered isOpen (c .workers) w x
+    → look (writesIn ws w (x .writes)) a ≡ some e → readAnswer v ≡ found (ownView e)
     → Tells rs rows slots ws c w a rs (record { core = c; answer = v })
 unfolding firstCause
 read-own {rs} {rows} {slots} {ws} {c} {w} {a} {x} e v t q s =
     record {
-      goes-so = λ lows versions outside pending ls k.
+      refines-so = λ lows versions outside pending ls k.
           let l = byColumns rows lows versions outside pending slots in
           let g = logs rs ls ws in
           let σ = stateOf l g c in
-          subst (Goes l g c (read w a) l g c) (sym s)
-          (goes k (comes-read σ w a (some e) (own-is l g c w x k t a ∙ q) (refusal-is l g c w x k t a (some e) q))
+          subst (Refines l g c (read w a) l g c) (sym s)
+          (refines k (yields-read σ w a (some e) (own-is l g c w x k t a ∙ q) (refusal-is l g c w x k t a (some e) q))
           (sym (ap (withWorker σ w) (logged-none (workerOf σ w)) ∙ worker-back σ w)) (k .stored));
     }
 
 pub read-put : {rs : List ReadRows} {rows : RecordRows} {slots : SlotRows} {ws : List WriteRows} {c : Core} {w a v : ℕ} {x : Worker} {f : Found}
-    → Entered isOpen (c .seats) w x → f ≡ Put v → foundIn f ≡ look (writesIn ws w (x .writes)) a
+    → Entered isOpen (c .workers) w x → f ≡ Put v → foundIn f ≡ look (writesIn ws w (x .writes)) a
     → Tells rs rows slots ws c w a rs (record { core = c; answer = Value v })
 unfolding ownView
 read-put {v} t e q =
     read-own (written (record { value = v })) (Value v) t (sym q ∙ ap foundIn e) refl
 
 pub read-deletion : {rs : List ReadRows} {rows : RecordRows} {slots : SlotRows} {ws : List WriteRows} {c : Core} {w a : ℕ} {x : Worker} {f : Found}
-    → Entered isOpen (c .seats) w x → f ≡ Deletion → foundIn f ≡ look (writesIn ws w (x .writes)) a
+    → Entered isOpen (c .workers) w x → f ≡ Deletion → foundIn f ≡ look (writesIn ws w (x .writes)) a
     → Tells rs rows slots ws c w a rs (record { core = c; answer = Absent })
 unfolding ownView
 read-deletion t e q =
@@ -229,14 +229,14 @@ read-nothing {ws = ws} e q k = k .tells ws (sym q ∙ ap foundIn e)
 -- ---- the current record
 
 pub read-logged : {rs : List ReadRows} {rows : RecordRows} {slots : SlotRows} {us : ReadRows} {c o : Core} {w a : ℕ} {x : Worker} {r : Taken} {v : ReadAnswer}
-    → Entered isOpen (c .seats) w x → x .reads < standard .readLimit → Takes (getD rs w []) rows slots (c .sizes .records) (x .reads) a us r
-    → o ≡ withSeat c w (withReads x (r .count)) → readIn v ≡ found (payloadOf (recordIn (r .seen)))
+    → Entered isOpen (c .workers) w x → x .reads < standard .readLimit → LogsCurrent (getD rs w []) rows slots (c .sizes .records) (x .reads) a us r
+    → o ≡ coreWith c w (withReads x (r .count)) → readAnswer v ≡ found (payloadOf (recordIn (r .seen)))
     → TellsCurrent rs rows slots c w x a (set rs w us) (record { core = o; answer = v })
 unfolding firstCause
 read-logged {rs} {rows} {slots} {us} {c} {o} {w} {a} {x} {r} {v} t h p m s =
     record {
       tells = λ ws q. record {
-        goes-so = λ lows versions outside pending ls k.
+        refines-so = λ lows versions outside pending ls k.
             let l = byColumns rows lows versions outside pending slots in
             let g = logs rs ls ws in
             let σ = stateOf l g c in
@@ -246,17 +246,17 @@ read-logged {rs} {rows} {slots} {us} {c} {o} {w} {a} {x} {r} {v} t h p m s =
             ∙ cause-fails (not (less (x .reads) (standard .readLimit))) LogFull [] (ap not (less-yes {m = x .reads} {n = standard .readLimit} h)) in
             let count : r .count ≡ x .reads + 1 = p .logs .count in
             let b : Within x = within isOpen l g c w x k t in
-            subst (λ (z : Core). Goes l g c (read w a) l (logs (set rs w us) ls ws) z (readIn v)) (sym m)
-            (subst (Goes l g c (read w a) l (logs (set rs w us) ls ws) (withSeat c w (withReads x (r .count))))
+            subst (λ (z : Core). Refines l g c (read w a) l (logs (set rs w us) ls ws) z (readAnswer v)) (sym m)
+            (subst (Refines l g c (read w a) l (logs (set rs w us) ls ws) (coreWith c w (withReads x (r .count))))
             (sym (s ∙ ap (λ (z : Option Record). found (payloadOf z)) seen))
-            (goes k (comes-read σ w a none (own-is l g c w x k t a ∙ q) room)
+            (refines k (yields-read σ w a none (own-is l g c w x k t a ∙ q) room)
             (state-with l g (logs (set rs w us) ls ws) c w (withReads x (r .count))
             (record { reads = λ u m d. other-set (λ (z : ReadRows). readsOf z m) rs w us u d; leaves = λ u m d. refl; writes = λ u m d. refl })
             ∙ ap (withWorker σ w)
             (read-in rs ls ws w x us (r .count) a (r .seen) (k .stored .reads) (t .inside) (p .logs)
             ∙ ap (λ (o : Option Record). logged (row a o ∷ []) [] (workerIn x rs ls ws w)) seen
-            ∙ ap (logged (row a (current (σ .map) a) ∷ []) []) (sym (seated isOpen l g c w x k t))))
-            (stored-seat l rs ls ws (set rs w us) ws c w (withReads x (r .count)) (t .inside) (k .stored)
+            ∙ ap (logged (row a (current (σ .map) a) ∷ []) []) (sym (worker-is isOpen l g c w x k t))))
+            (stored-worker l rs ls ws (set rs w us) ws c w (withReads x (r .count)) (t .inside) (k .stored)
             (each-set w us (k .stored .reads) (p .logs .held)) (k .stored .writes)
             (record { reads = omega arith; leaves = b .leaves; writes = b .writes })
             (ap (λ (y : Worker). y .leaves) (t .is)))));

@@ -24,8 +24,8 @@ use Rattle.sets.specs.Leaves as leaves
 use Rattle.sets.specs.Writes.{writesIn}
 use Rattle.sets.specs.SetLaws.{length-rows}
 use Rattle.map.specs.Views.{leavesIn, Lent, mapOf}
-use Rattle.looks.specs.declared.Range.{Range}
-use Rattle.looks.specs.LookViews.{mapWith, versionIn, Spans, Meets}
+use Rattle.queries.specs.declared.Range.{Range}
+use Rattle.queries.specs.QueryViews.{mapWith, versionIn, Spans, Meets}
 use Rattle.ranges.specs.declared.plans.Task.{Task}
 use Rattle.ranges.specs.Overlays.{overlay}
 use Rattle.ranges.specs.Parts.{length-walk}
@@ -36,8 +36,8 @@ use Rattle.transactions.specs.declared.Core.{Core}
 use Rattle.transactions.specs.Answering.{cause-holds, cause-fails, front, front-first}
 use Rattle.transactions.specs.Admits.{Turned, Entered}
 use Rattle.transactions.specs.Views.{Logs, stateOf}
-use Rattle.transactions.specs.Ready.{Within, Ready, Goes, goes-refused}
-use Rattle.transactions.specs.SeatLaws.{ready-writable, seat-writable, seated, within}
+use Rattle.transactions.specs.Ready.{Within, Ready, Refines, refines-refused}
+use Rattle.transactions.specs.CoreLaws.{ready-writable, worker-writable, worker-is, within}
 use Rattle.map.specs.Parts.{records-held, slots-held, leaves-listed}
 
 -- what the tests of a scan by worker w told, in the arrays of all workers
@@ -71,11 +71,11 @@ unfolding refusal causes noWorker workerFree wrongStage any
 mild σ w lo hi m n r q = mild-cause (causes σ (scan w lo hi m n)) r refl q
 
 -- refused for the worker
-pub scan-turned : {l : Lent} {g : Logs} {c : Core} {w : ℕ} {r : Refusal} → Ready l g c → Turned isOpen (c .seats) w r → (lo hi m n : ℕ)
-    → Goes l g c (scan w lo hi m n) l g c (refused r)
+pub scan-turned : {l : Lent} {g : Logs} {c : Core} {w : ℕ} {r : Refusal} → Ready l g c → Turned isOpen (c .workers) w r → (lo hi m n : ℕ)
+    → Refines l g c (scan w lo hi m n) l g c (refused r)
 scan-turned {l} {g} {c} {w} {r} k t lo hi m n =
     let q : refusal (stateOf l g c) (scan w lo hi m n) ≡ some r = scan-causes (stateOf l g c) w lo hi m n (some r) (t .front-is l g c refl) in
-    goes-refused k q (mild (stateOf l g c) w lo hi m n r q)
+    refines-refused k q (mild (stateOf l g c) w lo hi m n r q)
 
 either-last : (b : Bool) → either b true ≡ true
 either-last true = refl
@@ -83,7 +83,7 @@ either-last false = refl
 
 -- ---- a worker that is open
 
-module _ {l : Lent} {g : Logs} {c : Core} {w : ℕ} {x : Worker} (k : Ready l g c) (e : Entered isOpen (c .seats) w x) where
+module _ {l : Lent} {g : Logs} {c : Core} {w : ℕ} {x : Worker} (k : Ready l g c) (e : Entered isOpen (c .workers) w x) where
   pub planning : Planning (l .rows) (l .lows) (l .slots) (getD (g .writes) w []) (c .sizes) x
   planning =
       let t = k .stored .map .tables in
@@ -92,7 +92,7 @@ module _ {l : Lent} {g : Logs} {c : Core} {w : ℕ} {x : Worker} (k : Ready l g 
         rows-held = records-held t;
         slots-held = slots-held t;
         listed = leaves-listed t;
-        set = seat-writable (ready-writable k) e;
+        set = worker-writable (ready-writable k) e;
         reads = b .reads;
         leaves = b .leaves;
       }
@@ -101,12 +101,12 @@ module _ {l : Lent} {g : Logs} {c : Core} {w : ℕ} {x : Worker} (k : Ready l g 
 
   reads-size : length (workerOf (stateOf l g c) w .reads) ≡ x .reads
   unfolding workerIn
-  reads-size = ap (λ (y : model.Worker). length (y .reads)) (seated isOpen l g c w x k e) ∙ length-rows readIn (getD (g .reads) w []) (x .reads)
+  reads-size = ap (λ (y : model.Worker). length (y .reads)) (worker-is isOpen l g c w x k e) ∙ length-rows readIn (getD (g .reads) w []) (x .reads)
 
   versions-size : length (workerOf (stateOf l g c) w .versions) ≡ x .leaves
   unfolding workerIn
   versions-size =
-      ap (λ (y : model.Worker). length (y .versions)) (seated isOpen l g c w x k e) ∙ length-rows leaves.versionIn (getD (g .leaves) w []) (x .leaves)
+      ap (λ (y : model.Worker). length (y .versions)) (worker-is isOpen l g c w x k e) ∙ length-rows leaves.versionIn (getD (g .leaves) w []) (x .leaves)
 
   leaves-any : (lo hi : ℕ) → indexedBetween (mapWith (l .rows) (c .sizes .records) (l .slots) []) lo hi ≡ indexedBetween (mapOf l (c .sizes)) lo hi
   unfolding indexedBetween current
@@ -147,7 +147,7 @@ module _ {l : Lent} {g : Logs} {c : Core} {w : ℕ} {x : Worker} (k : Ready l g 
         ∙ ap (λ (xs : List (Row (Option Record))). overlay (mapItems ownView (between lo hi (writesIn (g .writes) w (x .writes)))) (mapItems payloadOf xs))
         (scan-reads (t .index) (d .index) ∙ reads-are)
         ∙ ap (λ (y : model.Worker). overlay (mapItems ownView (between lo hi (y .writes))) (mapItems payloadOf (indexedBetween (stateOf l g c .map) lo hi)))
-        (sym (seated isOpen l g c w x k e))
+        (sym (worker-is isOpen l g c w x k e))
 
     count-is : (t : Task) → MeasuredIn l g c w x lo hi t → t .count ≡ length (scanned (stateOf l g c) w lo hi)
     count-is t d = d .count ∙ ap length (scan-shown t d)
@@ -200,8 +200,8 @@ module _ {l : Lent} {g : Logs} {c : Core} {w : ℕ} {x : Worker} (k : Ready l g 
           (let s : t .count ≡ length (scanned (stateOf l g c) w lo hi) = count-is t d in ⊎-elim (λ i. omega arith) (λ i. omega arith) h))
           ∙ ap (λ (y : Refusal). some y) (sym q)
 
-      pub scan-declined : (r : Refusal) → DeclinedIn l g c w x lo hi m n r → Goes l g c (scan w lo hi m n) l g c (refused r)
-      scan-declined r d = goes-refused k (declined-is r d) (mild (stateOf l g c) w lo hi m n r (declined-is r d))
+      pub scan-declined : (r : Refusal) → DeclinedIn l g c w x lo hi m n r → Refines l g c (scan w lo hi m n) l g c (refused r)
+      scan-declined r d = refines-refused k (declined-is r d) (mild (stateOf l g c) w lo hi m n r (declined-is r d))
 
       -- the tests pass
       pub passed-is : (t : Task) → PassedIn l g c w x lo hi m n t → refusal (stateOf l g c) (scan w lo hi m n) ≡ none

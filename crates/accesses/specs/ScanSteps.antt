@@ -23,20 +23,20 @@ use Rattle.sets.specs.Leaves as leaves
 use Rattle.sets.specs.Writes.{writesIn}
 use Rattle.sets.specs.SetLaws.{each-set, own-set, other-set, length-rows}
 use Rattle.map.specs.Views.{leavesIn, Lent}
-use Rattle.looks.specs.declared.Range.{Range}
-use Rattle.looks.specs.LookViews.{versionIn}
-use Rattle.looks.specs.ScanLaws.{length-leaves}
+use Rattle.queries.specs.declared.Range.{Range}
+use Rattle.queries.specs.QueryViews.{versionIn}
+use Rattle.queries.specs.ScanLaws.{length-leaves}
 use Rattle.ranges.specs.declared.plans.Task.{Task}
 use Rattle.ranges.specs.Parts.{getD-walk}
 use Rattle.ranges.specs.Walks.{rowsIn}
 use Rattle.ranges.specs.Scanning.{span, across, lowIn}
 use Rattle.ranges.specs.Plans.{Carried}
 use Rattle.transactions.specs.declared.Core.{Core}
-use Rattle.transactions.specs.Answering.{comes-granted}
+use Rattle.transactions.specs.Answering.{yields-granted}
 use Rattle.transactions.specs.Admits.{Entered}
-use Rattle.transactions.specs.Views.{Logs, logs, seatIn, stateOf, withSeat, OthersSame, state-with}
-use Rattle.transactions.specs.Ready.{Within, LowsStay, Stored, Ready, Goes, goes}
-use Rattle.transactions.specs.SeatLaws.{seated, within, stored-put}
+use Rattle.transactions.specs.Views.{Logs, logs, modelWorker, stateOf, coreWith, OthersSame, state-with}
+use Rattle.transactions.specs.Ready.{Within, LowsStay, Stored, Ready, Refines, refines}
+use Rattle.transactions.specs.CoreLaws.{worker-is, within, stored-put}
 use Rattle.accesses.specs.ScanCauses.{PassedIn, scan-reads, scan-versions, scan-shown, passed-is}
 
 -- ---- logged leaves
@@ -90,7 +90,7 @@ CarriedIn l g c w x t ks vs ks' vs' rs ls y =
 abbrev pub logging : Logs → ℕ → ReadRows → LeafSetRows → Logs
 logging g w rs ls = logs (set (g .reads) w rs) (set (g .leaves) w ls) (g .writes)
 
-module _ {l : Lent} {g : Logs} {c : Core} {w : ℕ} {x : Worker} (k : Ready l g c) (e : Entered isOpen (c .seats) w x)
+module _ {l : Lent} {g : Logs} {c : Core} {w : ℕ} {x : Worker} (k : Ready l g c) (e : Entered isOpen (c .workers) w x)
     (lo hi : ℕ) (t : Task) (ks vs ks' vs' : List ℕ) (rs : ReadRows) (ls : LeafSetRows) (y : Worker)
     (p : PassedIn l g c w x lo hi (length ks) (length vs) t) (d : CarriedIn l g c w x t ks vs ks' vs' rs ls y) where
   others : OthersSame g (logging g w rs ls) w
@@ -102,12 +102,12 @@ module _ {l : Lent} {g : Logs} {c : Core} {w : ℕ} {x : Worker} (k : Ready l g 
       }
 
   -- the worker, with what the scan passed
-  seat-is : seatIn (logging g w rs ls) y w ≡ logged (scanReads (stateOf l g c) lo hi) (scanVersions (stateOf l g c) lo hi) (workerOf (stateOf l g c) w)
+  logged-is : modelWorker (logging g w rs ls) y w ≡ logged (scanReads (stateOf l g c) lo hi) (scanVersions (stateOf l g c) lo hi) (workerOf (stateOf l g c) w)
   unfolding workerIn logged
-  seat-is =
-      ap (λ (a : Worker). seatIn (logging g w rs ls) a w) (d .seat)
-      ∙ (λ i. record { stage = x .stage; reads = read i; versions = marked i; writes = writesIn (g .writes) w (x .writes); number = x .number })
-      ∙ ap (logged (scanReads (stateOf l g c) lo hi) (scanVersions (stateOf l g c) lo hi)) (sym (seated isOpen l g c w x k e))
+  logged-is =
+      ap (λ (a : Worker). modelWorker (logging g w rs ls) a w) (d .worker)
+      ∙ (λ i. record { stage = x .stage; reads = read i; versions = logged-leaves i; writes = writesIn (g .writes) w (x .writes); number = x .number })
+      ∙ ap (logged (scanReads (stateOf l g c) lo hi) (scanVersions (stateOf l g c) lo hi)) (sym (worker-is isOpen l g c w x k e))
     where
       read : readsIn (set (g .reads) w rs) w (y .reads) ≡ readsIn (g .reads) w (x .reads) ++ scanReads (stateOf l g c) lo hi
       read =
@@ -115,24 +115,24 @@ module _ {l : Lent} {g : Logs} {c : Core} {w : ℕ} {x : Worker} (k : Ready l g 
           ∙ d .logs-rows .view
           ∙ ap (λ (os : List (Row (Option Record))). readsIn (g .reads) w (x .reads) ++ os) (scan-reads k e lo hi (t .index) (p .measured .index))
 
-      marked : versionsIn (set (g .leaves) w ls) w (y .leaves) ≡ versionsIn (g .leaves) w (x .leaves) ++ scanVersions (stateOf l g c) lo hi
-      marked =
+      logged-leaves : versionsIn (set (g .leaves) w ls) w (y .leaves) ≡ versionsIn (g .leaves) w (x .leaves) ++ scanVersions (stateOf l g c) lo hi
+      logged-leaves =
           own-set (λ (s : LeafSetRows). versionsOf s (y .leaves)) (g .leaves) w ls (k .stored .leaves) (e .inside)
-          ∙ d .logs-marks .versions-are (c .sizes .leaves) (p .measured .met .within) (k .stored .map .tables .lows .room)
+          ∙ d .logs-leaves .versions-are (c .sizes .leaves) (p .measured .met .within) (k .stored .map .tables .lows .room)
           ∙ ap (λ (ns : List ℕ). versionsIn (g .leaves) w (x .leaves) ++ ns) (scan-versions k e lo hi (t .met) (p .measured .met))
 
-  state-is : stateOf l (logging g w rs ls) (withSeat c w y) ≡ effect (stateOf l g c) (scan w lo hi (length ks) (length vs))
+  state-is : stateOf l (logging g w rs ls) (coreWith c w y) ≡ effect (stateOf l g c) (scan w lo hi (length ks) (length vs))
   unfolding effect
-  state-is = state-with l g (logging g w rs ls) c w y others ∙ ap (withWorker (stateOf l g c) w) seat-is
+  state-is = state-with l g (logging g w rs ls) c w y others ∙ ap (withWorker (stateOf l g c) w) logged-is
 
   -- ---- stored again
 
-  seat-within : Within y
-  seat-within =
+  logged-within : Within y
+  logged-within =
       record {
         reads = omega (arith, d .logs-rows .count, p .measured .reads-fit);
-        leaves = omega (arith, d .logs-marks .count, p .measured .leaves-fit);
-        writes = subst (λ (a : Worker). a .writes ≤ standard .writeLimit) (sym (d .seat)) (within isOpen l g c w x k e .writes);
+        leaves = omega (arith, d .logs-leaves .count, p .measured .leaves-fit);
+        writes = subst (λ (a : Worker). a .writes ≤ standard .writeLimit) (sym (d .worker)) (within isOpen l g c w x k e .writes);
       }
 
   own-lows : LowsStay (leavesIn (l .lows) (l .versions) (c .sizes .leaves)) ls (y .leaves)
@@ -142,15 +142,15 @@ module _ {l : Lent} {g : Logs} {c : Core} {w : ℕ} {x : Worker} (k : Ready l g 
       let n : length (leavesIn (l .lows) (l .versions) (c .sizes .leaves)) ≡ c .sizes .leaves
       = length-leaves (l .lows) (l .versions) (c .sizes .leaves) (b .lows .room) (b .lows-size) (b .versions-size) in
       lows-appended (leavesIn (l .lows) (l .versions) (c .sizes .leaves)) (getD (g .leaves) w []) ls (x .leaves) (y .leaves) (t .met)
-      (b .leaves) (omega arith) (d .logs-marks .count)
-      (d .logs-marks .versions-are (c .sizes .leaves) m (b .lows .room)) (d .logs-marks .lows-are (c .sizes .leaves) m (b .lows .room))
+      (b .leaves) (omega arith) (d .logs-leaves .count)
+      (d .logs-leaves .versions-are (c .sizes .leaves) m (b .lows .room)) (d .logs-leaves .lows-are (c .sizes .leaves) m (b .lows .room))
       (subst (λ (a : Worker). LowsStay (leavesIn (l .lows) (l .versions) (c .sizes .leaves)) (getD (g .leaves) w []) (a .leaves)) (sym (e .is)) (k .stored .lows w (e .inside)))
 
-  stored : Stored l (logging g w rs ls) (withSeat c w y)
+  stored : Stored l (logging g w rs ls) (coreWith c w y)
   stored =
       stored-put l (logging g w rs ls) w y (c .sizes) (e .inside) (k .stored) (k .stored .map) refl
-      (each-set w rs (k .stored .reads) (d .logs-rows .held)) (each-set w ls (k .stored .leaves) (d .logs-marks .held)) (k .stored .writes)
-      (other-set (λ (s : LeafSetRows). s) (g .leaves) w ls) seat-within
+      (each-set w rs (k .stored .reads) (d .logs-rows .held)) (each-set w ls (k .stored .leaves) (d .logs-leaves .held)) (k .stored .writes)
+      (other-set (λ (s : LeafSetRows). s) (g .leaves) w ls) logged-within
       (subst (λ (s : LeafSetRows). LowsStay (leavesIn (l .lows) (l .versions) (c .sizes .leaves)) s (y .leaves))
       (sym (own-set (λ (s : LeafSetRows). s) (g .leaves) w ls (k .stored .leaves) (e .inside))) own-lows)
 
@@ -158,7 +158,7 @@ module _ {l : Lent} {g : Logs} {c : Core} {w : ℕ} {x : Worker} (k : Ready l g 
   unfolding granted
   answer-is = ap (λ (os : List (Row Payload)). listed os) (sym (d .fills .rows-are ∙ scan-shown k e lo hi t (p .measured)))
 
-  pub scan-granted : Goes l g c (scan w lo hi (length ks) (length vs)) l (logging g w rs ls) (withSeat c w y) (listed (rowsIn (t .count) ks' vs'))
+  pub scan-granted : Refines l g c (scan w lo hi (length ks) (length vs)) l (logging g w rs ls) (coreWith c w y) (listed (rowsIn (t .count) ks' vs'))
   scan-granted =
-      subst (Goes l g c (scan w lo hi (length ks) (length vs)) l (logging g w rs ls) (withSeat c w y)) answer-is
-      (goes k (comes-granted (stateOf l g c) (scan w lo hi (length ks) (length vs)) (passed-is k e lo hi (length ks) (length vs) t p)) state-is stored)
+      subst (Refines l g c (scan w lo hi (length ks) (length vs)) l (logging g w rs ls) (coreWith c w y)) answer-is
+      (refines k (yields-granted (stateOf l g c) (scan w lo hi (length ks) (length vs)) (passed-is k e lo hi (length ks) (length vs) t p)) state-is stored)

@@ -1,5 +1,5 @@
 // Put and remove: a worker's write set takes a write.
-use crate::seats;
+use crate::cores;
 use map::Leaves;
 use map::Records;
 use map::Slots;
@@ -23,9 +23,9 @@ ghost use Rattle.spec.specs.Steps.{put, remove};
 ghost use Rattle.sets.specs.Writes.{WriteSetOrdered, writeOf};
 ghost use Rattle.map.specs.Views.{lent};
 ghost use Rattle.transactions.specs.Views.{logs};
-ghost use Rattle.transactions.specs.Ready.{Ready, Goes};
+ghost use Rattle.transactions.specs.Ready.{Ready, Refines};
 ghost use Rattle.transactions.specs.Begins.{plainIn};
-ghost use Rattle.transactions.specs.SeatLaws.{Writable};
+ghost use Rattle.transactions.specs.CoreLaws.{Writable};
 ghost use Rattle.accesses.specs.Edits.{Edits, fullAt};
 
 // Whether a write set of n writes has neither a write at the address nor room for one.
@@ -48,13 +48,13 @@ fn edit(writes: &mut WriteSets, c: Core, w: u32, a: Address, kind: u64, value: u
     requires { ⌜ Writable (now writes) c ⌝ }
     ensures { λ r. ⌜ Edits (now (writes .entry)) c w a (writeOf kind value) (now (writes .exit)) r ⌝ }
 {
-    let seats = c.seats;
-    match admits::open(seats, w) {
+    let workers = c.workers;
+    match admits::open(workers, w) {
         Admit::Refused(r) => Done {
             core: c,
             answer: Plain::Refused(r),
         },
-        Admit::Seat(x) => {
+        Admit::Allowed(x) => {
             let v = w as usize;
             let n = x.writes as usize;
             if full(&writes[v], n, a) {
@@ -72,7 +72,7 @@ fn edit(writes: &mut WriteSets, c: Core, w: u32, a: Address, kind: u64, value: u
                 leaves: x.leaves,
                 writes: count as u8,
             };
-            let core = seats::with_seat(c, v, y);
+            let core = cores::with_worker(c, v, y);
             Done {
                 core,
                 answer: Plain::Granted,
@@ -95,7 +95,7 @@ pub fn put(
     value: u64,
 ) -> Done
     requires { ⌜ Ready (lent (now rows) (now leaves) (now slots)) (logs (now reads) (now leafsets) (now writes)) c ⌝ }
-    ensures { λ r. ⌜ Goes (lent (now (rows .entry)) (now (leaves .entry)) (now (slots .entry)))
+    ensures { λ r. ⌜ Refines (lent (now (rows .entry)) (now (leaves .entry)) (now (slots .entry)))
         (logs (now (reads .entry)) (now (leafsets .entry)) (now (writes .entry))) c (put w a (record { value = value }))
         (lent (now (rows .entry)) (now (leaves .entry)) (now (slots .entry)))
         (logs (now (reads .entry)) (now (leafsets .entry)) (now (writes .exit))) (r .core) (plainIn (r .answer)) ⌝ }
@@ -116,7 +116,7 @@ pub fn remove(
     a: Address,
 ) -> Done
     requires { ⌜ Ready (lent (now rows) (now leaves) (now slots)) (logs (now reads) (now leafsets) (now writes)) c ⌝ }
-    ensures { λ r. ⌜ Goes (lent (now (rows .entry)) (now (leaves .entry)) (now (slots .entry)))
+    ensures { λ r. ⌜ Refines (lent (now (rows .entry)) (now (leaves .entry)) (now (slots .entry)))
         (logs (now (reads .entry)) (now (leafsets .entry)) (now (writes .entry))) c (remove w a)
         (lent (now (rows .entry)) (now (leaves .entry)) (now (slots .entry)))
         (logs (now (reads .entry)) (now (leafsets .entry)) (now (writes .exit))) (r .core) (plainIn (r .answer)) ⌝ }

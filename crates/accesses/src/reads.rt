@@ -1,5 +1,5 @@
 // Read: a worker's own write, or the current record, which its read set takes.
-use crate::seats;
+use crate::cores;
 use map::Leaves;
 use map::Records;
 use map::Slots;
@@ -26,9 +26,9 @@ ghost use Rattle.sets.specs.Reads.{recordIn, ReadSetHeld};
 ghost use Rattle.map.specs.Parts.{RecordsHeld, SlotsHeld};
 ghost use Rattle.map.specs.Views.{lent};
 ghost use Rattle.transactions.specs.Views.{logs};
-ghost use Rattle.transactions.specs.Ready.{Ready, Goes};
+ghost use Rattle.transactions.specs.Ready.{Ready, Refines};
 ghost use Rattle.transactions.specs.Admits.{Entered};
-ghost use Rattle.accesses.specs.ReadSteps.{readIn, Loggable, Readable, Takes, Tells, TellsCurrent};
+ghost use Rattle.accesses.specs.ReadSteps.{readAnswer, Loggable, Readable, LogsCurrent, Tells, TellsCurrent};
 
 // The answer of a read: a value, or none there, or the refusal.
 pub enum ReadAnswer {
@@ -51,7 +51,7 @@ struct Taken {
 
 // The answer that tells a record.
 fn shown(seen: Current) -> ReadAnswer
-    ensures { λ r. ⌜ readIn r ≡ found (payloadOf (recordIn seen)) ⌝ }
+    ensures { λ r. ⌜ readAnswer r ≡ found (payloadOf (recordIn seen)) ⌝ }
 {
     if seen.there {
         return ReadAnswer::Value(seen.value);
@@ -72,9 +72,9 @@ fn take(
     requires { ⌜ RecordsHeld (now rows) records ⌝ }
     requires { ⌜ SlotsHeld (now slots) ⌝ }
     requires { ⌜ n < standard .readLimit ⌝ }
-    ensures { λ r. ⌜ Takes (now (reads .entry)) (now (rows .entry)) (now (slots .entry)) records n a (now (reads .exit)) r ⌝ }
+    ensures { λ r. ⌜ LogsCurrent (now (reads .entry)) (now (rows .entry)) (now (slots .entry)) records n a (now (reads .exit)) r ⌝ }
 {
-    let seen = looks::current_record(rows, slots, records, a);
+    let seen = queries::current_record(rows, slots, records, a);
     let count = reads::log_read(reads, n, a, seen);
     Taken { count, seen }
 }
@@ -90,7 +90,7 @@ fn read_current(
     a: Address,
 ) -> ReadDone
     requires { ⌜ Loggable (now reads) (now rows) (now slots) c ⌝ }
-    requires { ⌜ Entered isOpen (c .seats) w x ⌝ }
+    requires { ⌜ Entered isOpen (c .workers) w x ⌝ }
     ensures { λ r. ⌜ TellsCurrent (now (reads .entry)) (now (rows .entry)) (now (slots .entry)) c w x a (now (reads .exit)) r ⌝ }
 {
     let sizes = c.sizes;
@@ -111,7 +111,7 @@ fn read_current(
         leaves: x.leaves,
         writes: x.writes,
     };
-    let core = seats::with_seat(c, v, y);
+    let core = cores::with_worker(c, v, y);
     let seen = taken.seen;
     let answer = shown(seen);
     ReadDone { core, answer }
@@ -130,13 +130,13 @@ fn tell(
     requires { ⌜ Readable (now reads) (now rows) (now slots) (now writes) c ⌝ }
     ensures { λ r. ⌜ Tells (now (reads .entry)) (now (rows .entry)) (now (slots .entry)) (now (writes .entry)) c w a (now (reads .exit)) r ⌝ }
 {
-    let seats = c.seats;
-    match admits::open(seats, w) {
+    let workers = c.workers;
+    match admits::open(workers, w) {
         Admit::Refused(r) => ReadDone {
             core: c,
             answer: ReadAnswer::Refused(r),
         },
-        Admit::Seat(x) => {
+        Admit::Allowed(x) => {
             let v = w as usize;
             let own = writes::find_write(&writes[v], x.writes as usize, a);
             match own {
@@ -167,10 +167,10 @@ pub fn read(
     a: Address,
 ) -> ReadDone
     requires { ⌜ Ready (lent (now rows) (now leaves) (now slots)) (logs (now reads) (now leafsets) (now writes)) c ⌝ }
-    ensures { λ r. ⌜ Goes (lent (now (rows .entry)) (now (leaves .entry)) (now (slots .entry)))
+    ensures { λ r. ⌜ Refines (lent (now (rows .entry)) (now (leaves .entry)) (now (slots .entry)))
         (logs (now (reads .entry)) (now (leafsets .entry)) (now (writes .entry))) c (read w a)
         (lent (now (rows .entry)) (now (leaves .entry)) (now (slots .entry)))
-        (logs (now (reads .exit)) (now (leafsets .entry)) (now (writes .entry))) (r .core) (readIn (r .answer)) ⌝ }
+        (logs (now (reads .exit)) (now (leafsets .entry)) (now (writes .entry))) (r .core) (readAnswer (r .answer)) ⌝ }
 {
     tell(reads, rows, slots, writes, c, w, a)
 }

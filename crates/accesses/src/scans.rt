@@ -1,5 +1,5 @@
 // Scan: the records of a range, as the transaction sees them. It counts and tests first and writes after.
-use crate::seats;
+use crate::cores;
 use map::Leaves;
 use map::Records;
 use map::Slots;
@@ -51,14 +51,14 @@ pub fn scan(
         (logs (now (reads .entry)) (now (leafsets .entry)) (now (writes .entry))) c w lo hi (now (addresses .entry)) (now (values .entry))
         (logs (now (reads .exit)) (now (leafsets .exit)) (now (writes .entry))) (now (addresses .exit)) (now (values .exit)) r ⌝ }
 {
-    let seats = c.seats;
+    let workers = c.workers;
     let sizes = c.sizes;
-    match admits::open(seats, w) {
+    match admits::open(workers, w) {
         Admit::Refused(r) => ScanDone {
             core: c,
             answer: ScanAnswer::Refused(r),
         },
-        Admit::Seat(x) => {
+        Admit::Allowed(x) => {
             let v = w as usize;
             let m = addresses.len();
             let n = values.len();
@@ -68,7 +68,7 @@ pub fn scan(
                     answer: ScanAnswer::Refused(r),
                 },
                 Plan::Go(t) => {
-                    let y = plans::carry(
+                    let y = plans::carry_out(
                         addresses,
                         values,
                         &mut reads[v],
@@ -81,7 +81,7 @@ pub fn scan(
                         x,
                         t,
                     );
-                    let core = seats::with_seat(c, v, y);
+                    let core = cores::with_worker(c, v, y);
                     ScanDone {
                         core,
                         answer: ScanAnswer::Count(t.count),

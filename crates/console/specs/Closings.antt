@@ -21,10 +21,10 @@ use Rattle.laws.specs.SlotLaws.{content-none}
 use Rattle.laws.specs.MapBounds.{Bounded}
 use Rattle.laws.specs.ContentLaws.{look-contents, rising-contents}
 use Rattle.map.specs.Parts.{RecordsHeld}
-use Rattle.looks.specs.declared.Next.{Next}
-use Rattle.looks.specs.declared.Next.the-variants.{At, Done}
-use Rattle.looks.specs.LookViews.{mapWith}
-use Rattle.looks.specs.NextViews.{firstFrom, rowsFrom, nextIn, Follows}
+use Rattle.queries.specs.declared.Next.{Next}
+use Rattle.queries.specs.declared.Next.the-variants.{At, Done}
+use Rattle.queries.specs.QueryViews.{mapWith}
+use Rattle.queries.specs.NextViews.{firstFrom, rowsFrom, nextIn, Follows}
 use Rattle.script.specs.Output.{pair, pairs}
 use Rattle.script.specs.OutputLaws.{pair-most}
 use Rattle.map.specs.Views.{recordFrom, SlotRows, RecordRows}

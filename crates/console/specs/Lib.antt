@@ -4,7 +4,7 @@ pub mod Replies
 pub mod Sessions
 pub mod SessionLaws
 pub mod Places
-pub mod TurnLaws
+pub mod RunLineLaws
 pub mod Closings
 pub mod Finishes
 pub mod Examples

@@ -27,5 +27,5 @@ step-is {u} {o} ks vs a e f =
 pub places-fit : {l l' : Lent} {g g' : Logs} {x : Core} {u : Line} {o : Op} {ks vs ks' vs' : List ℕ} {d : Performed}
     → Asks u o → length ks ≡ places → length vs ≡ places → Performs l g x o ks vs l' g' ks' vs' d → placesIn (d .reply) ≤ places
 places-fit {l} {g = g} {x = x} {o = o} {ks} {vs} {ks'} {vs'} {d = d} a e f p =
-    let h : placesIn (d .reply) ≤ min (length ks) (length vs) = listings.places-fit (stateOf l g x) o (length ks) (length vs) (d .reply) ks' vs' (p .goes .says) in
+    let h : placesIn (d .reply) ≤ min (length ks) (length vs) = listings.places-fit (stateOf l g x) o (length ks) (length vs) (d .reply) ks' vs' (p .refines .says) in
     omega arith

@@ -66,8 +66,8 @@ pub record Replies (c : ℕ) (p : Reply) (ks vs old : List ℕ) (at : ℕ) (new 
   pub wrote : Wrote old at (replyText c p ks vs) new next
 
 -- the longest line: a letter, two numbers, a scan's pairs and a line feed
-abbrev pub longest : ℕ
-longest = 44 + 42 * places
+abbrev pub longestLine : ℕ
+longestLine = 44 + 42 * places
 
 -- ---- a scan's buffers
 

@@ -17,7 +17,7 @@ use Rattle.script.specs.declared.Parser.{Parser}
 use Rattle.script.specs.Parsing.{After}
 use Rattle.console.specs.declared.session.Session.{Session}
 use Rattle.console.specs.Program.{writtenFrom}
-use Rattle.console.specs.Replies.{longest}
+use Rattle.console.specs.Replies.{longestLine}
 
 -- the parser has read some bytes of a line
 pub record Started (p : Parser) : Type 0 where
@@ -52,18 +52,18 @@ abbrev pub left : List ℕ → Session → ℕ
 left input x = pick (x .stopped) 0 1 + (length input - x .next)
 
 -- a turn: the same, and there is less to do
-pub record Turns (l : Lent) (g : Logs) (x : Session) (input old : List ℕ) (l' : Lent) (g' : Logs) (y : Session) (new : List ℕ) : Type 0 where
+pub record RunsLine (l : Lent) (g : Logs) (x : Session) (input old : List ℕ) (l' : Lent) (g' : Logs) (y : Session) (new : List ℕ) : Type 0 where
   pub feeds : Feeds l g x input old l' g' y new
   pub fewer : left input y < left input x
 
 -- a session can go on: no malformed line was met, there is input, and there is room for the longest line
-unfoldable pub goesOn : Bool → ℕ → ℕ → ℕ → ℕ → Bool
-goesOn stopped next size at room = both (not stopped) (both (less next size) (atMost (at + longest) room))
+unfoldable pub canGoOn : Bool → ℕ → ℕ → ℕ → ℕ → Bool
+canGoOn stopped next size at room = both (not stopped) (both (less next size) (atMost (at + longestLine) room))
 
 -- run on until it cannot
 pub record Runs (l : Lent) (g : Logs) (x : Session) (input old : List ℕ) (l' : Lent) (g' : Logs) (y : Session) (new : List ℕ) : Type 0 where
   pub feeds : Feeds l g x input old l' g' y new
-  pub ends : goesOn (y .stopped) (y .next) (length input) (y .at) (length new) ≡ false
+  pub ends : canGoOn (y .stopped) (y .next) (length input) (y .at) (length new) ≡ false
 
 -- ---- laws
 

@@ -1,9 +1,9 @@
 // The end of the input: all records, or, after a line without its line feed, that it is malformed.
 use crate::session::Session;
-use looks::Next;
 use map::Leaves;
 use map::Records;
 use map::Slots;
+use queries::Next;
 use script::text;
 use sets::LeafSets;
 use sets::ReadSets;
@@ -31,7 +31,7 @@ fn put_records(out: &mut [u8], at: usize, rows: &Records, slots: &Slots, n: usiz
     let mut place = at;
     let mut from: u64 = 0;
     while from < ADDRESSES {
-        let next = looks::next_record(rows, slots, n, from);
+        let next = queries::next_record(rows, slots, n, from);
         match next {
             Next::At {
                 address,
@@ -54,7 +54,7 @@ fn put_contents(out: &mut [u8], at: usize, rows: &Records, slots: &Slots, n: usi
     requires { ⌜ (length (allRecords (now rows) n (now slots)) ≤ standard .mapLimit) × (at + longestEnd ≤ length (now out)) ⌝ }
     ensures { λ r. ⌜ Wrote (now (out .entry)) at (endLine (allRecords (now (rows .entry)) n (now (slots .entry)))) (now (out .exit)) r ⌝ }
 {
-    let count = looks::count_records(rows, slots, n);
+    let count = queries::count_records(rows, slots, n);
     let next = text::put_answer(out, at, b'E', count as u64);
     let last = put_records(out, next, rows, slots, n);
     text::put_byte(out, last, b'\n')

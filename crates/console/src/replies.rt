@@ -9,7 +9,7 @@ ghost use Rattle.lists.specs.Texts.{Wrote};
 ghost use Rattle.script.specs.Output.{field, absent, pairsOf};
 ghost use Rattle.engine.specs.Performs.{placesIn};
 ghost use Rattle.console.specs.Program.{places};
-ghost use Rattle.console.specs.Replies.{longest, Replies};
+ghost use Rattle.console.specs.Replies.{longestLine, Replies};
 
 // A read that finds nothing.
 fn put_absent_line(out: &mut [u8], at: usize, letter: u8) -> usize
@@ -41,7 +41,7 @@ fn put_listed_line(
 }
 
 // Any reply; a scan's addresses and values stand in the first places of the buffers.
-pub fn put_reply(
+pub fn write_reply(
     out: &mut [u8],
     at: usize,
     addresses: &[u32; SCAN_PLACES],
@@ -49,7 +49,7 @@ pub fn put_reply(
     letter: u8,
     reply: Reply,
 ) -> usize
-    requires { ⌜ at + longest ≤ length (now out) ⌝ }
+    requires { ⌜ at + longestLine ≤ length (now out) ⌝ }
     requires { ⌜ placesIn reply ≤ places ⌝ }
     ensures { λ r. ⌜ Replies letter reply (now (addresses .entry)) (now (values .entry)) (now (out .entry)) at (now (out .exit)) r ⌝ }
 {

@@ -21,10 +21,10 @@ ghost use lib.ListN.{length};
 ghost use Rattle.map.specs.Views.{lent};
 ghost use Rattle.transactions.specs.Views.{logs};
 ghost use Rattle.transactions.specs.Ready.{Ready};
-ghost use Rattle.console.specs.Sessions.{Started, goesOn, Turns, Runs, Begins, withPlaces};
+ghost use Rattle.console.specs.Sessions.{Started, canGoOn, RunsLine, Runs, Begins, withPlaces};
 
 // The longest line that is written: a letter, two numbers, a scan's pairs and a line feed.
-const LONGEST: usize = 44 + 42 * SCAN_PLACES;
+const LONGEST_LINE: usize = 44 + 42 * SCAN_PLACES;
 
 // What is kept from line to line: the engine's core, the parser, the place in the input, the place in the output, and
 // whether a malformed line has ended the script.
@@ -37,7 +37,7 @@ pub struct Session {
 }
 
 // A session with a fresh map, whatever the arrays held.
-pub fn fresh(
+pub fn fresh_session(
     rows: &mut Records,
     leaves: &mut Leaves,
     slots: &mut Slots,
@@ -47,8 +47,8 @@ pub fn fresh(
 ) -> Session
     ensures { λ r. ⌜ Begins (lent (now (rows .exit)) (now (leaves .exit)) (now (slots .exit))) (logs (now (reads .exit)) (now (leafsets .exit)) (now (writes .exit))) r ⌝ }
 {
-    let core = starts::fresh(rows, leaves, slots, reads, leafsets, writes);
-    let parser = script::fresh();
+    let core = starts::fresh_state(rows, leaves, slots, reads, leafsets, writes);
+    let parser = script::fresh_parser();
     Session {
         core,
         parser,
@@ -74,8 +74,8 @@ pub fn at_places(x: Session, next: usize, at: usize) -> Session
 }
 
 // There is input to read, and room for the longest line.
-fn goes_on(stopped: bool, next: usize, size: usize, at: usize, room: usize) -> bool
-    ensures { λ r. ⌜ r ≡ goesOn stopped next size at room ⌝ }
+fn can_go_on(stopped: bool, next: usize, size: usize, at: usize, room: usize) -> bool
+    ensures { λ r. ⌜ r ≡ canGoOn stopped next size at room ⌝ }
 {
     if stopped {
         return false;
@@ -83,10 +83,10 @@ fn goes_on(stopped: bool, next: usize, size: usize, at: usize, room: usize) -> b
     if size <= next {
         return false;
     }
-    if room < LONGEST {
+    if room < LONGEST_LINE {
         return false;
     }
-    if room - LONGEST < at {
+    if room - LONGEST_LINE < at {
         return false;
     }
     true
@@ -94,7 +94,7 @@ fn goes_on(stopped: bool, next: usize, size: usize, at: usize, room: usize) -> b
 
 // Reads to the end of a line, performs it and writes its answer; or reads to what makes a line malformed, or to the end
 // of the input.
-fn turn(
+fn run_line(
     out: &mut [u8],
     addresses: &mut [u32; SCAN_PLACES],
     values: &mut [u64; SCAN_PLACES],
@@ -109,8 +109,8 @@ fn turn(
 ) -> Session
     requires { ⌜ Ready (lent (now rows) (now leaves) (now slots)) (logs (now reads) (now leafsets) (now writes)) (x .core) ⌝ }
     requires { ⌜ Started (x .parser) ⌝ }
-    requires { ⌜ goesOn (x .stopped) (x .next) (length (now input)) (x .at) (length (now out)) ≡ true ⌝ }
-    ensures { λ r. ⌜ Turns (lent (now (rows .entry)) (now (leaves .entry)) (now (slots .entry)))
+    requires { ⌜ canGoOn (x .stopped) (x .next) (length (now input)) (x .at) (length (now out)) ≡ true ⌝ }
+    ensures { λ r. ⌜ RunsLine (lent (now (rows .entry)) (now (leaves .entry)) (now (slots .entry)))
         (logs (now (reads .entry)) (now (leafsets .entry)) (now (writes .entry))) x (now (input .entry)) (now (out .entry))
         (lent (now (rows .exit)) (now (leaves .exit)) (now (slots .exit))) (logs (now (reads .exit)) (now (leafsets .exit)) (now (writes .exit))) r (now (out .exit)) ⌝ }
 {
@@ -136,7 +136,7 @@ fn turn(
             );
             let reply = done.reply;
             let then = done.core;
-            let at = replies::put_reply(out, x.at, addresses, values, lines::letter_of(l), reply);
+            let at = replies::write_reply(out, x.at, addresses, values, lines::letter_of(l), reply);
             Session {
                 core: then,
                 parser: after,
@@ -155,7 +155,7 @@ fn turn(
                 stopped: true,
             }
         }
-        Event::Ended => Session {
+        Event::SliceEnd => Session {
             core,
             parser: after,
             next,
@@ -188,8 +188,8 @@ pub fn feed(
     let mut addresses = [0u32; SCAN_PLACES];
     let mut values = [0u64; SCAN_PLACES];
     let mut x = start;
-    while goes_on(x.stopped, x.next, input.len(), x.at, out.len()) {
-        x = turn(
+    while can_go_on(x.stopped, x.next, input.len(), x.at, out.len()) {
+        x = run_line(
             out,
             &mut addresses,
             &mut values,

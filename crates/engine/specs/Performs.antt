@@ -17,9 +17,9 @@ use Rattle.accesses.specs.declared.reads.ReadAnswer.the-variants as reading
 use Rattle.accesses.specs.declared.scans.ScanDone.{ScanDone}
 use Rattle.accesses.specs.declared.scans.ScanAnswer.{ScanAnswer}
 use Rattle.accesses.specs.declared.scans.ScanAnswer.the-variants as scanning
-use Rattle.endings.specs.declared.validates.ValidateDone.{ValidateDone}
-use Rattle.endings.specs.declared.validates.ValidateAnswer.{ValidateAnswer}
-use Rattle.endings.specs.declared.validates.ValidateAnswer.the-variants as validating
+use Rattle.commits.specs.declared.validates.ValidateDone.{ValidateDone}
+use Rattle.commits.specs.declared.validates.ValidateAnswer.{ValidateAnswer}
+use Rattle.commits.specs.declared.validates.ValidateAnswer.the-variants as validating
 use Rattle.transactions.specs.declared.merges.MergeDone.{MergeDone}
 use Rattle.engine.specs.declared.steps.Access.{Access}
 use Rattle.engine.specs.declared.steps.Access.the-variants as access
@@ -31,13 +31,13 @@ use Rattle.engine.specs.declared.steps.Reply.{Reply}
 use Rattle.engine.specs.declared.steps.Reply.the-variants as reply
 use Rattle.engine.specs.declared.steps.Performed.{Performed}
 use Rattle.transactions.specs.Begins.{plainIn}
-use Rattle.accesses.specs.ReadSteps.{readIn}
+use Rattle.accesses.specs.ReadSteps.{readAnswer}
 use Rattle.ranges.specs.Walks.{rowsIn, Beyond}
 use Rattle.ranges.specs.ShowLaws.{beyond-refl}
 use Rattle.accesses.specs.Scans.{scanIn, places, Scans}
-use Rattle.endings.specs.Validates.{validateIn}
+use Rattle.commits.specs.Validates.{validateIn}
 use Rattle.transactions.specs.Views.{Logs}
-use Rattle.transactions.specs.Ready.{Goes}
+use Rattle.transactions.specs.Ready.{Refines}
 
 -- document 01's step, with the lengths of the lent buffers
 abbrev pub stepIn : Op → ℕ → ℕ → Step
@@ -75,14 +75,14 @@ placesIn (reply.Refused r) = 0
 -- A step taken: the arrays, the core and the buffers before it, and those after it. Every place of a buffer past those
 -- that a scan filled is as it was.
 pub record Performs (l : Lent) (g : Logs) (c : Core) (o : Op) (ks vs : List ℕ) (l' : Lent) (g' : Logs) (ks' vs' : List ℕ) (r : Performed) : Type 0 where
-  pub goes : Goes l g c (stepIn o (length ks) (length vs)) l' g' (r .core) (replyIn (r .reply) ks' vs')
+  pub refines : Refines l g c (stepIn o (length ks) (length vs)) l' g' (r .core) (replyIn (r .reply) ks' vs')
   pub addresses : Beyond (placesIn (r .reply)) ks ks'
   pub values : Beyond (placesIn (r .reply)) vs vs'
 
 -- A step that looks at no buffer, whatever they hold.
 pub record Quiet (l : Lent) (g : Logs) (c : Core) (o : Op) (l' : Lent) (g' : Logs) (r : Performed) : Type 0 where
-  pub goes :
-      (ks vs : List ℕ) → Goes l g c (stepIn o (length ks) (length vs)) l' g' (r .core) (replyIn (r .reply) ks vs)
+  pub refines :
+      (ks vs : List ℕ) → Refines l g c (stepIn o (length ks) (length vs)) l' g' (r .core) (replyIn (r .reply) ks vs)
   pub places : placesIn (r .reply) ≡ 0
 
 -- ---- the replies of the ten entries
@@ -144,15 +144,15 @@ ending-is w e = ap (op.Ending w) e
 
 -- an entry's promise, under the names that the code has for the operation and the outcome
 quiet : {l l' : Lent} {g g' : Logs} {c : Core} {o : Op} {r : Performed} (s : Op) (t : Step) (k : Core) (p : Reply) (a : Answer)
-    → ((m n : ℕ) → stepIn s m n ≡ t) → o ≡ s → r ≡ record { core = k; reply = p } → Goes l g c t l' g' k a
+    → ((m n : ℕ) → stepIn s m n ≡ t) → o ≡ s → r ≡ record { core = k; reply = p } → Refines l g c t l' g' k a
     → ((ks vs : List ℕ) → replyIn p ks vs ≡ a) → placesIn p ≡ 0 → Quiet l g c o l' g' r
 quiet {l} {l'} {g} {g'} {c} {o} {r} s t k p a i e f h q z =
     subst (λ (x : Op). Quiet l g c x l' g' r) (sym e)
     (subst (λ (x : Performed). Quiet l g c s l' g' x) (sym f)
     (record {
-      goes =
-          λ ks vs. subst (λ (b : Answer). Goes l g c (stepIn s (length ks) (length vs)) l' g' k b) (sym (q ks vs))
-          (subst (λ (u : Step). Goes l g c u l' g' k a) (sym (i (length ks) (length vs))) h);
+      refines =
+          λ ks vs. subst (λ (b : Answer). Refines l g c (stepIn s (length ks) (length vs)) l' g' k b) (sym (q ks vs))
+          (subst (λ (u : Step). Refines l g c u l' g' k a) (sym (i (length ks) (length vs))) h);
       places = z;
     }))
 
@@ -165,11 +165,11 @@ plain-places plain.Granted = refl
 plain-places (plain.Refused r) = refl
 
 pub quiet-plain : {l l' : Lent} {g g' : Logs} {c : Core} {o : Op} {r : Performed} {t : Step} (s : Op) (d : Done) → ((m n : ℕ) → stepIn s m n ≡ t) → o ≡ s
-    → r ≡ ofPlain d → Goes l g c t l' g' (d .core) (plainIn (d .answer)) → Quiet l g c o l' g' r
+    → r ≡ ofPlain d → Refines l g c t l' g' (d .core) (plainIn (d .answer)) → Quiet l g c o l' g' r
 quiet-plain {t} s d i e f h =
     quiet s t (d .core) (plainReply (d .answer)) (plainIn (d .answer)) i e f h (plain-answer (d .answer)) (plain-places (d .answer))
 
-read-answer : (p : ReadAnswer) (ks vs : List ℕ) → replyIn (readReply p) ks vs ≡ readIn p
+read-answer : (p : ReadAnswer) (ks vs : List ℕ) → replyIn (readReply p) ks vs ≡ readAnswer p
 read-answer (reading.Value v) ks vs = refl
 read-answer reading.Absent ks vs = refl
 read-answer (reading.Refused r) ks vs = refl
@@ -180,9 +180,9 @@ read-places reading.Absent = refl
 read-places (reading.Refused r) = refl
 
 pub quiet-read : {l l' : Lent} {g g' : Logs} {c : Core} {o : Op} {r : Performed} {t : Step} (s : Op) (d : ReadDone) → ((m n : ℕ) → stepIn s m n ≡ t) → o ≡ s
-    → r ≡ ofRead d → Goes l g c t l' g' (d .core) (readIn (d .answer)) → Quiet l g c o l' g' r
+    → r ≡ ofRead d → Refines l g c t l' g' (d .core) (readAnswer (d .answer)) → Quiet l g c o l' g' r
 quiet-read {t} s d i e f h =
-    quiet s t (d .core) (readReply (d .answer)) (readIn (d .answer)) i e f h (read-answer (d .answer)) (read-places (d .answer))
+    quiet s t (d .core) (readReply (d .answer)) (readAnswer (d .answer)) i e f h (read-answer (d .answer)) (read-places (d .answer))
 
 validate-answer : (p : ValidateAnswer) (ks vs : List ℕ) → replyIn (validateReply p) ks vs ≡ validateIn p
 validate-answer (validating.Number n) ks vs = refl
@@ -193,12 +193,12 @@ validate-places (validating.Number n) = refl
 validate-places (validating.Refused r) = refl
 
 pub quiet-validate : {l l' : Lent} {g g' : Logs} {c : Core} {o : Op} {r : Performed} {t : Step} (s : Op) (d : ValidateDone) → ((m n : ℕ) → stepIn s m n ≡ t) → o ≡ s
-    → r ≡ ofValidate d → Goes l g c t l' g' (d .core) (validateIn (d .answer)) → Quiet l g c o l' g' r
+    → r ≡ ofValidate d → Refines l g c t l' g' (d .core) (validateIn (d .answer)) → Quiet l g c o l' g' r
 quiet-validate {t} s d i e f h =
     quiet s t (d .core) (validateReply (d .answer)) (validateIn (d .answer)) i e f h (validate-answer (d .answer)) (validate-places (d .answer))
 
 pub quiet-merge : {l l' : Lent} {g g' : Logs} {c : Core} {o : Op} {r : Performed} {t : Step} (s : Op) (d : MergeDone) → ((m n : ℕ) → stepIn s m n ≡ t) → o ≡ s
-    → r ≡ ofMerge d → Goes l g c t l' g' (d .core) (model.counted (d .count)) → Quiet l g c o l' g' r
+    → r ≡ ofMerge d → Refines l g c t l' g' (d .core) (model.counted (d .count)) → Quiet l g c o l' g' r
 quiet-merge {t} s d i e f h =
     quiet s t (d .core) (reply.Counted (d .count)) (model.counted (d .count)) i e f h (λ ks vs. refl) refl
 
@@ -207,7 +207,7 @@ pub performs-quiet : {l l' : Lent} {g g' : Logs} {c : Core} {o : Op} {r : Perfor
     → Performs l g c o ks vs l' g' ks vs r
 performs-quiet ks vs h =
     record {
-      goes = h .goes ks vs;
+      refines = h .refines ks vs;
       addresses = subst (λ (n : ℕ). Beyond n ks ks) (sym (h .places)) (beyond-refl 0 ks);
       values = subst (λ (n : ℕ). Beyond n vs vs) (sym (h .places)) (beyond-refl 0 vs);
     }
@@ -235,7 +235,7 @@ performs-scan {l} {g} {g'} {c} {o} {r} {w} {lo} {hi} {ks} {vs} {ks'} {vs'} d e f
     performs-as e
     (subst (λ (x : Performed). Performs l g c (op.Access w (access.Scan lo hi)) ks vs l g' ks' vs' x) (sym f)
     (record {
-      goes = subst (λ (b : Answer). Goes l g c (model.scan w lo hi (length ks) (length vs)) l g' (d .core) b) (sym (scan-answer (d .answer) ks' vs')) (h .goes);
+      refines = subst (λ (b : Answer). Refines l g c (model.scan w lo hi (length ks) (length vs)) l g' (d .core) b) (sym (scan-answer (d .answer) ks' vs')) (h .refines);
       addresses = subst (λ (n : ℕ). Beyond n ks ks') (sym (scan-places (d .answer))) (h .addresses);
       values = subst (λ (n : ℕ). Beyond n vs vs') (sym (scan-places (d .answer))) (h .values);
     }))

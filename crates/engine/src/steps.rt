@@ -6,10 +6,10 @@ use accesses::reads::ReadDone;
 use accesses::scans;
 use accesses::scans::ScanAnswer;
 use accesses::scans::ScanDone;
-use endings::commits;
-use endings::validates;
-use endings::validates::ValidateAnswer;
-use endings::validates::ValidateDone;
+use commits::locks;
+use commits::validates;
+use commits::validates::ValidateAnswer;
+use commits::validates::ValidateDone;
 use map::Leaves;
 use map::Records;
 use map::Slots;
@@ -243,7 +243,7 @@ fn take_ending(
         (logs (now (reads .entry)) (now (leafsets .entry)) (now (writes .entry))) r ⌝ }
 {
     match x {
-        Ending::Lock => of_plain(commits::lock(leaves, slots, rows, reads, leafsets, writes, c, w)),
+        Ending::Lock => of_plain(locks::lock(leaves, slots, rows, reads, leafsets, writes, c, w)),
         Ending::Validate => of_validate(validates::validate(
             leaves,
             slots,
@@ -254,7 +254,7 @@ fn take_ending(
             c,
             w,
         )),
-        Ending::Install => of_plain(commits::install(
+        Ending::Install => of_plain(locks::install(
             leaves,
             slots,
             rows,
@@ -264,16 +264,7 @@ fn take_ending(
             c,
             w,
         )),
-        Ending::Abort => of_plain(commits::abort(
-            leaves,
-            slots,
-            rows,
-            reads,
-            leafsets,
-            writes,
-            c,
-            w,
-        )),
+        Ending::Abort => of_plain(locks::abort(leaves, slots, rows, reads, leafsets, writes, c, w)),
     }
 }
 

@@ -12,7 +12,7 @@ use Rattle.lists.specs.Shifts.{moved, length-moved, put-in, taken-out}
 use Rattle.lists.specs.Places.{place, place-most, Present, Absent, look-present, look-absent, insert-present, insert-absent, delete-present, delete-absent}
 use Rattle.spec.specs.Records.{Record}
 use Rattle.index.specs.declared.rows.RecordRow.{RecordRow}
-use Rattle.index.specs.Views.{recordPlaces, RecordRows, recordFrom, noRow, rowOf, rowAt, stored, rowsOf, recordsOf, Held, Holds, AtPlace}
+use Rattle.index.specs.Views.{recordPlaces, RecordRows, recordFrom, noRow, rowOf, rowAt, stored, rowsOf, recordsOf, RecordsSorted, RecordsAre, AtPlace}
 use Rattle.index.specs.ViewLaws.{length-rows, rows-stored, rows-moved, length-records, record-at}
 
 -- ---- whether a key stands at its place
@@ -66,15 +66,15 @@ module _ (rows rows' : RecordRows) (all : length rows ≡ recordPlaces) (n p : �
 
 -- ---- what they are to the model
 
-module _ (rows : RecordRows) (n k p : ℕ) (held : Held rows n) (at : AtPlace rows n k p) where
+module _ (rows : RecordRows) (n k p : ℕ) (held : RecordsSorted rows n) (at : AtPlace rows n k p) where
   pub holds-assign : (rows' : RecordRows) (n' : ℕ) (o : Option Record) → n' ≤ recordPlaces → recordsOf rows' n' ≡ assign k o (recordsOf rows n)
-      → Holds rows' n' (assign k o (recordsOf rows n))
+      → RecordsAre rows' n' (assign k o (recordsOf rows n))
   holds-assign rows' n' o h e =
       record { held = record { room = h; rising = subst (Rising {A = Record}) (sym e) (rising-assign k o (recordsOf rows n) (held .rising)) }; same = e }
 
   pub put-over : (rows' : RecordRows) (value commit : ℕ) → length rows ≡ recordPlaces → Present k (recordsOf rows n) noRow → p < n
       → rows' ≡ stored rows p (record { address = k; value = value; commit = commit })
-      → Holds rows' n (assign k (some (recordFrom value commit)) (recordsOf rows n))
+      → RecordsAre rows' n (assign k (some (recordFrom value commit)) (recordsOf rows n))
   unfolding assign
   put-over rows' value commit all s h e =
       let x : Record = recordFrom value commit in
@@ -96,7 +96,7 @@ module _ (rows : RecordRows) (n k p : ℕ) (held : Held rows n) (at : AtPlace ro
 
   pub put-new : (rows' : RecordRows) (m : ℕ) (x : Record) → Absent k (recordsOf rows n) noRow → length (assign k (some x) (recordsOf rows n)) ≤ recordPlaces
       → (m ≡ n + 1) × (recordsOf rows' (n + 1) ≡ take p (recordsOf rows n) ++ (row k x ∷ drop p (recordsOf rows n)))
-      → Holds rows' m (assign k (some x) (recordsOf rows n))
+      → RecordsAre rows' m (assign k (some x) (recordsOf rows n))
   unfolding assign
   put-new rows' m x a h e =
       let l : n < recordPlaces = put-room x a h in
@@ -106,7 +106,7 @@ module _ (rows : RecordRows) (n k p : ℕ) (held : Held rows n) (at : AtPlace ro
       ∙ sym (insert-absent k x (recordsOf rows n) noRow a))
 
   pub drop-here : (rows' : RecordRows) → length rows ≡ recordPlaces → Present k (recordsOf rows n) noRow → p < n → rows' ≡ moved rows (p + 1) p (n - p - 1)
-      → Holds rows' (n - 1) (assign k none (recordsOf rows n))
+      → RecordsAre rows' (n - 1) (assign k none (recordsOf rows n))
   unfolding assign Rising
   drop-here rows' all s h e =
       let r : n ≤ recordPlaces = held .room in
@@ -114,7 +114,7 @@ module _ (rows : RecordRows) (n k p : ℕ) (held : Held rows n) (at : AtPlace ro
       (removed rows rows' all n p h r e ∙ ap (λ (i : ℕ). take i (recordsOf rows n) ++ drop (suc i) (recordsOf rows n)) (at .is)
       ∙ sym (delete-present k 0 (recordsOf rows n) noRow (held .rising) s))
 
-  pub drop-none : Absent k (recordsOf rows n) noRow → Holds rows n (assign k none (recordsOf rows n))
+  pub drop-none : Absent k (recordsOf rows n) noRow → RecordsAre rows n (assign k none (recordsOf rows n))
   unfolding assign Rising
   drop-none a = holds-assign rows n none (held .room) (sym (delete-absent k 0 (recordsOf rows n) noRow (held .rising) a))
 

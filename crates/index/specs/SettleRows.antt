@@ -12,8 +12,8 @@ use lib.Seq.{getD-set-same, getD-set-other}
 use Rattle.lists.specs.Tests.{less, less-true, less-false, cases}
 use Rattle.lists.specs.Shifts.{over, moved, tab, tab-same, length-tab, getD-tab, length-over, getD-over-left, getD-over-in, getD-over-right, length-moved, getD-moved-left, getD-moved-in, over-cons, filled-before}
 use Rattle.spec.specs.Records.{standard}
-use Rattle.runs.specs.declared.Leaf.{Leaf as Run}
-use Rattle.runs.specs.Making.{mostRuns, leaf}
+use Rattle.cuts.specs.declared.Leaf.{Leaf as Run}
+use Rattle.cuts.specs.Making.{mostRuns, leaf}
 use Rattle.index.specs.declared.leaves.Leaf.{Leaf as LeafWords}
 use Rattle.index.specs.Views.{recordPlaces, leafPlaces, RecordRows, keysBetween}
 use Rattle.index.specs.LeafColumns.{LeafRows, column, lowsOf, versionsOf, outsideOf, pendingOf, leafAt, leafWords, leafPut, column-places, column-getD, column-set, column-kept, column-moved, column-filled}

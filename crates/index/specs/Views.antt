@@ -75,7 +75,7 @@ unfoldable pub leavesOf : List ℕ → List ℕ → ℕ → List Leaf
 leavesOf lows versions m = paired (take m lows) (take m versions)
 
 -- Rows that hold n records: there is room for them, and addresses rise.
-pub record Held (rows : RecordRows) (n : ℕ) : Type 0 where
+pub record RecordsSorted (rows : RecordRows) (n : ℕ) : Type 0 where
   pub room : n ≤ recordPlaces
   pub rising : Rising (recordsOf rows n)
 
@@ -85,8 +85,8 @@ foundOf (At value commit) = some (recordFrom value commit)
 foundOf Nothing = none
 
 -- Rows that hold exactly these records.
-pub record Holds (rows : RecordRows) (n : ℕ) (rs : List (Row Record)) : Type 0 where
-  pub held : Held rows n
+pub record RecordsAre (rows : RecordRows) (n : ℕ) (rs : List (Row Record)) : Type 0 where
+  pub held : RecordsSorted rows n
   pub same : recordsOf rows n ≡ rs
 
 -- p is the place of the key among the n records: how many have a smaller one.

@@ -12,7 +12,7 @@ ghost use mathlib.Core.List.{_∷_, _++_};
 ghost use lib.ListN.{length, take, drop};
 ghost use Rattle.lists.specs.Rows.{look, assign};
 ghost use Rattle.lists.specs.Places.{place};
-ghost use Rattle.index.specs.Views.{recordPlaces, Held, Holds, recordsOf, recordFrom, rowOf, foundOf, AtPlace};
+ghost use Rattle.index.specs.Views.{recordPlaces, RecordsSorted, RecordsAre, recordsOf, recordFrom, rowOf, foundOf, AtPlace};
 ghost use Rattle.index.specs.Nearing.{Nearing};
 ghost use Rattle.index.specs.Searches.{probed};
 
@@ -41,7 +41,7 @@ fn probe(rows: &Records, n: usize, key: u64, base: usize, step: usize) -> usize
 
 // How many records have a smaller address, by steps from half of the places on which the address can be.
 fn descend(rows: &Records, n: usize, key: u64, half: usize) -> usize
-    requires { ⌜ Held (now rows) n ⌝ }
+    requires { ⌜ RecordsSorted (now rows) n ⌝ }
     requires { ⌜ Nearing (place key (recordsOf (now rows) n)) 0 half ⌝ }
     ensures { λ r. ⌜ AtPlace (now (rows .entry)) n key r ⌝ }
 {
@@ -57,7 +57,7 @@ fn descend(rows: &Records, n: usize, key: u64, half: usize) -> usize
 // How many records have a smaller address: the place of the address, or where it would go. Few records take fewer steps;
 // else the end of a full index is tried first. For each of the two the steps are always the same.
 pub fn locate(rows: &Records, n: usize, a: Address) -> usize
-    requires { ⌜ Held (now rows) n ⌝ }
+    requires { ⌜ RecordsSorted (now rows) n ⌝ }
     ensures { λ r. ⌜ AtPlace (now (rows .entry)) n a r ⌝ }
 {
     let key = a as u64;
@@ -73,7 +73,7 @@ pub fn locate(rows: &Records, n: usize, a: Address) -> usize
 
 // The record at an address.
 pub fn find(rows: &Records, n: usize, a: Address) -> Found
-    requires { ⌜ Held (now rows) n ⌝ }
+    requires { ⌜ RecordsSorted (now rows) n ⌝ }
     ensures { λ r. ⌜ foundOf r ≡ look (recordsOf (now (rows .entry)) n) a ⌝ }
 {
     let p = locate(rows, n, a);
@@ -103,9 +103,9 @@ fn insert(rows: &mut Records, n: usize, p: usize, r: RecordRow) -> usize
 
 // Puts a record at an address, in place of one that stands there. Answers how many records there are now.
 pub fn put(rows: &mut Records, n: usize, a: Address, value: u64, commit: u64) -> usize
-    requires { ⌜ Held (now rows) n ⌝ }
+    requires { ⌜ RecordsSorted (now rows) n ⌝ }
     requires { ⌜ length (assign a (some (recordFrom value commit)) (recordsOf (now rows) n)) ≤ recordPlaces ⌝ }
-    ensures { λ r. ⌜ Holds (now (rows .exit)) r (assign a (some (recordFrom value commit)) (recordsOf (now (rows .entry)) n)) ⌝ }
+    ensures { λ r. ⌜ RecordsAre (now (rows .exit)) r (assign a (some (recordFrom value commit)) (recordsOf (now (rows .entry)) n)) ⌝ }
 {
     rows::record_places(rows);
     let p = locate(rows, n, a);
@@ -127,8 +127,8 @@ pub fn put(rows: &mut Records, n: usize, a: Address, value: u64, commit: u64) ->
 
 // Drops the record at an address, if there is one. Answers how many records there are now.
 pub fn drop(rows: &mut Records, n: usize, a: Address) -> usize
-    requires { ⌜ Held (now rows) n ⌝ }
-    ensures { λ r. ⌜ Holds (now (rows .exit)) r (assign a none (recordsOf (now (rows .entry)) n)) ⌝ }
+    requires { ⌜ RecordsSorted (now rows) n ⌝ }
+    ensures { λ r. ⌜ RecordsAre (now (rows .exit)) r (assign a none (recordsOf (now (rows .entry)) n)) ⌝ }
 {
     rows::record_places(rows);
     let p = locate(rows, n, a);

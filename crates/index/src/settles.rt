@@ -5,14 +5,14 @@ use crate::Records;
 use crate::leaves;
 use crate::leaves::Leaf;
 use crate::rows;
-use runs::MOST_RUNS;
-use runs::Made;
+use cuts::MOST_RUNS;
+use cuts::Made;
 use spec::RUN;
 ghost use mathlib.Core.Path.{_≡_};
 ghost use Prim.Native.Nat.{_+_, _-_, _*_, _^_, _<_, _≤_};
 ghost use Rattle.lists.specs.Shifts.{over, tab};
 ghost use Rattle.spec.specs.Records.{standard};
-ghost use Rattle.runs.specs.Making.{mostRuns};
+ghost use Rattle.cuts.specs.Making.{mostRuns};
 ghost use Rattle.index.specs.Views.{recordPlaces, leafPlaces, keysBetween};
 ghost use Rattle.index.specs.Settles.{Settling};
 ghost use Rattle.index.specs.SettleRows.{madeLeaf, madeRow, MadeRuns, keptRows, joinedRows, cutRows, SettledRows};
@@ -42,11 +42,11 @@ fn make_all(rows: &Records, i: usize, n: usize, v: u64) -> Made
     requires { ⌜ v + n < 2 ^ 64 ⌝ }
     ensures { λ r. ⌜ MadeRuns (now (rows .entry)) i v n r ⌝ }
 {
-    let mut made = [runs::Leaf { low: 0, version: 0 }; MOST_RUNS];
+    let mut made = [cuts::Leaf { low: 0, version: 0 }; MOST_RUNS];
     let mut x = 0;
     while x < n {
         let r = rows::get(rows, i + (x + 1) * RUN);
-        let next = runs::make_run(made, x, r.address, v + 1 + (x as u64));
+        let next = cuts::make_run(made, x, r.address, v + 1 + (x as u64));
         made = next;
         x += 1;
     }

@@ -19,13 +19,13 @@ use Rattle.indexlet.specs.declared.Slot.{Slot as SlotWords}
 use Rattle.indexlet.specs.declared.Sought.{Sought}
 use Rattle.indexlet.specs.Words.{SlotRows, slotWords, pendingIn, holderIn, contentIn, slotIn, rowIn, rowAt, store, slotsOf}
 use Rattle.indexlet.specs.WordLaws.{length-slots, slots-at, slots-store, idle-zero}
-use Rattle.indexlet.specs.Held.{Sized, Held, Becomes, Fresh, Reads, lookedIn, Looks, Enters, sought}
+use Rattle.indexlet.specs.Promises.{Sized, SlotsHeld, SlotsBecome, SlotsFresh, IsSlot, lookedIn, Looks, Enters, sought}
 use Rattle.indexlet.specs.SeekLaws.{Ends, search-ends, sought-present, sought-absent, sought-holds}
 use Rattle.indexlet.specs.WalkLaws.{sized-store}
 
 -- ---- reading
 
-pub reads-row : (ws : SlotRows) (i : ℕ) (s : SlotWords) → Held ws → i < slotCount → s ≡ rowAt ws i → Reads ws i s
+pub reads-row : (ws : SlotRows) (i : ℕ) (s : SlotWords) → SlotsHeld ws → i < slotCount → s ≡ rowAt ws i → IsSlot ws i s
 reads-row ws i s z h e =
     record {
       slot = ap slotIn e ∙ sym (slots-at ws i h);
@@ -37,7 +37,7 @@ unfolding slotIn
 entry-slot s = refl
 
 -- the search ended at the entry
-pub look-hit : (ws : SlotRows) (a : ℕ) (r : Sought) (s : SlotWords) → Held ws → r ≡ sought (slotsOf ws) a → r .at < slotCount → s ≡ rowAt ws (r .at)
+pub look-hit : (ws : SlotRows) (a : ℕ) (r : Sought) (s : SlotWords) → SlotsHeld ws → r ≡ sought (slotsOf ws) a → r .at < slotCount → s ≡ rowAt ws (r .at)
     → Looks ws a (record { content = s .content; examined = r .examined })
 unfolding lookedIn
 look-hit ws a r s z e b g =
@@ -68,7 +68,7 @@ look-hit ws a r s z e b g =
         }
 
 -- it ended with nothing
-pub look-miss : (ws : SlotRows) (a : ℕ) (r : Sought) → Held ws → r ≡ sought (slotsOf ws) a → slotCount ≤ r .at
+pub look-miss : (ws : SlotRows) (a : ℕ) (r : Sought) → SlotsHeld ws → r ≡ sought (slotsOf ws) a → slotCount ≤ r .at
     → Looks ws a (record { content = record { kind = 0; value = 0; commit = 0; lock = 0 }; examined = r .examined })
 unfolding lookedIn contentIn pendingIn holderIn
 look-miss ws a r z e b =
@@ -89,9 +89,9 @@ look-miss ws a r z e b =
 
 -- ---- entering
 
-module _ (ws : SlotRows) (n a : ℕ) (c : ContentWords) (z : Held ws) (q : n ≡ length (entries (slotsOf ws))) (room : Room (slotsOf ws) a (contentIn c)) where
+module _ (ws : SlotRows) (n a : ℕ) (c : ContentWords) (z : SlotsHeld ws) (q : n ≡ length (entries (slotsOf ws))) (room : Room (slotsOf ws) a (contentIn c)) where
   -- the words hold the slots that `enter` leaves, and the number of entries follows
-  enters : (us : SlotRows) (m : ℕ) → Becomes us (enter 4 (slotsOf ws) a (contentIn c)) → m ≡ length (entries (enter 4 (slotsOf ws) a (contentIn c)))
+  enters : (us : SlotRows) (m : ℕ) → SlotsBecome us (enter 4 (slotsOf ws) a (contentIn c)) → m ≡ length (entries (enter 4 (slotsOf ws) a (contentIn c)))
       → Enters ws a c us m
   enters us m b e =
       record {
@@ -117,9 +117,9 @@ module _ (ws : SlotRows) (n a : ℕ) (c : ContentWords) (z : Held ws) (q : n ≡
 
   module _ (r : Sought) (e : r ≡ sought (slotsOf ws) a) where
     -- an entry that goes
-    pub enter-out : isIdle (contentIn c) ≡ true → r .at < slotCount → (us : SlotRows) → Becomes us (release 4 (slotsOf ws) a) → Enters ws a c us (n - 1)
+    pub enter-out : isIdle (contentIn c) ≡ true → r .at < slotCount → (us : SlotRows) → SlotsBecome us (release 4 (slotsOf ws) a) → Enters ws a c us (n - 1)
     enter-out t b us u =
-        enters us (n - 1) (subst (Becomes us) (sym (enter-idle 4 (slotsOf ws) a (contentIn c) t)) u)
+        enters us (n - 1) (subst (SlotsBecome us) (sym (enter-idle 4 (slotsOf ws) a (contentIn c) t)) u)
         (let x : length (entries (enter 4 (slotsOf ws) a (contentIn c))) + 1 ≡ n + 0 = number true true
         (sought-present a (z .good) e b) t in omega arith)
 
@@ -177,11 +177,11 @@ module _ (ws : SlotRows) (n a : ℕ) (c : ContentWords) (z : Held ws) (q : n ≡
         go (stands x) = clash x (ap present (sought-absent a (z .good) e b))
         go (fits x) = x
 
-    pub enter-new : isIdle (contentIn c) ≡ false → slotCount ≤ r .at → (us : SlotRows) → Becomes us
+    pub enter-new : isIdle (contentIn c) ≡ false → slotCount ≤ r .at → (us : SlotRows) → SlotsBecome us
         (take 4 (slotsOf ws) a (contentIn c)) → Enters ws a c us (n + 1)
     enter-new t b us u =
         enters us (n + 1)
-        (subst (Becomes us) (sym (enter-absent 4 (slotsOf ws) a (contentIn c) t (ap present (sought-absent a (z .good) e b)))) u)
+        (subst (SlotsBecome us) (sym (enter-absent 4 (slotsOf ws) a (contentIn c) t (ap present (sought-absent a (z .good) e b)))) u)
         (let x : length (entries (enter 4 (slotsOf ws) a (contentIn c))) + 0 ≡ n + 1 = number false false
         (ap present (sought-absent a (z .good) e b)) t in omega arith)
 
@@ -210,7 +210,7 @@ zero-view =
         ∙ zero-slot
         ∙ sym (getD-replicate slotCount i emptySlot emptySlot h)
 
-pub fresh-words : Fresh zeros
+pub fresh-words : SlotsFresh zeros
 fresh-words =
     record {
       held =

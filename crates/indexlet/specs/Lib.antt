@@ -1,7 +1,7 @@
 pub mod Table
 pub mod Words
 pub mod WordLaws
-pub mod Held
+pub mod Promises
 pub mod SeekLaws
 pub mod WalkLaws
 pub mod EnterLaws

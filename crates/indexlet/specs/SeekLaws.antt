@@ -18,7 +18,7 @@ use Rattle.indexlet.specs.declared.Slot.{Slot as SlotWords}
 use Rattle.indexlet.specs.declared.Sought.{Sought}
 use Rattle.indexlet.specs.Words.{SlotRows, slotIn, rowAt, slotsOf}
 use Rattle.indexlet.specs.WordLaws.{slot-there}
-use Rattle.indexlet.specs.Held.{soughtAt, soughtFrom, sought, Stands}
+use Rattle.indexlet.specs.Promises.{soughtAt, soughtFrom, sought, Stands}
 
 -- ---- the loop
 

@@ -20,7 +20,7 @@ use Rattle.indexlet.specs.declared.Content.{Content as ContentWords}
 use Rattle.indexlet.specs.declared.Slot.{Slot as SlotWords}
 use Rattle.indexlet.specs.Words.{SlotRows, contentIn, slotIn, rowAt, store, slotsOf}
 use Rattle.indexlet.specs.WordLaws.{length-store, row-store-same, row-store-other, length-slots, slots-store, vacant-idle}
-use Rattle.indexlet.specs.Held.{Sized, Held, Becomes, Stands}
+use Rattle.indexlet.specs.Promises.{Sized, SlotsHeld, SlotsBecome, Stands}
 use Rattle.indexlet.specs.SeekLaws.{examined-slot}
 
 -- a stored row whose key is an address
@@ -85,7 +85,7 @@ module _ (f : ℕ → ℕ) (old : SlotRows) (h : ℕ) (ws : SlotRows) (d : ℕ) 
   -- the slot that is reached says something else
   pub going-ends : (k : ℕ) (c : ContentWords) → k < 2 ^ 32 → (us : SlotRows)
       → us ≡ store ws ((h + d) % slotCount) (record { key = k; content = c; overflow = s .overflow })
-      → Becomes us (withEntry (countPassed f (slotsOf old) h d) (h + d) (kept k (contentIn c)))
+      → SlotsBecome us (withEntry (countPassed f (slotsOf old) h d) (h + d) (kept k (contentIn c)))
   unfolding withEntry setSlot slotIn
   going-ends k c kb us u =
       record {
@@ -115,7 +115,7 @@ pub record Taking (old : SlotRows) (a h : ℕ) (ws : SlotRows) (d : ℕ) : Type 
   pub bound : d ≤ slotCount
   pub before : (i : ℕ) → i < d → vacant (slotAt (slotsOf old) (h + i)) ≡ false
 
-pub take-start : (ws : SlotRows) (a h : ℕ) → Held ws → h ≡ homeSlot 4 a → Taking ws a h ws 0
+pub take-start : (ws : SlotRows) (a h : ℕ) → SlotsHeld ws → h ≡ homeSlot 4 a → Taking ws a h ws 0
 take-start ws a h z e =
     record { going = going-start suc ws h (z .sized); home = e; bound = zero-le; before = λ i q. absurd (omega arith) }
 
@@ -127,7 +127,7 @@ module _ (old : SlotRows) (a h : ℕ) (ws : SlotRows) (d : ℕ) (g : Taking old 
   here = going-ahead suc old h ws d (g .going) home-small s e db
 
   -- a count does not wrap
-  pub take-small : Held old → s .overflow ≤ slotCount
+  pub take-small : SlotsHeld old → s .overflow ≤ slotCount
   unfolding slotIn slotAt
   take-small z =
       subst (λ (x : Slot). x .overflow ≤ slotCount) (sym here) (overflow-most (z .good) ((h + d) % slotCount) (omega arith))
@@ -135,9 +135,9 @@ module _ (old : SlotRows) (a h : ℕ) (ws : SlotRows) (d : ℕ) (g : Taking old 
   -- the slot is empty
   pub take-ends : (c : ContentWords) → isIdle (contentIn (s .content)) ≡ true → isIdle (contentIn c) ≡ false → a < 2 ^ 32 → (us : SlotRows)
       → us ≡ store ws ((h + d) % slotCount) (record { key = a; content = c; overflow = s .overflow })
-      → Becomes us (take 4 (slotsOf old) a (contentIn c))
+      → SlotsBecome us (take 4 (slotsOf old) a (contentIn c))
   take-ends c t busy ab us u =
-      subst (Becomes us)
+      subst (SlotsBecome us)
       (ap (λ (o : Option (Row Content)). withEntry (countPassed suc (slotsOf old) h d) (h + d) o)
       (ap (λ (t : Bool). pick t none (some (row a (contentIn c)))) busy)
       ∙ ap (λ (n : ℕ). withEntry (countPassed suc (slotsOf old) n d) (n + d) (some (row a (contentIn c)))) (g .home)
@@ -185,7 +185,7 @@ pub record Releasing (old : SlotRows) (a m h : ℕ) (ws : SlotRows) (d : ℕ) : 
   pub home : h ≡ homeSlot 4 a
   pub bound : d ≤ m
 
-pub release-start : (ws : SlotRows) (a m h : ℕ) → Held ws → h ≡ homeSlot 4 a → Releasing ws a m h ws 0
+pub release-start : (ws : SlotRows) (a m h : ℕ) → SlotsHeld ws → h ≡ homeSlot 4 a → Releasing ws a m h ws 0
 release-start ws a m h z e = record { going = going-start pred ws h (z .sized); home = e; bound = zero-le }
 
 pub far-less : {ss : List Slot} {k d : ℕ} → Stands ss k d → d < slotCount
@@ -194,7 +194,7 @@ far-less {ss} {k} {d} r = subst (λ (n : ℕ). n < slotCount) (r .far) (gap-less
 pub release-done : (old : SlotRows) (a m h : ℕ) (ws : SlotRows) (d : ℕ) → Releasing old a m h ws d → m ≤ d → Releasing old a m h ws m
 release-done old a m h ws d g q = subst (Releasing old a m h ws) (let z : d ≤ m = g .bound in omega arith) g
 
-module _ (old : SlotRows) (a m h : ℕ) (ws : SlotRows) (d : ℕ) (z : Held old) (r : Stands (slotsOf old) a m) (g : Releasing old a m h ws d) (s : SlotWords) (e : s ≡ rowAt ws ((h + d) % slotCount)) where
+module _ (old : SlotRows) (a m h : ℕ) (ws : SlotRows) (d : ℕ) (z : SlotsHeld old) (r : Stands (slotsOf old) a m) (g : Releasing old a m h ws d) (s : SlotWords) (e : s ≡ rowAt ws ((h + d) % slotCount)) where
   home-low : h < slotCount
   home-low = subst (λ (n : ℕ). n < slotCount) (sym (g .home)) (home-less 4 a)
 
@@ -223,9 +223,9 @@ module _ (old : SlotRows) (a m h : ℕ) (ws : SlotRows) (d : ℕ) (z : Held old)
   -- all were passed, and the entry goes
   pub release-ends : d ≡ m → (c : ContentWords) → isIdle (contentIn c) ≡ true → (us : SlotRows)
       → us ≡ store ws ((h + d) % slotCount) (record { key = 0; content = c; overflow = s .overflow })
-      → Becomes us (release 4 (slotsOf old) a)
+      → SlotsBecome us (release 4 (slotsOf old) a)
   release-ends q c t us u =
-      subst (Becomes us)
+      subst (SlotsBecome us)
       (ap (λ (o : Option (Row Content)). withEntry (countPassed pred (slotsOf old) h d) (h + d) o)
       (ap (λ (t : Bool). pick t none (some (row 0 (contentIn c)))) t)
       ∙ ap (λ (n : ℕ). withEntry (countPassed pred (slotsOf old) n d) (n + d) none) (g .home)

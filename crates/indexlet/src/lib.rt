@@ -9,7 +9,7 @@ ghost use Rattle.spec.specs.Slots.{slotCount, tableEntry, homeSlot, isIdle, hol
 ghost use Rattle.spec.specs.Slots as model;
 ghost use Rattle.laws.specs.SlotLaws.{Room};
 ghost use Rattle.indexlet.specs.Words.{contentIn, slotIn, rowAt, store, slotsOf};
-ghost use Rattle.indexlet.specs.Held.{Held, Becomes, Fresh, Reads, Looks, Enters, Stands, sought};
+ghost use Rattle.indexlet.specs.Promises.{SlotsHeld, SlotsBecome, SlotsFresh, IsSlot, Looks, Enters, Stands, sought};
 
 // How many slots there are, and how many words a slot has.
 pub const SLOTS: usize = 256;
@@ -379,8 +379,8 @@ fn put(t: &mut Slots, i: usize, s: Slot)
 }
 
 // All slots are empty.
-pub fn fresh(t: &mut Slots)
-    ensures { λ _. ⌜ Fresh (now (t .exit)) ⌝ }
+pub fn fresh_slots(t: &mut Slots)
+    ensures { λ _. ⌜ SlotsFresh (now (t .exit)) ⌝ }
 {
     let empty = [0; SLOT_WORDS];
     let slots = [empty; SLOTS];
@@ -389,9 +389,9 @@ pub fn fresh(t: &mut Slots)
 
 // The row of slot i, for a walk over the slots.
 pub fn slot_at(t: &Slots, i: usize) -> Slot
-    requires { ⌜ Held (now t) ⌝ }
+    requires { ⌜ SlotsHeld (now t) ⌝ }
     requires { ⌜ i < slotCount ⌝ }
-    ensures { λ r. ⌜ Reads (now (t .entry)) i r ⌝ }
+    ensures { λ r. ⌜ IsSlot (now (t .entry)) i r ⌝ }
 {
     get(t, i)
 }
@@ -427,7 +427,7 @@ fn seek(t: &Slots, a: Address, h: usize) -> Sought
 
 // What is said of an address, and how many slots the search for it examined.
 pub fn look_up(t: &Slots, a: Address) -> Looked
-    requires { ⌜ Held (now t) ⌝ }
+    requires { ⌜ SlotsHeld (now t) ⌝ }
     ensures { λ r. ⌜ Looks (now (t .entry)) a r ⌝ }
 {
     let h = home(a);
@@ -455,11 +455,11 @@ pub fn look_up(t: &Slots, a: Address) -> Looked
 
 // A new entry takes the first empty slot from the home slot h, and each slot passed adds one.
 fn take(t: &mut Slots, a: Address, h: usize, c: Content)
-    requires { ⌜ Held (now t) ⌝ }
+    requires { ⌜ SlotsHeld (now t) ⌝ }
     requires { ⌜ h ≡ homeSlot 4 a ⌝ }
     requires { ⌜ length (entries (slotsOf (now t))) < slotCount ⌝ }
     requires { ⌜ isIdle (contentIn c) ≡ false ⌝ }
-    ensures { λ _. ⌜ Becomes (now (t .exit)) (model.take 4 (slotsOf (now (t .entry))) a (contentIn c)) ⌝ }
+    ensures { λ _. ⌜ SlotsBecome (now (t .exit)) (model.take 4 (slotsOf (now (t .entry))) a (contentIn c)) ⌝ }
 {
     let mut d = 0;
     while d < SLOTS {
@@ -488,10 +488,10 @@ fn take(t: &mut Slots, a: Address, h: usize, c: Content)
 // The entry of an address, which stands `passed` slots after the home slot h, is taken out, and each slot passed subtracts
 // one. Its key goes too, so that a later search for it is not led to look further here.
 fn release(t: &mut Slots, a: Address, h: usize, passed: usize)
-    requires { ⌜ Held (now t) ⌝ }
+    requires { ⌜ SlotsHeld (now t) ⌝ }
     requires { ⌜ h ≡ homeSlot 4 a ⌝ }
     requires { ⌜ Stands (slotsOf (now t)) a passed ⌝ }
-    ensures { λ _. ⌜ Becomes (now (t .exit)) (model.release 4 (slotsOf (now (t .entry))) a) ⌝ }
+    ensures { λ _. ⌜ SlotsBecome (now (t .exit)) (model.release 4 (slotsOf (now (t .entry))) a) ⌝ }
 {
     let mut d = 0;
     while d < passed {
@@ -525,7 +525,7 @@ fn release(t: &mut Slots, a: Address, h: usize, passed: usize)
 // `c` is said of the address: its entry is written, taken or taken out. `n` is the number of entries; the new number is
 // returned.
 pub fn enter(t: &mut Slots, n: usize, a: Address, c: Content) -> usize
-    requires { ⌜ Held (now t) ⌝ }
+    requires { ⌜ SlotsHeld (now t) ⌝ }
     requires { ⌜ n ≡ length (entries (slotsOf (now t))) ⌝ }
     requires { ⌜ Room (slotsOf (now t)) a (contentIn c) ⌝ }
     ensures { λ r. ⌜ Enters (now (t .entry)) a c (now (t .exit)) r ⌝ }

@@ -129,7 +129,7 @@ module _ {σ : State} (h : Kept σ) where
       record {
         settings = h .settings;
         map = merge-bounded a (h .settings .cut) (h .map);
-        crew = h .crew;
+        worker-count = h .worker-count;
         worker = h .worker;
         holds = λ w k t e. r .same-holder k ∙ h .holds w k t e;
         held-by = λ w k e. h .held-by w k (sym (r .same-holder k) ∙ e);

@@ -49,7 +49,7 @@ owed σ = pendingCount (σ .map .slots) + σ .settings .writeLimit * checkedCoun
 pub record Kept (σ : State) : Type 0 where
   pub settings : GoodSettings (σ .settings)
   pub map : Bounded (σ .settings) (σ .counters .version) (σ .map)
-  pub crew : length (σ .workers) ≡ σ .settings .workers
+  pub worker-count : length (σ .workers) ≡ σ .settings .workers
   pub worker : (w : ℕ) → GoodWorker (σ .settings) (σ .counters .number) (workerOf σ w)
   -- a locked or checked worker has the locks of its write set
   pub holds : (w k : ℕ) → hasLocks (workerOf σ w .stage) ≡ true → has k (writeKeys σ w) ≡ true → contentOf (σ .map .slots) k .holder ≡ some w
@@ -109,7 +109,7 @@ fresh-kept s g =
     record {
       settings = g;
       map = fresh-bounded s;
-      crew = length-replicate (s .workers) freeWorker;
+      worker-count = length-replicate (s .workers) freeWorker;
       worker = λ w. subst (GoodWorker s 0) (sym (worker-fresh s w)) (free-good s 0);
       holds = λ w k t. clash t (unlocked w);
       held-by = λ w k e. both-options e (unfold contentOf entries look in refl);

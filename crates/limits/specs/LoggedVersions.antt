@@ -12,7 +12,7 @@ use Rattle.lists.specs.Tests.{pick, maybe, same, less, cases, same-true, same-f
 use Rattle.spec.specs.declared.Refusal.{Refusal}
 use Rattle.spec.specs.Refusals.{ends}
 use Rattle.spec.specs.Records.{Settings}
-use Rattle.spec.specs.Steps.{Worker, freeWorker, State, fresh, workerOf, Step, begin, read, scan, put, remove, lock, validate, install, abort, merge, workerIn, scanVersions, refusal, withWorker, withMap, withCounters, atStage, logged, writing, checkedAs, dropped, merged, effect, afterRefusal, next}
+use Rattle.spec.specs.Steps.{Worker, freeWorker, State, fresh, workerOf, Step, begin, read, scan, put, remove, lock, validate, install, abort, merge, stepWorker, scanVersions, refusal, withWorker, withMap, withCounters, atStage, logged, writing, checkedAs, dropped, merged, effect, afterRefusal, next}
 use Rattle.laws.specs.LeafVersions.{meeting-old}
 use Rattle.laws.specs.MergeLaws.{merges}
 use Rattle.laws.specs.WorkerLaws.{set-same, set-other, worker-fresh}
@@ -75,7 +75,7 @@ module _ {σ : State} (k : Kept σ) (h : AllOld (σ .counters .version) (σ .wor
 
   refused-old : (s : Step) (r : Refusal) → AllOld (afterRefusal σ s r .counters .version) (afterRefusal σ s r .workers)
   unfolding afterRefusal
-  refused-old s r = go (ends r) (workerIn s)
+  refused-old s r = go (ends r) (stepWorker s)
     where
       go : (b : Bool) (o : Option ℕ) → AllOld (pick b (maybe o σ (dropped σ)) σ .counters .version) (pick b (maybe o σ (dropped σ)) σ .workers)
       go true none = h

@@ -62,7 +62,7 @@ moved-kept {σ} {w} {x} {m} {c} h g =
     record {
       settings = h .settings;
       map = g .map;
-      crew = length-set (σ .workers) w x ∙ h .crew;
+      worker-count = length-set (σ .workers) w x ∙ h .worker-count;
       worker = λ v. at v (GoodWorker (σ .settings) (c .number)) (λ e. g .worker) (λ d. good-later (g .later) (h .worker v));
       holds = λ v k.
           at v (λ (y : Worker). hasLocks (y .stage) ≡ true → has k (keys (y .writes)) ≡ true → holderOf m k ≡ some v)

@@ -63,7 +63,7 @@ writing-good {s} {n} {x} g b k e f =
 
 module _ {σ : State} (h : Kept σ) where
   pub inside : (w : ℕ) → w < σ .settings .workers → w < length (σ .workers)
-  inside w i = le-trans i (le-of-eq (sym (h .crew)))
+  inside w i = le-trans i (le-of-eq (sym (h .worker-count)))
 
   -- a worker without locks, before and after, alone
   quiet : (w : ℕ) (x : Worker) → w < σ .settings .workers → hasLocks (workerOf σ w .stage) ≡ false → hasLocks (x .stage) ≡ false

@@ -9,7 +9,7 @@ use Rattle.lists.specs.Rows.{any}
 use Rattle.spec.specs.declared.Refusal.{Refusal}
 use Rattle.spec.specs.declared.Refusal.the-variants.{NoWorker, WorkerFree, WorkerTaken, WrongStage, Backward, LogFull, WritesFull, ShortBuffer, Held, IndexletFull, MapFull, Changed, UnderLock, Phantom, Spent}
 use Rattle.spec.specs.Refusals.{numberOf, ends}
-use Rattle.spec.specs.Steps.{State, workerOf, Step, begin, read, scan, put, remove, lock, validate, install, abort, merge, workerIn, isLocked, Cause, noWorker, workerFree, wrongStage, causes, refusal, effect, afterRefusal, dropped, next}
+use Rattle.spec.specs.Steps.{State, workerOf, Step, begin, read, scan, put, remove, lock, validate, install, abort, merge, stepWorker, isLocked, Cause, noWorker, workerFree, wrongStage, causes, refusal, effect, afterRefusal, dropped, next}
 use Rattle.laws.specs.WorkerLaws.{not-false, ended-later, mild-cause}
 use Rattle.limits.specs.Granting.{AtStage}
 
@@ -82,13 +82,13 @@ next-refused σ s r e = ap (λ (o : Option Refusal). maybe o (effect σ s) (afte
 -- all refusals but 12, 13 and 14 leave everything
 pub refused-same : (σ : State) (s : Step) (r : Refusal) → refusal σ s ≡ some r → ends r ≡ false → next σ s ≡ σ
 unfolding afterRefusal
-refused-same σ s r e t = next-refused σ s r e ∙ ap (λ (b : Bool). pick b (maybe (workerIn s) σ (dropped σ)) σ) t
+refused-same σ s r e t = next-refused σ s r e ∙ ap (λ (b : Bool). pick b (maybe (stepWorker s) σ (dropped σ)) σ) t
 
 -- those end the transaction of the worker that is validated
 pub refused-ends : (σ : State) (s : Step) (r : Refusal) (e : refusal σ s ≡ some r) (t : ends r ≡ true)
     → next σ s ≡ dropped σ (ends-validation σ s r e t .worker)
-unfolding afterRefusal workerIn
+unfolding afterRefusal stepWorker
 refused-ends σ s r e t =
     next-refused σ s r e
-    ∙ ap (λ (b : Bool). pick b (maybe (workerIn s) σ (dropped σ)) σ) t
-    ∙ ap (λ (x : Step). maybe (workerIn x) σ (dropped σ)) (ends-validation σ s r e t .is)
+    ∙ ap (λ (b : Bool). pick b (maybe (stepWorker s) σ (dropped σ)) σ) t
+    ∙ ap (λ (x : Step). maybe (stepWorker x) σ (dropped σ)) (ends-validation σ s r e t .is)

@@ -24,7 +24,7 @@ use Rattle.laws.specs.SlotCounts.{tally, count-cons, entries-some, entries-none
 use Rattle.laws.specs.SlotLaws.{keys-differ}
 use Rattle.laws.specs.MapBounds.{entry-busy}
 use Rattle.indexlet.specs.Words.{slotsOf}
-use Rattle.indexlet.specs.Held as indexlet
+use Rattle.indexlet.specs.Promises as indexlet
 use Rattle.index.specs.Views as index
 use Rattle.index.specs.Views.{recordsOf}
 use Rattle.index.specs.ViewLaws.{length-records}
@@ -33,8 +33,8 @@ use Rattle.map.specs.Views.{SlotRows, RecordRows, Lent}
 use Rattle.sets.specs.Writes.{WriteRows, writeIn, writesOf}
 use Rattle.sets.specs.SetLaws.{length-rows}
 use Rattle.phantomlet.specs.Phantoms.{weigh, howMany, outsideAny}
-use Rattle.map.specs.Held.{Tables}
-use Rattle.map.specs.SayLaws.{many-most}
+use Rattle.map.specs.MapHeld.{Tables}
+use Rattle.map.specs.EntryLaws.{many-most}
 use Rattle.map.specs.WriteWalks.{writeAt, restKeys, keys-all, keys-none, keys-cons}
 
 -- ---- lists without repeats
@@ -261,32 +261,32 @@ module _ (p : ℕ → Bool) (ws : WriteRows) (n : ℕ) where
 -- ---- the counts behind refusals 10 and 11
 
 -- the address has no entry
-abbrev pub unsaid : SlotRows → ℕ → Bool
-unsaid slots k = isIdle (contentOf (slotsOf slots) k)
+abbrev pub entryless : SlotRows → ℕ → Bool
+entryless slots k = isIdle (contentOf (slotsOf slots) k)
 
 -- it has no entry, and the index lacks it
 abbrev pub unknown : RecordRows → ℕ → SlotRows → ℕ → Bool
-unknown rows records slots k = both (lacking (recordsOf rows records) k) (unsaid slots k)
+unknown rows records slots k = both (lacking (recordsOf rows records) k) (entryless slots k)
 
 module _ (slots : SlotRows) (a k : ℕ) (c : Content) (b : Bool) (e : a ≡ k) (o : contentOf (slotsOf slots) a ≡ c) (t : b ≡ isIdle c) where
-  unsaid-is : b ≡ unsaid slots k
-  unsaid-is = t ∙ ap isIdle (sym o) ∙ ap (unsaid slots) e
+  entryless-is : b ≡ entryless slots k
+  entryless-is = t ∙ ap isIdle (sym o) ∙ ap (entryless slots) e
 
-  pub unsaid-one : b ≡ true → _≡_ {A = ℕ} 1 (pick (unsaid slots k) 1 0)
-  unsaid-one y = sym (ap (λ (x : Bool). pick x 1 0) (sym unsaid-is ∙ y))
+  pub entryless-one : b ≡ true → _≡_ {A = ℕ} 1 (pick (entryless slots k) 1 0)
+  entryless-one y = sym (ap (λ (x : Bool). pick x 1 0) (sym entryless-is ∙ y))
 
-  pub unsaid-none : b ≡ false → _≡_ {A = ℕ} 0 (pick (unsaid slots k) 1 0)
-  unsaid-none n = sym (ap (λ (x : Bool). pick x 1 0) (sym unsaid-is ∙ n))
+  pub entryless-none : b ≡ false → _≡_ {A = ℕ} 0 (pick (entryless slots k) 1 0)
+  entryless-none n = sym (ap (λ (x : Bool). pick x 1 0) (sym entryless-is ∙ n))
 
 module _ (rows : RecordRows) (records : ℕ) (slots : SlotRows) (a k : ℕ) (b : Bool) (e : a ≡ k) (t : b ≡ lacking (recordsOf rows records) a) where
   lacking-is : b ≡ lacking (recordsOf rows records) k
   lacking-is = t ∙ ap (lacking (recordsOf rows records)) e
 
-  pub unknown-one : (r : ℕ) → b ≡ true → r ≡ pick (unsaid slots k) 1 0 → r ≡ pick (unknown rows records slots k) 1 0
-  unknown-one r y q = q ∙ sym (ap (λ (x : Bool). pick (both x (unsaid slots k)) 1 0) (sym lacking-is ∙ y))
+  pub unknown-one : (r : ℕ) → b ≡ true → r ≡ pick (entryless slots k) 1 0 → r ≡ pick (unknown rows records slots k) 1 0
+  unknown-one r y q = q ∙ sym (ap (λ (x : Bool). pick (both x (entryless slots k)) 1 0) (sym lacking-is ∙ y))
 
   pub unknown-none : b ≡ false → _≡_ {A = ℕ} 0 (pick (unknown rows records slots k) 1 0)
-  unknown-none n = sym (ap (λ (x : Bool). pick (both x (unsaid slots k)) 1 0) (sym lacking-is ∙ n))
+  unknown-none n = sym (ap (λ (x : Bool). pick (both x (entryless slots k)) 1 0) (sym lacking-is ∙ n))
 
 -- r is the count that refusal 10 tests, of every map with these slots
 pub record Waits (slots : SlotRows) (ws : WriteRows) (n r : ℕ) : Type 0 where
@@ -298,8 +298,8 @@ pub record Addressed (rows : RecordRows) (slots : SlotRows) (ws : WriteRows) (z 
 
 -- the sizes count the records, the entries, and the entries outside of the index
 pub record Counted (rows : RecordRows) (slots : SlotRows) (z : Sizes) : Type 0 where
-  pub rows-held : index.Held rows (z .records)
-  pub slots-held : indexlet.Held slots
+  pub rows-held : index.RecordsSorted rows (z .records)
+  pub slots-held : indexlet.SlotsHeld slots
   pub outside-are : (m : MapState) → m .records ≡ recordsOf rows (z .records) → z .outside ≡ howMany (outsideAny m) (slotsOf slots)
 
 pub counted : {l : Lent} {z : Sizes} {v : ℕ} → Tables l z v → Counted (l .rows) (l .slots) z
@@ -316,26 +316,26 @@ not-not : (b : Bool) → not (not b) ≡ b
 not-not true = refl
 not-not false = refl
 
-unsaid-lacks : {slots : SlotRows} → indexlet.Held slots → (k : ℕ) → unsaid slots k ≡ not (has k (keys (entries (slotsOf slots))))
-unsaid-lacks {slots} h k = sym (ap not (entry-busy (h .good) k) ∙ not-not (unsaid slots k))
+entryless-lacks : {slots : SlotRows} → indexlet.SlotsHeld slots → (k : ℕ) → entryless slots k ≡ not (has k (keys (entries (slotsOf slots))))
+entryless-lacks {slots} h k = sym (ap not (entry-busy (h .good) k) ∙ not-not (entryless slots k))
 
-entry-most : {slots : SlotRows} → indexlet.Held slots → length (entries (slotsOf slots)) ≤ slotCount
+entry-most : {slots : SlotRows} → indexlet.SlotsHeld slots → length (entries (slotsOf slots)) ≤ slotCount
 entry-most {slots} h = le-trans (entries-most (slotsOf slots)) (le-of-eq (h .good .size))
 
-module _ (slots : SlotRows) (ws : WriteRows) (n : ℕ) (h : indexlet.Held slots) where
+module _ (slots : SlotRows) (ws : WriteRows) (n : ℕ) (h : indexlet.SlotsHeld slots) where
   pub waits-start : (e : ℕ) → e ≡ length (entries (slotsOf slots)) → n ≤ 16
-      → Counting (unsaid slots) ws n 0 e (e + length (filter (unsaid slots) (keys (writesOf ws n))))
+      → Counting (entryless slots) ws n 0 e (e + length (filter (entryless slots) (keys (writesOf ws n))))
   waits-start e q few =
-      counting-start (unsaid slots) ws n e (let a : length (entries (slotsOf slots)) ≤ slotCount = entry-most h in omega arith)
+      counting-start (entryless slots) ws n e (let a : length (entries (slotsOf slots)) ≤ slotCount = entry-most h in omega arith)
 
   pub waits : (e r : ℕ) → e ≡ length (entries (slotsOf slots)) → Rising (writesOf ws n)
-      → r ≡ e + length (filter (unsaid slots) (keys (writesOf ws n))) → Waits slots ws n r
+      → r ≡ e + length (filter (entryless slots) (keys (writesOf ws n))) → Waits slots ws n r
   waits e r q rising t =
       record {
         is =
             λ m s. unfold waitingWith in
-            t ∙ ap (λ (x : ℕ). x + length (filter (unsaid slots) (keys (writesOf ws n)))) (q ∙ sym (length-keys (entries (slotsOf slots))))
-            ∙ sym (joined-count (keys (entries (slotsOf slots))) (keys (writesOf ws n)) (unsaid slots) (keys-differ (h .good)) (rising-different (writesOf ws n) rising) (unsaid-lacks h))
+            t ∙ ap (λ (x : ℕ). x + length (filter (entryless slots) (keys (writesOf ws n)))) (q ∙ sym (length-keys (entries (slotsOf slots))))
+            ∙ sym (joined-count (keys (entries (slotsOf slots))) (keys (writesOf ws n)) (entryless slots) (keys-differ (h .good)) (rising-different (writesOf ws n) rising) (entryless-lacks h))
             ∙ ap (λ (ss : List Slot). distinct (keys (entries ss) ++ keys (writesOf ws n))) (sym s);
       }
 
@@ -382,7 +382,7 @@ module _ (rows : RecordRows) (slots : SlotRows) (ws : WriteRows) (z : Sizes) (n 
           three-count (keys (recordsOf rows (z .records))) (keys (entries (slotsOf slots))) (keys (writesOf ws n)) (lacking (recordsOf rows (z .records))) (unknown rows (z .records) slots)
           (rising-different (recordsOf rows (z .records)) (h .rows-held .rising)) (keys-differ (h .slots-held .good)) (rising-different (writesOf ws n) rising)
           (λ k. sym (ap not (has-keys (recordsOf rows (z .records)) k)))
-          (λ k. ap (both (lacking (recordsOf rows (z .records)) k)) (unsaid-lacks (h .slots-held) k))
+          (λ k. ap (both (lacking (recordsOf rows (z .records)) k)) (entryless-lacks (h .slots-held) k))
 
       total-is : r ≡ distinct (keys (recordsOf rows (z .records)) ++ (keys (entries (slotsOf slots)) ++ keys (writesOf ws n)))
       total-is =

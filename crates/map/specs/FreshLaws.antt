@@ -19,14 +19,14 @@ use Rattle.laws.specs.SlotCounts.{tally}
 use Rattle.laws.specs.LeafVersions.{GoodLeaves, fresh-leaves}
 use Rattle.laws.specs.MapBounds.{Bounded, fresh-bounded}
 use Rattle.indexlet.specs.Words.{slotsOf}
-use Rattle.indexlet.specs.Held as indexlet
+use Rattle.indexlet.specs.Promises as indexlet
 use Rattle.index.specs.LeafColumns.{column, column-set, column-places}
 use Rattle.index.specs.Views.{leafPlaces, paired, recordsOf, leavesOf}
 use Rattle.map.specs.declared.Sizes.{Sizes}
 use Rattle.map.specs.Views.{SlotRows, LeafRows, RecordRows, byColumns, mapOf}
 use Rattle.phantomlet.specs.Phantoms.{weigh, howMany, outsideAny}
-use Rattle.map.specs.Held.{Tables}
-use Rattle.map.specs.Says.{Becomes, Emptied}
+use Rattle.map.specs.MapHeld.{Tables}
+use Rattle.map.specs.Entries.{MapBecomes, Emptied}
 use Rattle.spec.specs.Slots.{slotCount}
 
 abbrev pub freshSizes : Sizes
@@ -59,7 +59,7 @@ at-first : (xs : List ℕ) (i : ℕ) → Emptied xs → i < 1 → getD xs i 0 �
 at-first xs zero p h = p .first
 at-first xs (suc i) p h = absurd (omega arith)
 
-module _ (rows : RecordRows) (lows versions outside pending : List ℕ) (slots : SlotRows) (lows-empty : Emptied lows) (versions-empty : Emptied versions) (outside-empty : Emptied outside) (pending-empty : Emptied pending) (words : indexlet.Fresh slots) where
+module _ (rows : RecordRows) (lows versions outside pending : List ℕ) (slots : SlotRows) (lows-empty : Emptied lows) (versions-empty : Emptied versions) (outside-empty : Emptied outside) (pending-empty : Emptied pending) (words : indexlet.SlotsFresh slots) where
   fresh-view : mapOf (byColumns rows lows versions outside pending slots) freshSizes ≡ freshMap
   fresh-view = λ i. record { records = no-records rows i; leaves = first-leaf lows versions lows-empty versions-empty i; slots = words .view i }
 
@@ -91,7 +91,7 @@ module _ (rows : RecordRows) (lows versions outside pending : List ℕ) (slots :
             };
       }
 
-  pub fresh-becomes : Becomes (byColumns rows lows versions outside pending slots) freshSizes 0 freshMap
+  pub fresh-becomes : MapBecomes (byColumns rows lows versions outside pending slots) freshSizes 0 freshMap
   fresh-becomes =
       record {
         map = fresh-view;

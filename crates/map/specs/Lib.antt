@@ -1,8 +1,8 @@
 pub mod Views
-pub mod Held
+pub mod MapHeld
 pub mod Parts
-pub mod Says
-pub mod SayLaws
+pub mod Entries
+pub mod EntryLaws
 pub mod FreshLaws
 pub mod WriteWalks
 pub mod LockLaws

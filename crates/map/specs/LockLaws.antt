@@ -27,8 +27,8 @@ use Rattle.sets.specs.declared.writes.Entry.{Entry}
 use Rattle.sets.specs.Writes.{WriteRows, writeOf, entryIn, writesOf}
 use Rattle.sets.specs.WriteLaws.{put-kind, deletion-kind}
 use Rattle.map.specs.Views.{SlotRows, Lent, mapOf}
-use Rattle.map.specs.Held.{Tables, Held}
-use Rattle.map.specs.Says.{Becomes, Said}
+use Rattle.map.specs.MapHeld.{Tables, MapHeld}
+use Rattle.map.specs.Entries.{MapBecomes, ContentSet}
 use Rattle.map.specs.WriteWalks.{writeAt, rest, rest-all, rest-none, rest-cons, restKeys, keys-all, keys-none, keys-cons}
 
 -- ---- one address after the other
@@ -41,7 +41,7 @@ pub record Going {A : Type 0} (f : List Slot → A → List Slot) (Inv : List Sl
 
 module _ {A : Type 0} {f : List Slot → A → List Slot} {key : A → ℕ} {g : A → Content → Content} {Inv : List Slot → List A → Type 0} (h : Changes 4 A f key g Inv) where
   pub going-on : {l l' : Lent} {z r : Sizes} {v : ℕ} {goal : MapState} (x : A) (xs ys : List A) → xs ≡ x ∷ ys → Going f Inv l z v xs goal
-      → Said l l' z r v (f (slotsOf (l .slots)) x) → Going f Inv l' r v ys goal
+      → ContentSet l l' z r v (f (slotsOf (l .slots)) x) → Going f Inv l' r v ys goal
   unfolding withSlots each
   going-on {l} {l'} {z} {r} {v} {goal} x xs ys e q s =
       record {
@@ -57,11 +57,11 @@ going-end {A} {f} {Inv} {l} {z} {v} {goal} {xs} e q =
     sym (ap (λ (zs : List A). withSlots (mapOf l z) (each f (slotsOf (l .slots)) zs)) e) ∙ q .run
 
 -- the arrays hold a map that is within the limits
-pub becomes : {l : Lent} {z : Sizes} {v : ℕ} {m : MapState} → Tables l z v → mapOf l z ≡ m → Bounded standard v m → Becomes l z v m
+pub becomes : {l : Lent} {z : Sizes} {v : ℕ} {m : MapState} → Tables l z v → mapOf l z ≡ m → Bounded standard v m → MapBecomes l z v m
 becomes {l} {z} {v} {m} t e b = record { map = e; held = record { tables = t; bounded = subst (Bounded standard v) (sym e) b } }
 
 -- nothing is said
-pub said-nothing : {l : Lent} {z : Sizes} {v : ℕ} → Tables l z v → (ss : List Slot) → ss ≡ slotsOf (l .slots) → Said l l z z v ss
+pub said-nothing : {l : Lent} {z : Sizes} {v : ℕ} → Tables l z v → (ss : List Slot) → ss ≡ slotsOf (l .slots) → ContentSet l l z z v ss
 unfolding withSlots
 said-nothing {l} {z} {v} t ss e =
     record { tables = t; map = ap (withSlots (mapOf l z)) (sym e); view = sym e; records = refl; leaves = refl }
@@ -112,8 +112,8 @@ module _ (c : ContentWords) (w : ℕ) where
 -- ---- what is said of one address
 
 -- the same promise, of slots that are the same
-pub said-as : {l l' : Lent} {z r : Sizes} {v : ℕ} {ss ts : List Slot} → Said l l' z r v ss → ss ≡ ts → Said l l' z r v ts
-said-as {l} {l'} {z} {r} {v} s e = subst (Said l l' z r v) e s
+pub said-as : {l l' : Lent} {z r : Sizes} {v : ℕ} {ss ts : List Slot} → ContentSet l l' z r v ss → ss ≡ ts → ContentSet l l' z r v ts
+said-as {l} {l'} {z} {r} {v} s e = subst (ContentSet l l' z r v) e s
 
 entered-as : (ss : List Slot) {a b : ℕ} {c d : Content} → a ≡ b → c ≡ d → enter 4 ss a c ≡ enter 4 ss b d
 entered-as ss p q = λ i. enter 4 ss (p i) (q i)
@@ -226,7 +226,7 @@ few-slots : standard .waitingLimit < slotCount
 few-slots = omega arith
 
 module _ (w : ℕ) (ws : WriteRows) (n v : ℕ) where
-  pub lock-start : (l : Lent) (z : Sizes) → Held l z v → Lockable (mapOf l z) (keys (writesOf ws n))
+  pub lock-start : (l : Lent) (z : Sizes) → MapHeld l z v → Lockable (mapOf l z) (keys (writesOf ws n))
       → Locking w l z v ws 0 n (lockAll standard w (mapOf l z) (keys (writesOf ws n)))
   unfolding lockAll
   lock-start l z h t =
@@ -240,17 +240,17 @@ module _ (w : ℕ) (ws : WriteRows) (n v : ℕ) where
   lock-fits i q = lt-of-le-of-lt (entry-count (q .tables .words .good) (restKeys ws i n)) (q .inv)
 
   pub lock-on : {l l' : Lent} {z r : Sizes} {goal : MapState} (i : ℕ) → i < n → Locking w l z v ws i n goal
-      → Said l l' z r v (lockKey 4 w (slotsOf (l .slots)) (writeAt ws i .key)) → Locking w l' r v ws (i + 1) n goal
+      → ContentSet l l' z r v (lockKey 4 w (slotsOf (l .slots)) (writeAt ws i .key)) → Locking w l' r v ws (i + 1) n goal
   lock-on i h q s = going-on (locking 4 w) (writeAt ws i .key) (restKeys ws i n) (restKeys ws (i + 1) n) (keys-cons ws i n h) q s
 
-  pub lock-end : {l l' : Lent} {z r : Sizes} (i : ℕ) → n ≤ i → Held l z v → Lockable (mapOf l z) (keys (writesOf ws n))
+  pub lock-end : {l l' : Lent} {z r : Sizes} (i : ℕ) → n ≤ i → MapHeld l z v → Lockable (mapOf l z) (keys (writesOf ws n))
       → Locking w l' r v ws i n (lockAll standard w (mapOf l z) (keys (writesOf ws n)))
-      → Becomes l' r v (lockAll standard w (mapOf l z) (keys (writesOf ws n)))
+      → MapBecomes l' r v (lockAll standard w (mapOf l z) (keys (writesOf ws n)))
   lock-end i e h t q =
       becomes (q .tables) (going-end (keys-none ws i n e) q)
       (lock-bounded (h .bounded) few-slots w (keys (writesOf ws n)) (t .waiting) (t .addresses))
 
-  pub unlock-start : (l : Lent) (z : Sizes) → Held l z v → Unlocking w l z v ws 0 n (unlockAll standard w (mapOf l z) (keys (writesOf ws n)))
+  pub unlock-start : (l : Lent) (z : Sizes) → MapHeld l z v → Unlocking w l z v ws 0 n (unlockAll standard w (mapOf l z) (keys (writesOf ws n)))
   unfolding unlockAll
   unlock-start l z h =
       record {
@@ -260,15 +260,15 @@ module _ (w : ℕ) (ws : WriteRows) (n v : ℕ) where
       }
 
   pub unlock-on : {l l' : Lent} {z r : Sizes} {goal : MapState} (i : ℕ) → i < n → Unlocking w l z v ws i n goal
-      → Said l l' z r v (unlockKey 4 w (slotsOf (l .slots)) (writeAt ws i .key)) → Unlocking w l' r v ws (i + 1) n goal
+      → ContentSet l l' z r v (unlockKey 4 w (slotsOf (l .slots)) (writeAt ws i .key)) → Unlocking w l' r v ws (i + 1) n goal
   unlock-on i h q s = going-on (unlocking 4 w) (writeAt ws i .key) (restKeys ws i n) (restKeys ws (i + 1) n) (keys-cons ws i n h) q s
 
-  pub unlock-end : {l l' : Lent} {z r : Sizes} (i : ℕ) → n ≤ i → Held l z v → Unlocking w l' r v ws i n (unlockAll standard w (mapOf l z) (keys (writesOf ws n)))
-      → Becomes l' r v (unlockAll standard w (mapOf l z) (keys (writesOf ws n)))
+  pub unlock-end : {l l' : Lent} {z r : Sizes} (i : ℕ) → n ≤ i → MapHeld l z v → Unlocking w l' r v ws i n (unlockAll standard w (mapOf l z) (keys (writesOf ws n)))
+      → MapBecomes l' r v (unlockAll standard w (mapOf l z) (keys (writesOf ws n)))
   unlock-end i e h q = becomes (q .tables) (going-end (keys-none ws i n e) q) (unlock-bounded (h .bounded) w (keys (writesOf ws n)))
 
   -- w is the commit number
-  pub install-start : (l : Lent) (z : Sizes) → Held l z v → Installable (slotsOf (l .slots)) (writesOf ws n)
+  pub install-start : (l : Lent) (z : Sizes) → MapHeld l z v → Installable (slotsOf (l .slots)) (writesOf ws n)
       → Installing w l z v ws 0 n (installAll standard w (mapOf l z) (writesOf ws n))
   unfolding installAll
   install-start l z h t =
@@ -286,10 +286,10 @@ module _ (w : ℕ) (ws : WriteRows) (n v : ℕ) where
       ∙ ap present (look-here (writeAt ws i) (rest ws (i + 1) n) (writeAt ws i .key) refl))
 
   pub install-on : {l l' : Lent} {z r : Sizes} {goal : MapState} (i : ℕ) → i < n → Installing w l z v ws i n goal
-      → Said l l' z r v (installRow 4 w (slotsOf (l .slots)) (writeAt ws i)) → Installing w l' r v ws (i + 1) n goal
+      → ContentSet l l' z r v (installRow 4 w (slotsOf (l .slots)) (writeAt ws i)) → Installing w l' r v ws (i + 1) n goal
   install-on i h q s = going-on (installing 4 w) (writeAt ws i) (rest ws i n) (rest ws (i + 1) n) (rest-cons ws i n h) q s
 
-  pub install-end : {l l' : Lent} {z r : Sizes} (i : ℕ) → n ≤ i → Held l z v → Installable (slotsOf (l .slots)) (writesOf ws n)
+  pub install-end : {l l' : Lent} {z r : Sizes} (i : ℕ) → n ≤ i → MapHeld l z v → Installable (slotsOf (l .slots)) (writesOf ws n)
       → Installing w l' r v ws i n (installAll standard w (mapOf l z) (writesOf ws n))
-      → Becomes l' r v (installAll standard w (mapOf l z) (writesOf ws n))
+      → MapBecomes l' r v (installAll standard w (mapOf l z) (writesOf ws n))
   install-end i e h t q = becomes (q .tables) (going-end (rest-none ws i n e) q) (install-bounded (h .bounded) w (writesOf ws n) t)

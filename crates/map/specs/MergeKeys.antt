@@ -20,12 +20,12 @@ use Rattle.laws.specs.SlotLaws.{kept-entry}
 use Rattle.laws.specs.LeafParts.{Covers}
 use Rattle.laws.specs.LeafVersions.{GoodLeaves}
 use Rattle.indexlet.specs.Words.{contentIn, slotIn, rowAt, slotsOf}
-use Rattle.indexlet.specs.Held as indexlet
+use Rattle.indexlet.specs.Promises as indexlet
 use Rattle.index.specs.Views.{leafPlaces, noRow, recordsOf, leavesOf}
 use Rattle.index.specs.Views as index
 use Rattle.index.specs.ViewLaws.{length-records, record-at}
 use Rattle.index.specs.LeafViews.{paired-getD}
-use Rattle.map.specs.Held.{Held}
+use Rattle.map.specs.MapHeld.{MapHeld}
 use Rattle.phantomlet.specs.LeafTests.{lows-are}
 use Rattle.map.specs.Views.{SlotRows, RecordRows}
 
@@ -39,7 +39,7 @@ unfolding Covers
 covers-first [] c = refl
 covers-first (l ∷ ls) c = c
 
-pub entry-narrow : (ws : SlotRows) → indexlet.Held ws → (k : ℕ) → has k (keys (entries (slotsOf ws))) ≡ true → k < 2 ^ 32
+pub entry-narrow : (ws : SlotRows) → indexlet.SlotsHeld ws → (k : ℕ) → has k (keys (entries (slotsOf ws))) ≡ true → k < 2 ^ 32
 unfolding slotsOf slotIn
 entry-narrow ws h k e =
     let q = mem-keys (entries (slotsOf ws)) (has-member k (keys (entries (slotsOf ws))) e) in
@@ -51,7 +51,7 @@ entry-narrow ws h k e =
     let t : row (rowAt ws (r .0) .key) (contentIn (rowAt ws (r .0) .content)) ≡ q .0 = kept-entry (rowAt ws (r .0) .key) (contentIn (rowAt ws (r .0) .content)) (q .0) s .1 in
     subst (λ (x : ℕ). x < 2 ^ 32) (ap (λ (x : Row Content). x .key) t ∙ q .2) (h .sized .narrow (r .0) b)
 
-pub record-narrow : (ws : RecordRows) (n : ℕ) → index.Held ws n → ((i : ℕ) → i < n → index.rowAt ws i .key < 2 ^ 32)
+pub record-narrow : (ws : RecordRows) (n : ℕ) → index.RecordsSorted ws n → ((i : ℕ) → i < n → index.rowAt ws i .key < 2 ^ 32)
     → (k : ℕ) → has k (keys (recordsOf ws n)) ≡ true → k < 2 ^ 32
 record-narrow ws n held h k e =
     let q = mem-keys (recordsOf ws n) (has-member k (keys (recordsOf ws n)) e) in
@@ -60,7 +60,7 @@ record-narrow ws n held h k e =
     let b : r .0 < n = (let g : r .0 < length (recordsOf ws n) = r .1 in omega arith) in
     subst (λ (x : ℕ). x < 2 ^ 32) (ap (λ (x : Row Record). x .key) (sym (record-at ws n (r .0) (held .room) b) ∙ r .2) ∙ q .2) (h (r .0) b)
 
-pub rows-narrow : (ws : RecordRows) (n : ℕ) → index.Held ws n → ((k : ℕ) → has k (keys (recordsOf ws n)) ≡ true → k < 2 ^ 32)
+pub rows-narrow : (ws : RecordRows) (n : ℕ) → index.RecordsSorted ws n → ((k : ℕ) → has k (keys (recordsOf ws n)) ≡ true → k < 2 ^ 32)
     → (i : ℕ) → i < n → index.rowAt ws i .key < 2 ^ 32
 rows-narrow ws n held h i b =
     let f : length (recordsOf ws n) ≡ n = length-records ws n (held .room) in

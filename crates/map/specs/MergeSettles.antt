@@ -44,7 +44,7 @@ pending-some ls i e n z = n (sym (pending-of ls i e) ∙ z)
 
 -- what settling the leaf at place i asks
 pub record Resettling (lows : List ℕ) (rows : RecordRows) (n m i v : ℕ) : Type 0 where
-  pub rows-held : index.Held rows n
+  pub rows-held : index.RecordsSorted rows n
   pub lows-are : Lows lows m
   pub leaf-in : i < m
   pub room : m + versionsTaken standard (leafKeys lows rows n m i) ≤ leafPlaces + 1

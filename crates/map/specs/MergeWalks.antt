@@ -31,7 +31,7 @@ use Rattle.laws.specs.MergeLaws.{withoutPending}
 use Rattle.indexlet.specs.Words.{pendingIn, holderIn, contentIn, slotIn, slotsOf}
 use Rattle.indexlet.specs.declared.Content.{Content as ContentWords}
 use Rattle.indexlet.specs.declared.Slot.{Slot as SlotWords}
-use Rattle.indexlet.specs.Held as indexlet
+use Rattle.indexlet.specs.Promises as indexlet
 use Rattle.index.specs.Views as index
 use Rattle.index.specs.Views.{recordPlaces, recordFrom, recordsOf}
 use Rattle.map.specs.declared.merge.Walk.{Walk}
@@ -173,8 +173,8 @@ entry-inside rs ss j e q = has-right (e .key) (keys rs) (keys (entries ss)) (mem
 
 -- The walk stands before slot j. It began with the records rs and the slots ss.
 pub record Walking (p : ℕ → Bool) (rs : List (Row Record)) (ss : List Slot) (rows : RecordRows) (slots : SlotRows) (w : Walk) (j : ℕ) : Type 0 where
-  pub rows-held : index.Held rows (w .records)
-  pub words : indexlet.Held slots
+  pub rows-held : index.RecordsSorted rows (w .records)
+  pub words : indexlet.SlotsHeld slots
   pub number : w .entries ≡ length (entries (slotsOf slots))
   pub full : length ss ≡ slotCount
   pub there : j ≤ slotCount
@@ -197,8 +197,8 @@ pub record Walking (p : ℕ → Bool) (rs : List (Row Record)) (ss : List Slot) 
 
 -- what a walk begins with: as many addresses as the index has room for
 pub record Starting (rows : RecordRows) (slots : SlotRows) (n e : ℕ) : Type 0 where
-  pub rows-held : index.Held rows n
-  pub words : indexlet.Held slots
+  pub rows-held : index.RecordsSorted rows n
+  pub words : indexlet.SlotsHeld slots
   pub number : e ≡ length (entries (slotsOf slots))
   pub bound : distinct (keys (recordsOf rows n) ++ keys (entries (slotsOf slots))) ≤ recordPlaces
 
@@ -210,13 +210,13 @@ pub record Underway (p : ℕ → Bool) (rows : RecordRows) (slots : SlotRows) (w
   pub bound : distinct (keys records ++ keys (entries begun)) ≤ recordPlaces
 
 -- one slot on, wherever the walk began
-pub record Steps (p : ℕ → Bool) (rows : RecordRows) (slots : SlotRows) (w : Walk) (j : ℕ) (rows' : RecordRows) (slots' : SlotRows) (w' : Walk) : Type 0 where
+pub record WalksSlot (p : ℕ → Bool) (rows : RecordRows) (slots : SlotRows) (w : Walk) (j : ℕ) (rows' : RecordRows) (slots' : SlotRows) (w' : Walk) : Type 0 where
   pub on : {rs : List (Row Record)} {ss : List Slot} → Walking p rs ss rows slots w j → Walking p rs ss rows' slots' w' (j + 1)
 
 -- what a walk leaves
 pub record Took (p : ℕ → Bool) (rows : RecordRows) (slots : SlotRows) (n : ℕ) (rows' : RecordRows) (slots' : SlotRows) (w : Walk) : Type 0 where
-  pub rows-held : index.Held rows' (w .records)
-  pub words : indexlet.Held slots'
+  pub rows-held : index.RecordsSorted rows' (w .records)
+  pub words : indexlet.SlotsHeld slots'
   pub number : w .entries ≡ length (entries (slotsOf slots'))
   pub inside : Within (keys (recordsOf rows' (w .records))) (keys (recordsOf rows n) ++ keys (entries (slotsOf slots)))
   pub apart : (k : ℕ) → p k ≡ false → look (recordsOf rows' (w .records)) k ≡ look (recordsOf rows n) k
@@ -274,9 +274,9 @@ unfolding slotIn
 entry-in slots j r e = sym (ap (λ (s : Slot). s .entry) e)
 
 -- an entry that is not taken, or none; the count of locks becomes f
-walk-past : {p : ℕ → Bool} {rows : RecordRows} {slots : SlotRows} {w : Walk} {j : ℕ} (r : SlotWords) (f : ℕ) → indexlet.Reads slots j r → j < slotCount
+walk-past : {p : ℕ → Bool} {rows : RecordRows} {slots : SlotRows} {w : Walk} {j : ℕ} (r : SlotWords) (f : ℕ) → indexlet.IsSlot slots j r → j < slotCount
     → takes p (row (r .key) (contentIn (r .content))) ≡ false → w .left ≤ f → f ≤ w .left + 1
-    → (f ≡ 0 → (e : Row Content) → entryAt (slotsOf slots) j ≡ some e → p (e .key) ≡ false) → Steps p rows slots w j rows slots (walk (w .records) (w .entries) (w .count) f)
+    → (f ≡ 0 → (e : Row Content) → entryAt (slotsOf slots) j ≡ some e → p (e .key) ≡ false) → WalksSlot p rows slots w j rows slots (walk (w .records) (w .entries) (w .count) f)
 walk-past {p} {rows} {slots} {w} {j} r f reads h t least most gone =
     record {
       on = λ {rs} {ss} g.
@@ -320,12 +320,12 @@ unfolding takes
 takes-other p k c e = ap (both (present (contentIn c .pending))) e ∙ both-false (present (contentIn c .pending))
 
 -- what stands there
-stands-as : (slots : SlotRows) (j : ℕ) (r : SlotWords) → indexlet.Reads slots j r → (e : Row Content) → entryAt (slotsOf slots) j ≡ some e
+stands-as : (slots : SlotRows) (j : ℕ) (r : SlotWords) → indexlet.IsSlot slots j r → (e : Row Content) → entryAt (slotsOf slots) j ≡ some e
     → (isIdle (contentIn (r .content)) ≡ false) × (row (r .key) (contentIn (r .content)) ≡ e)
 stands-as slots j r reads e q = kept-entry (r .key) (contentIn (r .content)) e (sym (entry-in slots j r (reads .slot)) ∙ q)
 
 -- an address that does not pass
-pub walk-outside : {p : ℕ → Bool} {rows : RecordRows} {slots : SlotRows} {w : Walk} {j : ℕ} (r : SlotWords) → indexlet.Reads slots j r → j < slotCount → p (r .key) ≡ false → Steps p rows slots w j rows slots w
+pub walk-outside : {p : ℕ → Bool} {rows : RecordRows} {slots : SlotRows} {w : Walk} {j : ℕ} (r : SlotWords) → indexlet.IsSlot slots j r → j < slotCount → p (r .key) ≡ false → WalksSlot p rows slots w j rows slots w
 walk-outside {p} {rows} {slots} {w} {j} r reads h f =
     walk-past r (w .left) reads h (takes-other p (r .key) (r .content) f) (le-refl (w .left)) (omega arith)
     (λ z e q. ap (λ (x : Row Content). p (x .key)) (sym (stands-as slots j r reads e q .1)) ∙ f)
@@ -348,8 +348,8 @@ left-fits {w = w} {j} g h c x b =
     omega arith
 
 -- nothing is pending: a lock counts
-pub walk-lock : {p : ℕ → Bool} {rows : RecordRows} {slots : SlotRows} {w : Walk} {j : ℕ} (r : SlotWords) (x : ℕ) → indexlet.Reads slots j r → j < slotCount → r .content .kind ≡ 0
-    → x ≡ pick (present (contentIn (r .content) .holder)) 1 0 → Steps p rows slots w j rows slots (walk (w .records) (w .entries) (w .count) (w .left + x))
+pub walk-lock : {p : ℕ → Bool} {rows : RecordRows} {slots : SlotRows} {w : Walk} {j : ℕ} (r : SlotWords) (x : ℕ) → indexlet.IsSlot slots j r → j < slotCount → r .content .kind ≡ 0
+    → x ≡ pick (present (contentIn (r .content) .holder)) 1 0 → WalksSlot p rows slots w j rows slots (walk (w .records) (w .entries) (w .count) (w .left + x))
 unfolding contentIn pendingIn
 walk-lock {p} {rows} {slots} {w} {j} r x reads h k b =
     let most : pick (present (contentIn (r .content) .holder)) 1 0 ≤ 1 = pick-most (present (contentIn (r .content) .holder)) in
@@ -363,7 +363,7 @@ weigh-nothing q k c e =
     weigh-kept q k c ∙ ap (λ (b : Bool). pick (isIdle c) 0 (pick b 1 0)) e ∙ ⊎-elim (λ t. rw t) (λ t. rw t) (cases (isIdle c))
 
 -- an entry with a pending write
-module _ {slots : SlotRows} {j : ℕ} (r : SlotWords) (held : indexlet.Held slots) (reads : indexlet.Reads slots j r) (kind : r .content .kind ≡ 0 → ⊥) where
+module _ {slots : SlotRows} {j : ℕ} (r : SlotWords) (held : indexlet.SlotsHeld slots) (reads : indexlet.IsSlot slots j r) (kind : r .content .kind ≡ 0 → ⊥) where
   said : Pending
   said = kind-pending (r .content .kind) (r .content .value) (r .content .commit) kind .0
 
@@ -429,9 +429,9 @@ module _ {slots : SlotRows} {j : ℕ} (r : SlotWords) (held : indexlet.Held slot
 
   pub walk-on : {p : ℕ → Bool} {rows : RecordRows} {w : Walk} (rows' : RecordRows) (slots' : SlotRows) (n e x : ℕ) (c : ContentWords) → j < slotCount → p (r .key) ≡ true
       → x ≡ pick (present (contentIn (r .content) .holder)) 1 0
-      → index.Holds rows' n (assign (r .key) (leaving (r .content .kind) (r .content .value) (r .content .commit)) (recordsOf rows (w .records)))
+      → index.RecordsAre rows' n (assign (r .key) (leaving (r .content .kind) (r .content .value) (r .content .commit)) (recordsOf rows (w .records)))
       → contentIn c ≡ withoutPending (contentIn (r .content)) → indexlet.Enters slots (r .key) c slots' e
-      → Steps p rows slots w j rows' slots' (walk n e (w .count + 1) (w .left + x))
+      → WalksSlot p rows slots w j rows' slots' (walk n e (w .count + 1) (w .left + x))
   unfolding each
   walk-on {p} {rows} {w} rows' slots' n e lock c h t locks hold ce ent =
       record {

@@ -41,7 +41,7 @@ use Rattle.map.specs.declared.merge.Walk.{Walk}
 use Rattle.map.specs.declared.merge.Merged.{Merged}
 use Rattle.phantomlet.specs.Phantoms.{howMany, outsideAny, outsideIn, pendingIn, versionOf, Phantomlet}
 use Rattle.map.specs.Views.{SlotRows, LeafRows, RecordRows, Lent, byColumns, lent, mapOf}
-use Rattle.map.specs.Held.{Tables, Held}
+use Rattle.map.specs.MapHeld.{Tables, MapHeld}
 use Rattle.phantomlet.specs.LeafTests.{none-left, placed, takes, filter-same, many-same, pending-merging, lows-are, leaves-count, live-at, placed-version, at-version, placed-own}
 use Rattle.map.specs.MergeWalks.{parts, Starting, Took}
 use Rattle.phantomlet.specs.MergeCounts.{Recounting, Counting, Recounted}
@@ -58,7 +58,7 @@ pub record Merges (l : Lent) (z : Sizes) (k : Counters) (a : ℕ) (l' : Lent) (r
   pub version : r .counters .version ≡ mergeAt standard (k .version) (mapOf l z) a .version
   pub number : r .counters .number ≡ k .number
   pub count : r .count ≡ length (merging (mapOf l z) a)
-  pub held : Held l' (r .sizes) (mergeAt standard (k .version) (mapOf l z) a .version)
+  pub held : MapHeld l' (r .sizes) (mergeAt standard (k .version) (mapOf l z) a .version)
   pub same-current : (j : ℕ) → current (mapOf l' (r .sizes)) j ≡ current (mapOf l z) j
 
 filter-short : {A : Type 0} (p : A → Bool) (xs : List A) → length (filter p xs) ≤ length xs
@@ -127,7 +127,7 @@ module _ (lows : List ℕ) (m : ℕ) (t : Row Content → Bool) (ss : List Slot)
 
 -- ---- a merge
 
-module _ {l : Lent} {z : Sizes} (k : Counters) (h : Held l z (k .version)) (a i : ℕ) (at : AtLeaf (l .lows) (z .leaves) a i) where
+module _ {l : Lent} {z : Sizes} (k : Counters) (h : MapHeld l z (k .version)) (a i : ℕ) (at : AtLeaf (l .lows) (z .leaves) a i) where
   good : GoodLeaves (k .version) (mapOf l z .leaves)
   good = h .tables .leaves
 
@@ -161,7 +161,7 @@ module _ {l : Lent} {z : Sizes} (k : Counters) (h : Held l z (k .version)) (a i 
         version = sym (ap (λ (x : model.Merged). x .version) m);
         number = refl;
         count = sym n;
-        held = subst (λ (x : ℕ). Held l z x) (sym (ap (λ (x : model.Merged). x .version) m)) h;
+        held = subst (λ (x : ℕ). MapHeld l z x) (sym (ap (λ (x : model.Merged). x .version) m)) h;
         same-current = λ j. refl;
       }
 

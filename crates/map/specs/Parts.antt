@@ -4,21 +4,21 @@ use native.Mathlib.Nat.{lt-of-lt-of-le}
 use mathlib.Core.List.{List}
 use lib.ListN.{getD}
 use Rattle.sets.specs.Sets.{addresses}
-use Rattle.indexlet.specs.Held as indexlet
+use Rattle.indexlet.specs.Promises as indexlet
 use Rattle.index.specs.Views as index
 use Rattle.index.specs.LeafPlaces.{Listed}
 use Rattle.map.specs.declared.Sizes.{Sizes}
 use Rattle.map.specs.Views.{RecordRows, SlotRows, Lent}
-use Rattle.map.specs.Held.{perLeaf, Tables}
+use Rattle.map.specs.MapHeld.{perLeaf, Tables}
 
 -- n records, whose keys are addresses
 pub record RecordsHeld (rows : RecordRows) (n : ℕ) : Type 0 where
-  pub held : index.Held rows n
+  pub held : index.RecordsSorted rows n
   pub narrow : (i : ℕ) → i < n → index.rowAt rows i .key < addresses
 
 -- the slots
 abbrev pub SlotsHeld : SlotRows → Type 0
-SlotsHeld slots = indexlet.Held slots
+SlotsHeld slots = indexlet.SlotsHeld slots
 
 -- m leaves, whose lows are addresses
 pub record LeavesListed (lows : List ℕ) (m : ℕ) : Type 0 where

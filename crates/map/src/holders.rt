@@ -5,7 +5,7 @@ ghost use mathlib.Core.Path.{_≡_};
 ghost use Rattle.spec.specs.Slots.{contentOf};
 ghost use Rattle.spec.specs.Maps.{heldByOther};
 ghost use Rattle.indexlet.specs.Words.{contentIn, slotsOf};
-ghost use Rattle.indexlet.specs.Held as indexlet;
+ghost use Rattle.indexlet.specs.Promises as indexlet;
 
 // Another worker than w has the lock.
 fn by_other(c: indexlet::Content, w: u64) -> bool
@@ -20,7 +20,7 @@ fn by_other(c: indexlet::Content, w: u64) -> bool
 
 // Another worker than w has the lock of the address.
 pub fn locked_by_other(slots: &Slots, a: Address, w: u64) -> bool
-    requires { ⌜ indexlet.Held (now slots) ⌝ }
+    requires { ⌜ indexlet.SlotsHeld (now slots) ⌝ }
     ensures { λ r. ⌜ r ≡ heldByOther w (contentOf (slotsOf (now (slots .entry))) a) ⌝ }
 {
     let found = indexlet::look_up(slots, a);

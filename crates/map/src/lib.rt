@@ -1,13 +1,13 @@
 // The map: index, indexlet and phantomlet, in arrays that the caller lends. Document 01's lower crate.
 //
-// `say` changes what the indexlet says of one address, and keeps the phantomlet; `locks` locks, unlocks and installs a
+// `entries` changes what the indexlet says of one address, and keeps the phantomlet; `locks` locks, unlocks and installs a
 // write set; `holders` tells who has a lock; `merge` takes a leaf's pending writes into the index. What only reads, current
-// records and the like, is in crate `looks`.
+// records and the like, is in crate `queries`.
 
+pub mod entries;
 pub mod holders;
 pub mod locks;
 pub mod merge;
-pub mod say;
 
 // What the layers below keep the map in, for those who lend it.
 pub type Records = index::Records;

@@ -3,8 +3,8 @@ use crate::Leaves;
 use crate::Records;
 use crate::Sizes;
 use crate::Slots;
+use crate::entries;
 use crate::holders;
-use crate::say;
 use counters::Counters;
 use phantomlet::recount;
 use sets::WriteSet;
@@ -24,14 +24,14 @@ ghost use Rattle.spec.specs.Maps.{heldByOther, lockKey, unlockKey, installRow, 
 ghost use Rattle.laws.specs.MapLaws.{Installable, installedAs};
 ghost use Rattle.sets.specs.Writes.{entryIn, writesOf};
 ghost use Rattle.indexlet.specs.Words.{contentIn, slotsOf};
-ghost use Rattle.indexlet.specs.Held as indexlet;
+ghost use Rattle.indexlet.specs.Promises as indexlet;
 ghost use Rattle.index.specs.Views as index;
 ghost use Rattle.map.specs.Views.{lent, mapOf};
-ghost use Rattle.map.specs.Held.{Tables, Held};
-ghost use Rattle.map.specs.Says.{Becomes, Said};
+ghost use Rattle.map.specs.MapHeld.{Tables, MapHeld};
+ghost use Rattle.map.specs.Entries.{MapBecomes, ContentSet};
 ghost use Rattle.map.specs.WriteWalks.{Writing, writeAt};
 ghost use Rattle.map.specs.LockLaws.{heldBy, holding, pendingKind, Lockable};
-ghost use Rattle.map.specs.AddressCounts.{unsaid, unknown, Waits, Addressed, Counted};
+ghost use Rattle.map.specs.AddressCounts.{entryless, unknown, Waits, Addressed, Counted};
 
 // The address of row i.
 fn key_at(ws: &WriteSet, n: usize, i: usize) -> Address
@@ -56,7 +56,7 @@ fn by_own(c: indexlet::Content, w: u64) -> bool
 
 // Another worker has the lock of the address in row i.
 fn held_at(slots: &Slots, ws: &WriteSet, n: usize, i: usize, w: u64) -> bool
-    requires { ⌜ indexlet.Held (now slots) ⌝ }
+    requires { ⌜ indexlet.SlotsHeld (now slots) ⌝ }
     requires { ⌜ Writing (now ws) n ⌝ }
     requires { ⌜ i < n ⌝ }
     ensures { λ r. ⌜ r ≡ heldByOther w (contentOf (slotsOf (now (slots .entry))) (writeAt (now (ws .entry)) i .key)) ⌝ }
@@ -67,7 +67,7 @@ fn held_at(slots: &Slots, ws: &WriteSet, n: usize, i: usize, w: u64) -> bool
 
 // Another worker has the lock of an address of the write set (refusal 9).
 pub fn held(slots: &Slots, ws: &WriteSet, n: usize, w: u64) -> bool
-    requires { ⌜ indexlet.Held (now slots) ⌝ }
+    requires { ⌜ indexlet.SlotsHeld (now slots) ⌝ }
     requires { ⌜ Writing (now ws) n ⌝ }
     ensures { λ r. ⌜ r ≡ any (λ (k : ℕ). heldByOther w (contentOf (slotsOf (now (slots .entry))) k)) (keys (writesOf (now (ws .entry)) n)) ⌝ }
 {
@@ -108,13 +108,13 @@ fn lock_one(
     requires { ⌜ Tables (lent (now rows) (now leaves) (now slots)) z (k .version) ⌝ }
     requires { ⌜ Writing (now ws) n ⌝ }
     requires { ⌜ (i < n) × (w + 1 < 2 ^ 64) × (length (entries (slotsOf (now slots))) < slotCount) ⌝ }
-    ensures { λ r. ⌜ Said (lent (now (rows .entry)) (now (leaves .entry)) (now (slots .entry))) (lent (now (rows .entry)) (now (leaves .exit)) (now (slots .exit))) z r (k .version) (lockKey 4 w (slotsOf (now (slots .entry))) (writeAt (now (ws .entry)) i .key)) ⌝ }
+    ensures { λ r. ⌜ ContentSet (lent (now (rows .entry)) (now (leaves .entry)) (now (slots .entry))) (lent (now (rows .entry)) (now (leaves .exit)) (now (slots .exit))) z r (k .version) (lockKey 4 w (slotsOf (now (slots .entry))) (writeAt (now (ws .entry)) i .key)) ⌝ }
 {
     let a = key_at(ws, n, i);
     let found = indexlet::look_up(slots, a);
     let old = found.content;
     let c = with_lock(old, w + 1);
-    say::say(leaves, slots, rows, z, k, a, c)
+    entries::set_content(leaves, slots, rows, z, k, a, c)
 }
 
 // Worker w's lock on the address in row i goes, if w has it.
@@ -132,14 +132,14 @@ fn unlock_one(
     requires { ⌜ Tables (lent (now rows) (now leaves) (now slots)) z (k .version) ⌝ }
     requires { ⌜ Writing (now ws) n ⌝ }
     requires { ⌜ i < n ⌝ }
-    ensures { λ r. ⌜ Said (lent (now (rows .entry)) (now (leaves .entry)) (now (slots .entry))) (lent (now (rows .entry)) (now (leaves .exit)) (now (slots .exit))) z r (k .version) (unlockKey 4 w (slotsOf (now (slots .entry))) (writeAt (now (ws .entry)) i .key)) ⌝ }
+    ensures { λ r. ⌜ ContentSet (lent (now (rows .entry)) (now (leaves .entry)) (now (slots .entry))) (lent (now (rows .entry)) (now (leaves .exit)) (now (slots .exit))) z r (k .version) (unlockKey 4 w (slotsOf (now (slots .entry))) (writeAt (now (ws .entry)) i .key)) ⌝ }
 {
     let a = key_at(ws, n, i);
     let found = indexlet::look_up(slots, a);
     let old = found.content;
     if by_own(old, w) {
         let c = with_lock(old, 0);
-        return say::say(leaves, slots, rows, z, k, a, c);
+        return entries::set_content(leaves, slots, rows, z, k, a, c);
     }
     z
 }
@@ -181,11 +181,11 @@ fn install_one(
     requires { ⌜ Tables (lent (now rows) (now leaves) (now slots)) z (k .version) ⌝ }
     requires { ⌜ Writing (now ws) n ⌝ }
     requires { ⌜ (i < n) × (isIdle (contentOf (slotsOf (now slots)) (writeAt (now ws) i .key)) ≡ false) ⌝ }
-    ensures { λ r. ⌜ Said (lent (now (rows .entry)) (now (leaves .entry)) (now (slots .entry))) (lent (now (rows .entry)) (now (leaves .exit)) (now (slots .exit))) z r (k .version) (installRow 4 number (slotsOf (now (slots .entry))) (writeAt (now (ws .entry)) i)) ⌝ }
+    ensures { λ r. ⌜ ContentSet (lent (now (rows .entry)) (now (leaves .entry)) (now (slots .entry))) (lent (now (rows .entry)) (now (leaves .exit)) (now (slots .exit))) z r (k .version) (installRow 4 number (slotsOf (now (slots .entry))) (writeAt (now (ws .entry)) i)) ⌝ }
 {
     let row = writes::write_at(ws, i);
     let c = installed(row, number);
-    say::say(leaves, slots, rows, z, k, row.address, c)
+    entries::set_content(leaves, slots, rows, z, k, row.address, c)
 }
 
 // Worker w locks the addresses of the write set, by rising address. The tests of refusals 9 to 11 come before.
@@ -199,11 +199,11 @@ pub fn lock_all(
     n: usize,
     w: u64,
 ) -> Sizes
-    requires { ⌜ Held (lent (now rows) (now leaves) (now slots)) z (k .version) ⌝ }
+    requires { ⌜ MapHeld (lent (now rows) (now leaves) (now slots)) z (k .version) ⌝ }
     requires { ⌜ Writing (now ws) n ⌝ }
     requires { ⌜ w + 1 < 2 ^ 64 ⌝ }
     requires { ⌜ Lockable (mapOf (lent (now rows) (now leaves) (now slots)) z) (keys (writesOf (now ws) n)) ⌝ }
-    ensures { λ r. ⌜ Becomes (lent (now (rows .entry)) (now (leaves .exit)) (now (slots .exit))) r (k .version) (lockAll standard w (mapOf (lent (now (rows .entry)) (now (leaves .entry)) (now (slots .entry))) z) (keys (writesOf (now (ws .entry)) n))) ⌝ }
+    ensures { λ r. ⌜ MapBecomes (lent (now (rows .entry)) (now (leaves .exit)) (now (slots .exit))) r (k .version) (lockAll standard w (mapOf (lent (now (rows .entry)) (now (leaves .entry)) (now (slots .entry))) z) (keys (writesOf (now (ws .entry)) n))) ⌝ }
 {
     let mut sizes = z;
     let mut i = 0;
@@ -225,9 +225,9 @@ pub fn unlock_all(
     n: usize,
     w: u64,
 ) -> Sizes
-    requires { ⌜ Held (lent (now rows) (now leaves) (now slots)) z (k .version) ⌝ }
+    requires { ⌜ MapHeld (lent (now rows) (now leaves) (now slots)) z (k .version) ⌝ }
     requires { ⌜ Writing (now ws) n ⌝ }
-    ensures { λ r. ⌜ Becomes (lent (now (rows .entry)) (now (leaves .exit)) (now (slots .exit))) r (k .version) (unlockAll standard w (mapOf (lent (now (rows .entry)) (now (leaves .entry)) (now (slots .entry))) z) (keys (writesOf (now (ws .entry)) n))) ⌝ }
+    ensures { λ r. ⌜ MapBecomes (lent (now (rows .entry)) (now (leaves .exit)) (now (slots .exit))) r (k .version) (unlockAll standard w (mapOf (lent (now (rows .entry)) (now (leaves .entry)) (now (slots .entry))) z) (keys (writesOf (now (ws .entry)) n))) ⌝ }
 {
     let mut sizes = z;
     let mut i = 0;
@@ -249,10 +249,10 @@ pub fn install_all(
     n: usize,
     number: u64,
 ) -> Sizes
-    requires { ⌜ Held (lent (now rows) (now leaves) (now slots)) z (k .version) ⌝ }
+    requires { ⌜ MapHeld (lent (now rows) (now leaves) (now slots)) z (k .version) ⌝ }
     requires { ⌜ Writing (now ws) n ⌝ }
     requires { ⌜ Installable (slotsOf (now slots)) (writesOf (now ws) n) ⌝ }
-    ensures { λ r. ⌜ Becomes (lent (now (rows .entry)) (now (leaves .exit)) (now (slots .exit))) r (k .version) (installAll standard number (mapOf (lent (now (rows .entry)) (now (leaves .entry)) (now (slots .entry))) z) (writesOf (now (ws .entry)) n)) ⌝ }
+    ensures { λ r. ⌜ MapBecomes (lent (now (rows .entry)) (now (leaves .exit)) (now (slots .exit))) r (k .version) (installAll standard number (mapOf (lent (now (rows .entry)) (now (leaves .entry)) (now (slots .entry))) z) (writesOf (now (ws .entry)) n)) ⌝ }
 {
     let mut sizes = z;
     let mut i = 0;
@@ -264,11 +264,11 @@ pub fn install_all(
 }
 
 // 1 if the address in row i has no entry.
-fn unsaid_at(slots: &Slots, ws: &WriteSet, n: usize, i: usize) -> usize
-    requires { ⌜ indexlet.Held (now slots) ⌝ }
+fn entryless_at(slots: &Slots, ws: &WriteSet, n: usize, i: usize) -> usize
+    requires { ⌜ indexlet.SlotsHeld (now slots) ⌝ }
     requires { ⌜ Writing (now ws) n ⌝ }
     requires { ⌜ i < n ⌝ }
-    ensures { λ r. ⌜ r ≡ pick (unsaid (now (slots .entry)) (writeAt (now (ws .entry)) i .key)) 1 0 ⌝ }
+    ensures { λ r. ⌜ r ≡ pick (entryless (now (slots .entry)) (writeAt (now (ws .entry)) i .key)) 1 0 ⌝ }
 {
     let a = key_at(ws, n, i);
     let found = indexlet::look_up(slots, a);
@@ -282,7 +282,7 @@ fn unsaid_at(slots: &Slots, ws: &WriteSet, n: usize, i: usize) -> usize
 // How many addresses are waiting or locked, those of the write set included (refusal 10); `entries` is the number of
 // entries.
 pub fn waiting_with(slots: &Slots, ws: &WriteSet, n: usize, entries: usize) -> usize
-    requires { ⌜ indexlet.Held (now slots) ⌝ }
+    requires { ⌜ indexlet.SlotsHeld (now slots) ⌝ }
     requires { ⌜ entries ≡ length (model.entries (slotsOf (now slots))) ⌝ }
     requires { ⌜ Writing (now ws) n ⌝ }
     requires { ⌜ Rising (writesOf (now ws) n) ⌝ }
@@ -291,7 +291,7 @@ pub fn waiting_with(slots: &Slots, ws: &WriteSet, n: usize, entries: usize) -> u
     let mut sum = entries;
     let mut i = 0;
     while i < n {
-        sum += unsaid_at(slots, ws, n, i);
+        sum += entryless_at(slots, ws, n, i);
         i += 1;
     }
     sum
@@ -306,15 +306,15 @@ fn unknown_at(
     n: usize,
     i: usize,
 ) -> usize
-    requires { ⌜ index.Held (now rows) records ⌝ }
-    requires { ⌜ indexlet.Held (now slots) ⌝ }
+    requires { ⌜ index.RecordsSorted (now rows) records ⌝ }
+    requires { ⌜ indexlet.SlotsHeld (now slots) ⌝ }
     requires { ⌜ Writing (now ws) n ⌝ }
     requires { ⌜ i < n ⌝ }
     ensures { λ r. ⌜ r ≡ pick (unknown (now (rows .entry)) records (now (slots .entry)) (writeAt (now (ws .entry)) i .key)) 1 0 ⌝ }
 {
     let a = key_at(ws, n, i);
     if recount::lacks(rows, records, a) {
-        return unsaid_at(slots, ws, n, i);
+        return entryless_at(slots, ws, n, i);
     }
     0
 }

@@ -29,13 +29,13 @@ ghost use Rattle.index.specs.Views as index-views;
 ghost use Rattle.index.specs.LeafColumns.{lowsOf};
 ghost use Rattle.index.specs.SettleRows.{SettledRows};
 ghost use Rattle.map.specs.Views.{lent};
-ghost use Rattle.map.specs.Held.{Held};
+ghost use Rattle.map.specs.MapHeld.{MapHeld};
 ghost use Rattle.phantomlet.specs.LeafTests.{placed};
 ghost use Rattle.phantomlet.specs.LeafCounts.{OneLeaf};
 ghost use Rattle.phantomlet.specs.LeafRows.{Lows, Spans};
 ghost use Rattle.map.specs.MergeSettles.{Resettling, leafKeys};
 ghost use Rattle.map.specs.Merges.{Merges};
-ghost use Rattle.map.specs.MergeWalks.{leaving, Underway, Steps, Starting, Took};
+ghost use Rattle.map.specs.MergeWalks.{leaving, Underway, WalksSlot, Starting, Took};
 
 // How far a walk over the slots has come: records of the index, entries of the indexlet, pending writes taken in, and
 // entries of the leaf that stay, for their lock.
@@ -61,9 +61,9 @@ pub struct Merged {
 
 // A pending write enters the index: kind 1 puts a record, any other drops it. Answers how many records there are now.
 fn take_write(rows: &mut Records, n: usize, a: Address, kind: u64, value: u64, commit: u64) -> usize
-    requires { ⌜ index-views.Held (now rows) n ⌝ }
+    requires { ⌜ index-views.RecordsSorted (now rows) n ⌝ }
     requires { ⌜ length (assign a (some (index-views.recordFrom value commit)) (index-views.recordsOf (now rows) n)) ≤ index-views.recordPlaces ⌝ }
-    ensures { λ r. ⌜ index-views.Holds (now (rows .exit)) r (assign a (leaving kind value commit) (index-views.recordsOf (now (rows .entry)) n)) ⌝ }
+    ensures { λ r. ⌜ index-views.RecordsAre (now (rows .exit)) r (assign a (leaving kind value commit) (index-views.recordsOf (now (rows .entry)) n)) ⌝ }
 {
     if kind == 1 {
         return index::records::put(rows, n, a, value, commit);
@@ -96,7 +96,7 @@ fn take_slot(
     requires { ⌜ Underway (placed (lowsOf (now leaves)) m i) (now rows) (now slots) w j ⌝ }
     requires { ⌜ OneLeaf (lowsOf (now leaves)) m i r ⌝ }
     requires { ⌜ j < slotCount ⌝ }
-    ensures { λ r. ⌜ Steps (placed (lowsOf (now (leaves .entry))) m i) (now (rows .entry)) (now (slots .entry)) w j (now (rows .exit)) (now (slots .exit)) r ⌝ }
+    ensures { λ r. ⌜ WalksSlot (placed (lowsOf (now (leaves .entry))) m i) (now (rows .entry)) (now (slots .entry)) w j (now (rows .exit)) (now (slots .exit)) r ⌝ }
 {
     let s = indexlet::slot_at(slots, j);
     let key = s.key;
@@ -162,7 +162,7 @@ fn take_all(
 
 // The rows of the leaf at place i.
 fn leaf_rows(rows: &Records, leaves: &Leaves, n: usize, m: usize, i: usize) -> Span
-    requires { ⌜ index-views.Held (now rows) n ⌝ }
+    requires { ⌜ index-views.RecordsSorted (now rows) n ⌝ }
     requires { ⌜ Lows (lowsOf (now leaves)) m ⌝ }
     requires { ⌜ i < m ⌝ }
     ensures { λ r. ⌜ Spans (placed (lowsOf (now (leaves .entry))) m i) (now (rows .entry)) n (r .from) (r .to) ⌝ }
@@ -198,7 +198,7 @@ pub fn merge(
     k: Counters,
     a: Address,
 ) -> Merged
-    requires { ⌜ Held (lent (now rows) (now leaves) (now slots)) z (k .version) ⌝ }
+    requires { ⌜ MapHeld (lent (now rows) (now leaves) (now slots)) z (k .version) ⌝ }
     requires { ⌜ k .version + versionsPerMerge standard < 2 ^ 64 ⌝ }
     ensures { λ r. ⌜ Merges (lent (now (rows .entry)) (now (leaves .entry)) (now (slots .entry))) z k a (lent (now (rows .exit)) (now (leaves .exit)) (now (slots .exit))) r ⌝ }
 {

@@ -16,7 +16,7 @@ use Rattle.console.specs.Finishes.{longestEnd, Finishes}
 use Rattle.mapscript.specs.declared.Work.{Work}
 
 -- the engine is ready, the parser has read some bytes of a line, and the places lie in buffers of so many bytes
-pub record Holds (l : Lent) (g : Logs) (w : Work) (room size : ℕ) : Type 0 where
+pub record WorkReady (l : Lent) (g : Logs) (w : Work) (room size : ℕ) : Type 0 where
   pub ready : Ready l g (w .session .core)
   pub started : Started (w .session .parser)
   pub room-left : w .session .at ≤ room
@@ -39,7 +39,7 @@ pub keeps-places : (x : Session) {y : Session} {n a : ℕ} → y ≡ withPlaces 
 keeps-places x {y} {n} {a} e h = subst (Keeps x) (sym e) (record { core-is = refl; parser-is = refl; at-most = h })
 
 pub holds-next : {l : Lent} {g : Logs} {x : Session} {w : Work} {room size : ℕ} → Ready l g (x .core) → Started (x .parser) → x .at ≤ room
-    → Next x size w → Holds l g w room size
+    → Next x size w → WorkReady l g w room size
 holds-next {l} {g} {x} {w} {room} {size} r s h n =
     record {
       ready = subst (Ready l g) (sym (n .keeps .core-is)) r;
@@ -48,7 +48,7 @@ holds-next {l} {g} {x} {w} {room} {size} r s h n =
       count-fits = n .fits;
     }
 
-pub holds-start : {l : Lent} {g : Logs} {x : Session} {w : Work} (room size : ℕ) → Begins l g x → w .session ≡ x → w .count ≡ 0 → Holds l g w room size
+pub holds-start : {l : Lent} {g : Logs} {x : Session} {w : Work} (room size : ℕ) → Begins l g x → w .session ≡ x → w .count ≡ 0 → WorkReady l g w room size
 holds-start {l} {g} {x} {w} room size b e c =
     record {
       ready = subst (λ (y : Session). Ready l g (y .core)) (sym e) (b .fresh .ready);

@@ -30,7 +30,7 @@ ghost use Rattle.transactions.specs.Views.{logs};
 ghost use Rattle.transactions.specs.Ready.{Ready};
 ghost use Rattle.console.specs.Sessions.{Started};
 ghost use Rattle.console.specs.Finishes.{longestEnd};
-ghost use Rattle.mapscript.specs.Works.{Holds, Next};
+ghost use Rattle.mapscript.specs.Works.{WorkReady, Next};
 
 // The session, how many bytes of input there are, whether to go on, and whether a read or a write failed.
 struct Work {
@@ -110,7 +110,7 @@ fn settle(out: &[u8], x: Session, count: usize) -> Work
 }
 
 // One turn: more input, or the lines of what there is.
-fn turn(
+fn advance(
     input: &mut [u8],
     out: &mut [u8],
     rows: &mut Records,
@@ -121,8 +121,8 @@ fn turn(
     writes: &mut WriteSets,
     w: Work,
 ) -> Work
-    requires { ⌜ Holds (lent (now rows) (now leaves) (now slots)) (logs (now reads) (now leafsets) (now writes)) w (length (now out)) (length (now input)) ⌝ }
-    ensures { λ r. ⌜ Holds (lent (now (rows .exit)) (now (leaves .exit)) (now (slots .exit))) (logs (now (reads .exit)) (now (leafsets .exit)) (now (writes .exit))) r (length (now (out .exit))) (length (now (input .exit))) ⌝ }
+    requires { ⌜ WorkReady (lent (now rows) (now leaves) (now slots)) (logs (now reads) (now leafsets) (now writes)) w (length (now out)) (length (now input)) ⌝ }
+    ensures { λ r. ⌜ WorkReady (lent (now (rows .exit)) (now (leaves .exit)) (now (slots .exit))) (logs (now (reads .exit)) (now (leafsets .exit)) (now (writes .exit))) r (length (now (out .exit))) (length (now (input .exit))) ⌝ }
 {
     let x = w.session;
     let count = w.count;
@@ -179,7 +179,7 @@ fn main() {
     let mut reads = [[[0u64; READ_WORDS]; READ_LIMIT]; WORKERS];
     let mut leafsets = [[[0u64; LEAF_SET_WORDS]; LEAF_SET_LIMIT]; WORKERS];
     let mut writes = [[[0u64; WRITE_WORDS]; WRITE_LIMIT]; WORKERS];
-    let start = session::fresh(
+    let start = session::fresh_session(
         &mut rows,
         &mut leaves,
         &mut slots,
@@ -196,7 +196,7 @@ fn main() {
     // A proved loop ends: it counts its turns down from a number that no run uses up.
     let mut turns = u64::MAX;
     while turns > 0 && w.going {
-        w = turn(
+        w = advance(
             &mut input,
             &mut out,
             &mut rows,

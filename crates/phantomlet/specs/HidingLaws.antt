@@ -82,8 +82,8 @@ quietIn : MapState → ℕ → ℕ → Row Content → Bool
 quietIn m w v e = both (outsideIn m v e) (not (hiding w (e .item)))
 
 -- an address in the leaf with version v, that the index lacks, and at which no write is pending
-unfoldable pub silentAt : MapState → ℕ → ℕ → Bool
-silentAt m v k =
+unfoldable pub lockOnlyAt : MapState → ℕ → ℕ → Bool
+lockOnlyAt m v k =
     both (same (versionAt (m .leaves) k) v)
     (both (not (present (look (m .records) k))) (not (present (contentOf (m .slots) k .pending))))
 
@@ -174,8 +174,8 @@ pub record Locking (ss : List Slot) (w : ℕ) (ks : List ℕ) : Type 0 where
   pub only : (k : ℕ) → contentOf ss k .holder ≡ some w → has k ks ≡ true
 
 module _ (m : MapState) (w v : ℕ) (ks : List ℕ) (good : Good 4 (m .slots)) (own : Locking (m .slots) w ks) where
-  forth : Within (keys (filter (quietIn m w v) (entries (m .slots)))) (filter (silentAt m v) ks)
-  unfolding quietIn outsideIn outsideAny silentAt
+  forth : Within (keys (filter (quietIn m w v) (entries (m .slots)))) (filter (lockOnlyAt m v) ks)
+  unfolding quietIn outsideIn outsideAny lockOnlyAt
   forth k e =
       let f = keys-filter (quietIn m w v) (entries (m .slots)) k e in
       let said : contentOf (m .slots) k ≡ f .0 .item = ap (contentOf (m .slots)) (sym (f .3)) ∙ member-content good (f .1) in
@@ -183,7 +183,7 @@ module _ (m : MapState) (w v : ℕ) (ks : List ℕ) (good : Good 4 (m .slots)) (
       let inner = both-true (same (versionAt (m .leaves) (f .0 .key)) v) (not (present (look (m .records) (f .0 .key)))) (outer .0) in
       let q = quiet-own w (f .0 .item) (not-idle good (f .0) (f .1)) (not-true (hiding w (f .0 .item)) (outer .1)) in
       member-has
-      (filter-mem (silentAt m v) ks
+      (filter-mem (lockOnlyAt m v) ks
       (has-member k ks (own .only k (ap (λ (c : Content). c .holder) said ∙ q .1)))
       (both-yes (same (versionAt (m .leaves) k) v) (both (not (present (look (m .records) k))) (not (present (contentOf (m .slots) k .pending))))
       (subst (λ (j : ℕ). same (versionAt (m .leaves) j) v ≡ true) (f .3) (inner .0))
@@ -191,10 +191,10 @@ module _ (m : MapState) (w v : ℕ) (ks : List ℕ) (good : Good 4 (m .slots)) (
       (subst (λ (j : ℕ). not (present (look (m .records) j)) ≡ true) (f .3) (inner .1))
       (ap (λ (o : Option Pending). not (present o)) (ap (λ (c : Content). c .pending) said ∙ q .0)))))
 
-  back : Within (filter (silentAt m v) ks) (keys (filter (quietIn m w v) (entries (m .slots))))
-  unfolding quietIn outsideIn outsideAny silentAt
+  back : Within (filter (lockOnlyAt m v) ks) (keys (filter (quietIn m w v) (entries (m .slots))))
+  unfolding quietIn outsideIn outsideAny lockOnlyAt
   back k e =
-      let f = mem-filter (silentAt m v) ks (has-member k (filter (silentAt m v) ks) e) in
+      let f = mem-filter (lockOnlyAt m v) ks (has-member k (filter (lockOnlyAt m v) ks) e) in
       let held : contentOf (m .slots) k .holder ≡ some w = own .mine k (member-has (f .0)) in
       let outer = both-true (same (versionAt (m .leaves) k) v) (both (not (present (look (m .records) k))) (not (present (contentOf (m .slots) k .pending)))) (f .1) in
       let inner = both-true (not (present (look (m .records) k))) (not (present (contentOf (m .slots) k .pending))) (outer .1) in
@@ -206,24 +206,24 @@ module _ (m : MapState) (w v : ℕ) (ks : List ℕ) (good : Good 4 (m .slots)) (
       (both-yes (same (versionAt (m .leaves) k) v) (not (present (look (m .records) k))) (outer .0) (inner .0))
       (ap not (q .1)))))
 
-  own-count : howMany (quietIn m w v) (m .slots) ≡ length (filter (silentAt m v) ks)
+  own-count : howMany (quietIn m w v) (m .slots) ≡ length (filter (lockOnlyAt m v) ks)
   own-count =
       let a : howMany (quietIn m w v) (m .slots) ≡ length (filter (quietIn m w v) (entries (m .slots))) = many-filter (quietIn m w v) (m .slots) in
       let b : length (keys (filter (quietIn m w v) (entries (m .slots)))) ≡ length (filter (quietIn m w v) (entries (m .slots)))
       = length-keys (filter (quietIn m w v) (entries (m .slots))) in
-      let c : length (keys (filter (quietIn m w v) (entries (m .slots)))) ≤ length (filter (silentAt m v) ks)
-      = different-length (keys (filter (quietIn m w v) (entries (m .slots)))) (filter (silentAt m v) ks)
+      let c : length (keys (filter (quietIn m w v) (entries (m .slots)))) ≤ length (filter (lockOnlyAt m v) ks)
+      = different-length (keys (filter (quietIn m w v) (entries (m .slots)))) (filter (lockOnlyAt m v) ks)
       (different-keys (quietIn m w v) (entries (m .slots)) (keys-differ good)) forth in
-      let d : length (filter (silentAt m v) ks) ≤ length (keys (filter (quietIn m w v) (entries (m .slots))))
-      = different-length (filter (silentAt m v) ks) (keys (filter (quietIn m w v) (entries (m .slots))))
-      (different-filter (silentAt m v) ks (own .once)) back in
+      let d : length (filter (lockOnlyAt m v) ks) ≤ length (keys (filter (quietIn m w v) (entries (m .slots))))
+      = different-length (filter (lockOnlyAt m v) ks) (keys (filter (quietIn m w v) (entries (m .slots))))
+      (different-filter (lockOnlyAt m v) ks (own .once)) back in
       omega arith
 
   -- the leaf hides a key exactly if more entries lie outside the index there than the worker's own silent ones
-  pub hides-count : (out mine : ℕ) → out ≡ howMany (outsideIn m v) (m .slots) → mine ≡ length (filter (silentAt m v) ks) → hides m w v ≡ less mine out
+  pub hides-count : (out mine : ℕ) → out ≡ howMany (outsideIn m v) (m .slots) → mine ≡ length (filter (lockOnlyAt m v) ks) → hides m w v ≡ less mine out
   hides-count out mine e f =
       let a : howMany (outsideIn m v) (m .slots) ≡ howMany (hiddenIn m w v) (m .slots) + howMany (quietIn m w v) (m .slots) = split m w v in
-      let b : howMany (quietIn m w v) (m .slots) ≡ length (filter (silentAt m v) ks) = own-count in
+      let b : howMany (quietIn m w v) (m .slots) ≡ length (filter (lockOnlyAt m v) ks) = own-count in
       hides-many m w v
       ∙ ⊎-elim
       (λ t. let g : 0 < howMany (hiddenIn m w v) (m .slots) = less-true 0 (howMany (hiddenIn m w v) (m .slots)) t in
@@ -234,4 +234,4 @@ module _ (m : MapState) (w v : ℕ) (ks : List ℕ) (good : Good 4 (m .slots)) (
 
   -- with none outside the index there is nothing to hide
   pub hides-none : 0 ≡ howMany (outsideIn m v) (m .slots) → hides m w v ≡ false
-  hides-none e = hides-count 0 (length (filter (silentAt m v) ks)) e refl ∙ less-no {m = length (filter (silentAt m v) ks)} {n = 0} zero-le
+  hides-none e = hides-count 0 (length (filter (lockOnlyAt m v) ks)) e refl ∙ less-no {m = length (filter (lockOnlyAt m v) ks)} {n = 0} zero-le

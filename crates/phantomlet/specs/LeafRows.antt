@@ -14,7 +14,7 @@ use Rattle.lists.specs.Ascending.{Ascends, ascends-at, ascends-drop}
 use Rattle.lists.specs.Places.{place, place-most, place-below, place-above}
 use Rattle.lists.specs.Shifts.{drop-take}
 use Rattle.spec.specs.Records.{Record}
-use Rattle.index.specs.Views.{leafPlaces, RecordRows, noRow, rowsOf, recordsOf, keysBetween, Held, AtPlace}
+use Rattle.index.specs.Views.{leafPlaces, RecordRows, noRow, rowsOf, recordsOf, keysBetween, RecordsSorted, AtPlace}
 use Rattle.index.specs.ViewLaws.{length-records}
 use Rattle.index.specs.LeafPlaces.{lowPlace, place-inside, leaf-below, leaf-above, Listed}
 use Rattle.phantomlet.specs.LeafTests.{placed}
@@ -144,7 +144,7 @@ between-part ws n i j h l =
     ap keys
     (sym (ap (take (j - i)) (drop-take i n (rowsOf ws) (omega arith)) ∙ take-take (j - i) (n - i) (drop i (rowsOf ws)) (omega arith)))
 
-module _ (lows : List ℕ) (ws : RecordRows) (n m i : ℕ) (listed : Listed lows m) (al : length lows ≡ leafPlaces) (h : i < m) (held : Held ws n) (first : getD lows 0 0 ≡ 0) where
+module _ (lows : List ℕ) (ws : RecordRows) (n m i : ℕ) (listed : Listed lows m) (al : length lows ≡ leafPlaces) (h : i < m) (held : RecordsSorted ws n) (first : getD lows 0 0 ≡ 0) where
   size : length (recordsOf ws n) ≡ n
   size = length-records ws n (held .room)
 

@@ -18,7 +18,7 @@ use Rattle.laws.specs.SlotChanges.{kept}
 use Rattle.indexlet.specs.Words.{SlotRows, pendingIn, contentIn, slotIn, slotsOf}
 use Rattle.indexlet.specs.declared.Content.{Content as ContentWords}
 use Rattle.indexlet.specs.declared.Slot.{Slot as SlotWords}
-use Rattle.indexlet.specs.Held as indexlet
+use Rattle.indexlet.specs.Promises as indexlet
 use Rattle.index.specs.Views.{leafPlaces, RecordRows, recordsOf}
 use Rattle.index.specs.LeafColumns.{LeafRows, lowsOf, outsideOf, pendingOf, column-places}
 use Rattle.index.specs.Views as index
@@ -35,10 +35,10 @@ use Rattle.phantomlet.specs.LeafCounts.{Ranging, lacking, waiting, inLea
 -- What a merge at place i of `old` leaves, now m, that left `left` entries there, asks of the leaves that have settled, and of
 -- the phantomlet's numbers that were kept.
 pub record Recounting (rows : RecordRows) (ls : LeafRows) (slots : SlotRows) (n m i old left : ℕ) : Type 0 where
-  pub rows-held : index.Held rows n
+  pub rows-held : index.RecordsSorted rows n
   pub listed : Listed (lowsOf ls) m
   pub first : getD (lowsOf ls) 0 0 ≡ 0
-  pub words : indexlet.Held slots
+  pub words : indexlet.SlotsHeld slots
   pub leaf-in : i < old
   pub old-in : old ≤ leafPlaces
   pub some-made : old ≤ i + m
@@ -51,9 +51,9 @@ pub record Recounting (rows : RecordRows) (ls : LeafRows) (slots : SlotRows) (n 
 
 -- The walk stands before slot j.
 pub record Tallying (rows : RecordRows) (lows : List ℕ) (slots : SlotRows) (n m : ℕ) (r : Reach) (outside pending : List ℕ) (j : ℕ) : Type 0 where
-  pub rows-held : index.Held rows n
+  pub rows-held : index.RecordsSorted rows n
   pub listed : Listed lows m
-  pub words : indexlet.Held slots
+  pub words : indexlet.SlotsHeld slots
   pub range : Range lows m r
   pub there : j ≤ slotCount
   pub outside-adds : Adding lows m (lacking (recordsOf rows n)) (slotsOf slots) (r .from) (r .to) outside j
@@ -131,7 +131,7 @@ module _ {rows : RecordRows} {lows : List ℕ} {slots : SlotRows} {n m : ℕ} {z
   full : length (slotsOf slots) ≡ slotCount
   full = g .words .good .size
 
-  module _ (r : SlotWords) (reads : indexlet.Reads slots j r) where
+  module _ (r : SlotWords) (reads : indexlet.IsSlot slots j r) where
     entry-in : entryAt (slotsOf slots) j ≡ kept (r .key) (contentIn (r .content))
     unfolding slotIn
     entry-in = sym (ap (λ (s : Slot). s .entry) (reads .slot))
@@ -213,7 +213,7 @@ module _ {rows : RecordRows} {ls : LeafRows} {slots : SlotRows} {n m : ℕ} {r :
   pub tallied-end : {ls' : LeafRows} {j : ℕ} → Tallied rows ls slots n m r j ls' → slotCount ≤ j → Numbering rows ls slots n m ls'
   tallied-end t h = record { same = t .same; numbers = tally-end (t .tallying) h }
 
-  pub tallied-some : {ls' : LeafRows} {j : ℕ} (g : Tallying rows (lowsOf ls) slots n m r (outsideOf ls) (pendingOf ls) j) → j < slotCount → (s : SlotWords) → indexlet.Reads slots j s
+  pub tallied-some : {ls' : LeafRows} {j : ℕ} (g : Tallying rows (lowsOf ls) slots n m r (outsideOf ls) (pendingOf ls) j) → j < slotCount → (s : SlotWords) → indexlet.IsSlot slots j s
       → (at x w : ℕ) → isIdle (contentIn (s .content)) ≡ false → r .low ≤ s .key → s .key < r .high → AtLeaf (lowsOf ls) m (s .key) at
       → x ≡ pick (not (present (look (recordsOf rows n) (s .key)))) 1 0 → w ≡ pick (present (contentIn (s .content) .pending)) 1 0
       → Raised ls ls' at x w → Tallied rows ls slots n m r (j + 1) ls'
@@ -326,7 +326,7 @@ counting {rows} {lows} {slots} {n} {m} {outside} {pending} {total} l al c e =
     }
 
 -- each number is at most the number of slots
-pub numbers-small : {rows : RecordRows} {lows : List ℕ} {slots : SlotRows} {n m : ℕ} {outside pending : List ℕ} → indexlet.Held slots → Numbers rows lows slots n m outside pending → (i : ℕ) → i < m → getD outside i 0 ≤ slotCount
+pub numbers-small : {rows : RecordRows} {lows : List ℕ} {slots : SlotRows} {n m : ℕ} {outside pending : List ℕ} → indexlet.SlotsHeld slots → Numbers rows lows slots n m outside pending → (i : ℕ) → i < m → getD outside i 0 ≤ slotCount
 numbers-small {rows} {lows} {slots} {n} {m} {outside} {pending} w c i h =
     let e : getD outside i 0 ≡ howMany (inLeaf lows m (lacking (recordsOf rows n)) i) (slotsOf slots) = c .outside-is i h in
     let f : length (slotsOf slots) ≡ slotCount = w .good .size in

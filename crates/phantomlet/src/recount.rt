@@ -18,7 +18,7 @@ ghost use Rattle.lists.specs.Tests.{pick, both, present, same, atMost};
 ghost use Rattle.lists.specs.Rows.{look};
 ghost use Rattle.spec.specs.Slots.{slotCount};
 ghost use Rattle.indexlet.specs.Words.{contentIn};
-ghost use Rattle.index.specs.Views.{leafPlaces, Held, recordsOf};
+ghost use Rattle.index.specs.Views.{leafPlaces, RecordsSorted, recordsOf};
 ghost use Rattle.index.specs.LeafColumns.{lowsOf, outsideOf, pendingOf};
 ghost use Rattle.phantomlet.specs.LeafNumbers.{sumTo};
 ghost use Rattle.phantomlet.specs.LeafWrites.{Cleared, Raised};
@@ -123,7 +123,7 @@ pub fn waits(c: indexlet::Content) -> u64
 
 // The index has no record at the address.
 pub fn lacks(rows: &Records, n: usize, a: Address) -> bool
-    requires { ⌜ Held (now rows) n ⌝ }
+    requires { ⌜ RecordsSorted (now rows) n ⌝ }
     ensures { λ r. ⌜ r ≡ not (present (look (recordsOf (now (rows .entry)) n) a)) ⌝ }
 {
     let there = index::records::find(rows, n, a);

@@ -20,11 +20,11 @@ use Rattle.sets.specs.Leaves.{LeafSetRows, versionsOf, lowsOf, LeafSetHeld, Log
 use Rattle.sets.specs.Writes.{WriteRows, noWrite, writeIn, writesOf, WriteSetOrdered, PlaceOf, GivesWrite}
 use Rattle.sets.specs.SetLaws.{length-rows}
 use Rattle.map.specs.Views.{leavesIn, SlotRows, RecordRows}
-use Rattle.looks.specs.declared.Range.{Range}
-use Rattle.looks.specs.LookViews.{walk, SeenAt, versionIn, markIn, Marks}
-use Rattle.looks.specs.RangeLaws.{place-mono, place-next, between-places}
+use Rattle.queries.specs.declared.Range.{Range}
+use Rattle.queries.specs.QueryViews.{walk, SeenAt, versionIn, loggedIn, LoggedAt}
+use Rattle.queries.specs.RangeLaws.{place-mono, place-next, between-places}
 use Rattle.ranges.specs.Parts.{walk-on, walk-past, done-one, take-rows}
-use Rattle.ranges.specs.Scanning.{OwnSpans, span, seenIn, LogsRows, LoggingRows, lowIn, LogsMarks, LoggingMarks}
+use Rattle.ranges.specs.Scanning.{OwnSpans, span, seenIn, LogsRows, LoggingRows, lowIn, LogsLeaves, LoggingLeaves}
 
 -- ---- the worker's writes of a range
 
@@ -135,17 +135,17 @@ module _ (rs : LeafSetRows) (n : ℕ) (lows versions : List ℕ) (p : Range) whe
   abbrev low : ℕ → ℕ → ℕ
   low m = lowIn (leavesIn lows versions m)
 
-  pub marks-start : LeafSetHeld rs → LoggingMarks rs n lows versions p rs (p .from) n
-  marks-start held = record { held = held; count = refl; versions-are = λ m b d. refl; lows-are = λ m b d. refl }
+  pub leaves-start : LeafSetHeld rs → LoggingLeaves rs n lows versions p rs (p .from) n
+  leaves-start held = record { held = held; count = refl; versions-are = λ m b d. refl; lows-are = λ m b d. refl }
 
-  module _ (us : LeafSetRows) (i r : ℕ) (h : LoggingMarks rs n lows versions p us i r) where
-    pub marks-room : i < p .to → n + span p ≤ standard .leafSetLimit → r < standard .leafSetLimit
-    marks-room l b = let q : r + (p .to - i) ≡ n + span p = h .count in omega arith
+  module _ (us : LeafSetRows) (i r : ℕ) (h : LoggingLeaves rs n lows versions p us i r) where
+    pub leaves-room : i < p .to → n + span p ≤ standard .leafSetLimit → r < standard .leafSetLimit
+    leaves-room l b = let q : r + (p .to - i) ≡ n + span p = h .count in omega arith
 
-    pub marks-on : (x : LoggedLeaf) (us' : LeafSetRows) (r' : ℕ) → i < p .to → Marks lows versions i x → LogsLeaf us r x us' r'
-        → LoggingMarks rs n lows versions p us' (i + 1) r'
-    unfolding versionIn lowIn markIn
-    marks-on x us' r' l a g =
+    pub leaves-on : (x : LoggedLeaf) (us' : LeafSetRows) (r' : ℕ) → i < p .to → LoggedAt lows versions i x → LogsLeaf us r x us' r'
+        → LoggingLeaves rs n lows versions p us' (i + 1) r'
+    unfolding versionIn lowIn loggedIn
+    leaves-on x us' r' l a g =
         let q : r + (p .to - i) ≡ n + span p = h .count in
         let c : r' ≡ r + 1 = g .count in
         record {
@@ -163,8 +163,8 @@ module _ (rs : LeafSetRows) (n : ℕ) (lows versions : List ℕ) (p : Range) whe
               ∙ h .lows-are m b d;
         }
 
-    pub marks-end : p .to ≤ i → LogsMarks rs n lows versions p us r
-    marks-end l =
+    pub leaves-end : p .to ≤ i → LogsLeaves rs n lows versions p us r
+    leaves-end l =
         let q : r + (p .to - i) ≡ n + span p = h .count in
         record {
           held = h .held;

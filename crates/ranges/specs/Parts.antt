@@ -8,7 +8,7 @@ use lib.ListN.{length, take, getD}
 use lib.Seq.{length-take-le, getD-take, ext-getD}
 use Rattle.sets.specs.Sets.{firstRows}
 use Rattle.sets.specs.SetLaws.{length-rows, row-at}
-use Rattle.looks.specs.LookViews.{walk}
+use Rattle.queries.specs.QueryViews.{walk}
 
 module _ {A : Type 0} where
   -- ---- walks from place i up to, not including, place n

@@ -9,7 +9,7 @@ use Rattle.spec.specs.Records.{standard, Write}
 use Rattle.sets.specs.declared.workers.Worker.{Worker}
 use Rattle.sets.specs.Writes.{WriteRows, WriteSetOrdered, writeIn, writesOf}
 use Rattle.map.specs.declared.Sizes.{Sizes}
-use Rattle.looks.specs.declared.Range.{Range}
+use Rattle.queries.specs.declared.Range.{Range}
 use Rattle.ranges.specs.declared.plans.Task.{Task}
 use Rattle.ranges.specs.Parts.{take-rows}
 use Rattle.ranges.specs.Overlays.{rising-first}

@@ -13,13 +13,13 @@ use Rattle.sets.specs.Reads.{ReadRows}
 use Rattle.sets.specs.Leaves.{LeafSetRows}
 use Rattle.sets.specs.Writes.{WriteRows, WriteSetOrdered}
 use Rattle.map.specs.declared.Sizes.{Sizes}
-use Rattle.looks.specs.declared.Range.{Range}
-use Rattle.looks.specs.LookViews.{Spans, Meets}
+use Rattle.queries.specs.declared.Range.{Range}
+use Rattle.queries.specs.QueryViews.{Spans, Meets}
 use Rattle.ranges.specs.declared.plans.Task.{Task}
 use Rattle.ranges.specs.declared.plans.Plan.{Plan}
 use Rattle.ranges.specs.declared.plans.Plan.the-variants.{Refused, Go}
 use Rattle.ranges.specs.Walks.{Ground, ground, rest, Fills}
-use Rattle.ranges.specs.Scanning.{OwnSpans, span, seenIn, LogsRows, LogsMarks}
+use Rattle.ranges.specs.Scanning.{OwnSpans, span, seenIn, LogsRows, LogsLeaves}
 use Rattle.map.specs.Views.{SlotRows, RecordRows}
 use Rattle.map.specs.Parts.{RecordsHeld, SlotsHeld, LeavesListed}
 
@@ -91,5 +91,5 @@ pub record Carried (rows : RecordRows) (lows versions : List ℕ) (slots : SlotR
     (ks vs : List ℕ) (rs : ReadRows) (ls : LeafSetRows) (ks' vs' : List ℕ) (rs' : ReadRows) (ls' : LeafSetRows) (y : Worker) : Type 0 where
   pub fills : Fills ks vs (shownOf rows slots ws z t) ks' vs' (t .count)
   pub logs-rows : LogsRows rs (x .reads) (seenIn rows (z .records) slots) (t .index) rs' (y .reads)
-  pub logs-marks : LogsMarks ls (x .leaves) lows versions (t .met) ls' (y .leaves)
-  pub seat : y ≡ record { stage = x .stage; number = x .number; reads = y .reads; leaves = y .leaves; writes = x .writes }
+  pub logs-leaves : LogsLeaves ls (x .leaves) lows versions (t .met) ls' (y .leaves)
+  pub worker : y ≡ record { stage = x .stage; number = x .number; reads = y .reads; leaves = y .leaves; writes = x .writes }

@@ -11,9 +11,9 @@ use Rattle.sets.specs.Reads.{ReadRows, readsOf, ReadSetHeld}
 use Rattle.sets.specs.Leaves.{LeafSetRows, versionsOf, lowsOf, LeafSetHeld}
 use Rattle.sets.specs.Writes.{WriteRows, writesOf}
 use Rattle.map.specs.Views.{leavesIn, SlotRows, RecordRows}
-use Rattle.map.specs.Held.{perLeaf}
-use Rattle.looks.specs.declared.Range.{Range}
-use Rattle.looks.specs.LookViews.{mapWith, walk, indexedAt, versionIn}
+use Rattle.map.specs.MapHeld.{perLeaf}
+use Rattle.queries.specs.declared.Range.{Range}
+use Rattle.queries.specs.QueryViews.{mapWith, walk, indexedAt, versionIn}
 use Rattle.map.specs.Parts.{RecordsHeld, SlotsHeld, LeafListed}
 
 -- the n writes from lo to hi stand at these places
@@ -70,14 +70,14 @@ pub record LeavesRoom (lows : List ℕ) (m : ℕ) (p : Range) : Type 0 where
   pub room : m + span p ≤ standard .leafSetLimit
 
 -- the leaf set after the leaves at these places, among any number that has them, were appended to its first n rows, and how many there are now
-pub record LogsMarks (rs : LeafSetRows) (n : ℕ) (lows versions : List ℕ) (p : Range) (us : LeafSetRows) (r : ℕ) : Type 0 where
+pub record LogsLeaves (rs : LeafSetRows) (n : ℕ) (lows versions : List ℕ) (p : Range) (us : LeafSetRows) (r : ℕ) : Type 0 where
   pub held : LeafSetHeld us
   pub count : r ≡ n + span p
   pub versions-are : (m : ℕ) → p .to ≤ m → m ≤ perLeaf → versionsOf us r ≡ versionsOf rs n ++ across (versionIn (leavesIn lows versions m)) p
   pub lows-are : (m : ℕ) → p .to ≤ m → m ≤ perLeaf → lowsOf us r ≡ lowsOf rs n ++ across (lowIn (leavesIn lows versions m)) p
 
 -- those logged and those left are all
-pub record LoggingMarks (rs : LeafSetRows) (n : ℕ) (lows versions : List ℕ) (p : Range) (us : LeafSetRows) (i r : ℕ) : Type 0 where
+pub record LoggingLeaves (rs : LeafSetRows) (n : ℕ) (lows versions : List ℕ) (p : Range) (us : LeafSetRows) (i r : ℕ) : Type 0 where
   pub held : LeafSetHeld us
   pub count : r + (p .to - i) ≡ n + span p
   pub versions-are : (m : ℕ) → p .to ≤ m → m ≤ perLeaf

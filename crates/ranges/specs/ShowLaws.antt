@@ -15,7 +15,7 @@ use Rattle.lists.specs.Shifts.{tab, tabFrom, tab-same, tab-snoc, length-tab}
 use Rattle.spec.specs.Records.{Payload}
 use Rattle.ranges.specs.declared.walks.Turn.{Turn}
 use Rattle.ranges.specs.Overlays.{shown}
-use Rattle.ranges.specs.Walks.{Ground, rest, Walks, Inside, turnIn, Steps, rowsIn, Beyond, Fits, Shows, Room, Fills, Counting, Filling}
+use Rattle.ranges.specs.Walks.{Ground, rest, Walks, Inside, turnIn, ComesNext, rowsIn, Beyond, Fits, Shows, Room, Fills, Counting, Filling}
 use Rattle.ranges.specs.WalkLaws.{rest-end}
 
 -- ---- one turn
@@ -63,7 +63,7 @@ module _ (g : Ground) (h : Walks g) (from start : ℕ) where
   one-more true = le-refl 1
   one-more false = zero-le
 
-  pub counting-on : (i j count : ℕ) (x : Turn) (m : ℕ) → Counting g from start i j count → Steps g i j x → m ≡ pick (x .there) 1 0
+  pub counting-on : (i j count : ℕ) (x : Turn) (m : ℕ) → Counting g from start i j count → ComesNext g i j x → m ≡ pick (x .there) 1 0
       → Counting g from start (x .i) (x .j) (count + m)
   counting-on i j count x m c s e =
       let l : length (rest g i j) ≡ pick (x .there) 1 0 + length (rest g (x .i) (x .j)) = ap length (s .rest-is) ∙ turn-length x (rest g (x .i) (x .j)) in
@@ -157,7 +157,7 @@ module _ (g : Ground) (h : Walks g) (from start : ℕ) (ks vs : List ℕ) where
   filled ls us i j at f =
       ap (λ (n : ℕ). n + length (rest g i j)) (sym (length-rows at ls us)) ∙ sym (length-append (rowsIn at ls us) (rest g i j)) ∙ ap length (f .all)
 
-  pub filling-fits : (ls us : List ℕ) (i j at : ℕ) (x : Turn) → Room ks vs (rest g from start) → Filling g from start ks vs ls us i j at → Steps g i j x → Fits ls us at x
+  pub filling-fits : (ls us : List ℕ) (i j at : ℕ) (x : Turn) → Room ks vs (rest g from start) → Filling g from start ks vs ls us i j at → ComesNext g i j x → Fits ls us at x
   filling-fits ls us i j at x r f s =
       let a : length (rest g from start) ≤ length ks = r .addresses in
       let b : length (rest g from start) ≤ length vs = r .values in
@@ -171,7 +171,7 @@ module _ (g : Ground) (h : Walks g) (from start : ℕ) (ks vs : List ℕ) where
           let q : at + length (rest g i j) ≡ length (rest g from start) = filled ls us i j at f in
           omega arith
 
-  pub filling-on : (ls us : List ℕ) (i j at : ℕ) (x : Turn) (ls' us' : List ℕ) (r : ℕ) → Filling g from start ks vs ls us i j at → Steps g i j x
+  pub filling-on : (ls us : List ℕ) (i j at : ℕ) (x : Turn) (ls' us' : List ℕ) (r : ℕ) → Filling g from start ks vs ls us i j at → ComesNext g i j x
       → Shows ls us at x ls' us' r → Filling g from start ks vs ls' us' (x .i) (x .j) r
   filling-on ls us i j at x ls' us' r f s t =
       record {

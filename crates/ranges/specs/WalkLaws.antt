@@ -20,11 +20,11 @@ use Rattle.map.specs.WriteWalks.{rest-none, rest-cons, given}
 use Rattle.map.specs.WriteWalks as walks
 use Rattle.index.specs.Views.{noRow, recordsOf}
 use Rattle.index.specs.ViewLaws.{length-records}
-use Rattle.looks.specs.LookViews.{mapWith, indexedAt, SeenAt}
-use Rattle.looks.specs.RangeLaws.{walk-map}
+use Rattle.queries.specs.QueryViews.{mapWith, indexedAt, SeenAt}
+use Rattle.queries.specs.RangeLaws.{walk-map}
 use Rattle.ranges.specs.Parts.{walk-on, walk-past}
 use Rattle.ranges.specs.Overlays.{from-drop, shown, overlay, overlay-none, overlay-upper, overlay-lower, overlay-both, rising-part, rising-tail, rising-map}
-use Rattle.ranges.specs.Walks.{Ground, seenFrom, ownFrom, rest, Walks, Inside, indexTurn, ownTurn, turnIn, Steps}
+use Rattle.ranges.specs.Walks.{Ground, seenFrom, ownFrom, rest, Walks, Inside, indexTurn, ownTurn, turnIn, ComesNext}
 
 -- ---- what a turn shows
 
@@ -162,7 +162,7 @@ module _ (g : Ground) (h : Walks g) where
     pub index-left : g .bounds .end ≤ j → i < g .bounds .to
     index-left l = let k : j ≤ g .bounds .end = at .own in omega arith
 
-    pub step-index-only : (s : Observed) → g .bounds .end ≤ j → SeenAt (g .rows) (g .bounds .records) (g .slots) i s → Steps g i j (indexTurn s (i + 1) j)
+    pub step-index-only : (s : Observed) → g .bounds .end ≤ j → SeenAt (g .rows) (g .bounds .records) (g .slots) i s → ComesNext g i j (indexTurn s (i + 1) j)
     step-index-only s l a =
         let b : i < g .bounds .to = index-left l in
         record {
@@ -172,7 +172,7 @@ module _ (g : Ground) (h : Walks g) where
         }
 
     -- no index record is left
-    pub step-own-only : (e : Entry) → j < g .bounds .end → g .bounds .to ≤ i → GivesWrite (g .writes) j e → Steps g i j (ownTurn e i (j + 1))
+    pub step-own-only : (e : Entry) → j < g .bounds .end → g .bounds .to ≤ i → GivesWrite (g .writes) j e → ComesNext g i j (ownTurn e i (j + 1))
     step-own-only e k l a =
         record {
           on = omega arith;
@@ -182,7 +182,7 @@ module _ (g : Ground) (h : Walks g) where
 
     module _ (s : Observed) (e : Entry) (l : i < g .bounds .to) (k : j < g .bounds .end) (a : SeenAt (g .rows) (g .bounds .records) (g .slots) i s)
         (b : GivesWrite (g .writes) j e) where
-      pub step-index : s .address < e .address → Steps g i j (indexTurn s (i + 1) j)
+      pub step-index : s .address < e .address → ComesNext g i j (indexTurn s (i + 1) j)
       step-index h =
           record {
             on = omega arith;
@@ -190,7 +190,7 @@ module _ (g : Ground) (h : Walks g) where
             rest-is = index-first i j s l a (own-above (s .address) j e k b h);
           }
 
-      pub step-own : e .address < s .address → Steps g i j (ownTurn e i (j + 1))
+      pub step-own : e .address < s .address → ComesNext g i j (ownTurn e i (j + 1))
       step-own h =
           record {
             on = omega arith;
@@ -198,7 +198,7 @@ module _ (g : Ground) (h : Walks g) where
             rest-is = own-first i j e k b (seen-above (e .address) i s l a h);
           }
 
-      pub step-both : e .address ≤ s .address → s .address ≤ e .address → Steps g i j (ownTurn e (i + 1) (j + 1))
+      pub step-both : e .address ≤ s .address → s .address ≤ e .address → ComesNext g i j (ownTurn e (i + 1) (j + 1))
       step-both h t =
           record {
             on = omega arith;

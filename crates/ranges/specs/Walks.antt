@@ -14,7 +14,7 @@ use Rattle.spec.specs.Records.{Payload, Record, Write, ownView, payloadOf}
 use Rattle.sets.specs.declared.writes.Entry.{Entry}
 use Rattle.sets.specs.declared.reads.Observed.{Observed}
 use Rattle.sets.specs.Writes.{WriteRows, WriteSetOrdered, writesOf}
-use Rattle.looks.specs.LookViews.{mapWith, walk, indexedAt}
+use Rattle.queries.specs.QueryViews.{mapWith, walk, indexedAt}
 use Rattle.ranges.specs.declared.walks.Bounds.{Bounds}
 use Rattle.ranges.specs.declared.walks.Turn.{Turn}
 use Rattle.ranges.specs.Overlays.{shown, overlay}
@@ -69,7 +69,7 @@ unfoldable pub turnIn : Turn → Row (Option Payload)
 turnIn r = row (r .address) (pick (r .there) (some (record { value = r .value })) none)
 
 -- r comes next
-pub record Steps (g : Ground) (i j : ℕ) (r : Turn) : Type 0 where
+pub record ComesNext (g : Ground) (i j : ℕ) (r : Turn) : Type 0 where
   pub on : i + j < r .i + r .j
   pub inside : Inside (g .bounds) (r .i) (r .j)
   pub rest-is : rest g i j ≡ shown (turnIn r) (rest g (r .i) (r .j))

@@ -1,8 +1,8 @@
 // What a scan logs: the records that it passed, and the leaves that meet its range.
-use looks::Range;
 use map::Leaves;
 use map::Records;
 use map::Slots;
+use queries::Range;
 use sets::LeafSet;
 use sets::ReadSet;
 use sets::leaves;
@@ -10,7 +10,7 @@ use sets::reads;
 ghost use Rattle.sets.specs.Reads.{ReadSetHeld};
 ghost use Rattle.sets.specs.Leaves.{LeafSetHeld};
 ghost use Rattle.map.specs.Views.{lowsOf, versionsOf};
-ghost use Rattle.ranges.specs.Scanning.{ReadsRoom, LogsRows, LeavesRoom, LogsMarks, seenIn};
+ghost use Rattle.ranges.specs.Scanning.{ReadsRoom, LogsRows, LeavesRoom, LogsLeaves, seenIn};
 
 // Appends the index records at these places to the m rows of a read set. Answers how many there are now.
 pub fn log_rows(
@@ -28,7 +28,7 @@ pub fn log_rows(
     let mut i = p.from;
     let mut count = m;
     while i < p.to {
-        let s = looks::seen_at(rows, slots, n, i);
+        let s = queries::seen_at(rows, slots, n, i);
         let current = s.current;
         count = reads::log_read(reads, count, s.address, current);
         i += 1;
@@ -40,12 +40,12 @@ pub fn log_rows(
 pub fn log_leaves(leafset: &mut LeafSet, leaves: &Leaves, m: usize, p: Range) -> usize
     requires { ⌜ LeafSetHeld (now leafset) ⌝ }
     requires { ⌜ LeavesRoom (lowsOf (now leaves)) m p ⌝ }
-    ensures { λ r. ⌜ LogsMarks (now (leafset .entry)) m (lowsOf (now (leaves .entry))) (versionsOf (now (leaves .entry))) p (now (leafset .exit)) r ⌝ }
+    ensures { λ r. ⌜ LogsLeaves (now (leafset .entry)) m (lowsOf (now (leaves .entry))) (versionsOf (now (leaves .entry))) p (now (leafset .exit)) r ⌝ }
 {
     let mut i = p.from;
     let mut count = m;
     while i < p.to {
-        let leaf = looks::leaf(leaves, i);
+        let leaf = queries::leaf(leaves, i);
         count = leaves::log_leaf(leafset, count, leaf);
         i += 1;
     }

@@ -2,11 +2,11 @@
 use crate::logs;
 use crate::walks;
 use crate::walks::Bounds;
-use looks::Range;
 use map::Leaves;
 use map::Records;
 use map::Sizes;
 use map::Slots;
+use queries::Range;
 use sets::LeafSet;
 use sets::ReadSet;
 use sets::WriteSet;
@@ -76,8 +76,8 @@ pub fn measure(
     if hi < lo {
         return Plan::Refused(Refusal::Backward);
     }
-    let index = looks::records_between(rows, z.records, lo, hi);
-    let met = looks::leaves_meeting(leaves, z.leaves, lo, hi);
+    let index = queries::records_between(rows, z.records, lo, hi);
+    let met = queries::leaves_meeting(leaves, z.leaves, lo, hi);
     if READ_LIMIT < x.reads as usize + (index.to - index.from) {
         return Plan::Refused(Refusal::LogFull);
     }
@@ -106,7 +106,7 @@ pub fn measure(
 }
 
 // Writes the records shown and logs what the scan passed. Answers the worker with the new counts.
-pub fn carry(
+pub fn carry_out(
     addresses: &mut [u32],
     values: &mut [u64],
     reads: &mut ReadSet,
@@ -147,12 +147,12 @@ pub fn carry(
         own.from,
     );
     let logged = logs::log_rows(reads, rows, slots, z.records, x.reads as usize, index);
-    let marked = logs::log_leaves(leafset, leaves, x.leaves as usize, met);
+    let logged_leaves = logs::log_leaves(leafset, leaves, x.leaves as usize, met);
     Worker {
         stage,
         number: x.number,
         reads: logged as u8,
-        leaves: marked as u8,
+        leaves: logged_leaves as u8,
         writes: x.writes,
     }
 }

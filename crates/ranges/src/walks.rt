@@ -11,7 +11,7 @@ ghost use mathlib.Core.Path.{_≡_};
 ghost use Prim.Native.Nat.{_+_, _<_};
 ghost use lib.ListN.{length};
 ghost use Rattle.lists.specs.Tests.{pick};
-ghost use Rattle.ranges.specs.Walks.{ground, rest, Walks, Inside, Steps, indexTurn, ownTurn, Fits, Shows, Room, Fills};
+ghost use Rattle.ranges.specs.Walks.{ground, rest, Walks, Inside, ComesNext, indexTurn, ownTurn, Fits, Shows, Room, Fills};
 
 // How many records the index has, and where the walk ends: places of the index and of the worker's writes.
 pub struct Bounds {
@@ -59,17 +59,17 @@ fn next(rows: &Records, slots: &Slots, writes: &WriteSet, b: Bounds, i: usize, j
     requires { ⌜ Walks (ground (now rows) (now slots) (now writes) b) ⌝ }
     requires { ⌜ Inside b i j ⌝ }
     requires { ⌜ i + j < b .to + b .end ⌝ }
-    ensures { λ r. ⌜ Steps (ground (now (rows .entry)) (now (slots .entry)) (now (writes .entry)) b) i j r ⌝ }
+    ensures { λ r. ⌜ ComesNext (ground (now (rows .entry)) (now (slots .entry)) (now (writes .entry)) b) i j r ⌝ }
 {
     if b.end <= j {
-        let s = looks::seen_at(rows, slots, b.records, i);
+        let s = queries::seen_at(rows, slots, b.records, i);
         return of_index(s, i + 1, j);
     }
     let e = writes::write_at(writes, j);
     if b.to <= i {
         return of_write(e, i, j + 1);
     }
-    let s = looks::seen_at(rows, slots, b.records, i);
+    let s = queries::seen_at(rows, slots, b.records, i);
     if s.address < e.address {
         return of_index(s, i + 1, j);
     }

@@ -135,7 +135,7 @@ pub performs-roomy : {l l' : Lent} {g g' : Logs} {c : Core} {o : Op} {ks vs ks' 
     → Performs l g c o ks vs l' g' ks' vs' p → at ≤ length out → longest (length ks) (length vs) ≤ length out - at → Roomy (p .reply) ks' vs' out at
 performs-roomy {l} {l'} {g} {g'} {c} {o} {ks} {vs} {ks'} {vs'} {p} out at h i f =
     roomy (p .reply) ks vs ks' vs' out at
-    (places-fit (stateOf l g c) o (length ks) (length vs) (p .reply) ks' vs' (h .goes .says))
+    (places-fit (stateOf l g c) o (length ks) (length vs) (p .reply) ks' vs' (h .refines .says))
     (h .addresses .size) (h .values .size) i f
 
 pub turns-taken : {l l' : Lent} {g g' : Logs} {c : Core} {k : Code} {d : Decoded} {o : Op} {ks vs ks' vs' out out' : List ℕ} {at j : ℕ} (p : Performed)
@@ -146,18 +146,18 @@ unfolding leftIn allWords
 turns-taken {l} {l'} {g} {g'} {c} {k} {d} {o} {ks} {vs} {ks'} {vs'} {out} {out'} {at} {j} p f e u h w =
     let σ = stateOf l g c in
     let s = stepIn o (length ks) (length vs) in
-    let a : replyIn (p .reply) ks' vs' ≡ answer σ s = h .goes .says in
+    let a : replyIn (p .reply) ks' vs' ≡ answer σ s = h .refines .says in
     let fit : placesIn (p .reply) ≤ min (length ks) (length vs) = places-fit σ o (length ks) (length vs) (p .reply) ks' vs' a in
     let place : j ≡ at + length (wordsOf (replyIn (p .reply) ks' vs')) = w .place in
     let left : length out - at - length (wordsOf (answer σ s)) ≡ length out - j
     = ap (λ (x : Answer). length out - at - length (wordsOf x)) (sym a) ∙ (let z : length out - at - length (wordsOf (replyIn (p .reply) ks' vs')) ≡ length out - j = omega arith in z) in
     record {
       events = event s (answer σ s) ∷ [];
-      ready = h .goes .ready;
+      ready = h .refines .ready;
       wrote = subst (λ (x : List ℕ). Wrote out at x out' j) (ap wordsOf a ∙ sym (append-nil (wordsOf (answer σ s)))) w;
       run =
           λ ws. ran-meant (length ks) (length vs) σ (length out - at) k ws o f (sym e ∙ u)
-          ∙ ap (λ (x : State). after (event s (answer σ s)) (ran (length ks) (length vs) x (length out - at - length (wordsOf (answer σ s))) ws)) (sym (h .goes .state))
+          ∙ ap (λ (x : State). after (event s (answer σ s)) (ran (length ks) (length vs) x (length out - at - length (wordsOf (answer σ s))) ws)) (sym (h .refines .state))
           ∙ ap (λ (x : ℕ). after (event s (answer σ s)) (ran (length ks) (length vs) (stateOf l' g' (p .core)) x ws)) left;
       count = refl;
       addresses =

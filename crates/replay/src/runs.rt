@@ -238,7 +238,7 @@ pub fn replay(
         (lent (now (rows .exit)) (now (leaves .exit)) (now (slots .exit))) (logs (now (reads .exit)) (now (leafsets .exit)) (now (writes .exit)))
         (now (addresses .exit)) (now (values .exit)) (now (out .exit)) r ⌝ }
 {
-    let start = starts::fresh(rows, leaves, slots, reads, leafsets, writes);
+    let start = starts::fresh_state(rows, leaves, slots, reads, leafsets, writes);
     take_all(
         out,
         addresses,

@@ -10,7 +10,7 @@ use Rattle.script.specs.declared.Fields.{Fields}
 use Rattle.script.specs.declared.Event.the-variants as event
 use Rattle.script.specs.Grammar.{oneNumber, twoNumbers, threeNumbers, lineOf}
 use Rattle.script.specs.Parsing.{values}
-use Rattle.script.specs.Turns.{told}
+use Rattle.script.specs.Tokens.{told}
 
 -- ---- one number
 

@@ -1,8 +1,8 @@
 pub mod Grammar
 pub mod Parsing
 pub mod GrammarLaws
-pub mod Turns
-pub mod TurnLaws
+pub mod Tokens
+pub mod TokenLaws
 pub mod LetterLaws
 pub mod Output
 pub mod OutputLaws

@@ -1,5 +1,5 @@
 -- The parser: what it is after the bytes of a line so far, and what a call of it tells. What a reader has to believe of
--- reading is `Reads`, with `Says`; how the parser keeps what it knows (`continued`) only ties one call to the next.
+-- reading is `Parses`, with `Says`; how the parser keeps what it knows (`continued`) only ties one call to the next.
 use Prim.Native.Nat.{ℕ, _+_}
 use mathlib.Core.Path.{_≡_}
 use mathlib.Core.Logic.{_⊎_}
@@ -97,12 +97,12 @@ Says event.Malformed p bs =
     (((l : List ℕ) × Whole l bs × (meaning l ≡ none))
     ⊎ ((has 10 bs ≡ false) × ((rest : List ℕ) → meaning (bs ++ rest) ≡ none)))
     × (p ≡ Start)
-Says event.Ended p bs = After bs p
+Says event.SliceEnd p bs = After bs p
 
 -- r is what reading s from a place on tells, after the bytes seen of the current line: what the bytes taken say, and that
 -- none is left at the slice's end
-pub record Reads (seen s : List ℕ) (from : ℕ) (r : Parsed) : Type 0 where
+pub record Parses (seen s : List ℕ) (from : ℕ) (r : Parsed) : Type 0 where
   pub taken : List ℕ
   pub cut : Cut s from taken (r .next)
   pub says : Says (r .event) (r .parser) (seen ++ taken)
-  pub whole : r .event ≡ event.Ended → drop (r .next) s ≡ []
+  pub whole : r .event ≡ event.SliceEnd → drop (r .next) s ≡ []

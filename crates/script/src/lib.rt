@@ -10,8 +10,8 @@ ghost use Prim.Native.Nat.{ℕ, _+_, _*_, _^_, _<_};
 ghost use lib.ListN.{length};
 ghost use Rattle.lists.specs.Tests.{less};
 ghost use Rattle.script.specs.Grammar.{lineOf};
-ghost use Rattle.script.specs.Parsing.{values, inNumber, filled, After, Reads};
-ghost use Rattle.script.specs.Turns.{Tells, Turns, Digits, told};
+ghost use Rattle.script.specs.Parsing.{values, inNumber, filled, After, Parses};
+ghost use Rattle.script.specs.Tokens.{Tells, ParsesPart, Digits, told};
 
 // A line of a script, with its numbers.
 pub enum Line {
@@ -65,7 +65,7 @@ pub enum Parser {
 pub enum Event {
     Line(Line),
     Malformed,
-    Ended,
+    SliceEnd,
 }
 
 // The parser to go on with, the place after the last byte read, and what reading came to.
@@ -90,7 +90,7 @@ const LINE_FEED: u8 = 10;
 const TENTH: u64 = 1844674407370955161;
 
 // The parser at the start of a line.
-pub fn fresh() -> Parser
+pub fn fresh_parser() -> Parser
     ensures { λ r. ⌜ After [] r ⌝ }
 {
     Parser::Start
@@ -297,7 +297,7 @@ fn spaced(letter: u8, before: Fields, value: u64, next: usize) -> Parsed
                 value: 0,
             },
             next,
-            event: Event::Ended,
+            event: Event::SliceEnd,
         },
         Fields::One(a) => Parsed {
             parser: Parser::Third {
@@ -308,7 +308,7 @@ fn spaced(letter: u8, before: Fields, value: u64, next: usize) -> Parsed
                 value: 0,
             },
             next,
-            event: Event::Ended,
+            event: Event::SliceEnd,
         },
         Fields::Two(_, _) => Parsed {
             parser: Parser::Start,
@@ -321,7 +321,7 @@ fn spaced(letter: u8, before: Fields, value: u64, next: usize) -> Parsed
 // From a place in or before a number on: to the slice's end, or past the byte that ends the number.
 fn field(s: &[u8], i: usize, letter: u8, before: Fields, digit: bool, value: u64) -> Parsed
     requires { ⌜ i < length (now s) ⌝ }
-    ensures { λ r. ⌜ Turns (now (s .entry)) i (inNumber letter before digit value) r ⌝ }
+    ensures { λ r. ⌜ ParsesPart (now (s .entry)) i (inNumber letter before digit value) r ⌝ }
     ensures { λ r. ⌜ i < r .next ⌝ }
 {
     let run = digits(s, i, digit, value);
@@ -330,7 +330,7 @@ fn field(s: &[u8], i: usize, letter: u8, before: Fields, digit: bool, value: u64
         return Parsed {
             parser: in_number(letter, before, run.digit, run.value),
             next,
-            event: Event::Ended,
+            event: Event::SliceEnd,
         };
     }
     let b = s[next];
@@ -356,7 +356,7 @@ fn field(s: &[u8], i: usize, letter: u8, before: Fields, digit: bool, value: u64
 // The first byte of a line. Any byte but a space or a line feed may be the letter: the line's end tells.
 fn start(s: &[u8], i: usize) -> Parsed
     requires { ⌜ i < length (now s) ⌝ }
-    ensures { λ r. ⌜ Turns (now (s .entry)) i Parser.Start r ⌝ }
+    ensures { λ r. ⌜ ParsesPart (now (s .entry)) i Parser.Start r ⌝ }
     ensures { λ r. ⌜ i < r .next ⌝ }
 {
     let b = s[i];
@@ -377,14 +377,14 @@ fn start(s: &[u8], i: usize) -> Parsed
     Parsed {
         parser: Parser::Letter(b),
         next: i + 1,
-        event: Event::Ended,
+        event: Event::SliceEnd,
     }
 }
 
 // The byte after the letter, which must be a space.
 fn after_letter(s: &[u8], i: usize, letter: u8) -> Parsed
     requires { ⌜ i < length (now s) ⌝ }
-    ensures { λ r. ⌜ Turns (now (s .entry)) i (Parser.Letter letter) r ⌝ }
+    ensures { λ r. ⌜ ParsesPart (now (s .entry)) i (Parser.Letter letter) r ⌝ }
     ensures { λ r. ⌜ i < r .next ⌝ }
 {
     let b = s[i];
@@ -396,7 +396,7 @@ fn after_letter(s: &[u8], i: usize, letter: u8) -> Parsed
                 value: 0,
             },
             next: i + 1,
-            event: Event::Ended,
+            event: Event::SliceEnd,
         };
     }
     Parsed {
@@ -407,9 +407,9 @@ fn after_letter(s: &[u8], i: usize, letter: u8) -> Parsed
 }
 
 // One turn: the letter, the space after it, or a number with the byte that ends it.
-fn turn(s: &[u8], i: usize, p: Parser) -> Parsed
+fn parse_part(s: &[u8], i: usize, p: Parser) -> Parsed
     requires { ⌜ i < length (now s) ⌝ }
-    ensures { λ r. ⌜ Turns (now (s .entry)) i p r ⌝ }
+    ensures { λ r. ⌜ ParsesPart (now (s .entry)) i p r ⌝ }
     ensures { λ r. ⌜ i < r .next ⌝ }
 {
     match p {
@@ -439,17 +439,17 @@ fn turn(s: &[u8], i: usize, p: Parser) -> Parsed
 // Reads the slice from a place on up to the end of a line, or up to a byte with which no line can say anything, or up to
 // the slice's end; and answers which, the place after it, and the parser to go on with.
 pub fn parse(s: &[u8], from: usize, p: Parser) -> Parsed
-    ensures { λ r. ⌜ ((seen : List ℕ) → After seen p → Reads seen (now (s .entry)) from r) ⌝ }
+    ensures { λ r. ⌜ ((seen : List ℕ) → After seen p → Parses seen (now (s .entry)) from r) ⌝ }
 {
     let mut i = from;
     let mut q = p;
     while i < s.len() {
-        let t = turn(s, i, q);
+        let t = parse_part(s, i, q);
         let event = t.event;
         match event {
             Event::Line(_) => return t,
             Event::Malformed => return t,
-            Event::Ended => {
+            Event::SliceEnd => {
                 q = t.parser;
                 i = t.next;
             }
@@ -458,6 +458,6 @@ pub fn parse(s: &[u8], from: usize, p: Parser) -> Parsed
     Parsed {
         parser: q,
         next: i,
-        event: Event::Ended,
+        event: Event::SliceEnd,
     }
 }

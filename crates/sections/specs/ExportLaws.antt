@@ -9,10 +9,10 @@ use Rattle.lists.specs.Tests.{same, maybe, present}
 use Rattle.lists.specs.Rows.{Row, row}
 use Rattle.spec.specs.Records.{standard, Record}
 use Rattle.spec.specs.Maps.{contents}
-use Rattle.looks.specs.declared.Next.{Next}
-use Rattle.looks.specs.declared.Next.the-variants.{At, Done}
+use Rattle.queries.specs.declared.Next.{Next}
+use Rattle.queries.specs.declared.Next.the-variants.{At, Done}
 use Rattle.map.specs.Views.{recordFrom, Lent, mapOf}
-use Rattle.looks.specs.NextViews.{firstFrom, nextIn, Follows}
+use Rattle.queries.specs.NextViews.{firstFrom, nextIn, Follows}
 use Rattle.transactions.specs.declared.Core.{Core}
 use Rattle.transactions.specs.Views.{Logs}
 use Rattle.transactions.specs.Ready.{Ready}
@@ -41,7 +41,7 @@ ready-loaded {l} {g} core e h = subst (Ready l g) (sym e) h
 
 module _ {l l' : Lent} {g g' : Logs} {c : Core} {k : Code} {ks vs ks' vs' : List ℕ} {r : Stepped} (h : Ready l g c) (s : Steps l g c k ks vs l' g' ks' vs' r) where
   ready-by : (d : Decoded) → decoded k ≡ d → Ready l' g' (r .core)
-  ready-by (Meant o) e = s .told o e .performs .goes .ready
+  ready-by (Meant o) e = s .told o e .performs .refines .ready
   ready-by Meaningless e =
       let u = s .unmeant e in
       subst (λ (x : Stepped). Ready l' g' (x .core)) (sym (u .outcome))
@@ -50,8 +50,8 @@ module _ {l l' : Lent} {g g' : Logs} {c : Core} {k : Code} {ks vs ks' vs' : List
   steps-ready : Ready l' g' (r .core)
   steps-ready = ready-by (decoded k) refl
 
-  pub steps-crew : length (r .core .seats) ≡ standard .workers
-  steps-crew = steps-ready .stored .seats
+  pub steps-workers : length (r .core .workers) ≡ standard .workers
+  steps-workers = steps-ready .stored .workers
 
 pub takes : {l l' : Lent} {g g' : Logs} {c : Core} {k : Code} {ks vs ks' vs' answer : List ℕ} {core core' : List (List ℕ)} (r : Stepped)
     → c ≡ coreIn core → Ready l g (coreIn core) → Steps l g c k ks vs l' g' ks' vs' r → coreIn core' ≡ r .core → codedIn answer ≡ r .answer

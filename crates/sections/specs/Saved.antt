@@ -47,7 +47,7 @@ countersIn r = record { number = getD r 0 0; version = getD r 1 0 }
 unfoldable pub coreIn : List (List ℕ) → Core
 coreIn rs =
     record {
-      seats = seatsIn rs;
+      workers = seatsIn rs;
       sizes = sizesIn (getD rs (standard .workers) []);
       counters = countersIn (getD rs (standard .workers + 1) []);
     }
@@ -55,4 +55,4 @@ coreIn rs =
 -- rows of a core that hold these seats
 pub record Seated (rs : List (List ℕ)) (xs : List Worker) : Type 0 where
   pub rows : length rs ≡ standard .workers + 2
-  pub seats : seatsIn rs ≡ xs
+  pub workers : seatsIn rs ≡ xs

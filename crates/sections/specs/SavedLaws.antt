@@ -53,19 +53,19 @@ seat-put x e n a b c =
 
 -- the first i rows and the first i seats say the same
 pub record Saving (rs : List (List ℕ)) (xs : List Worker) (i : ℕ) : Type 0 where
-  pub seats : length xs ≡ standard .workers
+  pub workers : length xs ≡ standard .workers
   pub at : (j : ℕ) → j < i → seatIn (getD rs j []) ≡ getD xs j freed
 
 pub saving-start : (rs : List (List ℕ)) (xs : List Worker) → length xs ≡ standard .workers → Saving rs xs 0
-saving-start rs xs q = record { seats = q; at = λ j h. absurd (not-suc-le-zero h) }
+saving-start rs xs q = record { workers = q; at = λ j h. absurd (not-suc-le-zero h) }
 
 module _ {rs : List (List ℕ)} {xs : List Worker} {i : ℕ} (h : i < standard .workers) (s : Saving rs xs i) where
   -- the next seat is read
   pub saving-read : (x : Worker) → x ≡ seatIn (getD rs i []) → Saving rs (set xs i x) (i + 1)
   saving-read x e =
-      let l : length xs ≡ standard .workers = s .seats in
+      let l : length xs ≡ standard .workers = s .workers in
       record {
-        seats = length-set xs i x ∙ s .seats;
+        workers = length-set xs i x ∙ s .workers;
         at = λ j k.
             ⊎-elim
             (λ t. let q : j ≡ i = same-true j i t in
@@ -79,7 +79,7 @@ module _ {rs : List (List ℕ)} {xs : List Worker} {i : ℕ} (h : i < standard .
   pub saving-put : (r : List ℕ) → length rs ≡ standard .workers + 2 → seatIn r ≡ getD xs i freed → Saving (set rs i r) xs (i + 1)
   saving-put r l e =
       record {
-        seats = s .seats;
+        workers = s .workers;
         at = λ j k.
             ⊎-elim
             (λ t. let q : j ≡ i = same-true j i t in
@@ -92,7 +92,7 @@ module _ {rs : List (List ℕ)} {xs : List Worker} {i : ℕ} (h : i < standard .
 pub saving-end : {rs : List (List ℕ)} {xs : List Worker} {i : ℕ} → Saving rs xs i → standard .workers ≤ i → seatsIn rs ≡ xs
 saving-end {rs} {xs} {i} s h =
     let l : length (seatsIn rs) ≡ standard .workers = length-rows seatIn rs (standard .workers) in
-    let m : length xs ≡ standard .workers = s .seats in
+    let m : length xs ≡ standard .workers = s .workers in
     ext-getD freed (seatsIn rs) xs (l ∙ sym m)
     (λ j k. row-at seatIn rs (standard .workers) j freed (omega arith) ∙ s .at j (omega arith))
 
@@ -105,9 +105,9 @@ rows-same f rs us n h =
     (λ j k. row-at f rs n j (f []) (omega arith) ∙ ap f (h j (omega arith)) ∙ sym (row-at f us n j (f []) (omega arith)))
 
 pub core-read : (rs : List (List ℕ)) {xs : List Worker} {z : Sizes} → xs ≡ seatsIn rs → z ≡ sizesIn (getD rs (standard .workers) [])
-    → record { seats = xs; sizes = z; counters = countersIn (getD rs (standard .workers + 1) []) } ≡ coreIn rs
+    → record { workers = xs; sizes = z; counters = countersIn (getD rs (standard .workers + 1) []) } ≡ coreIn rs
 unfolding coreIn
-core-read rs e f = λ i. record { seats = e i; sizes = f i; counters = countersIn (getD rs (standard .workers + 1) []) }
+core-read rs e f = λ i. record { workers = e i; sizes = f i; counters = countersIn (getD rs (standard .workers + 1) []) }
 
 -- the rows of the sizes and the counters
 abbrev sizesRow : Sizes → List ℕ
@@ -131,13 +131,13 @@ module _ (core : Core) (rs : List (List ℕ)) where
       ∙ getD-set-other rs (standard .workers) j (sizesRow (core .sizes)) [] (λ q. let z : ⊥ = omega arith in z))
 
   -- they are put after the seats
-  pub core-put : Seated rs (core .seats) → coreIn whole ≡ core
+  pub core-put : Seated rs (core .workers) → coreIn whole ≡ core
   unfolding coreIn
   core-put s =
       let l : length rs ≡ standard .workers + 2 = s .rows in
       let m : length withSizes ≡ length rs = length-set rs (standard .workers) (sizesRow (core .sizes)) in
       λ i. record {
-        seats = (seats-same ∙ s .seats) i;
+        workers = (seats-same ∙ s .workers) i;
         sizes =
             sizesIn
             ((getD-set-other withSizes (standard .workers + 1) (standard .workers) (countersRow (core .counters)) [] (λ q. let z : ⊥ = omega arith in z)

@@ -4,10 +4,10 @@
 mod saved;
 
 use crate::saved::Saved;
-use looks::Next;
 use map::Leaves;
 use map::Records;
 use map::Slots;
+use queries::Next;
 use replay::codes;
 use replay::codes::Code;
 use replay::codes::Coded;
@@ -39,7 +39,7 @@ pub extern "C" fn sections_fresh(
 )
     ensures { λ _. ⌜ Fresh (lent (now (rows .exit)) (now (leaves .exit)) (now (slots .exit))) (logs (now (reads .exit)) (now (leafsets .exit)) (now (writes .exit))) (coreIn (now (core .exit))) ⌝ }
 {
-    let c = starts::fresh(rows, leaves, slots, reads, leafsets, writes);
+    let c = starts::fresh_state(rows, leaves, slots, reads, leafsets, writes);
     saved::store(core, c);
 }
 
@@ -171,7 +171,7 @@ pub extern "C" fn sections_next(
 {
     let c = saved::load(core);
     let sizes = c.sizes;
-    let next = looks::next_record(rows, slots, sizes.records, from);
+    let next = queries::next_record(rows, slots, sizes.records, from);
     match next {
         Next::At {
             address,

@@ -88,15 +88,15 @@ fn seats_in(words: &Saved) -> [Worker; WORKERS]
         leaves: 0,
         writes: 0,
     };
-    let mut seats = [free; WORKERS];
+    let mut workers = [free; WORKERS];
     let mut i = 0;
     while i < WORKERS {
         let row = words[i];
         let x = seat_in(row);
-        seats[i] = x;
+        workers[i] = x;
         i += 1;
     }
-    seats
+    workers
 }
 
 fn sizes_in(row: Row) -> Sizes
@@ -118,7 +118,7 @@ fn sizes_in(row: Row) -> Sizes
 pub fn load(words: &Saved) -> Core
     ensures { λ r. ⌜ r ≡ coreIn (now (words .entry)) ⌝ }
 {
-    let seats = seats_in(words);
+    let workers = seats_in(words);
     let sizes = sizes_in(words[WORKERS]);
     let row = words[WORKERS + 1];
     let counters = Counters {
@@ -126,7 +126,7 @@ pub fn load(words: &Saved) -> Core
         version: row[1],
     };
     Core {
-        seats,
+        workers,
         sizes,
         counters,
     }
@@ -147,15 +147,15 @@ fn seat_row(x: Worker) -> Row
     ]
 }
 
-fn seat_rows(seats: [Worker; WORKERS]) -> Saved
-    requires { ⌜ length seats ≡ standard .workers ⌝ }
-    ensures { λ r. ⌜ Seated r seats ⌝ }
+fn seat_rows(workers: [Worker; WORKERS]) -> Saved
+    requires { ⌜ length workers ≡ standard .workers ⌝ }
+    ensures { λ r. ⌜ Seated r workers ⌝ }
 {
     let none = [0; CORE_WORDS];
     let mut rows = [none; WORKERS + 2];
     let mut i = 0;
     while i < WORKERS {
-        let row = seat_row(seats[i]);
+        let row = seat_row(workers[i]);
         rows[i] = row;
         i += 1;
     }
@@ -164,13 +164,13 @@ fn seat_rows(seats: [Worker; WORKERS]) -> Saved
 
 // Puts the core into the words.
 pub fn store(words: &mut Saved, core: Core)
-    requires { ⌜ length (core .seats) ≡ standard .workers ⌝ }
+    requires { ⌜ length (core .workers) ≡ standard .workers ⌝ }
     ensures { λ _. ⌜ coreIn (now (words .exit)) ≡ core ⌝ }
 {
-    let seats = core.seats;
+    let workers = core.workers;
     let z = core.sizes;
     let k = core.counters;
-    let mut rows = seat_rows(seats);
+    let mut rows = seat_rows(workers);
     let sizes = [
         z.records as u64,
         z.leaves as u64,

@@ -22,7 +22,7 @@ use Rattle.spec.specs.Claim.{Reading, runningNow, extended, goesOn}
 use Rattle.laws.specs.ContentLaws.{look-indexedBetween}
 use Rattle.laws.specs.LeafLaws.{version-old, meeting-covers}
 use Rattle.serial.specs.Stages.{open-unchecked, open-busy}
-use Rattle.serial.specs.Feeding.{writesOf, writesOf-snoc, wrote, look-member}
+use Rattle.serial.specs.Feeding.{eventWrites, writesOf-snoc, wrote, look-member}
 use Rattle.serial.specs.Invariant.{Facts, Observation, Throughout, Explains, Backed, by-read, by-leaf, Working, Invariant}
 use Rattle.serial.specs.Keeping.{ReadOn, own-step}
 use Rattle.serial.specs.Observing.{explain-quiet, explain-own-read, readOf, explain-read, ScanOf, scanOf, shown, explain-scan}
@@ -202,7 +202,7 @@ module _ {σ : State} {ρ : Reading} {w : ℕ} (h : Sound σ ρ) (o : IsOpen σ 
       (unfold logged x in h .fine .writes w) n (unfold logged in q) b
 
   -- what the worker wrote is what its events wrote
-  own-is : (k : ℕ) → look (writesOf (g .t .events)) k ≡ ownWrite σ w k
+  own-is : (k : ℕ) → look (eventWrites (g .t .events)) k ≡ ownWrite σ w k
   unfolding ownWrite x
   own-is k = ap (λ (ws : List (Row Write)). look ws k) (g .wrote)
 
@@ -258,7 +258,7 @@ module _ {σ : State} {ρ : Reading} {w : ℕ} (h : Sound σ ρ) (o : IsOpen σ 
       new : Observation
       new = scanOf (facts σ .indexed) (facts σ .current) lo hi
 
-      shows : shown (writesOf (g .t .events)) lo hi (scanReads σ lo hi) ≡ scanned σ w lo hi
+      shows : shown (eventWrites (g .t .events)) lo hi (scanReads σ lo hi) ≡ scanned σ w lo hi
       shows = unfold scanned scanReads in ap (λ (ws : List (Row Write)). shown ws lo hi (indexedBetween (σ .map) lo hi)) (g .wrote)
 
       inside : (j : ℕ) → lo ≤ j → j ≤ hi → within lo hi j ≡ true

@@ -67,8 +67,8 @@ editedHistory rule x (s ∷ ss) =
     record { step = s; answer = maybe (firstCause (rule x s)) (granted (x .state) s) refused } ∷ editedHistory rule (editedNext rule x s) ss
 
 -- the claim of the run by the rule
-pub Holds : Rule → List Step → Type 0
-Holds rule ss =
+pub SerialUnder : Rule → List Step → Type 0
+SerialUnder rule ss =
     let x : Edit = record { state = fresh standard; flagged = [] } in
     SerialRun (editedHistory rule x ss) (contents (editedFinal rule x ss .state .map))
 
@@ -83,8 +83,8 @@ pub crossed : List Step
 crossed =
     begin 0 ∷ begin 1 ∷ read 0 1 ∷ put 0 2 (value 20) ∷ read 1 2 ∷ put 1 1 (value 10) ∷ lock 0 ∷ lock 1 ∷ validate 0 ∷ validate 1 ∷ install 0 ∷ install 1 ∷ []
 
-pub no-under-lock-breaks : Holds (without 13) crossed → ⊥
-unfolding claim Holds editedFinal editedHistory editedNext flags without crossed
+pub no-under-lock-breaks : SerialUnder (without 13) crossed → ⊥
+unfolding claim SerialUnder editedFinal editedHistory editedNext flags without crossed
 no-under-lock-breaks s =
     found-differ (s .answers 1 _ refl .0)
 
@@ -93,8 +93,8 @@ pub missing : List Step
 missing =
     begin 0 ∷ put 0 4096 (value 32) ∷ lock 0 ∷ validate 0 ∷ install 0 ∷ begin 1 ∷ scan 1 4000 5000 64 64 ∷ lock 1 ∷ validate 1 ∷ install 1 ∷ []
 
-pub no-phantom-breaks : Holds (without 14) missing → ⊥
-unfolding claim Holds editedFinal editedHistory editedNext flags without missing
+pub no-phantom-breaks : SerialUnder (without 14) missing → ⊥
+unfolding claim SerialUnder editedFinal editedHistory editedNext flags without missing
 no-phantom-breaks s =
     listed-differ (s .answers 1 _ refl .0)
 
@@ -128,7 +128,7 @@ dropped-record =
     begin 0 ∷ put 0 7 (value 70) ∷ lock 0 ∷ validate 0 ∷ install 0 ∷ merge 7 ∷ begin 0 ∷ remove 0 7 ∷ lock 0 ∷ validate 0 ∷ install 0
     ∷ begin 0 ∷ put 0 7 (value 71) ∷ lock 0 ∷ validate 0 ∷ merge 7 ∷ begin 1 ∷ scan 1 0 10 64 64 ∷ lock 1 ∷ validate 1 ∷ install 0 ∷ install 1 ∷ []
 
-pub flags-at-lock-break : Holds atLockOnly dropped-record → ⊥
-unfolding claim Holds editedFinal editedHistory editedNext flags atLockOnly phantomByFlag flaggedPhantom dropped-record
+pub flags-at-lock-break : SerialUnder atLockOnly dropped-record → ⊥
+unfolding claim SerialUnder editedFinal editedHistory editedNext flags atLockOnly phantomByFlag flaggedPhantom dropped-record
 flags-at-lock-break s =
     listed-differ (s .answers 3 _ refl .0)

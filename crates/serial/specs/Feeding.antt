@@ -1,6 +1,6 @@
 -- What the plain sorted list holds after transactions were fed to it, by their writes.
 --
--- `writesOf` reads the write set off a transaction's events. `listAfter-before`, `listAfter-other` and `listAfter-mine`
+-- `eventWrites` reads the write set off a transaction's events. `listAfter-before`, `listAfter-other` and `listAfter-mine`
 -- say what one more installed transaction changes: nothing below its number, nothing at keys that it does not write, and
 -- at its own keys, from its number on, its own write, if no writer of the key has a larger number.
 use Prim.Native.Nat.{ℕ, zero, suc, _<_, _≤_}
@@ -15,7 +15,7 @@ use Rattle.lists.specs.Rows.{Row, row, look, insert, Rising}
 use Rattle.lists.specs.RowLaws.{some-not-none, look-insert, look-assign, look-here, look-there, look-nil, rising-assign, rising-nil}
 use Rattle.spec.specs.Records.{Record, Write, written, deleted, outcome}
 use Rattle.spec.specs.Steps.{Step, begin, read, scan, put, remove, lock, validate, install, abort, merge, Event}
-use Rattle.spec.specs.Sequential.{after, Agrees, afterAll, AllAgree}
+use Rattle.spec.specs.Sequential.{afterStep, Agrees, afterSteps, AllAgree}
 use Rattle.spec.specs.Claim.{Transaction, listAfter}
 
 -- ---- one transaction
@@ -38,8 +38,8 @@ writesFrom ws [] = ws
 writesFrom ws (e ∷ es) = writesFrom (wrote ws (e .step)) es
 
 -- the write set that a transaction's events make
-unfoldable pub writesOf : List Event → List (Row Write)
-writesOf es = writesFrom [] es
+unfoldable pub eventWrites : List Event → List (Row Write)
+eventWrites es = writesFrom [] es
 
 -- what a write set, laid over by the transaction numbered n, makes of what stands at a key
 abbrev pub laid : ℕ → List (Row Write) → ℕ → Option Record → Option Record
@@ -52,8 +52,8 @@ laid-insert n j e ws k o =
     ∙ ⊎-elim (λ g. rw g) (λ g. rw g) (cases (same j k))
 
 look-after : (n : ℕ) (l l' : List (Row Record)) (ws : List (Row Write)) (s : Step)
-    → ((k : ℕ) → look l' k ≡ laid n ws k (look l k)) → (k : ℕ) → look (after n l' s) k ≡ laid n (wrote ws s) k (look l k)
-unfolding after wrote
+    → ((k : ℕ) → look l' k ≡ laid n ws k (look l k)) → (k : ℕ) → look (afterStep n l' s) k ≡ laid n (wrote ws s) k (look l k)
+unfolding afterStep wrote
 look-after n l l' ws (begin w) h k = h k
 look-after n l l' ws (read w j) h k = h k
 look-after n l l' ws (scan w lo hi a b) h k = h k
@@ -72,21 +72,21 @@ look-after n l l' ws (abort w) h k = h k
 look-after n l l' ws (merge a) h k = h k
 
 look-afterFrom : (n : ℕ) (l l' : List (Row Record)) (ws : List (Row Write)) (es : List Event)
-    → ((k : ℕ) → look l' k ≡ laid n ws k (look l k)) → (k : ℕ) → look (afterAll n l' es) k ≡ laid n (writesFrom ws es) k (look l k)
-unfolding afterAll writesFrom
+    → ((k : ℕ) → look l' k ≡ laid n ws k (look l k)) → (k : ℕ) → look (afterSteps n l' es) k ≡ laid n (writesFrom ws es) k (look l k)
+unfolding afterSteps writesFrom
 look-afterFrom n l l' ws [] h k = h k
 look-afterFrom n l l' ws (e ∷ es) h k =
-    look-afterFrom n l (after n l' (e .step)) (wrote ws (e .step)) es (look-after n l l' ws (e .step) h) k
+    look-afterFrom n l (afterStep n l' (e .step)) (wrote ws (e .step)) es (look-after n l l' ws (e .step) h) k
 
 -- a transaction's events leave its write set laid over the list
 pub look-afterAll : (n : ℕ) (l : List (Row Record)) (es : List Event) (k : ℕ)
-    → look (afterAll n l es) k ≡ laid n (writesOf es) k (look l k)
-unfolding writesOf
+    → look (afterSteps n l es) k ≡ laid n (eventWrites es) k (look l k)
+unfolding eventWrites
 look-afterAll n l es k =
     look-afterFrom n l l [] es (λ j. sym (ap (λ (x : Option Write). maybe x (look l j) (outcome n)) (look-nil j))) k
 
-pub rising-after : (n : ℕ) (l : List (Row Record)) (s : Step) → Rising l → Rising (after n l s)
-unfolding after
+pub rising-after : (n : ℕ) (l : List (Row Record)) (s : Step) → Rising l → Rising (afterStep n l s)
+unfolding afterStep
 rising-after n l (begin w) h = h
 rising-after n l (read w j) h = h
 rising-after n l (scan w lo hi a b) h = h
@@ -98,18 +98,18 @@ rising-after n l (install w) h = h
 rising-after n l (abort w) h = h
 rising-after n l (merge a) h = h
 
-pub rising-afterAll : (n : ℕ) (l : List (Row Record)) (es : List Event) → Rising l → Rising (afterAll n l es)
-unfolding afterAll
+pub rising-afterAll : (n : ℕ) (l : List (Row Record)) (es : List Event) → Rising l → Rising (afterSteps n l es)
+unfolding afterSteps
 rising-afterAll n l [] h = h
-rising-afterAll n l (e ∷ es) h = rising-afterAll n (after n l (e .step)) es (rising-after n l (e .step) h)
+rising-afterAll n l (e ∷ es) h = rising-afterAll n (afterStep n l (e .step)) es (rising-after n l (e .step) h)
 
 -- ---- one event more
 
 pub allAgree-snoc : (n : ℕ) (l : List (Row Record)) (es : List Event) (e : Event)
-    → AllAgree n l es → Agrees (afterAll n l es) (e .step) (e .answer) → AllAgree n l (es ++ (e ∷ []))
-unfolding afterAll AllAgree
+    → AllAgree n l es → Agrees (afterSteps n l es) (e .step) (e .answer) → AllAgree n l (es ++ (e ∷ []))
+unfolding afterSteps AllAgree
 allAgree-snoc n l [] e h a = (a, tt)
-allAgree-snoc n l (f ∷ es) e h a = (h .0, allAgree-snoc n (after n l (f .step)) es e (h .1) a)
+allAgree-snoc n l (f ∷ es) e h a = (h .0, allAgree-snoc n (afterStep n l (f .step)) es e (h .1) a)
 
 writesFrom-snoc : (ws : List (Row Write)) (es : List Event) (e : Event)
     → writesFrom ws (es ++ (e ∷ [])) ≡ wrote (writesFrom ws es) (e .step)
@@ -117,12 +117,12 @@ unfolding writesFrom
 writesFrom-snoc ws [] e = refl
 writesFrom-snoc ws (f ∷ es) e = writesFrom-snoc (wrote ws (f .step)) es e
 
-pub writesOf-snoc : (es : List Event) (e : Event) → writesOf (es ++ (e ∷ [])) ≡ wrote (writesOf es) (e .step)
-unfolding writesOf
+pub writesOf-snoc : (es : List Event) (e : Event) → eventWrites (es ++ (e ∷ [])) ≡ wrote (eventWrites es) (e .step)
+unfolding eventWrites
 writesOf-snoc es e = writesFrom-snoc [] es e
 
-pub writesOf-nil : writesOf [] ≡ []
-unfolding writesOf writesFrom
+pub writesOf-nil : eventWrites [] ≡ []
+unfolding eventWrites writesFrom
 writesOf-nil = refl
 
 -- ---- all transactions
@@ -147,7 +147,7 @@ unfolding listAfter
 listAfter-none ts m e = rw e
 
 rising-fed : (o : Option Transaction) (n : ℕ) (l : List (Row Record)) → Rising l
-    → Rising (maybe o l (λ (t : Transaction). afterAll n l (t .events)))
+    → Rising (maybe o l (λ (t : Transaction). afterSteps n l (t .events)))
 rising-fed none n l h = h
 rising-fed (some t) n l h = rising-afterAll n l (t .events) h
 
@@ -159,10 +159,10 @@ rising-listAfter ts (suc m) = rising-fed (look ts (suc m)) (suc m) (listAfter ts
 -- what stands at a key after the transaction that may have the number
 fed : Option Transaction → ℕ → ℕ → Option Record → Option Record
 fed none n k o = o
-fed (some t) n k o = laid n (writesOf (t .events)) k o
+fed (some t) n k o = laid n (eventWrites (t .events)) k o
 
 look-fed : (x : Option Transaction) (n : ℕ) (l : List (Row Record)) (k : ℕ)
-    → look (maybe x l (λ (t : Transaction). afterAll n l (t .events))) k ≡ fed x n k (look l k)
+    → look (maybe x l (λ (t : Transaction). afterSteps n l (t .events))) k ≡ fed x n k (look l k)
 unfolding fed
 look-fed none n l k = refl
 look-fed (some t) n l k = look-afterAll n l (t .events) k
@@ -175,7 +175,7 @@ look-listAfter ts m k = look-fed (look ts (suc m)) (suc m) (listAfter ts m) k
 -- no transaction that writes the key has number n or a larger one
 abbrev pub NoLaterWriter : ℕ → List (Row Transaction) → ℕ → Type 0
 NoLaterWriter n ts k =
-    (r : Row Transaction) → List·Memᴰ r ts → present (look (writesOf (r .item .events)) k) ≡ true → r .key < n
+    (r : Row Transaction) → List·Memᴰ r ts → present (look (eventWrites (r .item .events)) k) ≡ true → r .key < n
 
 -- ---- one transaction more, numbered n, of which `ts` has none
 
@@ -185,13 +185,13 @@ module _ (n : ℕ) (t : Transaction) (ts : List (Row Transaction)) where
   unfolding listAfter
   listAfter-before zero h = refl
   listAfter-before (suc m) h =
-      ap (λ (o : Option Transaction). maybe o (listAfter (row n t ∷ ts) m) (λ (x : Transaction). afterAll (suc m) (listAfter (row n t ∷ ts) m) (x .events)))
+      ap (λ (o : Option Transaction). maybe o (listAfter (row n t ∷ ts) m) (λ (x : Transaction). afterSteps (suc m) (listAfter (row n t ∷ ts) m) (x .events)))
       (look-there (row n t) ts (suc m) (λ q. omega arith))
-      ∙ ap (λ (l : List (Row Record)). maybe (look ts (suc m)) l (λ (x : Transaction). afterAll (suc m) l (x .events)))
+      ∙ ap (λ (l : List (Row Record)). maybe (look ts (suc m)) l (λ (x : Transaction). afterSteps (suc m) l (x .events)))
       (listAfter-before m (omega arith))
 
   -- at a key that it does not write nothing changes
-  pub listAfter-other : look ts n ≡ none → (k : ℕ) → look (writesOf (t .events)) k ≡ none
+  pub listAfter-other : look ts n ≡ none → (k : ℕ) → look (eventWrites (t .events)) k ≡ none
       → (m : ℕ) → look (listAfter (row n t ∷ ts) m) k ≡ look (listAfter ts m) k
   unfolding fed
   listAfter-other new k w zero = unfold listAfter in refl
@@ -214,15 +214,15 @@ module _ (n : ℕ) (t : Transaction) (ts : List (Row Transaction)) where
       → (o : Option Record) → fed x m k o ≡ o
   unfolding fed
   later-fed k h m l none e o = refl
-  later-fed k h m l (some x) e o = go (look (writesOf (x .events)) k) refl
+  later-fed k h m l (some x) e o = go (look (eventWrites (x .events)) k) refl
     where
-      go : (y : Option Write) → look (writesOf (x .events)) k ≡ y → laid m (writesOf (x .events)) k o ≡ o
+      go : (y : Option Write) → look (eventWrites (x .events)) k ≡ y → laid m (eventWrites (x .events)) k o ≡ o
       go none q = rw q
       go (some y) q =
           absurd (let p : m < n = h (row m x) (look-member ts m x e) (ap present q) in let z : ⊥ = omega arith in z)
 
   -- at a key that it writes, and no writer of which has a larger number, its write stands from its number on
-  pub listAfter-mine : (k : ℕ) (e : Write) → look (writesOf (t .events)) k ≡ some e → NoLaterWriter n ts k
+  pub listAfter-mine : (k : ℕ) (e : Write) → look (eventWrites (t .events)) k ≡ some e → NoLaterWriter n ts k
       → (m : ℕ) → 1 ≤ n → n ≤ m → look (listAfter (row n t ∷ ts) m) k ≡ outcome n e
   unfolding fed
   listAfter-mine k e w h zero p l = absurd (let z : ⊥ = omega arith in z)

@@ -23,10 +23,10 @@ use Rattle.laws.specs.RecordLaws.{sameRecord-true}
 use Rattle.laws.specs.LeafLaws.{GoodLeaves, live-version}
 use Rattle.laws.specs.MergeLaws.{Merges, merges}
 use Rattle.serial.specs.Stages.{locked-busy, locked-unchecked, locked-not-open, checked-busy, checked-not-open, free-free}
-use Rattle.serial.specs.Feeding.{writesOf, writesOf-snoc, wrote, laid}
+use Rattle.serial.specs.Feeding.{eventWrites, writesOf-snoc, wrote, laid}
 use Rattle.serial.specs.Invariant.{Observation, Explains, unwritten, Working, Invariant}
 use Rattle.serial.specs.Keeping.{Rearranged, merge-step}
-use Rattle.serial.specs.Validating.{Untouched, Passed, Checks, validate-step}
+use Rattle.serial.specs.Validating.{OthersHarmless, Passed, Checks, validate-step}
 use Rattle.serial.specs.Installing.{Installs, install-step}
 use Rattle.serial.specs.Observing.{explain-quiet}
 use Rattle.serial.specs.Model.{facts, Fine, worker-same, worker-other, worker-free, fine-worker, read-passed, read-running, running-same, running-other, not-false}
@@ -53,7 +53,7 @@ pub record Validatable (σ : State) (w : ℕ) : Type 0 where
 
 -- a key that no other worker has locked is changed by no checked transaction
 untouched : (σ : State) (ρ : Reading) (w : ℕ) → Invariant (facts σ) ρ → (k : ℕ) (r : Option Record)
-    → heldByOther w (contentOf (σ .map .slots) k) ≡ false → Untouched (facts σ) w k r
+    → heldByOther w (contentOf (σ .map .slots) k) ≡ false → OthersHarmless (facts σ) w k r
 untouched σ ρ w i k r e v d c = unwritten (go (look (workerOf σ v .writes) k) refl)
   where
     go : (o : Option Write) → look (workerOf σ v .writes) k ≡ o → look (workerOf σ v .writes) k ≡ none
@@ -200,13 +200,13 @@ module _ {σ : State} {ρ : Reading} {w : ℕ} (h : Sound σ ρ) (p : Validatabl
 
       same-transaction : (t : Transaction) → look (ρ .running) w ≡ some t
           → (withNumber n (extended e-validate (g-locked .t)) .begun ≡ t .begun)
-          × (writesOf (withNumber n (extended e-validate (g-locked .t)) .events) ≡ writesOf (t .events))
+          × (eventWrites (withNumber n (extended e-validate (g-locked .t)) .events) ≡ eventWrites (t .events))
           × ((os : List Observation) → Explains os (t .events) → Explains os (withNumber n (extended e-validate (g-locked .t)) .events))
       same-transaction t q =
           subst
           (λ (u : Transaction).
           (withNumber n (extended e-validate (g-locked .t)) .begun ≡ u .begun)
-          × (writesOf (withNumber n (extended e-validate (g-locked .t)) .events) ≡ writesOf (u .events))
+          × (eventWrites (withNumber n (extended e-validate (g-locked .t)) .events) ≡ eventWrites (u .events))
           × ((os : List Observation) → Explains os (u .events) → Explains os (withNumber n (extended e-validate (g-locked .t)) .events)))
           (is-t t q)
           (unfold withNumber extended in

@@ -15,7 +15,7 @@ use Rattle.spec.specs.Records.{Record, Write, deleted, outcome}
 use Rattle.spec.specs.Steps.{Worker, isFree, isChecked}
 use Rattle.spec.specs.Claim.{Transaction, Reading, listAfter}
 use Rattle.serial.specs.Stages.{checked-busy, checked-not-open}
-use Rattle.serial.specs.Feeding.{writesOf, laid, listAfter-before, listAfter-other, listAfter-mine}
+use Rattle.serial.specs.Feeding.{eventWrites, laid, listAfter-before, listAfter-other, listAfter-mine}
 use Rattle.serial.specs.Invariant.{Facts, Observation, Matches, Explains, Harmless, unwritten, already-absent, Valid, CheckedAs, Working, Done, Invariant}
 use Rattle.serial.specs.Keeping.{SameChecks, valid-kept, Kept, working-kept, backed-kept}
 
@@ -57,10 +57,10 @@ module _ {F F' : Facts} {ρ ρ' : Reading} {w : ℕ} (h : Installs F F' ρ ρ' w
   installs = h .installed (g .t) (g .running) ∙ ap (λ (j : ℕ). row j (h .now) ∷ ρ .installed) (c .told)
 
   -- its writes are those of the worker
-  writes : writesOf (h .now .events) ≡ F .worker w .writes
-  writes = ap writesOf (h .now-same (g .t) (g .running) .1) ∙ g .wrote
+  writes : eventWrites (h .now .events) ≡ F .worker w .writes
+  writes = ap eventWrites (h .now-same (g .t) (g .running) .1) ∙ g .wrote
 
-  own-write : (k : ℕ) → look (writesOf (h .now .events)) k ≡ look (F .worker w .writes) k
+  own-write : (k : ℕ) → look (eventWrites (h .now .events)) k ≡ look (F .worker w .writes) k
   own-write k = ap (λ (ws : List (Row Write)). look ws k) writes
 
   -- ---- the list with the transaction in it
@@ -192,12 +192,12 @@ module _ {F F' : Facts} {ρ ρ' : Reading} {w : ℕ} (h : Installs F F' ρ ρ' w
           }
         where
           shared : (j : ℕ) → present (look (F .worker v .writes) j) ≡ true → (r : Row Transaction) → r ≡ row n (h .now)
-              → present (look (writesOf (r .item .events)) j) ≡ true → ⊥
+              → present (look (eventWrites (r .item .events)) j) ≡ true → ⊥
           shared j p r a e =
               let hv : F .holder j ≡ some v = i .working v s .locked (checked-not-open (F .worker v .stage) q) j p in
               let hw : F .holder j ≡ some w =
               g .locked (checked-not-open (F .worker w .stage) (h .was-checked)) j
-              (ap present (sym (own-write j)) ∙ ap (λ (x : Row Transaction). present (look (writesOf (x .item .events)) j)) (sym a) ∙ e) in
+              (ap present (sym (own-write j)) ∙ ap (λ (x : Row Transaction). present (look (eventWrites (x .item .events)) j)) (sym a) ∙ e) in
               d (cc)
 
   -- the current records are those of the list with the transaction in it

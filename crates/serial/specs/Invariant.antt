@@ -18,7 +18,7 @@ use Rattle.spec.specs.Records.{Record, Write, deleted}
 use Rattle.spec.specs.Steps.{Worker, isFree, isOpen, isChecked, Event}
 use Rattle.spec.specs.Sequential.{AllAgree}
 use Rattle.spec.specs.Claim.{Transaction, Reading, listAfter}
-use Rattle.serial.specs.Feeding.{writesOf, NoLaterWriter}
+use Rattle.serial.specs.Feeding.{eventWrites, NoLaterWriter}
 
 -- The engine's state, as far as the theorem looks at it.
 pub record Facts : Type 0 where
@@ -83,7 +83,7 @@ pub record CheckedAs (F : Facts) (ts : List (Row Transaction)) (x : Worker) (t :
 pub record Working (F : Facts) (ρ : Reading) (w : ℕ) (x : Worker) : Type 0 where
   pub t : Transaction
   pub running : look (ρ .running) w ≡ some t
-  pub wrote : writesOf (t .events) ≡ x .writes
+  pub wrote : eventWrites (t .events) ≡ x .writes
   pub os : List Observation
   pub explains : Explains os (t .events)
   -- the last number given when it began, so that all that were installed before have a smaller one

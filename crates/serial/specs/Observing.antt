@@ -11,8 +11,8 @@ use Rattle.lists.specs.Rows.{Row, look, Rising, lay, between, mapItems}
 use Rattle.lists.specs.RowLaws.{rows-equal, look-lay, look-nil, look-mapItems, look-between, rising-lay, rising-nil, rising-mapItems, rising-between}
 use Rattle.spec.specs.Records.{Payload, Record, Write, written, deleted, outcome, ownView, payloadOf}
 use Rattle.spec.specs.Steps.{Step, read, scan, Answer, found, listed, Event}
-use Rattle.spec.specs.Sequential.{Agrees, afterAll, listScan}
-use Rattle.serial.specs.Feeding.{writesOf, laid, look-afterAll, rising-afterAll, allAgree-snoc}
+use Rattle.spec.specs.Sequential.{Agrees, afterSteps, listScan}
+use Rattle.serial.specs.Feeding.{eventWrites, laid, look-afterAll, rising-afterAll, allAgree-snoc}
 use Rattle.serial.specs.Invariant.{Observation, Matches, Explains}
 
 -- what a list says after the transaction's own writes were laid over another
@@ -22,11 +22,11 @@ Over n ws l l' = (k : ℕ) → look l' k ≡ laid n ws k (look l k)
 -- one event more, explained by these observations
 pub explain : (os os' : List Observation) (es : List Event) (s : Step) (a : Answer) → Explains os es
     → ((l : List (Row Record)) → Matches os' l → Matches os l)
-    → ((n : ℕ) (l l' : List (Row Record)) → Rising l' → Over n (writesOf es) l l' → Matches os' l → Agrees l' s a)
+    → ((n : ℕ) (l l' : List (Row Record)) → Rising l' → Over n (eventWrites es) l l' → Matches os' l → Agrees l' s a)
     → Explains os' (es ++ (record { step = s; answer = a } ∷ []))
 explain os os' es s a h sub g n l r m =
     allAgree-snoc n l es (record { step = s; answer = a }) (h n l r (sub l m))
-    (g n l (afterAll n l es) (rising-afterAll n l es r) (look-afterAll n l es) m)
+    (g n l (afterSteps n l es) (rising-afterAll n l es r) (look-afterAll n l es) m)
 
 -- an event that is not compared
 pub explain-quiet : (os : List Observation) (es : List Event) (s : Step) (a : Answer) → ((l : List (Row Record)) → Agrees l s a)
@@ -46,7 +46,7 @@ payload-map (some r) = refl
 -- ---- a read
 
 -- a read that the own write answered
-pub explain-own-read : (os : List Observation) (es : List Event) (w k : ℕ) (e : Write) → look (writesOf es) k ≡ some e
+pub explain-own-read : (os : List Observation) (es : List Event) (w k : ℕ) (e : Write) → look (eventWrites es) k ≡ some e
     → Explains os es → Explains os (es ++ (record { step = read w k; answer = found (ownView e) } ∷ []))
 unfolding Agrees
 explain-own-read os es w k e q h =
@@ -58,7 +58,7 @@ explain-own-read os es w k e q h =
 abbrev pub readOf : ℕ → Option Record → Observation
 readOf k r = record { lo = k; hi = k; seen = λ (j : ℕ). r }
 
-pub explain-read : (os : List Observation) (es : List Event) (w k : ℕ) (r : Option Record) → look (writesOf es) k ≡ none
+pub explain-read : (os : List Observation) (es : List Event) (w k : ℕ) (r : Option Record) → look (eventWrites es) k ≡ none
     → Explains os es
     → Explains (readOf k r ∷ os) (es ++ (record { step = read w k; answer = found (payloadOf r) } ∷ []))
 unfolding Agrees
@@ -131,14 +131,14 @@ module _ {indexed : ℕ → Bool} {current : ℕ → Option Record} {lo hi : ℕ
 
   pub explain-scan : (os : List Observation) (es : List Event) (w a b : ℕ) → Explains os es
       → Explains (scanOf indexed current lo hi ∷ os)
-      (es ++ (record { step = scan w lo hi a b; answer = listed (shown (writesOf es) lo hi rows) } ∷ []))
+      (es ++ (record { step = scan w lo hi a b; answer = listed (shown (eventWrites es) lo hi rows) } ∷ []))
   unfolding Agrees
   explain-scan os es w a b x =
-      explain os (scanOf indexed current lo hi ∷ os) es (scan w lo hi a b) (listed (shown (writesOf es) lo hi rows)) x
+      explain os (scanOf indexed current lo hi ∷ os) es (scan w lo hi a b) (listed (shown (eventWrites es) lo hi rows)) x
       (λ l m o mem. m o (List·Memᴰ·tail mem))
       (λ n l l' r o m.
       ap listed
-      (rows-equal (shown (writesOf es) lo hi rows) (listScan l' lo hi)
-      (rising-lay (mapItems ownView (between lo hi (writesOf es))) (lay (mapItems payloadOf rows) []) (rising-lay (mapItems payloadOf rows) [] (rising-nil Payload)))
+      (rows-equal (shown (eventWrites es) lo hi rows) (listScan l' lo hi)
+      (rising-lay (mapItems ownView (between lo hi (eventWrites es))) (lay (mapItems payloadOf rows) []) (rising-lay (mapItems payloadOf rows) [] (rising-nil Payload)))
       (unfold listScan in rising-mapItems (λ (q : Record). q .payload) (between lo hi l') (rising-between lo hi l' r))
-      (look-scan n (writesOf es) l l' o (m (scanOf indexed current lo hi) (List·Memᴰ·head refl)))))
+      (look-scan n (eventWrites es) l l' o (m (scanOf indexed current lo hi) (List·Memᴰ·head refl)))))

@@ -15,7 +15,7 @@ use Rattle.spec.specs.Refusals.{ends}
 use Rattle.spec.specs.Records.{Settings, standard, Payload}
 use Rattle.spec.specs.Slots.{slotCount, Content, idle, emptySlot, entries, contentOf}
 use Rattle.spec.specs.Maps.{freshMap, outcomeOf, current, contents, waitingWith}
-use Rattle.spec.specs.Steps.{Worker, State, fresh, workerOf, Step, begin, read, scan, put, remove, lock, validate, install, abort, merge, workerIn, refused, isFree, isOpen, isLocked, isChecked, Cause, noWorker, workerFree, wrongStage, causes, firstCause, refusal, granted, effect, afterRefusal, answer, next, final, history}
+use Rattle.spec.specs.Steps.{Worker, State, fresh, workerOf, Step, begin, read, scan, put, remove, lock, validate, install, abort, merge, stepWorker, refused, isFree, isOpen, isLocked, isChecked, Cause, noWorker, workerFree, wrongStage, causes, firstCause, refusal, granted, effect, afterRefusal, answer, next, final, history}
 use Rattle.spec.specs.Claim.{Reading, nothingRead, isGranted, passed, readGranted, advance, readOn, reading, listAfter, SerialRun}
 use Rattle.laws.specs.ContentLaws.{look-contents, rising-contents}
 use Rattle.laws.specs.WorkerLaws.{GoodSettings, standard-settings}
@@ -128,7 +128,7 @@ module _ {σ : State} {ρ : Reading} (h : Sound σ ρ) where
   -- a refused step leaves everything, or ends its own transaction
   refused-sound : (s : Step) (r : Refusal) → Sound (afterRefusal σ s r) (passed ρ)
   unfolding afterRefusal
-  refused-sound s r = ⊎-elim (λ e. rw e (go (workerIn s))) (λ e. rw e (same-sound h)) (cases (ends r))
+  refused-sound s r = ⊎-elim (λ e. rw e (go (stepWorker s))) (λ e. rw e (same-sound h)) (cases (ends r))
     where
       go : (o : Option ℕ) → Sound (maybe o σ (Rattle.spec.specs.Steps.dropped σ)) (passed ρ)
       go none = same-sound h

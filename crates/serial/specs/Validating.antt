@@ -14,22 +14,22 @@ use Rattle.spec.specs.Records.{Record}
 use Rattle.spec.specs.Steps.{Worker, isFree, isOpen, isChecked}
 use Rattle.spec.specs.Claim.{Transaction, Reading, listAfter}
 use Rattle.serial.specs.Stages.{checked-busy}
-use Rattle.serial.specs.Feeding.{writesOf, NoLaterWriter, look-member, listAfter-none}
+use Rattle.serial.specs.Feeding.{eventWrites, NoLaterWriter, look-member, listAfter-none}
 use Rattle.serial.specs.Invariant.{Facts, Observation, Throughout, Explains, Backed, by-read, by-leaf, Harmless, Valid, CheckedAs, Working, Done, Invariant}
 use Rattle.serial.specs.Keeping.{SameChecks, done-kept, checked-kept, Kept, working-kept, backed-kept}
 
 -- no checked worker but w would change r at k
-abbrev pub Untouched : Facts → ℕ → ℕ → Option Record → Type 0
-Untouched F w k r =
+abbrev pub OthersHarmless : Facts → ℕ → ℕ → Option Record → Type 0
+OthersHarmless F w k r =
     (v : ℕ) → (v ≡ w → ⊥) → isChecked (F .worker v .stage) ≡ true → Harmless (F .worker v .writes) k r
 
 -- What a granted validation has tested of worker w's log.
 pub record Passed (F : Facts) (w : ℕ) (x : Worker) : Type 0 where
   pub read-same : (k : ℕ) (r : Option Record) → List·Memᴰ (row k r) (x .reads) → F .current k ≡ r
-  pub read-free : (k : ℕ) (r : Option Record) → List·Memᴰ (row k r) (x .reads) → Untouched F w k r
+  pub read-free : (k : ℕ) (r : Option Record) → List·Memᴰ (row k r) (x .reads) → OthersHarmless F w k r
   pub leaf-live : (v : ℕ) → List·Memᴰ v (x .versions) → (j : ℕ) × (F .version j ≡ v)
   pub leaf-empty : (v : ℕ) → List·Memᴰ v (x .versions) → (k : ℕ) → F .version k ≡ v → F .indexed k ≡ false → F .current k ≡ none
-  pub leaf-free : (v : ℕ) → List·Memᴰ v (x .versions) → (k : ℕ) → F .version k ≡ v → F .indexed k ≡ false → Untouched F w k none
+  pub leaf-free : (v : ℕ) → List·Memᴰ v (x .versions) → (k : ℕ) → F .version k ≡ v → F .indexed k ≡ false → OthersHarmless F w k none
 
 -- The state and the reading after worker w was validated.
 pub record Checks (F F' : Facts) (ρ ρ' : Reading) (w : ℕ) : Type 0 where
@@ -56,7 +56,7 @@ pub record Checks (F F' : Facts) (ρ ρ' : Reading) (w : ℕ) : Type 0 where
   pub now-number : now .number ≡ suc (F .given)
   pub now-events :
       (t : Transaction) → look (ρ .running) w ≡ some t
-      → (now .begun ≡ t .begun) × (writesOf (now .events) ≡ writesOf (t .events))
+      → (now .begun ≡ t .begun) × (eventWrites (now .events) ≡ eventWrites (t .events))
       × ((os : List Observation) → Explains os (t .events) → Explains os (now .events))
 
 module _ {F F' : Facts} {ρ ρ' : Reading} {w : ℕ} (h : Checks F F' ρ ρ' w) (p : Passed F w (F .worker w)) (i : Invariant F ρ) where
@@ -77,12 +77,12 @@ module _ {F F' : Facts} {ρ ρ' : Reading} {w : ℕ} (h : Checks F F' ρ ρ' w) 
       let s = f (l .0) (l .1) in
       p .leaf-empty v m k (s .0) (s .1) ∙ sym e
 
-  free : (k : ℕ) (r : Option Record) → Backed F (F .worker w) k r → Untouched F w k r
+  free : (k : ℕ) (r : Option Record) → Backed F (F .worker w) k r → OthersHarmless F w k r
   free k r (by-read m) = p .read-free k r m
   free k r (by-leaf v e m b f) =
       let l = p .leaf-live v m in
       let s = f (l .0) (l .1) in
-      subst (Untouched F w k) (sym e) (p .leaf-free v m k (s .0) (s .1))
+      subst (OthersHarmless F w k) (sym e) (p .leaf-free v m k (s .0) (s .1))
 
   -- the checked transactions with a number up to m are those of before
   checks : (m : ℕ) → m ≤ F .given → SameChecks F F' m

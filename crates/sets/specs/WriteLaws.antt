@@ -18,7 +18,7 @@ use Rattle.spec.specs.Records.{standard, Write, written, deleted}
 use Rattle.sets.specs.declared.writes.Line.{Line}
 use Rattle.sets.specs.declared.writes.Entry.{Entry}
 use Rattle.sets.specs.Sets.{addresses}
-use Rattle.sets.specs.Writes.{WriteRows, writeWords, writeOf, noWrite, lineAt, wordsOf, writeIn, writesOf, WriteSetHeld, WritesHeld, WriteSetOrdered, Becomes, PlaceOf, Stands, PutsWrite, GivesWrite}
+use Rattle.sets.specs.Writes.{WriteRows, writeWords, writeOf, noWrite, lineAt, wordsOf, writeIn, writesOf, WriteSetHeld, WritesHeld, WriteSetOrdered, WritesBecome, PlaceOf, WritesHave, PutsWrite, GivesWrite}
 use Rattle.sets.specs.SetLaws.{each-set, each-alike, length-rows, row-at, row-replaced, row-put}
 
 -- ---- kinds
@@ -49,11 +49,11 @@ lifting-on {rs} {us} {n} {p} {i} z h l o f =
       rows = raising-on _ [] (omega arith) (omega arith) o (f .rows) refl;
     }
 
-pub lifting-end : {rs us : WriteRows} {n p i : ℕ} → Lifting rs us n p i → i ≤ 0 → Becomes (moved rs p (p + 1) (n - p)) us
+pub lifting-end : {rs us : WriteRows} {n p i : ℕ} → Lifting rs us n p i → i ≤ 0 → WritesBecome (moved rs p (p + 1) (n - p)) us
 lifting-end f h = record { held = f .held; rows = raising-end (f .rows) h }
 
-pub line-stored : {rs us vs : WriteRows} (p : ℕ) (r : Line) → r .address < addresses → Becomes rs us → vs ≡ set us p (wordsOf r)
-    → Becomes (set rs p (wordsOf r)) vs
+pub line-stored : {rs us vs : WriteRows} (p : ℕ) (r : Line) → r .address < addresses → WritesBecome rs us → vs ≡ set us p (wordsOf r)
+    → WritesBecome (set rs p (wordsOf r)) vs
 line-stored p r h b e =
     record {
       held = subst WriteSetHeld (sym e) (each-set p (wordsOf r) (b .held) h);
@@ -94,13 +94,13 @@ module _ {rs : WriteRows} {n a p : ℕ} (given : WriteSetOrdered rs n) (at : Pla
   key-there : p < n → getD (writesOf rs n) (place a (writesOf rs n)) noWrite .key ≡ lineAt rs p .address
   key-there h = ap (λ (i : ℕ). getD (writesOf rs n) i noWrite .key) (sym (at .is)) ∙ key-at rs n p h
 
-  pub stands-past : n ≤ p → Stands rs n a false
+  pub stands-past : n ≤ p → WritesHave rs n a false
   stands-past h =
       let s : length (writesOf rs n) ≡ n = length-rows writeIn rs n in
       let i : p ≡ place a (writesOf rs n) = at .is in
       record { present = λ e. clash e refl; absent = λ e. record { elsewhere = λ g f. omega arith } }
 
-  pub stands-at : (r : Line) → r ≡ lineAt rs p → p < n → Stands rs n a (eqb (r .address) a)
+  pub stands-at : (r : Line) → r ≡ lineAt rs p → p < n → WritesHave rs n a (eqb (r .address) a)
   stands-at r g h =
       let s : length (writesOf rs n) ≡ n = length-rows writeIn rs n in
       let i : p ≡ place a (writesOf rs n) = at .is in
@@ -163,7 +163,7 @@ module _ {rs : WriteRows} {n a p : ℕ} (given : WriteSetOrdered rs n) (at : Pla
       ∙ sym (insert-present a (writeOf kind value) (writesOf rs n) noWrite s))
 
   pub put-new : {us : WriteRows} (kind value : ℕ) → Absent a (writesOf rs n) noWrite → n < standard .writeLimit
-      → Becomes (set (moved rs p (p + 1) (n - p)) p (a ∷ kind ∷ value ∷ [])) us → PutsWrite rs n a kind value us (n + 1)
+      → WritesBecome (set (moved rs p (p + 1) (n - p)) p (a ∷ kind ∷ value ∷ [])) us → PutsWrite rs n a kind value us (n + 1)
   put-new {us} kind value s h b =
       let z : length rs ≡ standard .writeLimit = given .held .size in
       puts kind value (n + 1) (omega arith) (b .held)

@@ -82,7 +82,7 @@ pub record WriteSetOrdered (rs : WriteRows) (n : ℕ) : Type 0 where
 -- ---- promises
 
 -- the rows became these
-pub record Becomes (rs us : WriteRows) : Type 0 where
+pub record WritesBecome (rs us : WriteRows) : Type 0 where
   pub held : WriteSetHeld us
   pub rows : us ≡ rs
 
@@ -92,7 +92,7 @@ pub record PlaceOf (rs : WriteRows) (n a p : ℕ) : Type 0 where
   pub within : p ≤ n
 
 -- whether there is a write at the address
-pub record Stands (rs : WriteRows) (n a : ℕ) (r : Bool) : Type 0 where
+pub record WritesHave (rs : WriteRows) (n a : ℕ) (r : Bool) : Type 0 where
   pub present : r ≡ true → Present a (writesOf rs n) noWrite
   pub absent : r ≡ false → Absent a (writesOf rs n) noWrite
 

@@ -23,7 +23,7 @@ pub fn log_leaf(leaves: &mut LeafSet, n: usize, leaf: LoggedLeaf) -> usize
 }
 
 // Row i.
-pub fn leaf_at(leaves: &LeafSet, i: usize) -> LoggedLeaf
+pub fn logged_leaf_at(leaves: &LeafSet, i: usize) -> LoggedLeaf
     requires { ⌜ LeafSetHeld (now leaves) ⌝ }
     requires { ⌜ i < standard .leafSetLimit ⌝ }
     ensures { λ r. ⌜ GivesLeaf (now (leaves .entry)) i r ⌝ }

@@ -12,7 +12,7 @@ ghost use Rattle.lists.specs.Rows.{look};
 ghost use Rattle.lists.specs.Shifts.{moved};
 ghost use Rattle.spec.specs.Records.{standard};
 ghost use Rattle.sets.specs.Sets.{addresses};
-ghost use Rattle.sets.specs.Writes.{lineAt, wordsOf, writesOf, foundIn, WriteSetHeld, WriteSetOrdered, Becomes, PlaceOf, Stands, PutsWrite, GivesWrite};
+ghost use Rattle.sets.specs.Writes.{lineAt, wordsOf, writesOf, foundIn, WriteSetHeld, WriteSetOrdered, WritesBecome, PlaceOf, WritesHave, PutsWrite, GivesWrite};
 
 // A row of a write set: the kind is 1 (a put) or 2 (a deletion).
 pub struct Entry {
@@ -61,7 +61,7 @@ fn store(writes: &mut WriteSet, i: usize, r: Line)
 fn raise(writes: &mut WriteSet, n: usize, p: usize)
     requires { ⌜ WriteSetHeld (now writes) ⌝ }
     requires { ⌜ (p ≤ n) × (n < standard .writeLimit) ⌝ }
-    ensures { λ _. ⌜ Becomes (moved (now (writes .entry)) p (p + 1) (n - p)) (now (writes .exit)) ⌝ }
+    ensures { λ _. ⌜ WritesBecome (moved (now (writes .entry)) p (p + 1) (n - p)) (now (writes .exit)) ⌝ }
 {
     let mut i = n - p;
     while 0 < i {
@@ -75,7 +75,7 @@ fn raise(writes: &mut WriteSet, n: usize, p: usize)
 fn insert(writes: &mut WriteSet, n: usize, p: usize, r: Line)
     requires { ⌜ WriteSetHeld (now writes) ⌝ }
     requires { ⌜ (p ≤ n) × (n < standard .writeLimit) × (r .address < addresses) ⌝ }
-    ensures { λ _. ⌜ Becomes (set (moved (now (writes .entry)) p (p + 1) (n - p)) p (wordsOf r)) (now (writes .exit)) ⌝ }
+    ensures { λ _. ⌜ WritesBecome (set (moved (now (writes .entry)) p (p + 1) (n - p)) p (wordsOf r)) (now (writes .exit)) ⌝ }
 {
     raise(writes, n, p);
     store(writes, p, r);
@@ -102,7 +102,7 @@ pub fn writes_below(writes: &WriteSet, n: usize, a: Address) -> usize
 fn stands(writes: &WriteSet, n: usize, a: Address, p: usize) -> bool
     requires { ⌜ WriteSetOrdered (now writes) n ⌝ }
     requires { ⌜ PlaceOf (now writes) n a p ⌝ }
-    ensures { λ r. ⌜ Stands (now (writes .entry)) n a r ⌝ }
+    ensures { λ r. ⌜ WritesHave (now (writes .entry)) n a r ⌝ }
 {
     if n <= p {
         return false;

@@ -14,7 +14,7 @@ use Rattle.lists.specs.Tests.{pick, maybe}
 use Rattle.lists.specs.Rows.{Row, row, look, insert, delete, keys, Different}
 use Rattle.spec.specs.Records.{Record}
 use Rattle.spec.specs.Steps.{Step, begin, read, scan, put, remove, lock, validate, install, abort, merge, Answer, refused, done, found, listed, numbered, counted, Event}
-use Rattle.spec.specs.Sequential.{afterAll, AllAgree}
+use Rattle.spec.specs.Sequential.{afterSteps, AllAgree}
 
 -- ---- the transactions of a history
 
@@ -137,7 +137,7 @@ reading h = readOn nothingRead h
 unfoldable pub listAfter : List (Row Transaction) → ℕ → List (Row Record)
 listAfter ts zero = []
 listAfter ts (suc m) =
-    maybe (look ts (suc m)) (listAfter ts m) (λ (t : Transaction). afterAll (suc m) (listAfter ts m) (t .events))
+    maybe (look ts (suc m)) (listAfter ts m) (λ (t : Transaction). afterSteps (suc m) (listAfter ts m) (t .events))
 
 -- What demand 3 says of what was read of a history, and of the contents at the end.
 pub record Serial (ρ : Reading) (contents : List (Row Record)) : Type 0 where

@@ -9,17 +9,17 @@ use Rattle.spec.specs.Records.{Payload, Record, written, deleted, outcom
 use Rattle.spec.specs.Steps.{Step, begin, read, scan, put, remove, lock, validate, install, abort, merge, Answer, found, listed, Event}
 
 -- the list after a step of the transaction numbered n
-unfoldable pub after : ℕ → List (Row Record) → Step → List (Row Record)
-after n l (begin w) = l
-after n l (read w k) = l
-after n l (scan w lo hi a b) = l
-after n l (put w k p) = assign k (outcome n (written p)) l
-after n l (remove w k) = assign k (outcome n deleted) l
-after n l (lock w) = l
-after n l (validate w) = l
-after n l (install w) = l
-after n l (abort w) = l
-after n l (merge a) = l
+unfoldable pub afterStep : ℕ → List (Row Record) → Step → List (Row Record)
+afterStep n l (begin w) = l
+afterStep n l (read w k) = l
+afterStep n l (scan w lo hi a b) = l
+afterStep n l (put w k p) = assign k (outcome n (written p)) l
+afterStep n l (remove w k) = assign k (outcome n deleted) l
+afterStep n l (lock w) = l
+afterStep n l (validate w) = l
+afterStep n l (install w) = l
+afterStep n l (abort w) = l
+afterStep n l (merge a) = l
 
 -- what the list answers to a scan: addresses and values from lo to hi, rising
 unfoldable pub listScan : List (Row Record) → ℕ → ℕ → List (Row Payload)
@@ -39,11 +39,11 @@ Agrees l (abort w) a = Unit {0}
 Agrees l (merge a) b = Unit {0}
 
 -- the list after all steps of the transaction numbered n
-unfoldable pub afterAll : ℕ → List (Row Record) → List Event → List (Row Record)
-afterAll n l [] = l
-afterAll n l (e ∷ es) = afterAll n (after n l (e .step)) es
+unfoldable pub afterSteps : ℕ → List (Row Record) → List Event → List (Row Record)
+afterSteps n l [] = l
+afterSteps n l (e ∷ es) = afterSteps n (afterStep n l (e .step)) es
 
 -- the list answers each step, as it stands when the step's turn comes, as it was answered
 unfoldable pub AllAgree : ℕ → List (Row Record) → List Event → Type 0
 AllAgree n l [] = Unit {0}
-AllAgree n l (e ∷ es) = Agrees l (e .step) (e .answer) × AllAgree n (after n l (e .step)) es
+AllAgree n l (e ∷ es) = Agrees l (e .step) (e .answer) × AllAgree n (afterStep n l (e .step)) es

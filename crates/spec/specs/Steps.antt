@@ -70,17 +70,17 @@ pub data Step : Type 0 where
   merge : ℕ → Step
 
 -- the worker that a step names
-unfoldable pub workerIn : Step → Option ℕ
-workerIn (begin w) = some w
-workerIn (read w k) = some w
-workerIn (scan w lo hi m n) = some w
-workerIn (put w k p) = some w
-workerIn (remove w k) = some w
-workerIn (lock w) = some w
-workerIn (validate w) = some w
-workerIn (install w) = some w
-workerIn (abort w) = some w
-workerIn (merge a) = none
+unfoldable pub stepWorker : Step → Option ℕ
+stepWorker (begin w) = some w
+stepWorker (read w k) = some w
+stepWorker (scan w lo hi m n) = some w
+stepWorker (put w k p) = some w
+stepWorker (remove w k) = some w
+stepWorker (lock w) = some w
+stepWorker (validate w) = some w
+stepWorker (install w) = some w
+stepWorker (abort w) = some w
+stepWorker (merge a) = none
 
 pub data Answer : Type 0 where
   refused : Refusal → Answer
@@ -317,7 +317,7 @@ effect σ (merge a) = merged σ (mergeAt (σ .settings) (σ .counters .version) 
 
 -- the state after a refused step: 12, 13 and 14 end the transaction, all others leave everything
 unfoldable pub afterRefusal : State → Step → Refusal → State
-afterRefusal σ s r = pick (ends r) (maybe (workerIn s) σ (dropped σ)) σ
+afterRefusal σ s r = pick (ends r) (maybe (stepWorker s) σ (dropped σ)) σ
 
 unfoldable pub answer : State → Step → Answer
 answer σ s = maybe (refusal σ s) (granted σ s) refused

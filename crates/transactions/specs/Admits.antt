@@ -18,7 +18,7 @@ use Rattle.sets.specs.Workers.{workerIn, freed}
 use Rattle.map.specs.Views.{Lent}
 use Rattle.transactions.specs.declared.Core.{Core}
 use Rattle.transactions.specs.declared.admits.Admit.{Admit}
-use Rattle.transactions.specs.declared.admits.Admit.the-variants.{Refused, Seat}
+use Rattle.transactions.specs.declared.admits.Admit.the-variants.{Refused, Allowed}
 use Rattle.transactions.specs.Answering.{cause-holds, cause-fails, front, front-none, front-free, front-wrong, front-passed}
 use Rattle.transactions.specs.Views.{Logs, stateOf, worker-at}
 
@@ -41,34 +41,34 @@ abbrev pub anyStage : Stage → Bool
 anyStage s = true
 
 -- The tests refuse, by r.
-pub record Turned (right : Stage → Bool) (seats : List Worker) (w : ℕ) (r : Refusal) : Type 0 where
-  pub front-is : (l : Lent) (g : Logs) (c : Core) → c .seats ≡ seats → front right (stateOf l g c) w ≡ some r
+pub record Turned (right : Stage → Bool) (workers : List Worker) (w : ℕ) (r : Refusal) : Type 0 where
+  pub front-is : (l : Lent) (g : Logs) (c : Core) → c .workers ≡ workers → front right (stateOf l g c) w ≡ some r
 
 -- They pass, and x is the worker.
-pub record Entered (right : Stage → Bool) (seats : List Worker) (w : ℕ) (x : Worker) : Type 0 where
+pub record Entered (right : Stage → Bool) (workers : List Worker) (w : ℕ) (x : Worker) : Type 0 where
   pub inside : w < standard .workers
-  pub is : x ≡ getD seats w freed
+  pub is : x ≡ getD workers w freed
   pub stage : right (x .stage) ≡ true
-  pub front-is : (l : Lent) (g : Logs) (c : Core) → c .seats ≡ seats → front right (stateOf l g c) w ≡ none
+  pub front-is : (l : Lent) (g : Logs) (c : Core) → c .workers ≡ workers → front right (stateOf l g c) w ≡ none
 
 abbrev pub Admitted : (Stage → Bool) → List Worker → ℕ → Admit → Type 0
-Admitted right seats w (Refused r) = Turned right seats w r
-Admitted right seats w (Seat x) = Entered right seats w x
+Admitted right workers w (Refused r) = Turned right workers w r
+Admitted right workers w (Allowed x) = Entered right workers w x
 
 -- The tests of begin refuse, by r.
-pub record Barred (seats : List Worker) (w : ℕ) (r : Refusal) : Type 0 where
-  pub refuses : (l : Lent) (g : Logs) (c : Core) → c .seats ≡ seats → refusal (stateOf l g c) (begin w) ≡ some r
+pub record Barred (workers : List Worker) (w : ℕ) (r : Refusal) : Type 0 where
+  pub refuses : (l : Lent) (g : Logs) (c : Core) → c .workers ≡ workers → refusal (stateOf l g c) (begin w) ≡ some r
   pub mild : ends r ≡ false
 
 -- They pass, and x is the free worker.
-pub record Vacant (seats : List Worker) (w : ℕ) (x : Worker) : Type 0 where
+pub record Vacant (workers : List Worker) (w : ℕ) (x : Worker) : Type 0 where
   pub inside : w < standard .workers
-  pub is : x ≡ getD seats w freed
-  pub passes : (l : Lent) (g : Logs) (c : Core) → c .seats ≡ seats → refusal (stateOf l g c) (begin w) ≡ none
+  pub is : x ≡ getD workers w freed
+  pub passes : (l : Lent) (g : Logs) (c : Core) → c .workers ≡ workers → refusal (stateOf l g c) (begin w) ≡ none
 
 abbrev pub Begun : List Worker → ℕ → Admit → Type 0
-Begun seats w (Refused r) = Barred seats w r
-Begun seats w (Seat x) = Vacant seats w x
+Begun workers w (Refused r) = Barred workers w r
+Begun workers w (Allowed x) = Vacant workers w x
 
 -- ---- by cases of the tests
 
@@ -97,52 +97,52 @@ rank-is s t p q e = sym (rank-test s t) ∙ same-yes (sym p ∙ e ∙ q)
 pub rank-not : (s t : Stage) {m n : ℕ} → m ≡ rankOf s → n ≡ rankOf t → (m ≡ n → ⊥) → isAt t s ≡ false
 rank-not s t p q d = sym (rank-test s t) ∙ same-no (λ e. d (p ∙ e ∙ sym q))
 
-stage-is : (l : Lent) (g : Logs) (c : Core) (seats : List Worker) (w : ℕ) → c .seats ≡ seats → w < length seats
-    → workerOf (stateOf l g c) w .stage ≡ getD seats w freed .stage
+stage-is : (l : Lent) (g : Logs) (c : Core) (workers : List Worker) (w : ℕ) → c .workers ≡ workers → w < length workers
+    → workerOf (stateOf l g c) w .stage ≡ getD workers w freed .stage
 unfolding workerIn
-stage-is l g c seats w e h =
+stage-is l g c workers w e h =
     ap (λ (x : Rattle.spec.specs.Steps.Worker). x .stage) (worker-at l g c w (subst (λ (xs : List Worker). w < length xs) (sym e) h))
     ∙ ap (λ (xs : List Worker). getD xs w freed .stage) e
 
-crew-size : (l : Lent) (g : Logs) (c : Core) → stateOf l g c .settings .workers ≡ standard .workers
+settings-workers : (l : Lent) (g : Logs) (c : Core) → stateOf l g c .settings .workers ≡ standard .workers
 unfolding stateOf
-crew-size l g c = refl
+settings-workers l g c = refl
 
-inside-crew : (l : Lent) (g : Logs) (c : Core) (w : ℕ) → w < standard .workers → w < stateOf l g c .settings .workers
-inside-crew l g c w h = subst (λ (n : ℕ). w < n) (sym (crew-size l g c)) h
+inside-workers : (l : Lent) (g : Logs) (c : Core) (w : ℕ) → w < standard .workers → w < stateOf l g c .settings .workers
+inside-workers l g c w h = subst (λ (n : ℕ). w < n) (sym (settings-workers l g c)) h
 
-pub turned-none : (right : Stage → Bool) (seats : List Worker) (w : ℕ) → standard .workers ≤ w → Turned right seats w NoWorker
-turned-none right seats w h =
-    record { front-is = λ l g c e. front-none right (stateOf l g c) w (subst (λ (n : ℕ). n ≤ w) (sym (crew-size l g c)) h) }
+pub turned-none : (right : Stage → Bool) (workers : List Worker) (w : ℕ) → standard .workers ≤ w → Turned right workers w NoWorker
+turned-none right workers w h =
+    record { front-is = λ l g c e. front-none right (stateOf l g c) w (subst (λ (n : ℕ). n ≤ w) (sym (settings-workers l g c)) h) }
 
 -- worker x at its place, whose stage has rank n
-module _ {seats : List Worker} {w n : ℕ} (x : Worker) (all : length seats ≡ standard .workers) (h : w < standard .workers) (is : x ≡ getD seats w freed)
+module _ {workers : List Worker} {w n : ℕ} (x : Worker) (all : length workers ≡ standard .workers) (h : w < standard .workers) (is : x ≡ getD workers w freed)
     (ranked : n ≡ rankOf (x .stage)) where
-  here : (l : Lent) (g : Logs) (c : Core) → c .seats ≡ seats → workerOf (stateOf l g c) w .stage ≡ x .stage
+  here : (l : Lent) (g : Logs) (c : Core) → c .workers ≡ workers → workerOf (stateOf l g c) w .stage ≡ x .stage
   here l g c e =
-      stage-is l g c seats w e (subst (λ (n : ℕ). w < n) (sym all) h) ∙ ap (λ (y : Worker). y .stage) (sym is)
+      stage-is l g c workers w e (subst (λ (n : ℕ). w < n) (sym all) h) ∙ ap (λ (y : Worker). y .stage) (sym is)
 
   module _ (right : Stage → Bool) where
-    pub turned-free : n ≡ 0 → Turned right seats w WorkerFree
+    pub turned-free : n ≡ 0 → Turned right workers w WorkerFree
     turned-free z =
-        record { front-is = λ l g c e. front-free right (stateOf l g c) w (inside-crew l g c w h) (ap isFree (here l g c e) ∙ rank-is (x .stage) Free ranked refl z) }
+        record { front-is = λ l g c e. front-free right (stateOf l g c) w (inside-workers l g c w h) (ap isFree (here l g c e) ∙ rank-is (x .stage) Free ranked refl z) }
 
-    pub turned-wrong : (n ≡ 0 → ⊥) → right (x .stage) ≡ false → Turned right seats w WrongStage
+    pub turned-wrong : (n ≡ 0 → ⊥) → right (x .stage) ≡ false → Turned right workers w WrongStage
     turned-wrong f r =
         record {
           front-is =
-              λ l g c e. front-wrong right (stateOf l g c) w (inside-crew l g c w h)
+              λ l g c e. front-wrong right (stateOf l g c) w (inside-workers l g c w h)
               (ap isFree (here l g c e) ∙ rank-not (x .stage) Free ranked refl f) (ap right (here l g c e) ∙ r);
         }
 
-    pub admitted : (n ≡ 0 → ⊥) → right (x .stage) ≡ true → Entered right seats w x
+    pub admitted : (n ≡ 0 → ⊥) → right (x .stage) ≡ true → Entered right workers w x
     admitted f r =
         record {
           inside = h;
           is = is;
           stage = r;
           front-is =
-              λ l g c e. front-passed right (stateOf l g c) w (inside-crew l g c w h)
+              λ l g c e. front-passed right (stateOf l g c) w (inside-workers l g c w h)
               (ap isFree (here l g c e) ∙ rank-not (x .stage) Free ranked refl f) (ap right (here l g c e) ∙ r);
         }
 
@@ -152,17 +152,17 @@ begin-first : (l : Lent) (g : Logs) (c : Core) (w : ℕ) → standard .workers �
 unfolding refusal causes noWorker stateOf
 begin-first l g c w h = cause-holds (not (less w (standard .workers))) NoWorker _ (ap not (less-no {m = w} {n = standard .workers} h))
 
-pub barred-none : (seats : List Worker) (w : ℕ) → standard .workers ≤ w → Barred seats w NoWorker
-barred-none seats w h = record { refuses = λ l g c e. begin-first l g c w h; mild = refl }
+pub barred-none : (workers : List Worker) (w : ℕ) → standard .workers ≤ w → Barred workers w NoWorker
+barred-none workers w h = record { refuses = λ l g c e. begin-first l g c w h; mild = refl }
 
 begin-then : (l : Lent) (g : Logs) (c : Core) (w : ℕ) → w < standard .workers
     → refusal (stateOf l g c) (begin w) ≡ firstCause (cause (not (isFree (workerOf (stateOf l g c) w .stage))) WorkerTaken ∷ [])
 unfolding refusal causes noWorker stateOf
 begin-then l g c w h = cause-fails (not (less w (standard .workers))) NoWorker _ (ap not (less-yes {m = w} {n = standard .workers} h))
 
-module _ {seats : List Worker} {w n : ℕ} (x : Worker) (all : length seats ≡ standard .workers) (h : w < standard .workers) (is : x ≡ getD seats w freed)
+module _ {workers : List Worker} {w n : ℕ} (x : Worker) (all : length workers ≡ standard .workers) (h : w < standard .workers) (is : x ≡ getD workers w freed)
     (ranked : n ≡ rankOf (x .stage)) where
-  pub barred-taken : (n ≡ 0 → ⊥) → Barred seats w WorkerTaken
+  pub barred-taken : (n ≡ 0 → ⊥) → Barred workers w WorkerTaken
   barred-taken f =
       record {
         refuses =
@@ -171,7 +171,7 @@ module _ {seats : List Worker} {w n : ℕ} (x : Worker) (all : length seats ≡ 
         mild = refl;
       }
 
-  pub vacant-free : n ≡ 0 → Vacant seats w x
+  pub vacant-free : n ≡ 0 → Vacant workers w x
   unfolding firstCause
   vacant-free z =
       record {

@@ -13,19 +13,19 @@ use Rattle.spec.specs.Steps.{State, workerOf, Step, Answer, refused, isFree, Ca
 use Rattle.limits.specs.Refusing.{next-granted, refused-same}
 
 -- What a step comes to: its answer, and the state after it.
-pub record Comes (σ : State) (s : Step) (a : Answer) (σ' : State) : Type 0 where
+pub record Yields (σ : State) (s : Step) (a : Answer) (σ' : State) : Type 0 where
   pub answers : answer σ s ≡ a
   pub leaves : next σ s ≡ σ'
 
-pub comes-granted : (σ : State) (s : Step) → refusal σ s ≡ none → Comes σ s (granted σ s) (effect σ s)
-comes-granted σ s e =
+pub yields-granted : (σ : State) (s : Step) → refusal σ s ≡ none → Yields σ s (granted σ s) (effect σ s)
+yields-granted σ s e =
     record {
       answers = unfold answer in ap (λ (o : Option Refusal). maybe o (granted σ s) refused) e;
       leaves = next-granted σ s e;
     }
 
-pub comes-refused : (σ : State) (s : Step) (r : Refusal) → refusal σ s ≡ some r → ends r ≡ false → Comes σ s (refused r) σ
-comes-refused σ s r e t =
+pub yields-refused : (σ : State) (s : Step) (r : Refusal) → refusal σ s ≡ some r → ends r ≡ false → Yields σ s (refused r) σ
+yields-refused σ s r e t =
     record {
       answers = unfold answer in ap (λ (o : Option Refusal). maybe o (granted σ s) refused) e;
       leaves = refused-same σ s r e t;

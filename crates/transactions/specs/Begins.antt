@@ -14,11 +14,11 @@ use Rattle.transactions.specs.declared.Core.{Core}
 use Rattle.transactions.specs.declared.begins.Plain.{Plain}
 use Rattle.transactions.specs.declared.begins.Plain.the-variants.{Granted, Refused}
 use Rattle.transactions.specs.declared.begins.Done.{Done}
-use Rattle.transactions.specs.Answering.{comes-granted}
+use Rattle.transactions.specs.Answering.{yields-granted}
 use Rattle.transactions.specs.Admits.{Barred, Vacant}
-use Rattle.transactions.specs.Views.{Logs, seatIn, stateOf, withSeat, same-logs, state-with}
-use Rattle.transactions.specs.Ready.{Within, Stored, Ready, Goes, goes, goes-refused}
-use Rattle.transactions.specs.SeatLaws.{stored-put, lows-kept}
+use Rattle.transactions.specs.Views.{Logs, modelWorker, stateOf, coreWith, same-logs, state-with}
+use Rattle.transactions.specs.Ready.{Within, Stored, Ready, Refines, refines, refines-refused}
+use Rattle.transactions.specs.CoreLaws.{stored-put, lows-kept}
 
 -- document 01's answer
 abbrev pub plainIn : Plain → Answer
@@ -26,37 +26,37 @@ plainIn Granted = done
 plainIn (Refused r) = refused r
 
 pub record Begins (c : Core) (w : ℕ) (r : Done) : Type 0 where
-  pub goes-so : (l : Lent) (g : Logs) → Ready l g c → Goes l g c (begin w) l g (r .core) (plainIn (r .answer))
+  pub refines-so : (l : Lent) (g : Logs) → Ready l g c → Refines l g c (begin w) l g (r .core) (plainIn (r .answer))
 
 -- ---- refused
 
-pub begin-refused : (c : Core) (w : ℕ) (r : Refusal) → Barred (c .seats) w r → Begins c w (record { core = c; answer = Refused r })
-begin-refused c w r b = record { goes-so = λ l g k. goes-refused k (b .refuses l g c refl) (b .mild) }
+pub begin-refused : (c : Core) (w : ℕ) (r : Refusal) → Barred (c .workers) w r → Begins c w (record { core = c; answer = Refused r })
+begin-refused c w r b = record { refines-so = λ l g k. refines-refused k (b .refuses l g c refl) (b .mild) }
 
 -- ---- granted
 
 -- a worker that has just begun, whatever its rows hold
-pub begun-in : (g : Logs) (w : ℕ) → seatIn g begun w ≡ atStage Open freeWorker
+pub begun-in : (g : Logs) (w : ℕ) → modelWorker g begun w ≡ atStage Open freeWorker
 begun-in g w = begin-in (g .reads) (g .leaves) (g .writes) w
 
 begun-within : Within begun
 begun-within = record { reads = zero-le; leaves = zero-le; writes = zero-le }
 
-stored-begun : (l : Lent) (g : Logs) (c : Core) (w : ℕ) → w < standard .workers → Stored l g c → Stored l g (withSeat c w begun)
+stored-begun : (l : Lent) (g : Logs) (c : Core) (w : ℕ) → w < standard .workers → Stored l g c → Stored l g (coreWith c w begun)
 stored-begun l g c w h t =
     stored-put l g w begun (c .sizes) h t (t .map) refl (t .reads) (t .leaves) (t .writes) (λ v d. refl) begun-within (lows-kept w begun h t (inr refl))
 
-begins : (c : Core) (w : ℕ) (x : Worker) → Vacant (c .seats) w x → Begins c w (record { core = withSeat c w begun; answer = Granted })
+begins : (c : Core) (w : ℕ) (x : Worker) → Vacant (c .workers) w x → Begins c w (record { core = coreWith c w begun; answer = Granted })
 unfolding granted
 begins c w x v =
     record {
-      goes-so =
+      refines-so =
           λ l g k.
-          goes k (comes-granted (stateOf l g c) (begin w) (v .passes l g c refl))
+          refines k (yields-granted (stateOf l g c) (begin w) (v .passes l g c refl))
           (state-with l g g c w begun (same-logs g w) ∙ ap (withWorker (stateOf l g c) w) (begun-in g w) ∙ (unfold effect in refl))
           (stored-begun l g c w (v .inside) (k .stored));
     }
 
-pub begin-granted : (c : Core) (w : ℕ) (x y : Worker) → Vacant (c .seats) w x → y ≡ begun
-    → Begins c w (record { core = withSeat c w y; answer = Granted })
-begin-granted c w x y v e = subst (λ (z : Worker). Begins c w (record { core = withSeat c w z; answer = Granted })) (sym e) (begins c w x v)
+pub begin-granted : (c : Core) (w : ℕ) (x y : Worker) → Vacant (c .workers) w x → y ≡ begun
+    → Begins c w (record { core = coreWith c w y; answer = Granted })
+begin-granted c w x y v e = subst (λ (z : Worker). Begins c w (record { core = coreWith c w z; answer = Granted })) (sym e) (begins c w x v)

@@ -2,7 +2,7 @@ pub mod Answering
 pub mod Views
 pub mod Ready
 pub mod Admits
-pub mod SeatLaws
+pub mod CoreLaws
 pub mod Begins
 pub mod Starts
 pub mod MergeSteps

@@ -26,13 +26,13 @@ use Rattle.map.specs.declared.merge.Merged.{Merged}
 use Rattle.map.specs.Views.{Lent, mapOf}
 use Rattle.map.specs.Merges.{Merges}
 use Rattle.transactions.specs.declared.Core.{Core}
-use Rattle.transactions.specs.Answering.{comes-granted}
+use Rattle.transactions.specs.Answering.{yields-granted}
 use Rattle.transactions.specs.Views.{Logs, stateOf, worker-at}
-use Rattle.transactions.specs.Ready.{seat, Stored, Ready, Goes, goes}
+use Rattle.transactions.specs.Ready.{workerAt, Stored, Ready, Refines, refines}
 
 -- the core after a merge
 abbrev pub mergedCore : Core → Merged → Core
-mergedCore c r = record { seats = c .seats; sizes = r .sizes; counters = r .counters }
+mergedCore c r = record { workers = c .workers; sizes = r .sizes; counters = r .counters }
 
 -- the version counter is far from its end
 pub version-room : {l : Lent} {g : Logs} {c : Core} → Ready l g c → c .counters .version + versionsPerMerge standard < 2 ^ 64
@@ -82,7 +82,7 @@ module _ {l l' : Lent} {g : Logs} {c : Core} {a : ℕ} {r : Merged} (h : Ready l
         settings = standard;
         counters = record { number = m .number i; version = m .version i };
         map = m .map i;
-        workers = Rattle.transactions.specs.Views.workersFrom g (c .seats) 0;
+        workers = Rattle.transactions.specs.Views.workersFrom g (c .workers) 0;
       }
 
   good : GoodLeaves (c .counters .version) (mapOf l (c .sizes) .leaves)
@@ -92,42 +92,42 @@ module _ {l l' : Lent} {g : Logs} {c : Core} {a : ℕ} {r : Merged} (h : Ready l
   does =
       laws.merges a standard-cut (h .stored .map .bounded .slots) (h .stored .map .bounded .records) good
 
-  merged-stored : ((w : ℕ) → w < standard .workers → (i : ℕ) → i < seat c w .leaves → getD (versionsIn (g .leaves) w (seat c w .leaves)) i 0 ≤ c .counters .version)
+  merged-stored : ((w : ℕ) → w < standard .workers → (i : ℕ) → i < workerAt c w .leaves → getD (versionsIn (g .leaves) w (workerAt c w .leaves)) i 0 ≤ c .counters .version)
       → Stored l' g (mergedCore c r)
   merged-stored old =
       record {
-        map = subst (Rattle.map.specs.Held.Held l' (r .sizes)) (sym (m .version)) (m .held);
+        map = subst (Rattle.map.specs.MapHeld.MapHeld l' (r .sizes)) (sym (m .version)) (m .held);
         reads = h .stored .reads;
         leaves = h .stored .leaves;
         writes = h .stored .writes;
-        seats = h .stored .seats;
+        workers = h .stored .workers;
         counts = h .stored .counts;
         lows = λ w b i j e.
-            subst (λ (x : MapState). versionAt (x .leaves) (getD (lowsIn (g .leaves) w (seat c w .leaves)) i 0) ≡ getD (versionsIn (g .leaves) w (seat c w .leaves)) i 0) (sym (m .map))
-            (kept-low does good (getD (versionsIn (g .leaves) w (seat c w .leaves)) i 0) (getD (lowsIn (g .leaves) w (seat c w .leaves)) i 0) (old w b i j) (h .stored .lows w b i j)
-            (subst (λ (x : MapState). live (x .leaves) (getD (versionsIn (g .leaves) w (seat c w .leaves)) i 0) ≡ true) (m .map) e));
+            subst (λ (x : MapState). versionAt (x .leaves) (getD (lowsIn (g .leaves) w (workerAt c w .leaves)) i 0) ≡ getD (versionsIn (g .leaves) w (workerAt c w .leaves)) i 0) (sym (m .map))
+            (kept-low does good (getD (versionsIn (g .leaves) w (workerAt c w .leaves)) i 0) (getD (lowsIn (g .leaves) w (workerAt c w .leaves)) i 0) (old w b i j) (h .stored .lows w b i j)
+            (subst (λ (x : MapState). live (x .leaves) (getD (versionsIn (g .leaves) w (workerAt c w .leaves)) i 0) ≡ true) (m .map) e));
       }
 
-  versions-at : (w : ℕ) → w < standard .workers → model.workerOf (stateOf l g c) w .versions ≡ versionsIn (g .leaves) w (seat c w .leaves)
+  versions-at : (w : ℕ) → w < standard .workers → model.workerOf (stateOf l g c) w .versions ≡ versionsIn (g .leaves) w (workerAt c w .leaves)
   unfolding Rattle.sets.specs.Workers.workerIn
   versions-at w b =
-      ap (λ (x : model.Worker). x .versions) (worker-at l g c w (subst (λ (n : ℕ). w < n) (sym (h .stored .seats)) b))
+      ap (λ (x : model.Worker). x .versions) (worker-at l g c w (subst (λ (n : ℕ). w < n) (sym (h .stored .workers)) b))
 
   version-given : (w u : ℕ) → List·Memᴰ u (model.workerOf (stateOf l g c) w .versions) → u ≤ c .counters .version
   unfolding stateOf
   version-given w u q = h .logged .old w u q
 
   -- a logged version is one of those that the model has logged
-  logged-old : (w : ℕ) → w < standard .workers → (i : ℕ) → i < seat c w .leaves → getD (versionsIn (g .leaves) w (seat c w .leaves)) i 0 ≤ c .counters .version
+  logged-old : (w : ℕ) → w < standard .workers → (i : ℕ) → i < workerAt c w .leaves → getD (versionsIn (g .leaves) w (workerAt c w .leaves)) i 0 ≤ c .counters .version
   logged-old w b i j =
-      version-given w (getD (versionsIn (g .leaves) w (seat c w .leaves)) i 0)
-      (subst (List·Memᴰ (getD (versionsIn (g .leaves) w (seat c w .leaves)) i 0)) (sym (versions-at w b))
-      (mem-getD (versionsIn (g .leaves) w (seat c w .leaves)) i 0 (le-trans j (le-of-eq (sym (length-rows versionIn (getD (g .leaves) w []) (seat c w .leaves)))))))
+      version-given w (getD (versionsIn (g .leaves) w (workerAt c w .leaves)) i 0)
+      (subst (List·Memᴰ (getD (versionsIn (g .leaves) w (workerAt c w .leaves)) i 0)) (sym (versions-at w b))
+      (mem-getD (versionsIn (g .leaves) w (workerAt c w .leaves)) i 0 (le-trans j (le-of-eq (sym (length-rows versionIn (getD (g .leaves) w []) (workerAt c w .leaves)))))))
 
-  pub merge-goes : Goes l g c (merge a) l' g (mergedCore c r) (counted (r .count))
-  merge-goes =
-      subst (Goes l g c (merge a) l' g (mergedCore c r)) answer-is
-      (goes h (comes-granted (stateOf l g c) (merge a) (never-refused (stateOf l g c) a)) merged-state (merged-stored logged-old))
+  pub merge-refines : Refines l g c (merge a) l' g (mergedCore c r) (counted (r .count))
+  merge-refines =
+      subst (Refines l g c (merge a) l' g (mergedCore c r)) answer-is
+      (refines h (yields-granted (stateOf l g c) (merge a) (never-refused (stateOf l g c) a)) merged-state (merged-stored logged-old))
     where
       answer-is : granted (stateOf l g c) (merge a) ≡ counted (r .count)
       answer-is = unfold granted stateOf in ap counted (sym (m .count))

@@ -1,4 +1,4 @@
--- The invariant of the engine: every public entry asks it, `fresh` establishes it and every entry keeps it. And what a
+-- The invariant of the engine: every public entry asks it, `fresh_state` establishes it and every entry keeps it. And what a
 -- step promises: its answer and the state after it are the model's.
 use Prim.Native.Nat.{ℕ, _<_, _≤_}
 use mathlib.Core.Path.{_≡_, refl, sym, _∙_, subst}
@@ -20,13 +20,13 @@ use Rattle.sets.specs.Reads.{ReadsHeld}
 use Rattle.sets.specs.Leaves.{LeafSetRows, LeavesHeld, versionsOf, lowsOf}
 use Rattle.sets.specs.Writes.{WritesHeld}
 use Rattle.map.specs.Views.{Lent, mapOf}
-use Rattle.map.specs.Held as map
+use Rattle.map.specs.MapHeld as map
 use Rattle.transactions.specs.declared.Core.{Core}
 use Rattle.transactions.specs.Views.{Logs, stateOf}
-use Rattle.transactions.specs.Answering.{Comes, comes-refused}
+use Rattle.transactions.specs.Answering.{Yields, yields-refused}
 
-abbrev pub seat : Core → ℕ → Worker
-seat c w = getD (c .seats) w freed
+abbrev pub workerAt : Core → ℕ → Worker
+workerAt c w = getD (c .workers) w freed
 
 -- A worker's counts stay within its rows.
 pub record Within (x : Worker) : Type 0 where
@@ -41,13 +41,13 @@ LowsStay ts rs n =
 
 -- What the arrays and the core hold beside the model's own invariant: what the promises of the layers below ask.
 pub record Stored (l : Lent) (g : Logs) (c : Core) : Type 0 where
-  pub map : map.Held l (c .sizes) (c .counters .version)
+  pub map : map.MapHeld l (c .sizes) (c .counters .version)
   pub reads : ReadsHeld (g .reads)
   pub leaves : LeavesHeld (g .leaves)
   pub writes : WritesHeld (g .writes)
-  pub seats : length (c .seats) ≡ standard .workers
-  pub counts : (w : ℕ) → w < standard .workers → Within (seat c w)
-  pub lows : (w : ℕ) → w < standard .workers → LowsStay (mapOf l (c .sizes) .leaves) (getD (g .leaves) w []) (seat c w .leaves)
+  pub workers : length (c .workers) ≡ standard .workers
+  pub counts : (w : ℕ) → w < standard .workers → Within (workerAt c w)
+  pub lows : (w : ℕ) → w < standard .workers → LowsStay (mapOf l (c .sizes) .leaves) (getD (g .leaves) w []) (workerAt c w .leaves)
 
 pub record Ready (l : Lent) (g : Logs) (c : Core) : Type 0 where
   pub stored : Stored l g c
@@ -55,14 +55,14 @@ pub record Ready (l : Lent) (g : Logs) (c : Core) : Type 0 where
   pub logged : LoggedOld (stateOf l g c)
 
 -- A step taken: the arrays and the core before it, the step, those after it, and its answer.
-pub record Goes (l : Lent) (g : Logs) (c : Core) (s : Step) (l' : Lent) (g' : Logs) (c' : Core) (a : Answer) : Type 0 where
+pub record Refines (l : Lent) (g : Logs) (c : Core) (s : Step) (l' : Lent) (g' : Logs) (c' : Core) (a : Answer) : Type 0 where
   pub ready : Ready l' g' c'
   pub state : stateOf l' g' c' ≡ next (stateOf l g c) s
   pub says : a ≡ answer (stateOf l g c) s
 
-pub goes : {l l' : Lent} {g g' : Logs} {c c' : Core} {s : Step} {a : Answer} {σ' : State}
-    → Ready l g c → Comes (stateOf l g c) s a σ' → stateOf l' g' c' ≡ σ' → Stored l' g' c' → Goes l g c s l' g' c' a
-goes {l} {l'} {g} {g'} {c} {c'} {s} h k e t =
+pub refines : {l l' : Lent} {g g' : Logs} {c c' : Core} {s : Step} {a : Answer} {σ' : State}
+    → Ready l g c → Yields (stateOf l g c) s a σ' → stateOf l' g' c' ≡ σ' → Stored l' g' c' → Refines l g c s l' g' c' a
+refines {l} {l'} {g} {g'} {c} {c'} {s} h k e t =
     let q : stateOf l' g' c' ≡ next (stateOf l g c) s = e ∙ sym (k .leaves) in
     record {
       ready =
@@ -76,6 +76,6 @@ goes {l} {l'} {g} {g'} {c} {c'} {s} h k e t =
     }
 
 -- a refusal leaves everything
-pub goes-refused : {l : Lent} {g : Logs} {c : Core} {s : Step} {r : Refusal}
-    → Ready l g c → refusal (stateOf l g c) s ≡ some r → ends r ≡ false → Goes l g c s l g c (refused r)
-goes-refused {l} {g} {c} {s} {r} h e t = goes h (comes-refused (stateOf l g c) s r e t) refl (h .stored)
+pub refines-refused : {l : Lent} {g : Logs} {c : Core} {s : Step} {r : Refusal}
+    → Ready l g c → refusal (stateOf l g c) s ≡ some r → ends r ≡ false → Refines l g c s l g c (refused r)
+refines-refused {l} {g} {c} {s} {r} h e t = refines h (yields-refused (stateOf l g c) s r e t) refl (h .stored)

@@ -21,10 +21,10 @@ use Rattle.sets.specs.WriteLaws.{writes-zero}
 use Rattle.sets.specs.WorkerLaws.{free-in}
 use Rattle.map.specs.declared.Sizes.{Sizes}
 use Rattle.map.specs.Views.{Lent}
-use Rattle.map.specs.Says.{Becomes}
+use Rattle.map.specs.Entries.{MapBecomes}
 use Rattle.transactions.specs.declared.Core.{Core}
-use Rattle.transactions.specs.Views.{Logs, logs, seatIn, workersFrom, stateOf}
-use Rattle.transactions.specs.Ready.{seat, Within, Stored, Ready}
+use Rattle.transactions.specs.Views.{Logs, logs, modelWorker, workersFrom, stateOf}
+use Rattle.transactions.specs.Ready.{workerAt, Within, Stored, Ready}
 
 pub record Fresh (l : Lent) (g : Logs) (c : Core) : Type 0 where
   pub ready : Ready l g c
@@ -38,22 +38,22 @@ abbrev pub noLogs : Logs
 noLogs = logs (zeros (standard .readLimit) readWords) (zeros (standard .leafSetLimit) leafSetWords) (zeros (standard .writeLimit) writeWords)
 
 abbrev pub startCore : Sizes → Core
-startCore z = record { seats = replicate (standard .workers) freed; sizes = z; counters = record { number = 0; version = 0 } }
+startCore z = record { workers = replicate (standard .workers) freed; sizes = z; counters = record { number = 0; version = 0 } }
 
-free-seat : (g : Logs) (w : ℕ) → seatIn g freed w ≡ freeWorker
-free-seat g w = free-in (g .reads) (g .leaves) (g .writes) w
+free-worker : (g : Logs) (w : ℕ) → modelWorker g freed w ≡ freeWorker
+free-worker g w = free-in (g .reads) (g .leaves) (g .writes) w
 
-free-crew : (g : Logs) (n w : ℕ) → workersFrom g (replicate n freed) w ≡ replicate n freeWorker
+free-workers : (g : Logs) (n w : ℕ) → workersFrom g (replicate n freed) w ≡ replicate n freeWorker
 unfolding workersFrom
-free-crew g zero w = refl
-free-crew g (suc n) w = λ i. free-seat g w i ∷ free-crew g n (suc w) i
+free-workers g zero w = refl
+free-workers g (suc n) w = λ i. free-worker g w i ∷ free-workers g n (suc w) i
 
 getD-free : (n w : ℕ) → getD (replicate n freed) w freed ≡ freed
 getD-free zero w = refl
 getD-free (suc n) zero = refl
 getD-free (suc n) (suc w) = getD-free n w
 
-module _ (l : Lent) (z : Sizes) (b : Becomes l z 0 freshMap) where
+module _ (l : Lent) (z : Sizes) (b : MapBecomes l z 0 freshMap) where
   fresh-state : stateOf l noLogs (startCore z) ≡ fresh standard
   unfolding stateOf
   fresh-state =
@@ -61,10 +61,10 @@ module _ (l : Lent) (z : Sizes) (b : Becomes l z 0 freshMap) where
         settings = standard;
         counters = record { number = 0; version = 0 };
         map = b .map i;
-        workers = free-crew noLogs (standard .workers) 0 i;
+        workers = free-workers noLogs (standard .workers) 0 i;
       }
 
-  no-leaf : (w i : ℕ) → i < seat (startCore z) w .leaves → {A : Type 0} → A
+  no-leaf : (w i : ℕ) → i < workerAt (startCore z) w .leaves → {A : Type 0} → A
   no-leaf w i h = absurd (not-suc-le-zero (subst (λ (x : Worker). i < x .leaves) (getD-free (standard .workers) w) h))
 
   fresh-stored : Stored l noLogs (startCore z)
@@ -74,7 +74,7 @@ module _ (l : Lent) (z : Sizes) (b : Becomes l z 0 freshMap) where
         reads = reads-zero;
         leaves = leaves-zero;
         writes = writes-zero;
-        seats = length-replicate (standard .workers) freed;
+        workers = length-replicate (standard .workers) freed;
         counts = λ w h. subst Within (sym (getD-free (standard .workers) w)) (record { reads = zero-le; leaves = zero-le; writes = zero-le });
         lows = λ w h i j. no-leaf w i j;
       }

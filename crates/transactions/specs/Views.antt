@@ -27,13 +27,13 @@ abbrev pub logs : List ReadRows → List LeafSetRows → List WriteRows → Logs
 logs reads leaves writes = record { reads = reads; leaves = leaves; writes = writes }
 
 -- worker w, with its rows of the three sets
-abbrev pub seatIn : Logs → Worker → ℕ → model.Worker
-seatIn g x w = workerIn x (g .reads) (g .leaves) (g .writes) w
+abbrev pub modelWorker : Logs → Worker → ℕ → model.Worker
+modelWorker g x w = workerIn x (g .reads) (g .leaves) (g .writes) w
 
 -- the workers from worker w on
 unfoldable pub workersFrom : Logs → List Worker → ℕ → List model.Worker
 workersFrom g [] w = []
-workersFrom g (x ∷ xs) w = seatIn g x w ∷ workersFrom g xs (suc w)
+workersFrom g (x ∷ xs) w = modelWorker g x w ∷ workersFrom g xs (suc w)
 
 -- the model's state
 unfoldable pub stateOf : Lent → Logs → Core → State
@@ -42,15 +42,15 @@ stateOf l g c =
       settings = standard;
       counters = record { number = c .counters .number; version = c .counters .version };
       map = mapOf l (c .sizes);
-      workers = workersFrom g (c .seats) 0;
+      workers = workersFrom g (c .workers) 0;
     }
 
 -- the core with another worker, and with other sizes
-abbrev pub withSeat : Core → ℕ → Worker → Core
-withSeat c w x = record { seats = set (c .seats) w x; sizes = c .sizes; counters = c .counters }
+abbrev pub coreWith : Core → ℕ → Worker → Core
+coreWith c w x = record { workers = set (c .workers) w x; sizes = c .sizes; counters = c .counters }
 
 abbrev pub withBoth : Core → ℕ → Worker → Sizes → Core
-withBoth c w x z = record { seats = set (c .seats) w x; sizes = z; counters = c .counters }
+withBoth c w x z = record { workers = set (c .workers) w x; sizes = z; counters = c .counters }
 
 -- ---- workers
 
@@ -59,20 +59,20 @@ unfolding workersFrom
 from-length g [] w = refl
 from-length g (x ∷ xs) w = ap suc (from-length g xs (suc w))
 
-pub crew : (l : Lent) (g : Logs) (c : Core) → length (stateOf l g c .workers) ≡ length (c .seats)
+pub worker-count : (l : Lent) (g : Logs) (c : Core) → length (stateOf l g c .workers) ≡ length (c .workers)
 unfolding stateOf
-crew l g c = from-length g (c .seats) 0
+worker-count l g c = from-length g (c .workers) 0
 
-from-at : (g : Logs) (xs : List Worker) (w i : ℕ) → i < length xs → getD (workersFrom g xs w) i freeWorker ≡ seatIn g (getD xs i freed) (w + i)
+from-at : (g : Logs) (xs : List Worker) (w i : ℕ) → i < length xs → getD (workersFrom g xs w) i freeWorker ≡ modelWorker g (getD xs i freed) (w + i)
 unfolding workersFrom
 from-at g [] w i h = absurd (not-suc-le-zero h)
-from-at g (x ∷ xs) w zero h = ap (seatIn g x) (sym (add-zero w))
-from-at g (x ∷ xs) w (suc i) h = from-at g xs (suc w) i (le-of-suc-le-suc h) ∙ ap (seatIn g (getD xs i freed)) (suc-add w i ∙ sym (add-suc w i))
+from-at g (x ∷ xs) w zero h = ap (modelWorker g x) (sym (add-zero w))
+from-at g (x ∷ xs) w (suc i) h = from-at g xs (suc w) i (le-of-suc-le-suc h) ∙ ap (modelWorker g (getD xs i freed)) (suc-add w i ∙ sym (add-suc w i))
 
 -- worker w of the state
-pub worker-at : (l : Lent) (g : Logs) (c : Core) (w : ℕ) → w < length (c .seats) → workerOf (stateOf l g c) w ≡ seatIn g (getD (c .seats) w freed) w
+pub worker-at : (l : Lent) (g : Logs) (c : Core) (w : ℕ) → w < length (c .workers) → workerOf (stateOf l g c) w ≡ modelWorker g (getD (c .workers) w freed) w
 unfolding stateOf workerOf
-worker-at l g c w h = from-at g (c .seats) 0 w h ∙ ap (seatIn g (getD (c .seats) w freed)) (let e : 0 + w ≡ w = omega arith in e)
+worker-at l g c w h = from-at g (c .workers) 0 w h ∙ ap (modelWorker g (getD (c .workers) w freed)) (let e : 0 + w ≡ w = omega arith in e)
 
 -- the rows of every worker but w are the same
 pub record OthersSame (g g' : Logs) (w : ℕ) : Type 0 where
@@ -83,9 +83,9 @@ pub record OthersSame (g g' : Logs) (w : ℕ) : Type 0 where
 pub same-logs : (g : Logs) (w : ℕ) → OthersSame g g w
 same-logs g w = record { reads = λ v n d. refl; leaves = λ v n d. refl; writes = λ v n d. refl }
 
-other-seat : (g g' : Logs) (w : ℕ) → OthersSame g g' w → (x : Worker) (v : ℕ) → (v ≡ w → ⊥) → seatIn g' x v ≡ seatIn g x v
+other-worker : (g g' : Logs) (w : ℕ) → OthersSame g g' w → (x : Worker) (v : ℕ) → (v ≡ w → ⊥) → modelWorker g' x v ≡ modelWorker g x v
 unfolding workerIn
-other-seat g g' w o x v d =
+other-worker g g' w o x v d =
     λ i. record {
       stage = x .stage;
       reads = o .reads v (x .reads) d i;
@@ -98,25 +98,25 @@ from-above : (g g' : Logs) (w : ℕ) → OthersSame g g' w → (xs : List Worker
 unfolding workersFrom
 from-above g g' w o [] v h = refl
 from-above g g' w o (x ∷ xs) v h =
-    λ i. other-seat g g' w o x v (λ e. let z : ⊥ = omega arith in z) i ∷ from-above g g' w o xs (suc v) (let k : w < suc v = omega arith in k) i
+    λ i. other-worker g g' w o x v (λ e. let z : ⊥ = omega arith in z) i ∷ from-above g g' w o xs (suc v) (let k : w < suc v = omega arith in k) i
 
 from-set : (g g' : Logs) (xs : List Worker) (v i : ℕ) (x : Worker) → OthersSame g g' (v + i)
-    → workersFrom g' (set xs i x) v ≡ set (workersFrom g xs v) i (seatIn g' x (v + i))
+    → workersFrom g' (set xs i x) v ≡ set (workersFrom g xs v) i (modelWorker g' x (v + i))
 unfolding workersFrom
 from-set g g' [] v i x o = refl
 from-set g g' (y ∷ ys) v zero x o =
     let e : v + 0 ≡ v = omega arith in
-    λ j. seatIn g' x (sym e j) ∷ from-above g g' (v + 0) o ys (suc v) (let k : v + 0 < suc v = omega arith in k) j
+    λ j. modelWorker g' x (sym e j) ∷ from-above g g' (v + 0) o ys (suc v) (let k : v + 0 < suc v = omega arith in k) j
 from-set g g' (y ∷ ys) v (suc i) x o =
     let e : suc v + i ≡ v + suc i = omega arith in
-    let first : seatIn g' y v ≡ seatIn g y v = other-seat g g' (v + suc i) o y v (λ q. let z : ⊥ = omega arith in z) in
-    let rest : workersFrom g' (set ys i x) (suc v) ≡ set (workersFrom g ys (suc v)) i (seatIn g' x (v + suc i)) =
-    from-set g g' ys (suc v) i x (subst (OthersSame g g') (sym e) o) ∙ ap (λ (n : ℕ). set (workersFrom g ys (suc v)) i (seatIn g' x n)) e in
+    let first : modelWorker g' y v ≡ modelWorker g y v = other-worker g g' (v + suc i) o y v (λ q. let z : ⊥ = omega arith in z) in
+    let rest : workersFrom g' (set ys i x) (suc v) ≡ set (workersFrom g ys (suc v)) i (modelWorker g' x (v + suc i)) =
+    from-set g g' ys (suc v) i x (subst (OthersSame g g') (sym e) o) ∙ ap (λ (n : ℕ). set (workersFrom g ys (suc v)) i (modelWorker g' x n)) e in
     λ j. first j ∷ rest j
 
 -- a step of worker w that rewrites its seat and its rows
 pub state-with : (l : Lent) (g g' : Logs) (c : Core) (w : ℕ) (x : Worker) → OthersSame g g' w
-    → stateOf l g' (withSeat c w x) ≡ withWorker (stateOf l g c) w (seatIn g' x w)
+    → stateOf l g' (coreWith c w x) ≡ withWorker (stateOf l g c) w (modelWorker g' x w)
 unfolding stateOf withWorker
 state-with l g g' c w x o =
     ap
@@ -127,5 +127,5 @@ state-with l g g' c w x o =
       map = mapOf l (c .sizes);
       workers = ws;
     })
-    (from-set g g' (c .seats) 0 w x (subst (OthersSame g g') (let e : w ≡ 0 + w = omega arith in e) o)
-    ∙ ap (λ (n : ℕ). set (workersFrom g (c .seats) 0) w (seatIn g' x n)) (let e : 0 + w ≡ w = omega arith in e))
+    (from-set g g' (c .workers) 0 w x (subst (OthersSame g g') (let e : w ≡ 0 + w = omega arith in e) o)
+    ∙ ap (λ (n : ℕ). set (workersFrom g (c .workers) 0) w (modelWorker g' x n)) (let e : 0 + w ≡ w = omega arith in e))

@@ -10,7 +10,7 @@ ghost use Rattle.transactions.specs.Admits.{rankOf, isAt, anyStage, Admi
 // A worker whose stage is right, or the refusal.
 pub enum Admit {
     Refused(Refusal),
-    Seat(Worker),
+    Allowed(Worker),
 }
 
 // The stages numbered, to compare them.
@@ -26,14 +26,14 @@ fn rank(s: Stage) -> u8
 }
 
 // A worker in this stage, which is not the free one.
-fn at_stage(seats: [Worker; WORKERS], w: u32, right: Stage) -> Admit
-    ensures { λ r. ⌜ Admitted (isAt right) seats w r ⌝ }
+fn at_stage(workers: [Worker; WORKERS], w: u32, right: Stage) -> Admit
+    ensures { λ r. ⌜ Admitted (isAt right) workers w r ⌝ }
 {
     let i = w as usize;
     if WORKERS <= i {
         return Admit::Refused(Refusal::NoWorker);
     }
-    let x = seats[i];
+    let x = workers[i];
     let s = x.stage;
     let n = rank(s);
     if n == 0 {
@@ -42,58 +42,58 @@ fn at_stage(seats: [Worker; WORKERS], w: u32, right: Stage) -> Admit
     if n != rank(right) {
         return Admit::Refused(Refusal::WrongStage);
     }
-    Admit::Seat(x)
+    Admit::Allowed(x)
 }
 
 // A worker in the open stage.
-pub fn open(seats: [Worker; WORKERS], w: u32) -> Admit
-    ensures { λ r. ⌜ Admitted isOpen seats w r ⌝ }
+pub fn open(workers: [Worker; WORKERS], w: u32) -> Admit
+    ensures { λ r. ⌜ Admitted isOpen workers w r ⌝ }
 {
-    at_stage(seats, w, Stage::Open)
+    at_stage(workers, w, Stage::Open)
 }
 
 // A worker in the locked stage.
-pub fn locked(seats: [Worker; WORKERS], w: u32) -> Admit
-    ensures { λ r. ⌜ Admitted isLocked seats w r ⌝ }
+pub fn locked(workers: [Worker; WORKERS], w: u32) -> Admit
+    ensures { λ r. ⌜ Admitted isLocked workers w r ⌝ }
 {
-    at_stage(seats, w, Stage::Locked)
+    at_stage(workers, w, Stage::Locked)
 }
 
 // A worker in the checked stage.
-pub fn checked(seats: [Worker; WORKERS], w: u32) -> Admit
-    ensures { λ r. ⌜ Admitted isChecked seats w r ⌝ }
+pub fn checked(workers: [Worker; WORKERS], w: u32) -> Admit
+    ensures { λ r. ⌜ Admitted isChecked workers w r ⌝ }
 {
-    at_stage(seats, w, Stage::Checked)
+    at_stage(workers, w, Stage::Checked)
 }
 
 // A worker in any stage but the free one, for abort.
-pub fn busy(seats: [Worker; WORKERS], w: u32) -> Admit
-    ensures { λ r. ⌜ Admitted anyStage seats w r ⌝ }
+pub fn busy(workers: [Worker; WORKERS], w: u32) -> Admit
+    ensures { λ r. ⌜ Admitted anyStage workers w r ⌝ }
 {
     let i = w as usize;
     if WORKERS <= i {
         return Admit::Refused(Refusal::NoWorker);
     }
-    let x = seats[i];
+    let x = workers[i];
     let s = x.stage;
     if rank(s) == 0 {
         return Admit::Refused(Refusal::WorkerFree);
     }
-    Admit::Seat(x)
+    Admit::Allowed(x)
 }
 
 // A free worker, for begin.
-pub fn vacant(seats: [Worker; WORKERS], w: u32) -> Admit
-    ensures { λ r. ⌜ Begun seats w r ⌝ }
+pub fn vacant(workers: [Worker; WORKERS], w: u32) -> Admit
+    ensures { λ r. ⌜ Begun workers w r ⌝ }
 {
     let i = w as usize;
     if WORKERS <= i {
         return Admit::Refused(Refusal::NoWorker);
     }
-    let x = seats[i];
+    let x = workers[i];
     let s = x.stage;
     if rank(s) != 0 {
         return Admit::Refused(Refusal::WorkerTaken);
     }
-    Admit::Seat(x)
+    Admit::Allowed(x)
 }

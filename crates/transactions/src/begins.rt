@@ -21,19 +21,19 @@ pub struct Done {
 pub fn begin(c: Core, w: u32) -> Done
     ensures { λ r. ⌜ Begins c w r ⌝ }
 {
-    let mut seats = c.seats;
+    let mut workers = c.workers;
     let sizes = c.sizes;
     let counters = c.counters;
-    match admits::vacant(seats, w) {
+    match admits::vacant(workers, w) {
         Admit::Refused(r) => Done {
             core: c,
             answer: Plain::Refused(r),
         },
-        Admit::Seat(x) => {
+        Admit::Allowed(x) => {
             let open = x.begin();
-            seats[w as usize] = open;
+            workers[w as usize] = open;
             let core = Core {
-                seats,
+                workers,
                 sizes,
                 counters,
             };

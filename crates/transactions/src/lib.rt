@@ -1,5 +1,5 @@
 // Where document 01's upper crate begins: eight workers over one map, which it knows only by its promises. Here are what
-// every step shares, who may take one, a fresh start, begin and merge; the other steps are in `accesses` and `endings`.
+// every step shares, who may take one, a fresh start, begin and merge; the other steps are in `accesses` and `commits`.
 pub mod admits;
 pub mod begins;
 pub mod merges;
@@ -12,7 +12,7 @@ use spec::WORKERS;
 
 // What goes by value: the workers, how much the map's arrays hold, and the last commit number and leaf version given.
 pub struct Core {
-    pub seats: [Worker; WORKERS],
+    pub workers: [Worker; WORKERS],
     pub sizes: Sizes,
     pub counters: Counters,
 }

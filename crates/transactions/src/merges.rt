@@ -11,7 +11,7 @@ use spec::Address;
 ghost use Rattle.spec.specs.Steps as model;
 ghost use Rattle.map.specs.Views.{lent};
 ghost use Rattle.transactions.specs.Views.{logs};
-ghost use Rattle.transactions.specs.Ready.{Ready, Goes};
+ghost use Rattle.transactions.specs.Ready.{Ready, Refines};
 
 // The core after a merge, and how many pending writes entered the index.
 pub struct MergeDone {
@@ -31,18 +31,18 @@ pub fn merge_at(
     a: Address,
 ) -> MergeDone
     requires { ⌜ Ready (lent (now rows) (now leaves) (now slots)) (logs (now reads) (now leafsets) (now writes)) c ⌝ }
-    ensures { λ r. ⌜ Goes (lent (now (rows .entry)) (now (leaves .entry)) (now (slots .entry)))
+    ensures { λ r. ⌜ Refines (lent (now (rows .entry)) (now (leaves .entry)) (now (slots .entry)))
         (logs (now (reads .entry)) (now (leafsets .entry)) (now (writes .entry))) c (model.merge a) (lent (now (rows .exit)) (now (leaves .exit)) (now (slots .exit)))
         (logs (now (reads .entry)) (now (leafsets .entry)) (now (writes .entry))) (r .core) (model.counted (r .count)) ⌝ }
 {
-    let seats = c.seats;
+    let workers = c.workers;
     let sizes = c.sizes;
     let counters = c.counters;
     let r = merge::merge(rows, leaves, slots, sizes, counters, a);
     let z = r.sizes;
     let k = r.counters;
     let core = Core {
-        seats,
+        workers,
         sizes: z,
         counters: k,
     };

@@ -4,7 +4,7 @@ use counters::Counters;
 use map::Leaves;
 use map::Records;
 use map::Slots;
-use map::say;
+use map::entries;
 use sets::LEAF_SET_WORDS;
 use sets::LeafSets;
 use sets::READ_WORDS;
@@ -22,7 +22,7 @@ ghost use Rattle.transactions.specs.Views.{logs};
 ghost use Rattle.transactions.specs.Starts.{Fresh};
 
 // Empties the arrays. Whatever they held, the state is document 01's fresh map.
-pub fn fresh(
+pub fn fresh_state(
     rows: &mut Records,
     leaves: &mut Leaves,
     slots: &mut Slots,
@@ -32,7 +32,7 @@ pub fn fresh(
 ) -> Core
     ensures { λ r. ⌜ Fresh (lent (now (rows .exit)) (now (leaves .exit)) (now (slots .exit))) (logs (now (reads .exit)) (now (leafsets .exit)) (now (writes .exit))) r ⌝ }
 {
-    let sizes = say::fresh(rows, leaves, slots);
+    let sizes = entries::fresh_map(rows, leaves, slots);
     let no_read = [0u64; READ_WORDS];
     let no_reads = [no_read; READ_LIMIT];
     *reads = [no_reads; WORKERS];
@@ -49,13 +49,13 @@ pub fn fresh(
         leaves: 0,
         writes: 0,
     };
-    let seats = [free; WORKERS];
+    let workers = [free; WORKERS];
     let counters = Counters {
         number: 0,
         version: 0,
     };
     Core {
-        seats,
+        workers,
         sizes,
         counters,
     }

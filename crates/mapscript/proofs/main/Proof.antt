@@ -4,13 +4,13 @@ use mathlib.Core.Path.{_≡_, refl, sym}
 use lib.ListN.{length}
 use Rattle.map.specs.Views.{lent}
 use Rattle.transactions.specs.Views.{logs}
-use Rattle.mapscript.specs.Works.{Holds, holds-start}
+use Rattle.mapscript.specs.Works.{WorkReady, holds-start}
 use Rattle.mapscript.proofs.main.Statement.{statement}
 use Rattle.mapscript.proofs.main.Tie as tie
 
 abbrev Inv-loop : tie.InvT-loop
 Inv-loop input₀ out₀ rows₀ leaves₀ slots₀ reads₀ leafsets₀ writes₀ w₀ turns₀ input out rows leaves slots reads leafsets writes w turns =
-    Holds (lent rows leaves slots) (logs reads leafsets writes) w (length out) (length input)
+    WorkReady (lent rows leaves slots) (logs reads leafsets writes) w (length out) (length input)
     × (65536 ≡ length out) × (65536 ≡ length input)
 
 abbrev μ-loop : tie.MeasureT-loop
@@ -23,20 +23,20 @@ large-buffer-requires c κs = tt
 large-buffer-requires-2 : tie.Need-large-buffer-requires-2 Inv-loop μ-loop
 large-buffer-requires-2 c κs = tt
 
-fresh-requires : tie.Need-fresh-requires Inv-loop μ-loop
-fresh-requires c κs = tt
+fresh-session-requires : tie.Need-fresh-session-requires Inv-loop μ-loop
+fresh-session-requires c κs = tt
 
 loop-holds : tie.Need-loop-holds Inv-loop μ-loop
-loop-holds c = (holds-start _ _ (c .fresh .ensures) refl refl, c .before .before .before .before .before .before .before .large-buffer2 .ensures, c .before .before .before .before .before .before .before .before .large-buffer .ensures)
+loop-holds c = (holds-start _ _ (c .fresh-session .ensures) refl refl, c .before .before .before .before .before .before .before .large-buffer2 .ensures, c .before .before .before .before .before .before .before .before .large-buffer .ensures)
 
-slice-aggregate-turn : tie.Need-slice-aggregate-turn Inv-loop μ-loop
-slice-aggregate-turn c = c .before .before .before .loop .inv .2
+slice-aggregate-advance : tie.Need-slice-aggregate-advance Inv-loop μ-loop
+slice-aggregate-advance c = c .before .before .before .loop .inv .2
 
-slice-aggregate-turn-2 : tie.Need-slice-aggregate-turn-2 Inv-loop μ-loop
-slice-aggregate-turn-2 c = c .before .before .before .before .loop .inv .1
+slice-aggregate-advance-2 : tie.Need-slice-aggregate-advance-2 Inv-loop μ-loop
+slice-aggregate-advance-2 c = c .before .before .before .before .loop .inv .1
 
-turn-requires : tie.Need-turn-requires Inv-loop μ-loop
-turn-requires c κs = c .before .before .before .before .before .before .before .before .before .before .loop .inv .0
+advance-requires : tie.Need-advance-requires Inv-loop μ-loop
+advance-requires c κs = c .before .before .before .before .before .before .before .before .before .before .loop .inv .0
 
 sub-turns : tie.Need-sub-turns Inv-loop μ-loop
 sub-turns c = omega (arith, c .before .before .before .before .before .before .before .before .before .before .before .before .loop-test .taken)
@@ -45,7 +45,7 @@ loop-less : tie.Need-loop-less Inv-loop μ-loop
 loop-less c = omega (arith, c .before .before .before .before .before .before .before .before .before .before .before .before .loop-test .taken)
 
 loop-again : tie.Need-loop-again Inv-loop μ-loop
-loop-again c = (c .before .before .turn .ensures, sym (c .out2 .given), sym (c .before .input2 .given))
+loop-again c = (c .before .before .advance .ensures, sym (c .out2 .given), sym (c .before .input2 .given))
 
 slice-aggregate-close : tie.Need-slice-aggregate-close Inv-loop μ-loop
 slice-aggregate-close c = c .before .before .loop .inv .1
@@ -66,11 +66,11 @@ main-spec =
     μ-loop
     large-buffer-requires
     large-buffer-requires-2
-    fresh-requires
+    fresh-session-requires
     loop-holds
-    slice-aggregate-turn
-    slice-aggregate-turn-2
-    turn-requires
+    slice-aggregate-advance
+    slice-aggregate-advance-2
+    advance-requires
     sub-turns
     loop-less
     loop-again

@@ -1,7 +1,7 @@
 -- `script::after_letter` meets its contract: the byte after the letter is a space, or the line is malformed.
 use native.Mathlib.Omega.{arith}
 use borrow.Author.Needs.{needs}
-use Rattle.script.specs.TurnLaws.{turn-byte, letter-good, letter-bad}
+use Rattle.script.specs.TokenLaws.{turn-byte, letter-good, letter-bad}
 use Rattle.script.proofs.after_letter.Statement.{statement}
 use Rattle.script.proofs.after_letter.Tie as tie
 

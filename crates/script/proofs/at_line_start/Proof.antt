@@ -2,7 +2,7 @@
 use mathlib.Core.Path.{ap}
 use borrow.Author.Needs.{needs}
 use Rattle.script.specs.Parsing.{started}
-use Rattle.script.specs.Turns.{at-start, past-start}
+use Rattle.script.specs.Tokens.{at-start, past-start}
 use Rattle.script.proofs.at_line_start.Statement.{statement}
 use Rattle.script.proofs.at_line_start.Tie as tie
 

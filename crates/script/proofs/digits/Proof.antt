@@ -7,8 +7,8 @@ use lib.ListN.{length}
 use borrow.Author.Tests.{not-true, not-false}
 use Rattle.lists.specs.Tests.{less-true, less-false}
 use Rattle.script.specs.GrammarLaws.{digit-yes, digit-low, digit-high}
-use Rattle.script.specs.Turns.{Spells}
-use Rattle.script.specs.TurnLaws.{spells-none, spells-digit, digits-stop, digits-end}
+use Rattle.script.specs.Tokens.{Spells}
+use Rattle.script.specs.TokenLaws.{spells-none, spells-digit, digits-stop, digits-end}
 use Rattle.script.proofs.digits.Statement.{statement}
 use Rattle.script.proofs.digits.Tie as tie
 

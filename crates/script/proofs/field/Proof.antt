@@ -3,7 +3,7 @@ use native.Mathlib.Omega.{arith}
 use mathlib.Core.Logic.{⊎-elim, inl, inr}
 use mathlib.Core.Path.{refl}
 use borrow.Author.Needs.{needs}
-use Rattle.script.specs.TurnLaws.{field-ended, field-turn, digits-from, space-turn, feed-turn, field-bad, refused}
+use Rattle.script.specs.TokenLaws.{field-ended, field-turn, digits-from, space-turn, feed-turn, field-bad, refused}
 use Rattle.script.proofs.field.Statement.{statement}
 use Rattle.script.proofs.field.Tie as tie
 

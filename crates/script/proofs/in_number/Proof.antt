@@ -1,6 +1,6 @@
 -- `script::in_number` meets its contract: each count of numbers before has its own variant.
 use borrow.Author.Needs.{needs}
-use Rattle.script.specs.TurnLaws.{within-none, within-one, within-two}
+use Rattle.script.specs.TokenLaws.{within-none, within-one, within-two}
 use Rattle.script.proofs.in_number.Statement.{statement}
 use Rattle.script.proofs.in_number.Tie as tie
 

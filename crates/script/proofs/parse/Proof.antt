@@ -3,12 +3,12 @@ use Prim.Native.Nat.{_-_}
 use native.Mathlib.Omega.{arith}
 use lib.ListN.{length}
 use borrow.Author.Needs.{needs}
-use Rattle.script.specs.Turns.{Goes, goes-none, goes-on, goes-ends, goes-whole, line-ends, malformed-ends}
+use Rattle.script.specs.Tokens.{Advances, goes-none, goes-on, goes-ends, goes-whole, line-ends, malformed-ends}
 use Rattle.script.proofs.parse.Statement.{statement}
 use Rattle.script.proofs.parse.Tie as tie
 
 abbrev Inv-loop : tie.InvT-loop
-Inv-loop s from i₀ q₀ i q = Goes s from q₀ i q
+Inv-loop s from i₀ q₀ i q = Advances s from q₀ i q
 
 abbrev μ-loop : tie.MeasureT-loop
 μ-loop s from i₀ q₀ i q = length s - i
@@ -16,20 +16,20 @@ abbrev μ-loop : tie.MeasureT-loop
 loop-holds : tie.Need-loop-holds Inv-loop μ-loop
 loop-holds c = goes-none _ _ _
 
-turn-requires : tie.Need-turn-requires Inv-loop μ-loop
-turn-requires c κs = omega arith
+parse-part-requires : tie.Need-parse-part-requires Inv-loop μ-loop
+parse-part-requires c κs = omega arith
 
 enum-told : tie.Need-enum-told Inv-loop μ-loop
 enum-told c = search needs
 
 returns : tie.Need-returns Inv-loop μ-loop
-returns c = goes-ends (c .before .before .before .before .loop .inv) (c .before .before .turn .ensures .0) (line-ends (c .enum-told .given .1))
+returns c = goes-ends (c .before .before .before .before .loop .inv) (c .before .before .parse-part .ensures .0) (line-ends (c .enum-told .given .1))
 
 enum-told-2 : tie.Need-enum-told-2 Inv-loop μ-loop
 enum-told-2 c = search needs
 
 returns-2 : tie.Need-returns-2 Inv-loop μ-loop
-returns-2 c = goes-ends (c .before .before .before .before .loop .inv) (c .before .before .turn .ensures .0) (malformed-ends (c .enum-told2 .given .1))
+returns-2 c = goes-ends (c .before .before .before .before .loop .inv) (c .before .before .parse-part .ensures .0) (malformed-ends (c .enum-told2 .given .1))
 
 enum-told-3 : tie.Need-enum-told-3 Inv-loop μ-loop
 enum-told-3 c = search needs
@@ -38,7 +38,7 @@ loop-less : tie.Need-loop-less Inv-loop μ-loop
 loop-less c = omega arith
 
 loop-again : tie.Need-loop-again Inv-loop μ-loop
-loop-again c = goes-on (c .before .before .before .before .loop .inv) (c .before .before .turn .ensures .0) (c .enum-told3 .given .1)
+loop-again c = goes-on (c .before .before .before .before .loop .inv) (c .before .before .parse-part .ensures .0) (c .enum-told3 .given .1)
 
 returns-3 : tie.Need-returns-3 Inv-loop μ-loop
 returns-3 c = goes-whole (c .before .loop .inv) (c .loop-test .left)
@@ -50,7 +50,7 @@ parse-spec =
     Inv-loop
     μ-loop
     loop-holds
-    turn-requires
+    parse-part-requires
     enum-told
     returns
     enum-told-2

@@ -1,7 +1,7 @@
 -- `script::spaced` meets its contract: the number read becomes one of those before.
 use mathlib.Core.Path.{refl}
 use borrow.Author.Needs.{needs}
-use Rattle.script.specs.TurnLaws.{space-none, space-one, space-two}
+use Rattle.script.specs.TokenLaws.{space-none, space-one, space-two}
 use Rattle.script.proofs.spaced.Statement.{statement}
 use Rattle.script.proofs.spaced.Tie as tie
 

@@ -2,7 +2,7 @@
 use native.Mathlib.Omega.{arith}
 use mathlib.Core.Logic.{inl, inr}
 use borrow.Author.Needs.{needs}
-use Rattle.script.specs.TurnLaws.{turn-byte, start-bad, start-good}
+use Rattle.script.specs.TokenLaws.{turn-byte, start-bad, start-good}
 use Rattle.script.proofs.start.Statement.{statement}
 use Rattle.script.proofs.start.Tie as tie
 

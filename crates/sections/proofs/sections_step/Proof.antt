@@ -1,5 +1,5 @@
 -- `sections_step` meets its contract: `codes::step` between a core loaded and a core stored.
-use Rattle.sections.specs.ExportLaws.{ready-loaded, steps-crew, takes}
+use Rattle.sections.specs.ExportLaws.{ready-loaded, steps-workers, takes}
 use borrow.Author.Needs.{needs}
 use Rattle.sections.proofs.sections_step.Statement.{statement}
 use Rattle.sections.proofs.sections_step.Tie as tie
@@ -11,7 +11,7 @@ step-requires : tie.Need-step-requires
 step-requires c κs = ready-loaded _ (c .before .before .before .before .before .before .before .before .load .ensures) (c .before .before .before .before .before .before .before .before .before .before .before .before .pre)
 
 store-requires : tie.Need-store-requires
-store-requires c κs = steps-crew (ready-loaded _ (c .before .before .before .before .before .before .before .before .before .before .before .before .before .before .before .before .load .ensures) (c .before .before .before .before .before .before .before .before .before .before .before .before .before .before .before .before .before .before .before .before .pre)) (c .before .before .before .before .before .before .before .step .ensures)
+store-requires c κs = steps-workers (ready-loaded _ (c .before .before .before .before .before .before .before .before .before .before .before .before .before .before .before .before .load .ensures) (c .before .before .before .before .before .before .before .before .before .before .before .before .before .before .before .before .before .before .before .before .pre)) (c .before .before .before .before .before .before .before .step .ensures)
 
 put-answer-requires : tie.Need-put-answer-requires
 put-answer-requires c κs = search needs

@@ -2,7 +2,7 @@
 use mathlib.Core.Path.{subst}
 use Rattle.spec.specs.Steps.{isOpen}
 use Rattle.transactions.specs.Admits.{Admitted}
-use Rattle.transactions.specs.SeatLaws.{seat-writable}
+use Rattle.transactions.specs.CoreLaws.{worker-writable}
 use Rattle.accesses.specs.Edits.{room-here, edit-refused, edit-full, edit-granted}
 use borrow.Author.Needs.{needs}
 use Rattle.accesses.proofs.edits.edit.Statement.{statement}
@@ -33,7 +33,7 @@ full-requires : tie.Need-full-requires
 full-requires c κs =
     let x = c .before .before .before in
     let o = x .before .before in
-    seat-writable (o .before .before .pre) (subst (Admitted isOpen _ _) (x .x .given .1) (o .«open» .ensures))
+    worker-writable (o .before .before .pre) (subst (Admitted isOpen _ _) (x .x .given .1) (o .«open» .ensures))
 
 returns : tie.Need-returns
 returns c =
@@ -53,15 +53,15 @@ put-write-requires : tie.Need-put-write-requires
 put-write-requires c κs =
     let x = c .before .before .before .before .before .before in
     let o = x .before .before in (
-      seat-writable (o .before .before .pre) (subst (Admitted isOpen _ _) (x .x .given .1) (o .«open» .ensures)),
+      worker-writable (o .before .before .pre) (subst (Admitted isOpen _ _) (x .x .given .1) (o .«open» .ensures)),
       room-here _ _ _ _ (c .before .before .full .ensures) (c .before .if1 .left),
     )
 
 cast-t29 : tie.Need-cast-t29
 cast-t29 c = search needs
 
-with-seat-requires : tie.Need-with-seat-requires
-with-seat-requires c κs =
+with-worker-requires : tie.Need-with-worker-requires
+with-worker-requires c κs =
     let x = c .before .before .before .before .before .before .before in
     let e = subst (Admitted isOpen _ _) (x .x .given .1) (x .before .before .«open» .ensures) in
     e .inside
@@ -75,7 +75,7 @@ returns-3 c =
     let i = p .before .before in
     let x = i .before .before .before .before .before in
     edit-granted (subst (Admitted isOpen _ _) (x .x .given .1) (x .before .before .«open» .ensures)) (i .before .full .ensures) (i .if1 .left)
-    (p .put-write .ensures) (c .with-seat .ensures)
+    (p .put-write .ensures) (c .with-worker .ensures)
 
 pub edit-spec : {M : Type 1} → statement M
 edit-spec =
@@ -93,6 +93,6 @@ edit-spec =
     index-1-put-write
     put-write-requires
     cast-t29
-    with-seat-requires
+    with-worker-requires
     returns-2
     returns-3)

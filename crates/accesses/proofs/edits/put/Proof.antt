@@ -1,6 +1,6 @@
 -- `edits::put` meets its contract: it is `edit` with a put.
-use Rattle.transactions.specs.SeatLaws.{ready-writable}
-use Rattle.accesses.specs.Edits.{put-goes}
+use Rattle.transactions.specs.CoreLaws.{ready-writable}
+use Rattle.accesses.specs.Edits.{put-refines}
 use Rattle.accesses.proofs.edits.put.Statement.{statement}
 use Rattle.accesses.proofs.edits.put.Tie as tie
 
@@ -8,7 +8,7 @@ edit-requires : tie.Need-edit-requires
 edit-requires c κs = ready-writable (c .before .pre)
 
 returns : tie.Need-returns
-returns c = put-goes _ (c .edit .ensures) (c .before .before .pre)
+returns c = put-refines _ (c .edit .ensures) (c .before .before .pre)
 
 pub put-spec : {M : Type 1} → statement M
 put-spec = tie.close (tie.spec edit-requires returns)

@@ -7,7 +7,7 @@ tell-requires : tie.Need-tell-requires
 tell-requires c κs = ready-readable (c .before .pre)
 
 returns : tie.Need-returns
-returns c = c .tell .ensures .goes-so _ _ _ _ _ (c .before .before .pre)
+returns c = c .tell .ensures .refines-so _ _ _ _ _ (c .before .before .pre)
 
 pub read-spec : {M : Type 1} → statement M
 read-spec = tie.close (tie.spec tell-requires returns)

@@ -25,8 +25,8 @@ take-requires c κs =
 cast-t24 : tie.Need-cast-t24
 cast-t24 c = search needs
 
-with-seat-requires : tie.Need-with-seat-requires
-with-seat-requires c κs = c .before .before .before .before .before .before .pre .1 .inside
+with-worker-requires : tie.Need-with-worker-requires
+with-worker-requires c κs = c .before .before .before .before .before .before .pre .1 .inside
 
 shown-requires : tie.Need-shown-requires
 shown-requires c κs = search needs
@@ -36,7 +36,7 @@ returns-2 c =
     let w = c .before .before in
     let t = w .before .before in
     let e = t .before .before in
-    read-logged (e .before .before .before .pre .1) (e .if1 .left) (t .take .ensures) (w .with-seat .ensures) (c .shown .ensures)
+    read-logged (e .before .before .before .pre .1) (e .if1 .left) (t .take .ensures) (w .with-worker .ensures) (c .shown .ensures)
 
 pub read-current-spec : {M : Type 1} → statement M
 read-current-spec =
@@ -48,6 +48,6 @@ read-current-spec =
     index-1-take
     take-requires
     cast-t24
-    with-seat-requires
+    with-worker-requires
     shown-requires
     returns-2)

@@ -2,7 +2,7 @@
 use mathlib.Core.Path.{subst}
 use Rattle.spec.specs.Steps.{isOpen}
 use Rattle.transactions.specs.Admits.{Admitted}
-use Rattle.transactions.specs.SeatLaws.{seat-writable}
+use Rattle.transactions.specs.CoreLaws.{worker-writable}
 use Rattle.accesses.specs.ReadSteps.{read-refused, read-put, read-deletion, read-nothing}
 use borrow.Author.Needs.{needs}
 use Rattle.accesses.proofs.reads.tell.Statement.{statement}
@@ -33,7 +33,7 @@ find-write-requires : tie.Need-find-write-requires
 find-write-requires c κs =
     let x = c .before .before .before in
     let o = x .before .before in
-    seat-writable (o .before .before .pre .writable) (subst (Admitted isOpen _ _) (x .x .given .1) (o .«open» .ensures))
+    worker-writable (o .before .before .pre .writable) (subst (Admitted isOpen _ _) (x .x .given .1) (o .«open» .ensures))
 
 enum-known-own : tie.Need-enum-known-own
 enum-known-own c = search needs

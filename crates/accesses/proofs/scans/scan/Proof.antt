@@ -42,44 +42,44 @@ enum-known-r-2 c = search needs
 enum-known-t : tie.Need-enum-known-t
 enum-known-t c = search needs
 
-mul-carry : tie.Need-mul-carry
-mul-carry c =
+mul-carry-out : tie.Need-mul-carry-out
+mul-carry-out c =
     let x = c .before .before .before .before .before .before .before .before in
     let e = subst (Admitted isOpen _ _) (x .x .given .1) (x .before .before .«open» .ensures) in
     omega (arith, e .inside)
 
-index-1-carry : tie.Need-index-1-carry
-index-1-carry c =
+index-1-carry-out : tie.Need-index-1-carry-out
+index-1-carry-out c =
     let x = c .before .before .before .before .before .before .before .before in
     let e = subst (Admitted isOpen _ _) (x .x .given .1) (x .before .before .«open» .ensures) in
     e .inside
 
-mul-carry-2 : tie.Need-mul-carry-2
-mul-carry-2 c =
+mul-carry-out-2 : tie.Need-mul-carry-out-2
+mul-carry-out-2 c =
     let x = c .before .before .before .before .before .before .before .before .before in
     let e = subst (Admitted isOpen _ _) (x .x .given .1) (x .before .before .«open» .ensures) in
     omega (arith, e .inside)
 
-index-1-carry-2 : tie.Need-index-1-carry-2
-index-1-carry-2 c =
+index-1-carry-out-2 : tie.Need-index-1-carry-out-2
+index-1-carry-out-2 c =
     let x = c .before .before .before .before .before .before .before .before .before in
     let e = subst (Admitted isOpen _ _) (x .x .given .1) (x .before .before .«open» .ensures) in
     e .inside
 
-mul-carry-3 : tie.Need-mul-carry-3
-mul-carry-3 c =
+mul-carry-out-3 : tie.Need-mul-carry-out-3
+mul-carry-out-3 c =
     let x = c .before .before .before .before .before .before .before .before .before .before in
     let e = subst (Admitted isOpen _ _) (x .x .given .1) (x .before .before .«open» .ensures) in
     omega (arith, e .inside)
 
-index-1-carry-3 : tie.Need-index-1-carry-3
-index-1-carry-3 c =
+index-1-carry-out-3 : tie.Need-index-1-carry-out-3
+index-1-carry-out-3 c =
     let x = c .before .before .before .before .before .before .before .before .before .before in
     let e = subst (Admitted isOpen _ _) (x .x .given .1) (x .before .before .«open» .ensures) in
     e .inside
 
-carry-requires : tie.Need-carry-requires
-carry-requires c κs =
+carry-out-requires : tie.Need-carry-out-requires
+carry-out-requires c κs =
     let a = c .before .before .before .before .before .before in
     let m = a .before .before in
     let x = m .before .before .before in
@@ -89,8 +89,8 @@ carry-requires c κs =
     let p = subst (Plans _ _ _ _ _ _ _ _ _ _) (a .t .given .1) (m .measure .ensures) in
     (planning (s .pre) e, (planned (p .measured) (p .roomy), (s .pre .stored .reads .at _ (e .inside), s .pre .stored .leaves .at _ (e .inside))))
 
-with-seat-requires : tie.Need-with-seat-requires
-with-seat-requires c κs =
+with-worker-requires : tie.Need-with-worker-requires
+with-worker-requires c κs =
     let a = c .before .before .before .before .before .before .before .before .before .before .before in
     let x = a .before .before .before .before .before in
     let e = subst (Admitted isOpen _ _) (x .x .given .1) (x .before .before .«open» .ensures) in
@@ -112,10 +112,10 @@ returns-2 c =
     (subst (Plans _ _ _ _ _ _ _ _ _ _) (c .before .r2 .given .1) (m .measure .ensures))
 
 same-length : tie.Need-same-length
-same-length c = c .before .before .before .before .before .carry .ensures .fills .addresses .size
+same-length c = c .before .before .before .before .before .carry-out .ensures .fills .addresses .size
 
 same-length-2 : tie.Need-same-length-2
-same-length-2 c = c .before .before .before .before .before .carry .ensures .fills .values .size
+same-length-2 c = c .before .before .before .before .before .carry-out .ensures .fills .values .size
 
 returns-3 : tie.Need-returns-3
 returns-3 c =
@@ -126,7 +126,7 @@ returns-3 c =
     let o = x .before .before in
     let s = o .before .before .before .before .before in
     scans-granted _ _ _ _ (s .pre) (subst (Admitted isOpen _ _) (x .x .given .1) (o .«open» .ensures))
-    (subst (Plans _ _ _ _ _ _ _ _ _ _) (a .t .given .1) (m .measure .ensures)) (f .carry .ensures) (c .with-seat .ensures)
+    (subst (Plans _ _ _ _ _ _ _ _ _ _) (a .t .given .1) (m .measure .ensures)) (f .carry-out .ensures) (c .with-worker .ensures)
 
 pub scan-spec : {M : Type 1} → statement M
 scan-spec =
@@ -140,14 +140,14 @@ scan-spec =
     measure-requires
     enum-known-r-2
     enum-known-t
-    mul-carry
-    index-1-carry
-    mul-carry-2
-    index-1-carry-2
-    mul-carry-3
-    index-1-carry-3
-    carry-requires
-    with-seat-requires
+    mul-carry-out
+    index-1-carry-out
+    mul-carry-out-2
+    index-1-carry-out-2
+    mul-carry-out-3
+    index-1-carry-out-3
+    carry-out-requires
+    with-worker-requires
     returns
     returns-2
     same-length

@@ -17,26 +17,26 @@ abbrev μ-loop : tie.MeasureT-loop
 loop-holds : tie.Need-loop-holds Inv-loop μ-loop
 loop-holds c = let s = c .before .before in feeds-none _ (s .pre .0) (s .pre .1 .0) (s .pre .1 .1)
 
-goes-on-requires : tie.Need-goes-on-requires Inv-loop μ-loop
-goes-on-requires c κs = tt
+can-go-on-requires : tie.Need-can-go-on-requires Inv-loop μ-loop
+can-go-on-requires c κs = tt
 
-turn-requires : tie.Need-turn-requires Inv-loop μ-loop
-turn-requires c κs =
+run-line-requires : tie.Need-run-line-requires Inv-loop μ-loop
+run-line-requires c κs =
     let t = c .before .before .before .before .before .before .before .before .before in
     let i = t .before .before .loop .inv in
-    (i .ready, (i .started, sym (t .before .goes-on .ensures) ∙ t .if1 .taken))
+    (i .ready, (i .started, sym (t .before .can-go-on .ensures) ∙ t .if1 .taken))
 
 loop-less : tie.Need-loop-less Inv-loop μ-loop
-loop-less c = c .before .before .turn .ensures .fewer
+loop-less c = c .before .before .run-line .ensures .fewer
 
 loop-again : tie.Need-loop-again Inv-loop μ-loop
-loop-again c = feeds-join (c .before .before .before .before .before .before .before .before .before .before .before .before .before .before .loop .inv) (c .before .before .turn .ensures .feeds)
+loop-again c = feeds-join (c .before .before .before .before .before .before .before .before .before .before .before .before .before .before .loop .inv) (c .before .before .run-line .ensures .feeds)
 
 same-length : tie.Need-same-length Inv-loop μ-loop
 same-length c = c .before .before .loop .inv .size
 
 returns : tie.Need-returns Inv-loop μ-loop
-returns c = record { feeds = c .before .before .loop .inv; ends = sym (c .before .goes-on .ensures) ∙ c .if1 .left }
+returns c = record { feeds = c .before .before .loop .inv; ends = sym (c .before .can-go-on .ensures) ∙ c .if1 .left }
 
 pub feed-spec : {M : Type 1} → statement M
 feed-spec =
@@ -45,8 +45,8 @@ feed-spec =
     Inv-loop
     μ-loop
     loop-holds
-    goes-on-requires
-    turn-requires
+    can-go-on-requires
+    run-line-requires
     loop-less
     loop-again
     same-length

@@ -36,7 +36,7 @@ of-merge-requires : tie.Need-of-merge-requires
 of-merge-requires c κs = search needs
 
 returns : tie.Need-returns
-returns c = performs-quiet _ _ (quiet-plain _ (c .before .begin .result) (λ m n. refl) (c .before .before .before .op .given .1) (c .of-plain .ensures) (c .before .begin .ensures .goes-so _ _ (c .before .before .before .before .before .before .before .pre)))
+returns c = performs-quiet _ _ (quiet-plain _ (c .before .begin .result) (λ m n. refl) (c .before .before .before .op .given .1) (c .of-plain .ensures) (c .before .begin .ensures .refines-so _ _ (c .before .before .before .before .before .before .before .pre)))
 
 same-length : tie.Need-same-length
 same-length c = search needs

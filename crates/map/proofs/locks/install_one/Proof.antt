@@ -12,11 +12,11 @@ write-at-requires c κs = (c .pre .1 .0 .held, omega (arith, c .pre .1 .0 .few, 
 installed-requires : tie.Need-installed-requires
 installed-requires c κs = search needs
 
-say-requires : tie.Need-say-requires
-say-requires c κs = let s = c .before .before .before .before in (s .pre .0, install-room _ _ _ _ (s .pre .0 .words .good) (given (c .before .before .before .write-at .ensures) (s .pre .1 .1 .0)) (s .pre .1 .1 .1))
+set-content-requires : tie.Need-set-content-requires
+set-content-requires c κs = let s = c .before .before .before .before in (s .pre .0, install-room _ _ _ _ (s .pre .0 .words .good) (given (c .before .before .before .write-at .ensures) (s .pre .1 .1 .0)) (s .pre .1 .1 .1))
 
 returns : tie.Need-returns
-returns c = let s = c .before .before .before .before .before in said-as (c .say .ensures) (install-said _ (s .args .number) _ (c .before .before .before .before .write-at .result) _ (given (c .before .before .before .before .write-at .ensures) (s .pre .1 .1 .0)) (c .before .before .before .installed .ensures))
+returns c = let s = c .before .before .before .before .before in said-as (c .set-content .ensures) (install-said _ (s .args .number) _ (c .before .before .before .before .write-at .result) _ (given (c .before .before .before .before .write-at .ensures) (s .pre .1 .1 .0)) (c .before .before .before .installed .ensures))
 
 pub install-one-spec : {M : Type 1} → statement M
-install-one-spec = tie.close (tie.spec write-at-requires installed-requires say-requires returns)
+install-one-spec = tie.close (tie.spec write-at-requires installed-requires set-content-requires returns)

@@ -17,11 +17,11 @@ add-with-lock c = search needs
 with-lock-requires : tie.Need-with-lock-requires
 with-lock-requires c κs = search needs
 
-say-requires : tie.Need-say-requires
-say-requires c κs = let s = c .before .before .before .before .before .before .before in (s .pre .0, fits (s .pre .1 .1 .2))
+set-content-requires : tie.Need-set-content-requires
+set-content-requires c κs = let s = c .before .before .before .before .before .before .before in (s .pre .0, fits (s .pre .1 .1 .2))
 
 returns : tie.Need-returns
-returns c = let s = c .before .before .before .before .before .before .before .before in said-as (c .say .ensures) (lock-said _ _ _ _ _ (c .before .before .before .before .before .before .before .key-at .ensures) (c .before .before .before .before .before .look-up .ensures .content) (s .args .w) (c .before .before .before .with-lock .ensures))
+returns c = let s = c .before .before .before .before .before .before .before .before in said-as (c .set-content .ensures) (lock-said _ _ _ _ _ (c .before .before .before .before .before .before .before .key-at .ensures) (c .before .before .before .before .before .look-up .ensures .content) (s .args .w) (c .before .before .before .with-lock .ensures))
 
 pub lock-one-spec : {M : Type 1} → statement M
 lock-one-spec =
@@ -31,5 +31,5 @@ lock-one-spec =
     look-up-requires
     add-with-lock
     with-lock-requires
-    say-requires
+    set-content-requires
     returns)

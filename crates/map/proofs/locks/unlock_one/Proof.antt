@@ -18,11 +18,11 @@ by-own-requires c κs = search needs
 with-lock-requires : tie.Need-with-lock-requires
 with-lock-requires c κs = search needs
 
-say-requires : tie.Need-say-requires
-say-requires c κs = let s = c .before .before .before .before .before .before .before .before .before in (s .pre .0, unlock-room _ _ _ _ _ (c .before .before .before .before .before .before .before .before .key-at .ensures) (c .before .before .before .before .before .before .look-up .ensures .content) (s .pre .0 .words .good) (c .before .before .with-lock .ensures))
+set-content-requires : tie.Need-set-content-requires
+set-content-requires c κs = let s = c .before .before .before .before .before .before .before .before .before in (s .pre .0, unlock-room _ _ _ _ _ (c .before .before .before .before .before .before .before .before .key-at .ensures) (c .before .before .before .before .before .before .look-up .ensures .content) (s .pre .0 .words .good) (c .before .before .with-lock .ensures))
 
 returns : tie.Need-returns
-returns c = let s = c .before .before .before .before .before .before .before .before .before .before in said-as (c .say .ensures) (unlock-said _ _ _ _ _ (c .before .before .before .before .before .before .before .before .before .key-at .ensures) (c .before .before .before .before .before .before .before .look-up .ensures .content) (s .args .w) (sym (c .before .before .before .before .if1 .taken) ∙ c .before .before .before .before .before .by-own .ensures) (c .before .before .before .with-lock .ensures))
+returns c = let s = c .before .before .before .before .before .before .before .before .before .before in said-as (c .set-content .ensures) (unlock-said _ _ _ _ _ (c .before .before .before .before .before .before .before .before .before .key-at .ensures) (c .before .before .before .before .before .before .before .look-up .ensures .content) (s .args .w) (sym (c .before .before .before .before .if1 .taken) ∙ c .before .before .before .before .before .by-own .ensures) (c .before .before .before .with-lock .ensures))
 
 returns-2 : tie.Need-returns-2
 returns-2 c = let s = c .before .before .before .before .before .before in said-nothing (s .pre .0) _ (unlock-other _ _ _ _ idle (c .before .before .before .before .before .key-at .ensures) (c .before .before .before .look-up .ensures .content) (s .args .w) (sym (c .if1 .left) ∙ c .before .by-own .ensures))
@@ -35,6 +35,6 @@ unlock-one-spec =
     look-up-requires
     by-own-requires
     with-lock-requires
-    say-requires
+    set-content-requires
     returns
     returns-2)

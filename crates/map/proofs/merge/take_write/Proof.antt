@@ -4,7 +4,7 @@ use mathlib.Core.Option.{Option}
 use borrow.Author.Needs.{needs}
 use Rattle.lists.specs.Rows.{assign}
 use Rattle.spec.specs.Records.{Record}
-use Rattle.index.specs.Views.{recordsOf, Holds}
+use Rattle.index.specs.Views.{recordsOf, RecordsAre}
 use Rattle.map.specs.MergeWalks.{leaving-put, leaving-drop}
 use Rattle.map.proofs.merge.take_write.Statement.{statement}
 use Rattle.map.proofs.merge.take_write.Tie as tie
@@ -14,7 +14,7 @@ put-requires c κs = search needs
 
 returns : tie.Need-returns
 returns c = let s = c .before .before .before in
-    subst (λ (o : Option Record). Holds (c .put .last .0) (c .put .result) (assign (s .args .a) o (recordsOf (s .args .rows .now) (s .args .n))))
+    subst (λ (o : Option Record). RecordsAre (c .put .last .0) (c .put .result) (assign (s .args .a) o (recordsOf (s .args .rows .now) (s .args .n))))
     (leaving-put (s .args .kind) (s .args .value) (s .args .commit) (c .before .before .if1 .taken)) (c .put .ensures)
 
 drop-requires : tie.Need-drop-requires
@@ -22,7 +22,7 @@ drop-requires c κs = search needs
 
 returns-2 : tie.Need-returns-2
 returns-2 c = let s = c .before .before .before in
-    subst (λ (o : Option Record). Holds (c .drop .last .0) (c .drop .result) (assign (s .args .a) o (recordsOf (s .args .rows .now) (s .args .n))))
+    subst (λ (o : Option Record). RecordsAre (c .drop .last .0) (c .drop .result) (assign (s .args .a) o (recordsOf (s .args .rows .now) (s .args .n))))
     (leaving-drop (s .args .kind) (s .args .value) (s .args .commit) (c .before .before .if1 .left)) (c .drop .ensures)
 
 pub take-write-spec : {M : Type 1} → statement M

@@ -2,7 +2,7 @@
 use Prim.Native.Nat.{_≤_, _<_}
 use native.Mathlib.Omega.{arith}
 use mathlib.Core.Path.{sym, subst}
-use Rattle.ranges.specs.Walks.{Steps}
+use Rattle.ranges.specs.Walks.{ComesNext}
 use Rattle.ranges.specs.WalkLaws.{index-left, step-index-only, step-own-only, step-index, step-own, step-both}
 use Rattle.ranges.proofs.walks.next.Statement.{statement}
 use Rattle.ranges.proofs.walks.next.Tie as tie
@@ -28,7 +28,7 @@ of-index-requires c κs = tt
 returns : tie.Need-returns
 returns c =
     let s = c .before .before .before .before in
-    subst (Steps _ _ _) (sym (c .of-index .ensures)) (step-index-only _ (s .pre .0) _ _ (s .pre .1 .0) (s .pre .1 .1) _ (c .before .before .if1 .taken) (c .before .seen-at .ensures))
+    subst (ComesNext _ _ _) (sym (c .of-index .ensures)) (step-index-only _ (s .pre .0) _ _ (s .pre .1 .0) (s .pre .1 .1) _ (c .before .before .if1 .taken) (c .before .seen-at .ensures))
 
 write-at-requires : tie.Need-write-at-requires
 write-at-requires c κs =
@@ -45,7 +45,7 @@ returns-2 : tie.Need-returns-2
 returns-2 c =
     let e = c .before .before .before in
     let s = e .before .before .before in
-    subst (Steps _ _ _) (sym (c .of-write .ensures)) (step-own-only _ (s .pre .0) _ _ (s .pre .1 .0) (s .pre .1 .1) _ (e .before .if1 .left) (c .before .if2 .taken) (e .write-at .ensures))
+    subst (ComesNext _ _ _) (sym (c .of-write .ensures)) (step-own-only _ (s .pre .0) _ _ (s .pre .1 .0) (s .pre .1 .1) _ (e .before .if1 .left) (c .before .if2 .taken) (e .write-at .ensures))
 
 seen-at-requires-2 : tie.Need-seen-at-requires-2
 seen-at-requires-2 c κs =
@@ -70,7 +70,7 @@ returns-3 c =
     let e2 = a .before in
     let e = e2 .before .before in
     let s = e .before .before .before in
-    subst (Steps _ _ _) (sym (c .of-index2 .ensures))
+    subst (ComesNext _ _ _) (sym (c .of-index2 .ensures))
     (step-index _ (s .pre .0) _ _ (s .pre .1 .0) (s .pre .1 .1) _ (e .write-at .result) (e2 .if2 .left) (e .before .if1 .left) (a .seen-at2 .ensures) (e .write-at .ensures) (c .before .if3 .taken))
 
 add-of-write-2 : tie.Need-add-of-write-2
@@ -89,7 +89,7 @@ returns-4 c =
     let e2 = a .before in
     let e = e2 .before .before in
     let s = e .before .before .before in
-    subst (Steps _ _ _) (sym (c .of-write2 .ensures))
+    subst (ComesNext _ _ _) (sym (c .of-write2 .ensures))
     (step-own _ (s .pre .0) _ _ (s .pre .1 .0) (s .pre .1 .1) (a .seen-at2 .result) _ (e2 .if2 .left) (e .before .if1 .left) (a .seen-at2 .ensures) (e .write-at .ensures) (c .before .if4 .taken))
 
 add-of-write-3 : tie.Need-add-of-write-3
@@ -115,7 +115,7 @@ returns-5 c =
     let e2 = a .before in
     let e = e2 .before .before in
     let s = e .before .before .before in
-    subst (Steps _ _ _) (sym (c .of-write3 .ensures))
+    subst (ComesNext _ _ _) (sym (c .of-write3 .ensures))
     (step-both _ (s .pre .0) _ _ (s .pre .1 .0) (s .pre .1 .1) (a .seen-at2 .result) _ (e2 .if2 .left) (e .before .if1 .left) (a .seen-at2 .ensures) (e .write-at .ensures)
     (c .before .before .before .before .if3 .left) (c .before .if4 .left))
 

@@ -12,10 +12,10 @@ use Rattle.sections.proofs.saved.seat_rows.Statement.{statement}
 use Rattle.sections.proofs.saved.seat_rows.Tie as tie
 
 abbrev Inv-loop : tie.InvT-loop
-Inv-loop seats rows₀ i₀ rows i = (i ≤ standard .workers) × (length rows ≡ standard .workers + 2) × Saving rows seats i
+Inv-loop workers rows₀ i₀ rows i = (i ≤ standard .workers) × (length rows ≡ standard .workers + 2) × Saving rows workers i
 
 abbrev μ-loop : tie.MeasureT-loop
-μ-loop seats rows₀ i₀ rows i = standard .workers - i
+μ-loop workers rows₀ i₀ rows i = standard .workers - i
 
 loop-holds : tie.Need-loop-holds Inv-loop μ-loop
 loop-holds c = (zero-le, length-replicate {A = List ℕ} (standard .workers + 2) (replicate 5 0), saving-start _ _ (c .pre))
@@ -48,7 +48,7 @@ loop-again c =
     (omega arith, length-set (t .before .loop .rows) (t .before .loop .i) (c .seat-row .result) ∙ v .1, saving-put (t .loop-test .taken) (v .2) _ (v .1) (c .seat-row .ensures))
 
 returns : tie.Need-returns Inv-loop μ-loop
-returns c = record { rows = c .before .loop .inv .1; seats = saving-end (c .before .loop .inv .2) (c .loop-test .left) }
+returns c = record { rows = c .before .loop .inv .1; workers = saving-end (c .before .loop .inv .2) (c .loop-test .left) }
 
 pub seat-rows-spec : {M : Type 1} → statement M
 seat-rows-spec =

@@ -11,10 +11,10 @@ use Rattle.sections.proofs.saved.seats_in.Statement.{statement}
 use Rattle.sections.proofs.saved.seats_in.Tie as tie
 
 abbrev Inv-loop : tie.InvT-loop
-Inv-loop words seats₀ i₀ seats i = (i ≤ standard .workers) × Saving words seats i
+Inv-loop words seats₀ i₀ workers i = (i ≤ standard .workers) × Saving words workers i
 
 abbrev μ-loop : tie.MeasureT-loop
-μ-loop words seats₀ i₀ seats i = standard .workers - i
+μ-loop words seats₀ i₀ workers i = standard .workers - i
 
 loop-holds : tie.Need-loop-holds Inv-loop μ-loop
 loop-holds c = (zero-le, saving-start _ _ (length-replicate (standard .workers) freed))
@@ -28,11 +28,11 @@ element-copy-out-row c = search needs
 seat-in-requires : tie.Need-seat-in-requires Inv-loop μ-loop
 seat-in-requires c κs = search needs
 
-mul-seats : tie.Need-mul-seats Inv-loop μ-loop
-mul-seats c = search needs
+mul-workers : tie.Need-mul-workers Inv-loop μ-loop
+mul-workers c = search needs
 
-array-set-from-seats : tie.Need-array-set-from-seats Inv-loop μ-loop
-array-set-from-seats c = search needs
+array-set-from-workers : tie.Need-array-set-from-workers Inv-loop μ-loop
+array-set-from-workers c = search needs
 
 add-i : tie.Need-add-i Inv-loop μ-loop
 add-i c = omega arith
@@ -58,8 +58,8 @@ seats-in-spec =
     mul-row
     element-copy-out-row
     seat-in-requires
-    mul-seats
-    array-set-from-seats
+    mul-workers
+    array-set-from-workers
     add-i
     loop-less
     loop-again

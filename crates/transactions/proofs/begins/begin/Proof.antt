@@ -17,11 +17,11 @@ enum-known-x c = search needs
 begin-requires : tie.Need-begin-requires
 begin-requires c κs = search needs
 
-mul-seats : tie.Need-mul-seats
-mul-seats c = search needs
+mul-workers : tie.Need-mul-workers
+mul-workers c = search needs
 
-array-set-from-seats : tie.Need-array-set-from-seats
-array-set-from-seats c = let v = subst (Begun _ _) (c .before .before .x .given .1) (c .before .before .before .before .vacant .ensures) in v .inside
+array-set-from-workers : tie.Need-array-set-from-workers
+array-set-from-workers c = let v = subst (Begun _ _) (c .before .before .x .given .1) (c .before .before .before .before .vacant .ensures) in v .inside
 
 returns : tie.Need-returns
 returns c = begin-refused _ _ _ (subst (Begun _ _) (c .before .r .given .1) (c .before .before .before .vacant .ensures))
@@ -38,7 +38,7 @@ begin-spec =
     enum-known-r
     enum-known-x
     begin-requires
-    mul-seats
-    array-set-from-seats
+    mul-workers
+    array-set-from-workers
     returns
     returns-2)

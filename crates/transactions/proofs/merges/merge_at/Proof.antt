@@ -1,4 +1,4 @@
-use Rattle.transactions.specs.MergeSteps.{version-room, merge-goes}
+use Rattle.transactions.specs.MergeSteps.{version-room, merge-refines}
 use Rattle.transactions.proofs.merges.merge_at.Statement.{statement}
 use Rattle.transactions.proofs.merges.merge_at.Tie as tie
 
@@ -6,7 +6,7 @@ merge-requires : tie.Need-merge-requires
 merge-requires c κs = (c .before .before .before .before .before .before .pre .stored .map, version-room (c .before .before .before .before .before .before .pre))
 
 returns : tie.Need-returns
-returns c = merge-goes (c .before .before .before .before .before .before .before .before .before .pre) (c .before .before .merge .ensures)
+returns c = merge-refines (c .before .before .before .before .before .before .before .before .before .pre) (c .before .before .merge .ensures)
 
 pub merge-at-spec : {M : Type 1} → statement M
 merge-at-spec = tie.close (tie.spec merge-requires returns)

@@ -1,0 +1,41 @@
+-- `locks::abort` meets its contract: refused by 1 or 2, or the transaction is dropped.
+use mathlib.Core.Path.{subst}
+use borrow.Author.Needs.{needs}
+use Rattle.transactions.specs.Admits.{anyStage, Admitted}
+use Rattle.transactions.specs.CoreLaws.{ready-writable}
+use Rattle.commits.specs.Finishes.{abort-refused, abort-granted}
+use Rattle.commits.proofs.locks.abort.Statement.{statement}
+use Rattle.commits.proofs.locks.abort.Tie as tie
+
+busy-requires : tie.Need-busy-requires
+busy-requires c κs = search needs
+
+enum-known-r : tie.Need-enum-known-r
+enum-known-r c = search needs
+
+enum-told : tie.Need-enum-told
+enum-told c = search needs
+
+drop-transaction-requires : tie.Need-drop-transaction-requires
+drop-transaction-requires c κs =
+    let t = c .before .before in
+    let k = t .before .before .before .before .pre in
+    let e = subst (Admitted anyStage _ _) (t .enum-told .given .1) (t .before .before .busy .ensures) in
+    (k .stored .map, (e .inside, ready-writable k .set _ (e .inside)))
+
+returns : tie.Need-returns
+returns c =
+    let b = c .before .before .before in
+    abort-refused _ (b .before .before .pre) _ (subst (Admitted anyStage _ _) (c .before .r .given .1) (b .busy .ensures))
+
+returns-2 : tie.Need-returns-2
+returns-2 c =
+    let t = c .before .before .before in
+    abort-granted _ (t .before .before .before .before .pre) _
+    (subst (Admitted anyStage _ _) (t .enum-told .given .1) (t .before .before .busy .ensures))
+    (c .drop-transaction .ensures)
+
+pub abort-spec : {M : Type 1} → statement M
+abort-spec =
+    tie.close
+    (tie.spec busy-requires enum-known-r enum-told drop-transaction-requires returns returns-2)

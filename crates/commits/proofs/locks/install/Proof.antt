@@ -1,0 +1,42 @@
+-- `locks::install` meets its contract: refused by 1, 2 or 4, or the writes are installed.
+use mathlib.Core.Path.{subst}
+use borrow.Author.Needs.{needs}
+use Rattle.spec.specs.Steps.{isChecked}
+use Rattle.transactions.specs.Admits.{Admitted}
+use Rattle.transactions.specs.CoreLaws.{ready-writable}
+use Rattle.commits.specs.Finishes.{install-refused, install-can, install-granted}
+use Rattle.commits.proofs.locks.install.Statement.{statement}
+use Rattle.commits.proofs.locks.install.Tie as tie
+
+checked-requires : tie.Need-checked-requires
+checked-requires c κs = search needs
+
+enum-known-r : tie.Need-enum-known-r
+enum-known-r c = search needs
+
+enum-told : tie.Need-enum-told
+enum-told c = search needs
+
+install-transaction-requires : tie.Need-install-transaction-requires
+install-transaction-requires c κs =
+    let t = c .before .before in
+    let k = t .before .before .before .before .pre in
+    let e = subst (Admitted isChecked _ _) (t .enum-told .given .1) (t .before .before .checked .ensures) in
+    (k .stored .map, (e .inside, (ready-writable k .set _ (e .inside), install-can _ k _ e)))
+
+returns : tie.Need-returns
+returns c =
+    let b = c .before .before .before in
+    install-refused _ (b .before .before .pre) _ (subst (Admitted isChecked _ _) (c .before .r .given .1) (b .checked .ensures))
+
+returns-2 : tie.Need-returns-2
+returns-2 c =
+    let t = c .before .before .before in
+    install-granted _ (t .before .before .before .before .pre) _
+    (subst (Admitted isChecked _ _) (t .enum-told .given .1) (t .before .before .checked .ensures))
+    (c .install-transaction .ensures)
+
+pub install-spec : {M : Type 1} → statement M
+install-spec =
+    tie.close
+    (tie.spec checked-requires enum-known-r enum-told install-transaction-requires returns returns-2)

@@ -1,0 +1,30 @@
+-- `validates::take_number` meets its contract: by whether a commit number is left.
+use borrow.Author.Needs.{needs}
+use Rattle.commits.specs.Validates.{number-spent, number-taken}
+use Rattle.commits.proofs.validates.take_number.Statement.{statement}
+use Rattle.commits.proofs.validates.take_number.Tie as tie
+
+returns : tie.Need-returns
+returns c = number-spent _ _ _ (c .if1 .taken)
+
+take-number-requires : tie.Need-take-number-requires
+take-number-requires c κs = search needs
+
+cast-check : tie.Need-cast-check
+cast-check c = search needs
+
+check-requires : tie.Need-check-requires
+check-requires c κs = search needs
+
+mul-workers : tie.Need-mul-workers
+mul-workers c = search needs
+
+array-set-from-workers : tie.Need-array-set-from-workers
+array-set-from-workers c = search needs
+
+returns-2 : tie.Need-returns-2
+returns-2 c = number-taken _ _ _ _ _ _ (c .before .before .before .if1 .left) (c .before .before .take-number .ensures) (c .before .check .ensures)
+
+pub take-number-spec : {M : Type 1} → statement M
+take-number-spec =
+    tie.close (tie.spec returns take-number-requires cast-check check-requires mul-workers array-set-from-workers returns-2)

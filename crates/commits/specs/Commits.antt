@@ -1,0 +1,143 @@
+-- What lock, install and the end of a transaction make of the state: a new map, and a new seat of one worker.
+use Prim.Native.Nat.{ℕ, _<_, zero-le}
+use mathlib.Core.Path.{_≡_, refl, sym, ap, _∙_, subst}
+use mathlib.Core.Logic.{inr}
+use mathlib.Core.List.{List}
+use lib.ListN.{length}
+use Rattle.lists.specs.Rows.{Row, keys}
+use Rattle.spec.specs.Records.{standard, Write}
+use Rattle.spec.specs.Maps.{MapState, withSlots, unlockAll, installAll}
+use Rattle.spec.specs.Steps as model
+use Rattle.spec.specs.Steps.{State, workerOf, writeKeys, withWorker, withMap, dropped, effect, install}
+use Rattle.sets.specs.declared.workers.Worker.{Worker}
+use Rattle.sets.specs.Workers.{workerIn, freed}
+use Rattle.sets.specs.WorkerLaws.{free-in}
+use Rattle.sets.specs.Reads.{ReadRows}
+use Rattle.sets.specs.Leaves.{LeafSetRows}
+use Rattle.sets.specs.Writes.{WriteRows, writesIn, WriteSetOrdered}
+use Rattle.map.specs.declared.Sizes.{Sizes}
+use Rattle.map.specs.Views.{Lent, mapOf}
+use Rattle.map.specs.Entries.{MapBecomes}
+use Rattle.map.specs.WriteWalks.{Writing}
+use Rattle.transactions.specs.declared.Core.{Core}
+use Rattle.transactions.specs.Views.{Logs, logs, modelWorker, workersFrom, stateOf, withBoth, worker-at, same-logs, state-with}
+use Rattle.transactions.specs.Ready.{workerAt, Within, Stored}
+use Rattle.transactions.specs.CoreLaws.{LeavesKept, stored-put, lows-kept}
+
+-- The arrays and the core after a change f of the state, whatever the read sets and leaf sets hold.
+pub record Reaches (f : State → State) (l : Lent) (ws : List WriteRows) (c : Core) (l' : Lent) (c' : Core) : Type 0 where
+  pub state : (rs : List ReadRows) (ls : List LeafSetRows) → Stored l (logs rs ls ws) c → stateOf l' (logs rs ls ws) c' ≡ f (stateOf l (logs rs ls ws) c)
+  pub stored : (rs : List ReadRows) (ls : List LeafSetRows) → Stored l (logs rs ls ws) c → Stored l' (logs rs ls ws) c'
+
+-- a worker's write set, as the map takes it
+pub writing : {ws : WriteRows} {n : ℕ} → WriteSetOrdered ws n → Writing ws n
+writing o = record { held = o .held; few = o .room }
+
+-- ---- a new map and a new seat
+
+new-map : (l l' : Lent) (g : Logs) (c : Core) (z : Sizes) (m : MapState) → mapOf l' z ≡ m
+    → stateOf l' g (record { workers = c .workers; sizes = z; counters = c .counters }) ≡ withMap (stateOf l g c) m
+unfolding stateOf withMap
+new-map l l' g c z m e =
+    ap
+    (λ (x : MapState).
+    record {
+      settings = standard;
+      counters = record { number = c .counters .number; version = c .counters .version };
+      map = x;
+      workers = workersFrom g (c .workers) 0;
+    })
+    e
+
+pub state-both : (l l' : Lent) (g : Logs) (c : Core) (w : ℕ) (x : Worker) (z : Sizes) (m : MapState) → mapOf l' z ≡ m
+    → stateOf l' g (withBoth c w x z) ≡ withWorker (withMap (stateOf l g c) m) w (modelWorker g x w)
+state-both l l' g c w x z m e =
+    state-with l' g g (record { workers = c .workers; sizes = z; counters = c .counters }) w x (same-logs g w)
+    ∙ ap (λ (σ : State). withWorker σ w (modelWorker g x w)) (new-map l l' g c z m e)
+
+pub stored-both : (l l' : Lent) (g : Logs) (c : Core) (w : ℕ) (x : Worker) (z : Sizes) (m : MapState) → w < standard .workers
+    → MapBecomes l' z (c .counters .version) m → m .leaves ≡ mapOf l (c .sizes) .leaves → Within x → LeavesKept c w x
+    → Stored l g c → Stored l' g (withBoth c w x z)
+stored-both l l' g c w x z m h b e q k t =
+    stored-put l' g w x z h t (b .held) (ap (λ (y : MapState). y .leaves) (b .map) ∙ e) (t .reads) (t .leaves) (t .writes) (λ v d. refl) q (lows-kept w x h t k)
+
+-- ---- the worker's write set
+
+pub worker-inside : {l : Lent} {g : Logs} {c : Core} → Stored l g c → (w : ℕ) → w < standard .workers → w < length (c .workers)
+worker-inside t w h = subst (λ (n : ℕ). w < n) (sym (t .workers)) h
+
+module _ (l : Lent) (g : Logs) (c : Core) (w : ℕ) (inside : w < length (c .workers)) where
+  pub writes-are : workerOf (stateOf l g c) w .writes ≡ writesIn (g .writes) w (workerAt c w .writes)
+  unfolding workerIn
+  writes-are = ap (λ (x : model.Worker). x .writes) (worker-at l g c w inside)
+
+  pub number-is : workerOf (stateOf l g c) w .number ≡ workerAt c w .number
+  unfolding workerIn
+  number-is = ap (λ (x : model.Worker). x .number) (worker-at l g c w inside)
+
+  pub keys-are : writeKeys (stateOf l g c) w ≡ keys (writesIn (g .writes) w (workerAt c w .writes))
+  unfolding writeKeys
+  keys-are = ap keys writes-are
+
+-- A change f of the state that is a new map m and a new seat x of worker w: `is` says that it is, `within` that the seat's
+-- counts stay within its rows.
+pub reached : (f : State → State) (l l' : Lent) (ws : List WriteRows) (c : Core) (w : ℕ) (x : Worker) (z : Sizes) (m : MapState) → w < standard .workers
+    → MapBecomes l' z (c .counters .version) m → m .leaves ≡ mapOf l (c .sizes) .leaves → LeavesKept c w x
+    → ((rs : List ReadRows) (ls : List LeafSetRows) → Stored l (logs rs ls ws) c → Within x)
+    → ((rs : List ReadRows) (ls : List LeafSetRows) → Stored l (logs rs ls ws) c
+    → withWorker (withMap (stateOf l (logs rs ls ws) c) m) w (workerIn x rs ls ws w) ≡ f (stateOf l (logs rs ls ws) c))
+    → Reaches f l ws c l' (withBoth c w x z)
+reached f l l' ws c w x z m h b e k within is =
+    record {
+      state = λ rs ls t. state-both l l' (logs rs ls ws) c w x z m (b .map) ∙ is rs ls t;
+      stored = λ rs ls t. stored-both l l' (logs rs ls ws) c w x z m h b e (within rs ls t) k t;
+    }
+
+freed-within : Within freed
+freed-within = record { reads = zero-le; leaves = zero-le; writes = zero-le }
+
+-- ---- the end of a transaction
+
+unlock-leaves : (w : ℕ) (m : MapState) (ks : List ℕ) → unlockAll standard w m ks .leaves ≡ m .leaves
+unfolding unlockAll withSlots
+unlock-leaves w m ks = refl
+
+-- y the worker after it
+pub drops : (l l' : Lent) (ws : List WriteRows) (c : Core) (w : ℕ) (y : Worker) (z : Sizes) → w < standard .workers → y ≡ freed
+    → MapBecomes l' z (c .counters .version) (unlockAll standard w (mapOf l (c .sizes)) (keys (writesIn ws w (workerAt c w .writes))))
+    → Reaches (λ (σ : State). dropped σ w) l ws c l' (withBoth c w y z)
+drops l l' ws c w y z h q b =
+    subst (λ (u : Worker). Reaches (λ (σ : State). dropped σ w) l ws c l' (withBoth c w u z)) (sym q)
+    (reached (λ (σ : State). dropped σ w) l l' ws c w freed z _ h b (unlock-leaves w (mapOf l (c .sizes)) (keys (writesIn ws w (workerAt c w .writes)))) (inr refl)
+    (λ rs ls t. freed-within)
+    (λ rs ls t.
+    (λ i. withWorker (withMap (stateOf l (logs rs ls ws) c) (unlockAll standard w (mapOf l (c .sizes)) (ks rs ls t i))) w (free-in rs ls ws w i))
+    ∙ (unfold dropped stateOf in refl)))
+  where
+    ks : (rs : List ReadRows) (ls : List LeafSetRows) → Stored l (logs rs ls ws) c → keys (writesIn ws w (workerAt c w .writes)) ≡ writeKeys (stateOf l (logs rs ls ws) c) w
+    ks rs ls t = sym (keys-are l (logs rs ls ws) c w (worker-inside t w h))
+
+-- ---- install
+
+install-leaves : (n : ℕ) (m : MapState) (rs : List (Row Write)) → installAll standard n m rs .leaves ≡ m .leaves
+unfolding installAll withSlots
+install-leaves n m rs = refl
+
+-- y the worker after it
+pub installs : (l l' : Lent) (ws : List WriteRows) (c : Core) (w : ℕ) (y : Worker) (z : Sizes) → w < standard .workers → y ≡ freed
+    → MapBecomes l' z (c .counters .version) (installAll standard (workerAt c w .number) (mapOf l (c .sizes)) (writesIn ws w (workerAt c w .writes)))
+    → Reaches (λ (σ : State). effect σ (install w)) l ws c l' (withBoth c w y z)
+installs l l' ws c w y z h q b =
+    subst (λ (u : Worker). Reaches (λ (σ : State). effect σ (install w)) l ws c l' (withBoth c w u z)) (sym q)
+    (reached (λ (σ : State). effect σ (install w)) l l' ws c w freed z _ h b
+    (install-leaves (workerAt c w .number) (mapOf l (c .sizes)) (writesIn ws w (workerAt c w .writes))) (inr refl) (λ rs ls t. freed-within)
+    (λ rs ls t.
+    (λ i.
+    withWorker (withMap (stateOf l (logs rs ls ws) c) (installAll standard (number rs ls t i) (mapOf l (c .sizes)) (writes rs ls t i))) w (free-in rs ls ws w i))
+    ∙ (unfold effect stateOf in refl)))
+  where
+    number : (rs : List ReadRows) (ls : List LeafSetRows) → Stored l (logs rs ls ws) c → workerAt c w .number ≡ workerOf (stateOf l (logs rs ls ws) c) w .number
+    number rs ls t = sym (number-is l (logs rs ls ws) c w (worker-inside t w h))
+
+    writes : (rs : List ReadRows) (ls : List LeafSetRows) → Stored l (logs rs ls ws) c → writesIn ws w (workerAt c w .writes) ≡ workerOf (stateOf l (logs rs ls ws) c) w .writes
+    writes rs ls t = sym (writes-are l (logs rs ls ws) c w (worker-inside t w h))

@@ -1,0 +1,214 @@
+-- Lock, as it goes: refused by 1, 2, 4, 9, 10 or 11, or the addresses of the write set are locked.
+use Prim.Native.Nat.{ℕ, _+_, _^_, _<_, _≤_}
+use native.Mathlib.Omega.{arith}
+use mathlib.Core.Path.{_≡_, refl, sym, ap, _∙_, subst}
+use mathlib.Core.Logic.{inl}
+use mathlib.Core.Bool.{Bool, true, false}
+use mathlib.Core.List.{List, [], _∷_}
+use mathlib.Core.Option.{Option, none, some}
+use lib.ListN.{getD}
+use Rattle.lists.specs.Tests.{maybe, present, clash, less, less-yes, less-no, less-false}
+use Rattle.lists.specs.Rows.{keys, any}
+use Rattle.spec.specs.declared.Refusal.{Refusal}
+use Rattle.spec.specs.declared.Refusal.the-variants.{Held, IndexletFull, MapFull}
+use Rattle.spec.specs.declared.Stage.the-variants.{Locked}
+use Rattle.spec.specs.Records.{standard}
+use Rattle.spec.specs.Refusals.{ends}
+use Rattle.spec.specs.Leaves.{Leaf}
+use Rattle.spec.specs.Slots.{Slot, contentOf}
+use Rattle.spec.specs.Maps.{MapState, heldByOther, waitingWith, addressesWith, withSlots, lockAll}
+use Rattle.spec.specs.Steps.{State, workerOf, lock, isOpen, lockedByOther, writeKeys, Cause, cause, noWorker, workerFree, wrongStage, causes, firstCause, refusal, granted, effect, withWorker, withMap, atStage}
+use Rattle.laws.specs.WorkerLaws.{cause-passed}
+use Rattle.sets.specs.declared.workers.Worker.{Worker}
+use Rattle.sets.specs.Workers.{workerIn, atLock}
+use Rattle.sets.specs.WorkerLaws.{lock-in}
+use Rattle.sets.specs.Reads.{ReadRows}
+use Rattle.sets.specs.Leaves.{LeafSetRows}
+use Rattle.sets.specs.Writes.{WriteRows, writesOf, writesIn}
+use Rattle.map.specs.declared.Sizes.{Sizes}
+use Rattle.map.specs.Views.{slotsIn, recordsIn, SlotRows, RecordRows, Lent, mapOf}
+use Rattle.map.specs.Entries.{MapBecomes}
+use Rattle.map.specs.LockLaws.{Lockable}
+use Rattle.map.specs.AddressCounts.{Waits, Addressed}
+use Rattle.transactions.specs.declared.Core.{Core}
+use Rattle.transactions.specs.declared.begins.Plain.{Plain}
+use Rattle.transactions.specs.declared.begins.Plain.the-variants.{Granted, Refused}
+use Rattle.transactions.specs.Answering.{front, front-first, cause-holds, cause-fails, yields-granted, yields-refused}
+use Rattle.transactions.specs.Admits.{Turned, Entered}
+use Rattle.transactions.specs.Views.{Logs, logs, stateOf, withBoth, worker-at}
+use Rattle.transactions.specs.Ready.{workerAt, Stored, Ready, Refines, refines, refines-refused}
+use Rattle.transactions.specs.Begins.{plainIn}
+use Rattle.commits.specs.Commits.{Reaches, reached, worker-inside, keys-are}
+use Rattle.commits.specs.Finishes.{mild}
+
+-- the refusal that is answered
+abbrev pub refusalIn : Plain → Option Refusal
+refusalIn Granted = none
+refusalIn (Refused r) = some r
+
+-- ---- the tests of the write set
+
+-- refusals 9, 10 and 11 of a write set with these addresses
+unfoldable pub lockTests : MapState → List ℕ → ℕ → Option Refusal
+lockTests m ks w =
+    firstCause
+    (cause (any (λ (k : ℕ). heldByOther w (contentOf (m .slots) k)) ks) Held
+    ∷ cause (less (standard .waitingLimit) (waitingWith m ks)) IndexletFull
+    ∷ cause (less (standard .mapLimit) (addressesWith m ks)) MapFull
+    ∷ [])
+
+-- what they answer, of every map with these records and slots
+pub record Tested (rows : RecordRows) (slots : SlotRows) (us : WriteRows) (z : Sizes) (n w : ℕ) (a : Plain) : Type 0 where
+  pub is : (m : MapState) → m .records ≡ recordsIn rows (z .records) → m .slots ≡ slotsIn slots → lockTests m (keys (writesOf us n)) w ≡ refusalIn a
+
+module _ (rows : RecordRows) (slots : SlotRows) (us : WriteRows) (z : Sizes) (n w : ℕ) {b : Bool} (held : b ≡ any (λ (k : ℕ). heldByOther w (contentOf (slotsIn slots) k)) (keys (writesOf us n))) where
+  in-map : (m : MapState) → m .slots ≡ slotsIn slots → any (λ (k : ℕ). heldByOther w (contentOf (m .slots) k)) (keys (writesOf us n)) ≡ b
+  in-map m s = ap (λ (ss : List Slot). any (λ (k : ℕ). heldByOther w (contentOf ss k)) (keys (writesOf us n))) s ∙ sym held
+
+  pub tested-held : b ≡ true → Tested rows slots us z n w (Refused Held)
+  unfolding lockTests
+  tested-held t = record { is = λ m e s. cause-holds _ Held _ (in-map m s ∙ t) }
+
+  module _ (free : b ≡ false) {v : ℕ} (waits : Waits slots us n v) where
+    pub tested-full : standard .waitingLimit < v → Tested rows slots us z n w (Refused IndexletFull)
+    unfolding lockTests
+    tested-full l =
+        record {
+          is = λ m e s.
+              cause-fails _ Held _ (in-map m s ∙ free)
+              ∙ cause-holds _ IndexletFull _ (ap (less (standard .waitingLimit)) (sym (waits .is m s)) ∙ less-yes {m = standard .waitingLimit} {n = v} l);
+        }
+
+    module _ (few : v ≤ standard .waitingLimit) {u : ℕ} (all : Addressed rows slots us z n u) where
+      past : (m : MapState) → m .slots ≡ slotsIn slots
+          → lockTests m (keys (writesOf us n)) w ≡ firstCause (cause (less (standard .mapLimit) (addressesWith m (keys (writesOf us n)))) MapFull ∷ [])
+      unfolding lockTests
+      past m s =
+          cause-fails _ Held _ (in-map m s ∙ free)
+          ∙ cause-fails _ IndexletFull _ (ap (less (standard .waitingLimit)) (sym (waits .is m s)) ∙ less-no {m = standard .waitingLimit} {n = v} few)
+
+      pub tested-map : standard .mapLimit < u → Tested rows slots us z n w (Refused MapFull)
+      tested-map l =
+          record {
+            is = λ m e s. past m s ∙ cause-holds _ MapFull [] (ap (less (standard .mapLimit)) (sym (all .is m e s)) ∙ less-yes {m = standard .mapLimit} {n = u} l);
+          }
+
+      pub tested-passed : u ≤ standard .mapLimit → Tested rows slots us z n w Granted
+      unfolding firstCause
+      tested-passed l =
+          record {
+            is = λ m e s. past m s ∙ cause-fails _ MapFull [] (ap (less (standard .mapLimit)) (sym (all .is m e s)) ∙ less-no {m = standard .mapLimit} {n = u} l);
+          }
+
+-- the tests are passed
+tested-lockable : (m : MapState) (ks : List ℕ) (w : ℕ) → lockTests m ks w ≡ none → Lockable m ks
+unfolding lockTests
+tested-lockable m ks w e =
+    let a = cause-passed _ _ e in
+    let b = cause-passed _ _ (a .1) in
+    let c = cause-passed _ _ (b .1) in
+    record {
+      waiting = less-false (standard .waitingLimit) (waitingWith m ks) (b .0);
+      addresses = less-false (standard .mapLimit) (addressesWith m ks) (c .0);
+    }
+
+pub tested-can : (rows : RecordRows) (slots : SlotRows) (us : WriteRows) (z : Sizes) (n w : ℕ) (ls : List Leaf) (a : Plain) → Tested rows slots us z n w a → present (refusalIn a) ≡ false
+    → Lockable (record { records = recordsIn rows (z .records); leaves = ls; slots = slotsIn slots }) (keys (writesOf us n))
+tested-can rows slots us z n w ls Granted t p = tested-lockable _ (keys (writesOf us n)) w (t .is _ refl refl)
+tested-can rows slots us z n w ls (Refused r) t p = clash refl p
+
+-- a worker's number and one more is a word
+pub worker-fits : (w : ℕ) → w < standard .workers → w + 1 < 2 ^ 64
+worker-fits w h = omega arith
+
+-- ---- an open worker's lock
+
+-- What comes of it: the causes after the first three, the state, and the arrays.
+pub record LocksOpen (l : Lent) (ws : List WriteRows) (c : Core) (w : ℕ) (l' : Lent) (c' : Core) (a : Plain) : Type 0 where
+  pub tests : lockTests (mapOf l (c .sizes)) (keys (writesIn ws w (workerAt c w .writes))) w ≡ refusalIn a
+  pub reaches : Reaches (λ (σ : State). maybe (refusalIn a) (effect σ (lock w)) (λ (r : Refusal). σ)) l ws c l' c'
+
+same-tests : (l : Lent) (ws : List WriteRows) (c : Core) (w : ℕ) (a : Plain) → Tested (l .rows) (l .slots) (getD ws w []) (c .sizes) (workerAt c w .writes) w a
+    → lockTests (mapOf l (c .sizes)) (keys (writesIn ws w (workerAt c w .writes))) w ≡ refusalIn a
+same-tests l ws c w a t = t .is (mapOf l (c .sizes)) refl refl
+
+pub locks-refused : (l : Lent) (ws : List WriteRows) (c : Core) (w : ℕ) (a : Plain)
+    → Tested (l .rows) (l .slots) (getD ws w []) (c .sizes) (workerAt c w .writes) w a → present (refusalIn a) ≡ true → LocksOpen l ws c w l c a
+locks-refused l ws c w Granted t p = clash p refl
+locks-refused l ws c w (Refused r) t p =
+    record { tests = same-tests l ws c w (Refused r) t; reaches = record { state = λ rs ls s. refl; stored = λ rs ls s. s } }
+
+lock-leaves : (w : ℕ) (m : MapState) (ks : List ℕ) → lockAll standard w m ks .leaves ≡ m .leaves
+unfolding lockAll withSlots
+lock-leaves w m ks = refl
+
+-- y the worker after it
+locks : (l l' : Lent) (ws : List WriteRows) (c : Core) (w : ℕ) (y : Worker) (z : Sizes) → w < standard .workers → y ≡ atLock (workerAt c w)
+    → MapBecomes l' z (c .counters .version) (lockAll standard w (mapOf l (c .sizes)) (keys (writesIn ws w (workerAt c w .writes))))
+    → Reaches (λ (σ : State). effect σ (lock w)) l ws c l' (withBoth c w y z)
+locks l l' ws c w y z h q b =
+    subst (λ (u : Worker). Reaches (λ (σ : State). effect σ (lock w)) l ws c l' (withBoth c w u z)) (sym q)
+    (reached (λ (σ : State). effect σ (lock w)) l l' ws c w (atLock (workerAt c w)) z _ h b
+    (lock-leaves w (mapOf l (c .sizes)) (keys (writesIn ws w (workerAt c w .writes)))) (inl refl)
+    (λ rs ls t. record { reads = t .counts w h .reads; leaves = t .counts w h .leaves; writes = t .counts w h .writes })
+    (λ rs ls t.
+    (λ i. withWorker (withMap (stateOf l (logs rs ls ws) c) (lockAll standard w (mapOf l (c .sizes)) (ks rs ls t i))) w (worker rs ls t i))
+    ∙ (unfold effect stateOf in refl)))
+  where
+    ks : (rs : List ReadRows) (ls : List LeafSetRows) → Stored l (logs rs ls ws) c → keys (writesIn ws w (workerAt c w .writes)) ≡ writeKeys (stateOf l (logs rs ls ws) c) w
+    ks rs ls t = sym (keys-are l (logs rs ls ws) c w (worker-inside t w h))
+
+    worker : (rs : List ReadRows) (ls : List LeafSetRows) → Stored l (logs rs ls ws) c
+        → workerIn (atLock (workerAt c w)) rs ls ws w ≡ atStage Locked (workerOf (stateOf l (logs rs ls ws) c) w)
+    worker rs ls t = lock-in rs ls ws w (workerAt c w) ∙ ap (atStage Locked) (sym (worker-at l (logs rs ls ws) c w (worker-inside t w h)))
+
+pub locks-granted : (l l' : Lent) (ws : List WriteRows) (c : Core) (w : ℕ) (y : Worker) (z : Sizes) (a : Plain) → w < standard .workers
+    → Tested (l .rows) (l .slots) (getD ws w []) (c .sizes) (workerAt c w .writes) w a → present (refusalIn a) ≡ false → y ≡ atLock (workerAt c w)
+    → MapBecomes l' z (c .counters .version) (lockAll standard w (mapOf l (c .sizes)) (keys (writesIn ws w (workerAt c w .writes))))
+    → LocksOpen l ws c w l' (withBoth c w y z) a
+locks-granted l l' ws c w y z Granted h t p q b = record { tests = same-tests l ws c w Granted t; reaches = locks l l' ws c w y z h q b }
+locks-granted l l' ws c w y z (Refused r) h t p q b = clash refl p
+
+-- ---- the step
+
+lock-first : (l : Lent) (g : Logs) (c : Core) (w : ℕ)
+    → refusal (stateOf l g c) (lock w) ≡ maybe (front isOpen (stateOf l g c) w) (lockTests (mapOf l (c .sizes)) (writeKeys (stateOf l g c) w) w) some
+unfolding refusal causes lockTests lockedByOther stateOf
+lock-first l g c w = front-first isOpen (stateOf l g c) w _
+
+lock-mild : (σ : State) (w : ℕ) → any (λ (c : Cause). ends (c .refusal)) (causes σ (lock w)) ≡ false
+unfolding causes noWorker workerFree wrongStage any
+lock-mild σ w = refl
+
+module _ {l : Lent} {rs : List ReadRows} {ls : List LeafSetRows} {ws : List WriteRows} {c : Core} (w : ℕ) (k : Ready l (logs rs ls ws) c) where
+  -- the causes after the first three
+  rest-tests : Option Refusal
+  rest-tests = lockTests (mapOf l (c .sizes)) (writeKeys (stateOf l (logs rs ls ws) c) w) w
+
+  pub lock-refused : (r : Refusal) → Turned isOpen (c .workers) w r → Refines l (logs rs ls ws) c (lock w) l (logs rs ls ws) c (plainIn (Refused r))
+  unfolding rest-tests
+  lock-refused r t =
+      let e : refusal (stateOf l (logs rs ls ws) c) (lock w) ≡ some r
+      = lock-first l (logs rs ls ws) c w ∙ ap (λ (o : Option Refusal). maybe o rest-tests some) (t .front-is l (logs rs ls ws) c refl) in
+      refines-refused k e (mild (stateOf l (logs rs ls ws) c) (lock w) r (lock-mild (stateOf l (logs rs ls ws) c) w) e)
+
+  tests-are : (x : Worker) → Entered isOpen (c .workers) w x
+      → refusal (stateOf l (logs rs ls ws) c) (lock w) ≡ lockTests (mapOf l (c .sizes)) (keys (writesIn ws w (workerAt c w .writes))) w
+  unfolding rest-tests
+  tests-are x t =
+      lock-first l (logs rs ls ws) c w
+      ∙ ap (λ (o : Option Refusal). maybe o rest-tests some) (t .front-is l (logs rs ls ws) c refl)
+      ∙ ap (λ (ks : List ℕ). lockTests (mapOf l (c .sizes)) ks w)
+      (keys-are l (logs rs ls ws) c w (worker-inside (k .stored) w (t .inside)))
+
+  pub lock-refines : {l' : Lent} {c' : Core} (x : Worker) → Entered isOpen (c .workers) w x → (a : Plain) → LocksOpen l ws c w l' c' a
+      → Refines l (logs rs ls ws) c (lock w) l' (logs rs ls ws) c' (plainIn a)
+  unfolding granted
+  lock-refines x t Granted q =
+      refines k (yields-granted (stateOf l (logs rs ls ws) c) (lock w) (tests-are x t ∙ q .tests))
+      (q .reaches .state rs ls (k .stored)) (q .reaches .stored rs ls (k .stored))
+  lock-refines x t (Refused r) q =
+      let e : refusal (stateOf l (logs rs ls ws) c) (lock w) ≡ some r = tests-are x t ∙ q .tests in
+      refines k
+      (yields-refused (stateOf l (logs rs ls ws) c) (lock w) r e (mild (stateOf l (logs rs ls ws) c) (lock w) r (lock-mild (stateOf l (logs rs ls ws) c) w) e))
+      (q .reaches .state rs ls (k .stored)) (q .reaches .stored rs ls (k .stored))

@@ -1,0 +1,245 @@
+// Lock, install and abort: what comes before and after a validation, and what gives up.
+use crate::drops;
+use map::Leaves;
+use map::Records;
+use map::Sizes;
+use map::Slots;
+use sets::LeafSets;
+use sets::ReadSets;
+use sets::WriteSet;
+use sets::WriteSets;
+use spec::MAP_LIMIT;
+use spec::Refusal;
+use spec::WAITING_LIMIT;
+use transactions::Core;
+use transactions::admits;
+use transactions::admits::Admit;
+use transactions::begins::Done;
+use transactions::begins::Plain;
+ghost use mathlib.Core.Path.{_≡_};
+ghost use mathlib.Core.List.{[]};
+ghost use Prim.Native.Nat.{_<_};
+ghost use lib.ListN.{length, getD};
+ghost use Rattle.lists.specs.Tests.{present};
+ghost use Rattle.spec.specs.Records.{standard};
+ghost use Rattle.spec.specs.Slots.{entries};
+ghost use Rattle.spec.specs.Steps as model;
+ghost use Rattle.spec.specs.Steps.{State, effect};
+ghost use Rattle.laws.specs.MapLaws.{Installable};
+ghost use Rattle.sets.specs.Writes.{writesIn, WriteSetOrdered};
+ghost use Rattle.map.specs.Views.{lent, slotsIn};
+ghost use Rattle.map.specs.MapHeld as map;
+ghost use Rattle.map.specs.AddressCounts.{Counted};
+ghost use Rattle.transactions.specs.Views.{logs};
+ghost use Rattle.transactions.specs.Ready.{workerAt, Ready, Refines};
+ghost use Rattle.transactions.specs.Begins.{plainIn};
+ghost use Rattle.commits.specs.Commits.{Reaches};
+ghost use Rattle.commits.specs.Locks.{refusalIn, Tested, LocksOpen};
+
+// The writes of worker w's transaction are pending from now on, under its commit number, and the worker is free.
+fn install_transaction(
+    leaves: &mut Leaves,
+    slots: &mut Slots,
+    rows: &Records,
+    writes: &WriteSets,
+    c: Core,
+    w: usize,
+) -> Core
+    requires { ⌜ map.MapHeld (lent (now rows) (now leaves) (now slots)) (c .sizes) (c .counters .version) ⌝ }
+    requires { ⌜ w < standard .workers ⌝ }
+    requires { ⌜ WriteSetOrdered (getD (now writes) w []) (workerAt c w .writes) ⌝ }
+    requires { ⌜ Installable (slotsIn (now slots)) (writesIn (now writes) w (workerAt c w .writes)) ⌝ }
+    ensures { λ r. ⌜ Reaches (λ (σ : State). effect σ (model.install w)) (lent (now (rows .entry)) (now (leaves .entry)) (now (slots .entry))) (now (writes .entry)) c (lent (now (rows .entry)) (now (leaves .exit)) (now (slots .exit))) r ⌝ }
+{
+    let mut workers = c.workers;
+    let sizes = c.sizes;
+    let counters = c.counters;
+    let x = workers[w];
+    let z = map::locks::install_all(
+        leaves,
+        slots,
+        rows,
+        &writes[w],
+        sizes,
+        counters,
+        x.writes as usize,
+        x.number as u64,
+    );
+    let free = x.free();
+    workers[w] = free;
+    Core {
+        workers,
+        sizes: z,
+        counters,
+    }
+}
+
+// Worker w gives its transaction up.
+pub fn abort(
+    leaves: &mut Leaves,
+    slots: &mut Slots,
+    rows: &Records,
+    reads: &ReadSets,
+    leafsets: &LeafSets,
+    writes: &WriteSets,
+    c: Core,
+    w: u32,
+) -> Done
+    requires { ⌜ Ready (lent (now rows) (now leaves) (now slots)) (logs (now reads) (now leafsets) (now writes)) c ⌝ }
+    ensures { λ r. ⌜ Refines (lent (now (rows .entry)) (now (leaves .entry)) (now (slots .entry)))
+        (logs (now (reads .entry)) (now (leafsets .entry)) (now (writes .entry))) c (model.abort w) (lent (now (rows .entry)) (now (leaves .exit)) (now (slots .exit)))
+        (logs (now (reads .entry)) (now (leafsets .entry)) (now (writes .entry))) (r .core) (plainIn (r .answer)) ⌝ }
+{
+    let workers = c.workers;
+    match admits::busy(workers, w) {
+        Admit::Refused(r) => Done {
+            core: c,
+            answer: Plain::Refused(r),
+        },
+        Admit::Allowed(_) => {
+            let core = drops::drop_transaction(leaves, slots, rows, writes, c, w as usize);
+            Done {
+                core,
+                answer: Plain::Granted,
+            }
+        }
+    }
+}
+
+// Worker w's writes enter the map, under the commit number of its validation.
+pub fn install(
+    leaves: &mut Leaves,
+    slots: &mut Slots,
+    rows: &Records,
+    reads: &ReadSets,
+    leafsets: &LeafSets,
+    writes: &WriteSets,
+    c: Core,
+    w: u32,
+) -> Done
+    requires { ⌜ Ready (lent (now rows) (now leaves) (now slots)) (logs (now reads) (now leafsets) (now writes)) c ⌝ }
+    ensures { λ r. ⌜ Refines (lent (now (rows .entry)) (now (leaves .entry)) (now (slots .entry)))
+        (logs (now (reads .entry)) (now (leafsets .entry)) (now (writes .entry))) c (model.install w) (lent (now (rows .entry)) (now (leaves .exit)) (now (slots .exit)))
+        (logs (now (reads .entry)) (now (leafsets .entry)) (now (writes .entry))) (r .core) (plainIn (r .answer)) ⌝ }
+{
+    let workers = c.workers;
+    match admits::checked(workers, w) {
+        Admit::Refused(r) => Done {
+            core: c,
+            answer: Plain::Refused(r),
+        },
+        Admit::Allowed(_) => {
+            let core = install_transaction(leaves, slots, rows, writes, c, w as usize);
+            Done {
+                core,
+                answer: Plain::Granted,
+            }
+        }
+    }
+}
+
+// The tests of a write set before its addresses are locked: refusals 9, 10 and 11.
+fn lock_tests(rows: &Records, slots: &Slots, ws: &WriteSet, z: Sizes, n: usize, w: u64) -> Plain
+    requires { ⌜ Counted (now rows) (now slots) z ⌝ }
+    requires { ⌜ z .entries ≡ length (entries (slotsIn (now slots))) ⌝ }
+    requires { ⌜ WriteSetOrdered (now ws) n ⌝ }
+    ensures { λ r. ⌜ Tested (now (rows .entry)) (now (slots .entry)) (now (ws .entry)) z n w r ⌝ }
+{
+    if map::locks::held(slots, ws, n, w) {
+        return Plain::Refused(Refusal::Held);
+    }
+    let waiting = map::locks::waiting_with(slots, ws, n, z.entries);
+    let addresses = map::locks::addresses_with(rows, slots, ws, n, z);
+    if WAITING_LIMIT < waiting {
+        return Plain::Refused(Refusal::IndexletFull);
+    }
+    if MAP_LIMIT < addresses {
+        return Plain::Refused(Refusal::MapFull);
+    }
+    Plain::Granted
+}
+
+// Whether an answer is a refusal.
+fn refused(a: Plain) -> bool
+    ensures { λ r. ⌜ r ≡ present (refusalIn a) ⌝ }
+{
+    match a {
+        Plain::Granted => false,
+        Plain::Refused(_) => true,
+    }
+}
+
+// The lock of worker w, which is open: all of its addresses, or none.
+fn lock_open(
+    leaves: &mut Leaves,
+    slots: &mut Slots,
+    rows: &Records,
+    writes: &WriteSets,
+    c: Core,
+    w: usize,
+) -> Done
+    requires { ⌜ map.MapHeld (lent (now rows) (now leaves) (now slots)) (c .sizes) (c .counters .version) ⌝ }
+    requires { ⌜ w < standard .workers ⌝ }
+    requires { ⌜ WriteSetOrdered (getD (now writes) w []) (workerAt c w .writes) ⌝ }
+    ensures { λ r. ⌜ LocksOpen (lent (now (rows .entry)) (now (leaves .entry)) (now (slots .entry))) (now (writes .entry)) c w (lent (now (rows .entry)) (now (leaves .exit)) (now (slots .exit))) (r .core) (r .answer) ⌝ }
+{
+    let mut workers = c.workers;
+    let sizes = c.sizes;
+    let counters = c.counters;
+    let x = workers[w];
+    let n = x.writes as usize;
+    let tested = lock_tests(rows, slots, &writes[w], sizes, n, w as u64);
+    if refused(tested) {
+        return Done {
+            core: c,
+            answer: tested,
+        };
+    }
+    let z = map::locks::lock_all(
+        leaves,
+        slots,
+        rows,
+        &writes[w],
+        sizes,
+        counters,
+        n,
+        w as u64,
+    );
+    let locked = x.lock();
+    workers[w] = locked;
+    let core = Core {
+        workers,
+        sizes: z,
+        counters,
+    };
+    Done {
+        core,
+        answer: tested,
+    }
+}
+
+// Worker w locks the addresses of its write set.
+pub fn lock(
+    leaves: &mut Leaves,
+    slots: &mut Slots,
+    rows: &Records,
+    reads: &ReadSets,
+    leafsets: &LeafSets,
+    writes: &WriteSets,
+    c: Core,
+    w: u32,
+) -> Done
+    requires { ⌜ Ready (lent (now rows) (now leaves) (now slots)) (logs (now reads) (now leafsets) (now writes)) c ⌝ }
+    ensures { λ r. ⌜ Refines (lent (now (rows .entry)) (now (leaves .entry)) (now (slots .entry)))
+        (logs (now (reads .entry)) (now (leafsets .entry)) (now (writes .entry))) c (model.lock w) (lent (now (rows .entry)) (now (leaves .exit)) (now (slots .exit)))
+        (logs (now (reads .entry)) (now (leafsets .entry)) (now (writes .entry))) (r .core) (plainIn (r .answer)) ⌝ }
+{
+    let workers = c.workers;
+    match admits::open(workers, w) {
+        Admit::Refused(r) => Done {
+            core: c,
+            answer: Plain::Refused(r),
+        },
+        Admit::Allowed(_) => lock_open(leaves, slots, rows, writes, c, w as usize),
+    }
+}

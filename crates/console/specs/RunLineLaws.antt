@@ -1,0 +1,182 @@
+-- What each event of the parser makes of a session.
+use Prim.Native.Nat.{ℕ, _+_, _-_, _<_, _≤_}
+use native.Mathlib.Omega.{arith}
+use mathlib.Core.Path.{_≡_, refl, sym, ap, _∙_, subst}
+use mathlib.Core.Logic.{⊎-elim}
+use mathlib.Core.Bool.{Bool, true, false}
+use mathlib.Core.List.{List, [], _∷_, _++_, append-assoc, append-nil}
+use mathlib.Core.Option.{Option}
+use lib.ListN.{length, drop, length-drop}
+use Rattle.lists.specs.Tests.{pick, clash, same-refl}
+use Rattle.lists.specs.Rows.{has}
+use Rattle.lists.specs.Counting.{has-nil, has-cons, has-append}
+use Rattle.lists.specs.Texts.{Wrote, wrote-length}
+use Rattle.spec.specs.Steps.{State, answer, next}
+use Rattle.map.specs.Views.{Lent}
+use Rattle.transactions.specs.Views.{Logs, stateOf}
+use Rattle.transactions.specs.Ready.{Ready}
+use Rattle.engine.specs.declared.steps.Op.{Op}
+use Rattle.engine.specs.declared.steps.Performed.{Performed}
+use Rattle.engine.specs.Performs.{Performs}
+use Rattle.script.specs.declared.Line.{Line}
+use Rattle.script.specs.declared.Parser.{Parser}
+use Rattle.script.specs.declared.Parser.the-variants.{Start}
+use Rattle.script.specs.declared.Event.{Event}
+use Rattle.script.specs.declared.Event.the-variants as event
+use Rattle.script.specs.declared.Parsed.{Parsed}
+use Rattle.script.specs.Parsing.{continued, After, Whole, Says, Parses}
+use Rattle.script.specs.Output.{letterOf, stepOf, answerText, answerLine, malformedLine}
+use Rattle.console.specs.declared.session.Session.{Session}
+use Rattle.console.specs.Program.{places, writtenFrom}
+use Rattle.console.specs.ProgramLaws.{told, clear-last, from-clear, from-whole, from-spoiled}
+use Rattle.console.specs.Replies.{Asks, replyText, Replies}
+use Rattle.console.specs.Sessions.{Started, due, RunsLine}
+use Rattle.console.specs.Places.{step-is}
+
+fresh-line : {p : Parser} → p ≡ Start → After [] p
+unfolding continued
+fresh-line e = subst (After []) (sym e) (record { unbroken = has-nil 10; begun = refl; means = λ rest. refl })
+
+-- bytes after those seen are read
+taken-some : (seen taken l : List ℕ) → has 10 seen ≡ false → Whole l (seen ++ taken) → 0 < length taken
+taken-some seen [] l h w =
+    clash
+    (ap (has 10) (sym (append-nil seen) ∙ w .fed) ∙ has-append 10 l (10 ∷ []) ∙ (rw (w .unbroken) (has-cons 10 10 [] ∙ (rw (same-refl 10)))))
+    h
+taken-some seen (b ∷ taken) l h w = omega arith
+
+module _ (l : Lent) (g : Logs) (x : Session) (input old : List ℕ) (t : Parsed) (f : x .stopped ≡ false) (n : x .next < length input)
+    (k : Started (x .parser)) (p : (seen : List ℕ) → After seen (x .parser) → Parses seen input (x .next) t) where
+  -- what is due, in terms of the bytes taken
+  due-is : (seen : List ℕ) (a : After seen (x .parser)) (future : List ℕ)
+      → due (stateOf l g (x .core)) seen (x .stopped) input (x .next) future
+      ≡ writtenFrom (stateOf l g (x .core)) seen (p seen a .taken ++ (drop (t .next) input ++ future))
+  unfolding due
+  due-is seen a future =
+      ap (λ (b : Bool). pick b [] (writtenFrom (stateOf l g (x .core)) seen (drop (x .next) input ++ future))) f
+      ∙ ap (λ (z : List ℕ). writtenFrom (stateOf l g (x .core)) seen (z ++ future)) (p seen a .cut .rest)
+      ∙ ap (writtenFrom (stateOf l g (x .core)) seen) (append-assoc (p seen a .taken) (drop (t .next) input) future)
+
+  says-as : (e : Event) → t .event ≡ e → (seen : List ℕ) (a : After seen (x .parser)) → Says e (t .parser) (seen ++ p seen a .taken)
+  says-as e q seen a = subst (λ (z : Event). Says z (t .parser) (seen ++ p seen a .taken)) q (p seen a .says)
+
+  still : pick {A = ℕ} (x .stopped) 0 1 ≡ 1
+  still = ap (λ (b : Bool). pick {A = ℕ} b 0 1) f
+
+  -- the end of the input
+  pub turn-ended : Ready l g (x .core) → x .at ≤ length old → t .event ≡ event.SliceEnd
+      → RunsLine l g x input old l g (record { core = x .core; parser = t .parser; next = t .next; at = x .at; stopped = false }) old
+  unfolding Says due
+  turn-ended r h e =
+      record {
+        feeds =
+            record {
+              ready = r;
+              started = record { seen = k .seen ++ p (k .seen) (k .after) .taken; after = says-as event.SliceEnd e (k .seen) (k .after) };
+              size = refl;
+              room = h;
+              continues = λ seen a.
+                  record {
+                    text = [];
+                    wrote = record { written = refl; within = omega arith; place = omega arith };
+                    line = seen ++ p seen a .taken;
+                    after = says-as event.SliceEnd e seen a;
+                    rest = λ future.
+                        due-is seen a future
+                        ∙ from-clear (stateOf l g (x .core)) seen (p seen a .taken) (drop (t .next) input ++ future)
+                        (clear-last seen (p seen a .taken) (says-as event.SliceEnd e seen a .unbroken));
+                  };
+            };
+        fewer =
+            let q : length (drop (t .next) input) ≡ 0 = ap length (p (k .seen) (k .after) .whole e) in
+            let w : length (drop (t .next) input) ≡ length input - t .next = length-drop (t .next) input in
+            let z = still in
+            omega arith;
+      }
+
+  -- a malformed line
+  told-none : (seen : List ℕ) (a : After seen (x .parser)) → t .event ≡ event.Malformed → (rest : List ℕ)
+      → writtenFrom (stateOf l g (x .core)) seen (p seen a .taken ++ rest) ≡ malformedLine
+  unfolding Says
+  told-none seen a e rest =
+      ⊎-elim
+      (λ w. from-whole (stateOf l g (x .core)) seen (p seen a .taken) (w .0) rest (a .unbroken) (w .1) ∙ ap (λ (o : Option Line). told (stateOf l g (x .core)) o rest) (w .2))
+      (λ w. from-spoiled (stateOf l g (x .core)) seen (p seen a .taken) rest (w .0) (w .1))
+      (says-as event.Malformed e seen a .0)
+
+  pub turn-malformed : {new : List ℕ} {at : ℕ} → Ready l g (x .core) → t .event ≡ event.Malformed → Wrote old (x .at) malformedLine new at
+      → RunsLine l g x input old l g (record { core = x .core; parser = t .parser; next = t .next; at = at; stopped = true }) new
+  unfolding Says due
+  turn-malformed {new} {at} r e w =
+      record {
+        feeds =
+            record {
+              ready = r;
+              started = record { seen = []; after = fresh-line (says-as event.Malformed e (k .seen) (k .after) .1) };
+              size = wrote-length w;
+              room = let a = w .within in let b = w .place in let d : length new ≡ length old = wrote-length w in omega arith;
+              continues = λ seen a.
+                  record {
+                    text = malformedLine;
+                    wrote = w;
+                    line = [];
+                    after = fresh-line (says-as event.Malformed e seen a .1);
+                    rest = λ future. due-is seen a future ∙ told-none seen a e (drop (t .next) input ++ future) ∙ sym (append-nil malformedLine);
+                  };
+            };
+        fewer =
+            let c = p (k .seen) (k .after) .cut .place in
+            let z = still in
+            omega arith;
+      }
+
+  -- a line
+  pub turn-line : {u : Line} {o : Op} {ks vs ks' vs' : List ℕ} {l' : Lent} {g' : Logs} {d : Performed} {c : ℕ} {new : List ℕ} {at : ℕ}
+      → t .event ≡ event.Line u → Asks u o → length ks ≡ places → length vs ≡ places → Performs l g (x .core) o ks vs l' g' ks' vs' d
+      → c ≡ letterOf u → Replies c (d .reply) ks' vs' old (x .at) new at
+      → RunsLine l g x input old l' g' (record { core = d .core; parser = t .parser; next = t .next; at = at; stopped = false }) new
+  unfolding Says due
+  turn-line {u} {o} {ks} {vs} {ks'} {vs'} {l'} {g'} {d} {c} {new} {at} e a b b' q j w =
+      record {
+        feeds =
+            record {
+              ready = q .refines .ready;
+              started = record { seen = []; after = fresh-line (says-as (event.Line u) e (k .seen) (k .after) .3) };
+              size = wrote-length (w .wrote);
+              room = let y = w .wrote .within in let z = w .wrote .place in let v : length new ≡ length old = wrote-length (w .wrote) in omega arith;
+              continues = λ seen s.
+                  record {
+                    text = replyText c (d .reply) ks' vs';
+                    wrote = w .wrote;
+                    line = [];
+                    after = fresh-line (says-as (event.Line u) e seen s .3);
+                    rest = λ future. due-is seen s future ∙ line-told seen s (drop (t .next) input ++ future);
+                  };
+            };
+        fewer =
+            let r = p (k .seen) (k .after) in
+            let y = r .cut .place in
+            let m = says-as (event.Line u) e (k .seen) (k .after) in
+            let v : 0 < length (r .taken) = taken-some (k .seen) (r .taken) (m .0) (k .after .unbroken) (m .1) in
+            let z = still in
+            omega arith;
+      }
+    where
+      σ : State
+      σ = stateOf l g (x .core)
+
+      text-is : answerLine u (answer σ (stepOf places u)) ≡ replyText c (d .reply) ks' vs'
+      text-is =
+          unfold answerLine replyText in
+          (λ i. sym j i ∷ answerText ((ap (answer σ) (sym (step-is ks vs a b b')) ∙ sym (q .refines .says)) i) ++ (10 ∷ []))
+
+      state-is : next σ (stepOf places u) ≡ stateOf l' g' (d .core)
+      state-is = ap (next σ) (sym (step-is ks vs a b b')) ∙ sym (q .refines .state)
+
+      line-told : (seen : List ℕ) (s : After seen (x .parser)) (rest : List ℕ)
+          → writtenFrom σ seen (p seen s .taken ++ rest) ≡ replyText c (d .reply) ks' vs' ++ writtenFrom (stateOf l' g' (d .core)) [] rest
+      line-told seen s rest =
+          let m = says-as (event.Line u) e seen s in
+          from-whole σ seen (p seen s .taken) (m .0) rest (s .unbroken) (m .1)
+          ∙ ap (λ (y : Option Line). told σ y rest) (m .2)
+          ∙ (λ i. text-is i ++ writtenFrom (state-is i) [] rest)

@@ -1,0 +1,81 @@
+-- What the indexlet's functions promise: of the words they are lent, of what they return.
+use Prim.Native.Nat.{ℕ, zero, suc, _+_, _%_, _^_, _<_}
+use mathlib.Core.Path.{_≡_}
+use mathlib.Core.List.{List}
+use mathlib.Core.Option.{none, some}
+use lib.ListN.{length, getD}
+use Rattle.lists.specs.Tests.{pick, same}
+use Rattle.spec.specs.Slots.{slotCount, homeSlot, isIdle, Slot, emptySlot, emptySlots, entries, contentOf, slotAt, holds, Searched, search, enter}
+use Rattle.laws.specs.Probes.{gap}
+use Rattle.laws.specs.SlotCounts.{Good, Place}
+use Rattle.indexlet.specs.declared.Content.{Content as ContentWords}
+use Rattle.indexlet.specs.declared.Slot.{Slot as SlotWords}
+use Rattle.indexlet.specs.declared.Looked.{Looked}
+use Rattle.indexlet.specs.declared.Sought.{Sought}
+use Rattle.indexlet.specs.Words.{SlotRows, contentIn, slotIn, rowAt, slotsOf}
+
+-- as many rows as there are slots, whose keys are addresses
+pub record Sized (ws : SlotRows) : Type 0 where
+  pub size : length ws ≡ slotCount
+  pub narrow : (i : ℕ) → i < slotCount → rowAt ws i .key < 2 ^ 32
+
+-- The invariant of the lent words: every public function asks it, `fresh_slots` and `enter` leave it.
+pub record SlotsHeld (ws : SlotRows) : Type 0 where
+  pub sized : Sized ws
+  pub good : Good 4 (slotsOf ws)
+
+-- the words hold these slots
+pub record SlotsBecome (ws : SlotRows) (ss : List Slot) : Type 0 where
+  pub sized : Sized ws
+  pub view : slotsOf ws ≡ ss
+
+pub record SlotsFresh (ws : SlotRows) : Type 0 where
+  pub held : SlotsHeld ws
+  pub view : slotsOf ws ≡ emptySlots
+
+-- the row of slot i
+pub record IsSlot (ws : SlotRows) (i : ℕ) (r : SlotWords) : Type 0 where
+  pub slot : slotIn r ≡ getD (slotsOf ws) i emptySlot
+  pub narrow : r .key < 2 ^ 32
+
+-- what a search found: nothing where nothing is said
+unfoldable pub lookedIn : Looked → Searched
+lookedIn r =
+    record {
+      found = pick (isIdle (contentIn (r .content))) none (some (contentIn (r .content)));
+      examined = r .examined;
+    }
+
+-- a search by the search rule, which finds what the indexlet says of the address
+pub record Looks (ws : SlotRows) (a : ℕ) (r : Looked) : Type 0 where
+  pub searched : search 4 (slotsOf ws) a ≡ lookedIn r
+  pub content : contentOf (slotsOf ws) a ≡ contentIn (r .content)
+
+-- the words after c was said of a, and the number of entries
+pub record Enters (ws : SlotRows) (a : ℕ) (c : ContentWords) (us : SlotRows) (n : ℕ) : Type 0 where
+  pub held : SlotsHeld us
+  pub view : slotsOf us ≡ enter 4 (slotsOf ws) a (contentIn c)
+  pub number : n ≡ length (entries (slotsOf us))
+
+-- ---- where a search ends
+
+-- what a search that examines a slot does, as `searchAt` does it
+unfoldable pub soughtAt : ℕ → Slot → ℕ → ℕ → Sought → Sought
+soughtAt k s i d next =
+    pick (holds k s) (record { at = i; examined = suc d })
+    (pick (same (s .overflow) 0) (record { at = slotCount; examined = suc d }) next)
+
+unfoldable pub soughtFrom : List Slot → ℕ → ℕ → ℕ → ℕ → Sought
+soughtFrom ss k h zero d = record { at = slotCount; examined = d }
+soughtFrom ss k h (suc n) d =
+    let next : Sought = soughtFrom ss k h n (suc d) in
+    soughtAt k (slotAt ss (h + d)) ((h + d) % slotCount) d next
+
+-- where the search for k ends
+unfoldable pub sought : List Slot → ℕ → Sought
+sought ss k = soughtFrom ss k (homeSlot 4 k) slotCount 0
+
+-- the entry of k stands d slots after its home slot
+pub record Stands (ss : List Slot) (k d : ℕ) : Type 0 where
+  pub place : Place ss k
+  pub far : gap (homeSlot 4 k) (place .at) ≡ d

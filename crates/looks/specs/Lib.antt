@@ -1,8 +1,0 @@
-pub mod LookViews
-pub mod CurrentLaws
-pub mod RangeLaws
-pub mod ScanLaws
-pub mod PhantomViews
-pub mod PhantomLaws
-pub mod NextViews
-pub mod NextLaws

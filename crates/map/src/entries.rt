@@ -1,0 +1,145 @@
+// What is said of one address: the indexlet changes, and the phantomlet with it. And an empty map.
+use crate::Leaves;
+use crate::Records;
+use crate::Sizes;
+use crate::Slots;
+use counters::Counters;
+use index::leaves;
+use index::leaves::Leaf;
+use phantomlet::recount;
+use spec::Address;
+ghost use mathlib.Core.Path.{_≡_};
+ghost use Rattle.spec.specs.Slots.{enter};
+ghost use Rattle.spec.specs.Maps.{freshMap};
+ghost use Rattle.laws.specs.SlotLaws.{Room};
+ghost use Rattle.indexlet.specs.Words.{contentIn, slotsOf};
+ghost use Rattle.indexlet.specs.Promises as indexlet;
+ghost use Rattle.index.specs.Views as index;
+ghost use Rattle.index.specs.LeafPlaces.{Listed};
+ghost use Rattle.index.specs.LeafColumns.{lowsOf, outsideOf, pendingOf};
+ghost use Rattle.map.specs.Views.{lent};
+ghost use Rattle.map.specs.MapHeld.{Tables};
+ghost use Rattle.map.specs.Entries.{MapBecomes, ContentSet, Adjustable, Adjusts, Terms, outsideTerm};
+
+// An empty map: one leaf with version 0, no record, no entry.
+pub fn fresh_map(rows: &mut Records, leaves: &mut Leaves, slots: &mut Slots) -> Sizes
+    ensures { λ r. ⌜ MapBecomes (lent (now (rows .exit)) (now (leaves .exit)) (now (slots .exit))) r 0 freshMap ⌝ }
+{
+    leaves::leaf_places(leaves);
+    let first = Leaf {
+        low: 0,
+        version: 0,
+        outside: 0,
+        pending: 0,
+    };
+    leaves::put_leaf(leaves, 0, first);
+    indexlet::fresh_slots(slots);
+    Sizes {
+        records: 0,
+        leaves: 1,
+        entries: 0,
+        outside: 0,
+    }
+}
+
+// 1 if there is an entry, at an address that the index lacks.
+fn outside_term(lacks: bool, c: indexlet::Content) -> u64
+    ensures { λ r. ⌜ r ≡ outsideTerm lacks (contentIn c) ⌝ }
+{
+    if indexlet::idle(c) {
+        return 0;
+    }
+    if lacks {
+        return 1;
+    }
+    0
+}
+
+// What an address adds to the phantomlet's numbers, at the place of its leaf, and what it takes away.
+struct Change {
+    at: usize,
+    pend: u64,
+    unpend: u64,
+    join: u64,
+    leave: u64,
+}
+
+// The phantomlet's two numbers of a leaf change.
+fn adjust(leaves: &mut Leaves, t: Change)
+    requires { ⌜ Adjustable (pendingOf (now leaves)) (t .at) (t .pend) (t .unpend) ⌝ }
+    requires { ⌜ Adjustable (outsideOf (now leaves)) (t .at) (t .join) (t .leave) ⌝ }
+    ensures { λ _. ⌜ Adjusts (now (leaves .entry)) t (now (leaves .exit)) ⌝ }
+{
+    let at = t.at;
+    let l = leaves::leaf_at(leaves, at);
+    let changed = Leaf {
+        low: l.low,
+        version: l.version,
+        outside: l.outside + t.join - t.leave,
+        pending: l.pending + t.pend - t.unpend,
+    };
+    leaves::put_leaf(leaves, at, changed);
+}
+
+// Where an entry neither comes nor goes, none joins or leaves those outside of the index, which is not searched then.
+fn terms(
+    slots: &Slots,
+    rows: &Records,
+    leaves: &Leaves,
+    z: Sizes,
+    a: Address,
+    c: indexlet::Content,
+) -> Change
+    requires { ⌜ indexlet.SlotsHeld (now slots) ⌝ }
+    requires { ⌜ index.RecordsSorted (now rows) (z .records) ⌝ }
+    requires { ⌜ Listed (lowsOf (now leaves)) (z .leaves) ⌝ }
+    ensures { λ r. ⌜ Terms (now (slots .entry)) (now (rows .entry)) (lowsOf (now (leaves .entry))) z a (contentIn c) r ⌝ }
+{
+    let found = indexlet::look_up(slots, a);
+    let old = found.content;
+    let at = leaves::find_leaf(leaves, z.leaves, a);
+    let pend = recount::waits(c);
+    let unpend = recount::waits(old);
+    if indexlet::idle(old) == indexlet::idle(c) {
+        return Change {
+            at,
+            pend,
+            unpend,
+            join: 0,
+            leave: 0,
+        };
+    }
+    let absent = recount::lacks(rows, z.records, a);
+    Change {
+        at,
+        pend,
+        unpend,
+        join: outside_term(absent, c),
+        leave: outside_term(absent, old),
+    }
+}
+
+// `c` is said of the address; the phantomlet's two numbers of its leaf change with it. Answers the sizes.
+pub fn set_content(
+    leaves: &mut Leaves,
+    slots: &mut Slots,
+    rows: &Records,
+    z: Sizes,
+    k: Counters,
+    a: Address,
+    c: indexlet::Content,
+) -> Sizes
+    requires { ⌜ Tables (lent (now rows) (now leaves) (now slots)) z (k .version) ⌝ }
+    requires { ⌜ Room (slotsOf (now slots)) a (contentIn c) ⌝ }
+    ensures { λ r. ⌜ ContentSet (lent (now (rows .entry)) (now (leaves .entry)) (now (slots .entry))) (lent (now (rows .entry)) (now (leaves .exit)) (now (slots .exit))) z r (k .version) (enter 4 (slotsOf (now (slots .entry))) a (contentIn c)) ⌝ }
+{
+    let t = terms(slots, rows, leaves, z, a, c);
+    adjust(leaves, t);
+    let entries = indexlet::enter(slots, z.entries, a, c);
+    Sizes {
+        records: z.records,
+        leaves: z.leaves,
+        entries,
+        outside: z.outside + t.join as usize - t.leave as usize,
+    }
+}

@@ -1,0 +1,48 @@
+-- `queries::lock_only_at` meets its contract: by each of its tests.
+use Rattle.queries.specs.PhantomLaws.{lock-only-elsewhere, lock-only-pending, lock-only-found, lock-only-yes}
+use borrow.Author.Needs.{needs}
+use Rattle.queries.proofs.lock_only_at.Statement.{statement}
+use Rattle.queries.proofs.lock_only_at.Tie as tie
+
+find-leaf-requires : tie.Need-find-leaf-requires
+find-leaf-requires c κs = search needs
+
+returns : tie.Need-returns
+returns c = lock-only-elsewhere _ _ _ _ _ _ _ _ (c .before .find-leaf .ensures) (c .if1 .taken)
+
+look-up-requires : tie.Need-look-up-requires
+look-up-requires c κs = search needs
+
+returns-2 : tie.Need-returns-2
+returns-2 c = let l = c .before .before .before .look-up in
+    lock-only-pending _ _ _ _ _ _ _ (l .result .content) (l .ensures .content) (c .if2 .taken)
+
+find-requires : tie.Need-find-requires
+find-requires c κs = search needs
+
+enum-told : tie.Need-enum-told
+enum-told c = search needs
+
+enum-told-2 : tie.Need-enum-told-2
+enum-told-2 c = search needs
+
+returns-3 : tie.Need-returns-3
+returns-3 c = lock-only-found _ _ _ _ _ _ _ _ _ _ (c .enum-told .given .1) (c .before .before .find .ensures)
+
+returns-4 : tie.Need-returns-4
+returns-4 c = let l = c .before .before .before .before .before .before .look-up in
+    lock-only-yes _ _ _ _ _ _ _ _ (l .result .content) _ (c .before .before .before .before .before .before .before .before .find-leaf .ensures) (c .before .before .before .before .before .before .before .if1 .left) (l .ensures .content) (c .before .before .before .if2 .left) (c .enum-told2 .given .1) (c .before .before .find .ensures)
+
+pub lock-only-at-spec : {M : Type 1} → statement M
+lock-only-at-spec =
+    tie.close
+    (tie.spec
+    find-leaf-requires
+    returns
+    look-up-requires
+    returns-2
+    find-requires
+    enum-told
+    enum-told-2
+    returns-3
+    returns-4)

@@ -1,0 +1,69 @@
+-- The current record of an address, by what the indexlet says of it.
+use Prim.Native.Nat.{ℕ, zero, suc}
+use native.Mathlib.Omega.{arith}
+use mathlib.Core.Path.{_≡_, refl, sym, ap, _∙_}
+use mathlib.Core.Bool.{true, false}
+use mathlib.Core.List.{List}
+use mathlib.Core.Option.{Option}
+use lib.Dec.{eqb}
+use borrow.Author.Tests.{ne-eqb}
+use Rattle.lists.specs.Tests.{maybe}
+use Rattle.lists.specs.Rows.{look}
+use Rattle.spec.specs.Records.{Record, outcome}
+use Rattle.spec.specs.Slots.{Pending, Content, contentOf}
+use Rattle.spec.specs.Maps.{outcomeOf, current}
+use Rattle.indexlet.specs.declared.Content.{Content as ContentWords}
+use Rattle.indexlet.specs.Words.{pendingIn, contentIn, slotsOf}
+use Rattle.index.specs.declared.records.Found.{Found}
+use Rattle.index.specs.declared.records.Found.the-variants.{At, Nothing}
+use Rattle.index.specs.Views.{foundOf, recordsOf}
+use Rattle.spec.specs.declared.Current.{Current}
+use Rattle.sets.specs.Reads.{recordIn}
+use Rattle.queries.specs.QueryViews.{Sees}
+use Rattle.map.specs.Views.{SlotRows, RecordRows}
+
+-- a pending write, if there is one, in the words of the indexlet
+pending-of : (c : ContentWords) → contentIn c .pending ≡ pendingIn (c .kind) (c .value) (c .commit)
+unfolding contentIn
+pending-of c = refl
+
+-- a write of kind k is seen as `current_record` reads it
+pending-seen : (k v n : ℕ) (o : Option Record) → (k ≡ 0 → ⊥)
+    → recordIn (record { there = eqb k 1; value = v; commit = n }) ≡ maybe (pendingIn k v n) o outcomeOf
+unfolding pendingIn outcomeOf outcome
+pending-seen zero v n o h = absurd (h refl)
+pending-seen (suc zero) v n o h = refl
+pending-seen (suc (suc k)) v n o h = rw (ne-eqb (suc (suc k)) 1 (λ q. omega arith))
+
+module _ (rows : RecordRows) (n : ℕ) (slots : SlotRows) (a : ℕ) (c : ContentWords) (said : contentOf (slotsOf slots) a ≡ contentIn c) where
+  pending-here : contentOf (slotsOf slots) a .pending ≡ pendingIn (c .kind) (c .value) (c .commit)
+  pending-here = ap (λ (x : Content). x .pending) said ∙ pending-of c
+
+  in-index : (r : Current) → c .kind ≡ 0 → recordIn r ≡ look (recordsOf rows n) a → Sees rows n slots a r
+  unfolding current pendingIn
+  in-index r k e =
+      record {
+        record-is = λ ls.
+            e ∙ sym
+            (ap (λ (p : Option Pending). maybe p (look (recordsOf rows n) a) outcomeOf)
+            (pending-here ∙ ap (λ (x : ℕ). pendingIn x (c .value) (c .commit)) k));
+      }
+
+  -- nothing is pending: the record of the index
+  pub sees-found : (f : Found) (v u : ℕ) → c .kind ≡ 0 → f ≡ At v u → foundOf f ≡ look (recordsOf rows n) a
+      → Sees rows n slots a (record { there = true; value = v; commit = u })
+  sees-found f v u k e g = in-index (record { there = true; value = v; commit = u }) k (ap foundOf (sym e) ∙ g)
+
+  pub sees-nothing : (f : Found) → c .kind ≡ 0 → f ≡ Nothing → foundOf f ≡ look (recordsOf rows n) a
+      → Sees rows n slots a (record { there = false; value = 0; commit = 0 })
+  sees-nothing f k e g = in-index (record { there = false; value = 0; commit = 0 }) k (ap foundOf (sym e) ∙ g)
+
+  -- a write is pending: what it leaves
+  pub sees-pending : (c .kind ≡ 0 → ⊥) → Sees rows n slots a (record { there = eqb (c .kind) 1; value = c .value; commit = c .commit })
+  unfolding current
+  sees-pending k =
+      record {
+        record-is = λ ls.
+            pending-seen (c .kind) (c .value) (c .commit) (look (recordsOf rows n) a) k
+            ∙ sym (ap (λ (p : Option Pending). maybe p (look (recordsOf rows n) a) outcomeOf) pending-here);
+      }

@@ -1,0 +1,403 @@
+-- The contents one after the other: what no candidate holds, what the first candidate holds, and how a count goes on.
+use Prim.Native.Nat.{ℕ, suc, _+_, _<_, _≤_, zero-le, suc-le-suc, min}
+use native.Mathlib.Nat.{le-refl, le-trans, not-suc-le-zero}
+use native.Mathlib.Omega.{arith}
+use mathlib.Core.Path.{_≡_, refl, sym, ap, _∙_, subst}
+use mathlib.Core.Logic.{⊎-elim}
+use mathlib.Core.Bool.{Bool, true, false}
+use mathlib.Core.List.{List, [], _∷_}
+use mathlib.Core.Option.{none, some}
+use lib.ListN.{length, getD}
+use Rattle.lists.specs.Tests.{pick, maybe, same, less, cases, clash, same-true, same-false, less-true, less-false, less-yes, less-no}
+use Rattle.lists.specs.Rows.{Row, row, look, From, Rising}
+use Rattle.lists.specs.RowLaws.{look-here, look-there, look-low, look-nil}
+use Rattle.lists.specs.Options.{both-options, some-same}
+use Rattle.lists.specs.Places.{place}
+use Rattle.spec.specs.Records.{Record}
+use Rattle.spec.specs.Leaves.{Leaf}
+use Rattle.spec.specs.Slots.{slotCount, Content, isIdle, Slot, entries}
+use Rattle.spec.specs.Maps.{outcomeOf, current, contents}
+use Rattle.laws.specs.SlotCounts.{entryAt, Place, lookup}
+use Rattle.laws.specs.SlotChanges.{kept}
+use Rattle.laws.specs.SlotLaws.{content-none, kept-entry}
+use Rattle.laws.specs.ContentLaws.{look-contents, rising-contents}
+use Rattle.indexlet.specs.declared.Slot.{Slot as SlotWords}
+use Rattle.indexlet.specs.Words.{contentIn, slotIn, slotsOf}
+use Rattle.indexlet.specs.Words as words
+use Rattle.indexlet.specs.WordLaws.{slots-at}
+use Rattle.indexlet.specs.Promises as indexlet
+use Rattle.index.specs.declared.rows.RecordRow.{RecordRow}
+use Rattle.index.specs.Views.{recordFrom, rowOf, noRow, rowAt, recordsOf, RecordsSorted, AtPlace}
+use Rattle.index.specs.ViewLaws.{length-records, record-at}
+use Rattle.spec.specs.declared.Current.{Current}
+use Rattle.queries.specs.declared.Next.{Next}
+use Rattle.queries.specs.declared.Next.the-variants.{At, Done}
+use Rattle.sets.specs.Reads.{recordIn}
+use Rattle.queries.specs.QueryViews.{mapWith, Sees}
+use Rattle.queries.specs.NextViews.{end, firstFrom, rowsFrom, nextIn, Follows, Numbers, IndexFrom, SlotFrom, Nearer, Walked, Passed, Counted}
+use Rattle.map.specs.Views.{SlotRows, RecordRows}
+use Rattle.map.specs.Parts.{RecordsHeld}
+
+-- ---- rows from a key on
+
+module _ {A : Type 0} where
+  first-on : (k : ℕ) (r : Row A) (rs : List (Row A)) → r .key < k → firstFrom k (r ∷ rs) ≡ firstFrom k rs
+  unfolding firstFrom
+  first-on k r rs h = rw (less-yes {m = r .key} {n = k} h)
+
+  first-here : (k : ℕ) (r : Row A) (rs : List (Row A)) → k ≤ r .key → firstFrom k (r ∷ rs) ≡ some r
+  unfolding firstFrom
+  first-here k r rs h = rw (less-no {m = r .key} {n = k} h)
+
+  -- no row from k on
+  pub first-none : (k lo : ℕ) (rs : List (Row A)) → From lo rs → ((j : ℕ) → k ≤ j → look rs j ≡ none) → firstFrom k rs ≡ none
+  unfolding From
+  first-none k lo [] f h = unfold firstFrom in refl
+  first-none k lo (r ∷ rs) f h =
+      ⊎-elim
+      (λ e. let l : r .key < k = less-true (r .key) k e in
+      first-on k r rs l ∙ first-none k (suc (r .key)) rs (f .1) (λ j g. sym (look-there r rs j (λ q. omega arith)) ∙ h j g))
+      (λ e. both-options (look-here r rs (r .key) refl) (h (r .key) (less-false (r .key) k e)))
+      (cases (less (r .key) k))
+
+  -- the first row from k on
+  pub first-some : (k lo : ℕ) (rs : List (Row A)) (j : ℕ) (x : A) → From lo rs → k ≤ j → look rs j ≡ some x
+      → ((i : ℕ) → k ≤ i → i < j → look rs i ≡ none) → firstFrom k rs ≡ some (row j x)
+  unfolding From
+  first-some k lo [] j x f g e h = both-options e (look-nil j)
+  first-some k lo (r ∷ rs) j x f g e h =
+      ⊎-elim
+      (λ t. let l : r .key < k = less-true (r .key) k t in
+      first-on k r rs l
+      ∙ first-some k (suc (r .key)) rs j x (f .1) g (sym (look-there r rs j (λ q. omega arith)) ∙ e)
+      (λ i a b. sym (look-there r rs i (λ q. omega arith)) ∙ h i a b))
+      (λ t. first-here k r rs (less-false (r .key) k t) ∙ ap some (own (less-false (r .key) k t)))
+      (cases (less (r .key) k))
+    where
+      own : k ≤ r .key → r ≡ row j x
+      own l =
+          ⊎-elim
+          (λ s. let q : r .key ≡ j = same-true (r .key) j s in
+          let i : r .item ≡ x = some-same (sym (look-here r rs j q) ∙ e) in
+          λ t. record { key = q t; item = i t })
+          (λ s. let d : r .key ≡ j → ⊥ = same-false (r .key) j s in
+          ⊎-elim
+          (λ u. both-options (look-here r rs (r .key) refl) (h (r .key) l (less-true (r .key) j u)))
+          (λ u. both-options (sym (look-there r rs j d) ∙ e)
+          (look-low rs {lo = suc (r .key)} j (let v : j ≤ r .key = less-false (r .key) j u in omega arith) (f .1)))
+          (cases (less (r .key) j)))
+          (cases (same (r .key) j))
+
+  from-on : (k : ℕ) (r : Row A) (rs : List (Row A)) → r .key < k → rowsFrom k (r ∷ rs) ≡ rowsFrom k rs
+  unfolding rowsFrom
+  from-on k r rs h = rw (less-yes {m = r .key} {n = k} h)
+
+  from-here : (k : ℕ) (r : Row A) (rs : List (Row A)) → k ≤ r .key → rowsFrom k (r ∷ rs) ≡ r ∷ rs
+  unfolding rowsFrom
+  from-here k r rs h = rw (less-no {m = r .key} {n = k} h)
+
+  from-low : (k lo : ℕ) (rs : List (Row A)) → From lo rs → k ≤ lo → rowsFrom k rs ≡ rs
+  unfolding From
+  from-low k lo [] f h = unfold rowsFrom in refl
+  from-low k lo (r ∷ rs) f h = from-here k r rs (le-trans h (f .0))
+
+  pub from-all : (rs : List (Row A)) → Rising rs → rowsFrom 0 rs ≡ rs
+  unfolding Rising
+  from-all rs f = from-low 0 0 rs f zero-le
+
+  -- the first of the rows, and the rows after it
+  pub from-next : (k lo : ℕ) (rs : List (Row A)) (r : Row A) → From lo rs → firstFrom k rs ≡ some r
+      → (length (rowsFrom k rs) ≡ suc (length (rowsFrom (suc (r .key)) rs))) × (k ≤ r .key)
+  unfolding From
+  from-next k lo [] r f e = both-options e (unfold firstFrom in refl)
+  from-next k lo (s ∷ rs) r f e =
+      ⊎-elim
+      (λ t. later (less-true (s .key) k t) (from-next k (suc (s .key)) rs r (f .1) (sym (first-on k s rs (less-true (s .key) k t)) ∙ e)))
+      (λ t. now (less-false (s .key) k t) (some-same (sym (first-here k s rs (less-false (s .key) k t)) ∙ e)))
+      (cases (less (s .key) k))
+    where
+      later : s .key < k → (length (rowsFrom k rs) ≡ suc (length (rowsFrom (suc (r .key)) rs))) × (k ≤ r .key)
+          → (length (rowsFrom k (s ∷ rs)) ≡ suc (length (rowsFrom (suc (r .key)) (s ∷ rs)))) × (k ≤ r .key)
+      later h p = (
+        ap (λ (zs : List (Row A)). length zs) (from-on k s rs h) ∙ p .0
+            ∙ sym (ap (λ (zs : List (Row A)). suc (length zs)) (from-on (suc (r .key)) s rs (let q : k ≤ r .key = p .1 in omega arith))),
+        p .1,
+      )
+
+      now : k ≤ s .key → s ≡ r → (length (rowsFrom k (s ∷ rs)) ≡ suc (length (rowsFrom (suc (r .key)) (s ∷ rs)))) × (k ≤ r .key)
+      now h q =
+          let d : s .key ≡ r .key = ap (λ (x : Row A). x .key) q in (
+            ap (λ (zs : List (Row A)). length zs) (from-here k s rs h)
+                ∙ sym
+                (ap (λ (zs : List (Row A)). suc (length zs))
+                (from-on (suc (r .key)) s rs (omega arith) ∙ from-low (suc (r .key)) (suc (s .key)) rs (f .1) (omega arith))),
+            omega arith,
+          )
+
+  pub from-none : (k : ℕ) (rs : List (Row A)) → firstFrom k rs ≡ none → length (rowsFrom k rs) ≡ 0
+  from-none k [] e = unfold rowsFrom in refl
+  from-none k (r ∷ rs) e =
+      ⊎-elim
+      (λ t. ap (λ (zs : List (Row A)). length zs) (from-on k r rs (less-true (r .key) k t))
+      ∙ from-none k rs (sym (first-on k r rs (less-true (r .key) k t)) ∙ e))
+      (λ t. both-options (first-here k r rs (less-false (r .key) k t)) e)
+      (cases (less (r .key) k))
+
+  -- the key at a place, and the keys before it
+  pub place-key : (k : ℕ) (rs : List (Row A)) (d : Row A) → place k rs < length rs → k ≤ getD rs (place k rs) d .key
+  unfolding place
+  place-key k [] d h = absurd (not-suc-le-zero h)
+  place-key k (r ∷ rs) d h =
+      ⊎-elim
+      (λ t. rw t (place-key k rs d (let g : suc (place k rs) < suc (length rs) = rw t at h in omega arith)))
+      (λ t. rw t (less-false (r .key) k t))
+      (cases (less (r .key) k))
+
+  pub place-clear : (k lo : ℕ) (rs : List (Row A)) (d : Row A) (j : ℕ) → From lo rs → k ≤ j
+      → (place k rs < length rs → j < getD rs (place k rs) d .key) → look rs j ≡ none
+  unfolding From place
+  place-clear k lo [] d j f g h = look-nil j
+  place-clear k lo (r ∷ rs) d j f g h =
+      ⊎-elim
+      (λ t. let l : r .key < k = less-true (r .key) k t in
+      let b : suc (place k rs) < suc (length rs) → j < getD rs (place k rs) d .key = rw t at h in
+      look-there r rs j (λ q. omega arith) ∙ place-clear k (suc (r .key)) rs d j (f .1) g (λ i. b (suc-le-suc i)))
+      (λ t. let b : 0 < suc (length rs) → j < r .key = rw t at h in
+      look-low (r ∷ rs) {lo = r .key} j (b (suc-le-suc zero-le)) (le-refl (r .key), f .1))
+      (cases (less (r .key) k))
+
+  -- keys below a bound
+  pub look-bound : (b : ℕ) (rs : List (Row A)) (d : Row A) (j : ℕ) → ((i : ℕ) → i < length rs → getD rs i d .key < b) → b ≤ j → look rs j ≡ none
+  look-bound b [] d j h g = look-nil j
+  look-bound b (r ∷ rs) d j h g =
+      let l : r .key < b = h 0 (suc-le-suc zero-le) in
+      look-there r rs j (λ q. omega arith) ∙ look-bound b rs d j (λ i q. h (suc i) (suc-le-suc q)) g
+
+-- ---- candidates of the index
+
+module _ (rows : RecordRows) (n from p : ℕ) (held : RecordsSorted rows n) (at : AtPlace rows n from p) where
+  pub index-past : n ≤ p → from ≤ end → IndexFrom rows n from end
+  unfolding Rising
+  index-past h l =
+      let e : p ≡ place from (recordsOf rows n) = at .is in
+      let m : length (recordsOf rows n) ≡ n = length-records rows n (held .room) in
+      record { low = l; clear = λ k g i. place-clear from 0 (recordsOf rows n) noRow k (held .rising) g (λ q. absurd (omega arith)) }
+
+  pub index-here : (r : RecordRow) → p < n → rowOf r ≡ rowAt rows p → IndexFrom rows n from (r .address)
+  unfolding Rising
+  index-here r h g =
+      let e : p ≡ place from (recordsOf rows n) = at .is in
+      let m : length (recordsOf rows n) ≡ n = length-records rows n (held .room) in
+      let a : r .address ≡ getD (recordsOf rows n) (place from (recordsOf rows n)) noRow .key
+      = ap (λ (x : Row Record). x .key) (g ∙ sym (record-at rows n p (held .room) h)) ∙ ap (λ (i : ℕ). getD (recordsOf rows n) i noRow .key) e in
+      let l : from ≤ getD (recordsOf rows n) (place from (recordsOf rows n)) noRow .key = place-key from (recordsOf rows n) noRow (omega arith) in
+      record { low = omega arith; clear = λ k i j. place-clear from 0 (recordsOf rows n) noRow k (held .rising) i (λ q. omega arith) }
+
+-- ---- candidates of the indexlet
+
+slot-entry : (s : SlotWords) → slotIn s .entry ≡ kept (s .key) (contentIn (s .content))
+unfolding slotIn
+slot-entry s = refl
+
+module _ (s : SlotWords) (from best : ℕ) where
+  -- an entry of the row has the row's key, and says something
+  of-row : (e : Row Content) → slotIn s .entry ≡ some e → (isIdle (contentIn (s .content)) ≡ false) × (s .key ≡ e .key)
+  of-row e q =
+      let r = kept-entry (s .key) (contentIn (s .content)) e (sym (slot-entry s) ∙ q) in
+      (r .0, ap (λ (x : Row Content). x .key) (r .1))
+
+  pub nearer-idle : isIdle (contentIn (s .content)) ≡ true → Nearer s from best best
+  nearer-idle t = record { most = le-refl best; low = λ h. h; clear = λ e q h. clash t (of-row e q .0) }
+
+  pub nearer-below : s .key < from → Nearer s from best best
+  nearer-below l =
+      record { most = le-refl best; low = λ h. h; clear = λ e q h. let k : s .key ≡ e .key = of-row e q .1 in absurd (omega arith) }
+
+  pub nearer-above : best ≤ s .key → Nearer s from best best
+  nearer-above l = record { most = le-refl best; low = λ h. h; clear = λ e q h. let k : s .key ≡ e .key = of-row e q .1 in omega arith }
+
+  pub nearer-here : from ≤ s .key → s .key < best → Nearer s from best (s .key)
+  nearer-here l g =
+      record { most = omega arith; low = λ h. l; clear = λ e q h. let k : s .key ≡ e .key = of-row e q .1 in omega arith }
+
+module _ (slots : SlotRows) (from : ℕ) where
+  pub walked-start : from ≤ end → Walked slots from 0 end
+  walked-start h = record { low = h; clear = λ j e q. absurd (not-suc-le-zero q) }
+
+  pub walked-on : (i best r : ℕ) (s : SlotWords) → Walked slots from i best → indexlet.IsSlot slots i s → Nearer s from best r → Walked slots from (i + 1) r
+  walked-on i best r s w d x =
+      record {
+        low = x .low (w .low);
+        clear = λ j e q g h.
+            ⊎-elim
+            (λ t. x .clear e (ap (λ (y : Slot). y .entry) (d .slot) ∙ ap (entryAt (slotsOf slots)) (sym (same-true j i t)) ∙ g) h)
+            (λ t. let n : j ≡ i → ⊥ = same-false j i t in
+            let a : best ≤ e .key = w .clear j e (omega arith) g h in
+            let b : r ≤ best = x .most in
+            omega arith)
+            (cases (same j i));
+      }
+
+  pub walked-end : (best i : ℕ) → indexlet.SlotsHeld slots → slotCount ≤ i → Walked slots from i best → SlotFrom slots from best
+  walked-end best i held l w =
+      record {
+        low = w .low;
+        clear = λ k g h.
+            ⊎-elim
+            (λ q. q .1)
+            (λ q. absurd (far k g h (q .0)))
+            (lookup 4 (slotsOf slots) k (held .good));
+      }
+    where
+      far : (k : ℕ) → from ≤ k → k < best → Place (slotsOf slots) k → ⊥
+      far k g h p =
+          let z : length (slotsOf slots) ≡ slotCount = held .good .size in
+          let a : p .at < length (slotsOf slots) = p .inside in
+          let o : p .content .key ≡ k = p .own in
+          let b : best ≤ p .content .key = w .clear (p .at) (p .content) (omega arith) (p .here) (omega arith) in
+          omega arith
+
+-- ---- what the map has
+
+module _ (rows : RecordRows) (n : ℕ) (slots : SlotRows) where
+  -- nothing said, and nothing in the index
+  current-none : (k : ℕ) → look (recordsOf rows n) k ≡ none → look (entries (slotsOf slots)) k ≡ none → (ls : List Leaf)
+      → current (mapWith rows n slots ls) k ≡ none
+  unfolding current
+  current-none k e f ls =
+      ap (λ (c : Content). maybe (c .pending) (look (recordsOf rows n) k) outcomeOf) (content-none (slotsOf slots) k f) ∙ e
+
+  pub passed-start : (from : ℕ) → Passed rows n slots from from
+  passed-start from = record { low = le-refl from; clear = λ j g h. absurd (let z : from ≤ j = g in omega arith) }
+
+  module _ (whole : RecordsHeld rows n) (sound : indexlet.SlotsHeld slots) where
+    -- no record has a key past all addresses
+    beyond-index : (k : ℕ) → end ≤ k → look (recordsOf rows n) k ≡ none
+    beyond-index k h =
+        let m : length (recordsOf rows n) ≡ n = length-records rows n (whole .held .room) in
+        look-bound end (recordsOf rows n) noRow k
+        (λ i q. let l : i < n = omega arith in subst (λ (x : Row Record). x .key < end) (sym (record-at rows n i (whole .held .room) l)) (whole .narrow i l)) h
+
+    beyond-slots : (k : ℕ) → end ≤ k → look (entries (slotsOf slots)) k ≡ none
+    beyond-slots k h = ⊎-elim (λ q. q .1) (λ q. absurd (far (q .0))) (lookup 4 (slotsOf slots) k (sound .good))
+      where
+        far : Place (slotsOf slots) k → ⊥
+        far p =
+            let z : length (slotsOf slots) ≡ slotCount = sound .good .size in
+            let a : p .at < length (slotsOf slots) = p .inside in
+            let i : p .at < slotCount = omega arith in
+            let r = of-row (words.rowAt slots (p .at)) 0 0 (p .content) (sym (ap (λ (y : Slot). y .entry) (slots-at slots (p .at) i)) ∙ p .here) in
+            let o : p .content .key ≡ k = p .own in
+            let b : words.rowAt slots (p .at) .key < end = sound .sized .narrow (p .at) i in
+            let c : words.rowAt slots (p .at) .key ≡ p .content .key = r .1 in
+            omega arith
+
+    beyond : (k : ℕ) → end ≤ k → (ls : List Leaf) → current (mapWith rows n slots ls) k ≡ none
+    beyond k h ls = current-none k (beyond-index k h) (beyond-slots k h) ls
+
+    -- past the candidates there is nothing
+    pub passed-over : (from k a b c : ℕ) → Passed rows n slots from k → IndexFrom rows n k a → SlotFrom slots k b → c ≡ min a b → Passed rows n slots from c
+    passed-over from k a b c p x y e =
+        let l : from ≤ k = p .low in
+        let u : k ≤ a = x .low in
+        let v : k ≤ b = y .low in
+        record {
+          low = omega arith;
+          clear = λ j g h ls.
+              ⊎-elim
+              (λ t. p .clear j g (less-true j k t) ls)
+              (λ t. let i : k ≤ j = less-false j k t in
+              current-none j (x .clear j i (omega arith)) (y .clear j i (omega arith)) ls)
+              (cases (less j k));
+        }
+
+    pub passed-on : (from c : ℕ) (r : Current) → Passed rows n slots from c → Sees rows n slots c r → r .there ≡ false → Passed rows n slots from (c + 1)
+    passed-on from c r p s e =
+        let l : from ≤ c = p .low in
+        record {
+          low = omega arith;
+          clear = λ j g h ls.
+              ⊎-elim
+              (λ t. ap (current (mapWith rows n slots ls)) (same-true j c t) ∙ sym (s .record-is ls)
+              ∙ ap (λ (b : Bool). pick b (some (recordFrom (r .value) (r .commit))) none) e)
+              (λ t. let d : j ≡ c → ⊥ = same-false j c t in p .clear j g (omega arith) ls)
+              (cases (same j c));
+        }
+
+    look-all : (ls : List Leaf) (k : ℕ) → look (contents (mapWith rows n slots ls)) k ≡ current (mapWith rows n slots ls) k
+    look-all ls k = look-contents (mapWith rows n slots ls) (sound .good) k
+
+    rising-all : (ls : List Leaf) → From 0 (contents (mapWith rows n slots ls))
+    unfolding Rising
+    rising-all ls = rising-contents (mapWith rows n slots ls) (whole .held .rising)
+
+    pub follows-done : (from k : ℕ) → Passed rows n slots from k → end ≤ k → Follows rows n slots from Done
+    follows-done from k p h =
+        record {
+          next-is = λ ls.
+              sym
+              (first-none from 0 (contents (mapWith rows n slots ls)) (rising-all ls)
+              (λ j g.
+              look-all ls j
+              ∙ ⊎-elim (λ t. p .clear j g (less-true j k t) ls) (λ t. beyond j (le-trans h (less-false j k t)) ls) (cases (less j k))));
+        }
+
+    pub follows-at : (from c : ℕ) (r : Current) → Passed rows n slots from c → Sees rows n slots c r → r .there ≡ true
+        → Follows rows n slots from (At c (r .value) (r .commit))
+    follows-at from c r p s e =
+        record {
+          next-is = λ ls.
+              sym
+              (first-some from 0 (contents (mapWith rows n slots ls)) c (recordFrom (r .value) (r .commit)) (rising-all ls) (p .low)
+              (look-all ls c ∙ sym (s .record-is ls) ∙ ap (λ (b : Bool). pick b (some (recordFrom (r .value) (r .commit))) none) e)
+              (λ i g h. look-all ls i ∙ p .clear i g h ls));
+        }
+
+    -- ---- how many there are
+
+    pub counted-start : Counted rows n slots 0 0
+    counted-start =
+        record {
+          small = le-refl 0;
+          rest = λ ls.
+              (let z : 0 + length (rowsFrom 0 (contents (mapWith rows n slots ls))) ≡ length (rowsFrom 0 (contents (mapWith rows n slots ls))) = omega arith in z)
+              ∙ ap (λ (rs : List (Row Record)). length rs) (from-all (contents (mapWith rows n slots ls)) (rising-contents (mapWith rows n slots ls) (whole .held .rising)));
+        }
+
+    -- the next record, and how many there are after it
+    step : (k : ℕ) (r : Next) (a v u : ℕ) → Follows rows n slots k r → r ≡ At a v u → (ls : List Leaf)
+        → (length (rowsFrom k (contents (mapWith rows n slots ls))) ≡ suc (length (rowsFrom (suc a) (contents (mapWith rows n slots ls))))) × (k ≤ a)
+    step k r a v u f e ls =
+        from-next k 0 (contents (mapWith rows n slots ls)) (row a (recordFrom v u)) (rising-all ls) (sym (f .next-is ls) ∙ ap nextIn e)
+
+    pub next-above : (k : ℕ) (r : Next) (a v u : ℕ) → Follows rows n slots k r → r ≡ At a v u → k ≤ a
+    next-above k r a v u f e = step k r a v u f e [] .1
+
+    pub counted-on : (k count : ℕ) (r : Next) (a v u : ℕ) → Counted rows n slots k count → Follows rows n slots k r → r ≡ At a v u → Counted rows n slots (a + 1) (count + 1)
+    counted-on k count r a v u c f e =
+        record { small = (let q : k ≤ a = next-above k r a v u f e in let s : count ≤ k = c .small in omega arith); rest = λ ls. on ls }
+      where
+        on : (ls : List Leaf) → count + 1 + length (rowsFrom (a + 1) (contents (mapWith rows n slots ls))) ≡ length (contents (mapWith rows n slots ls))
+        on ls =
+            let x : count + length (rowsFrom k (contents (mapWith rows n slots ls))) ≡ length (contents (mapWith rows n slots ls)) = c .rest ls in
+            let y : length (rowsFrom k (contents (mapWith rows n slots ls))) ≡ suc (length (rowsFrom (suc a) (contents (mapWith rows n slots ls)))) = step k r a v u f e ls .0 in
+            let z : length (rowsFrom (a + 1) (contents (mapWith rows n slots ls))) ≡ length (rowsFrom (suc a) (contents (mapWith rows n slots ls)))
+            = ap (λ (i : ℕ). length (rowsFrom i (contents (mapWith rows n slots ls)))) (let w : a + 1 ≡ suc a = omega arith in w) in
+            omega arith
+
+    numbered : (k count : ℕ) → Counted rows n slots k count → ((ls : List Leaf) → firstFrom k (contents (mapWith rows n slots ls)) ≡ none) → Numbers rows n slots count
+    numbered k count c f =
+        record {
+          number-is = λ ls.
+              let x : count + length (rowsFrom k (contents (mapWith rows n slots ls))) ≡ length (contents (mapWith rows n slots ls)) = c .rest ls in
+              let y : length (rowsFrom k (contents (mapWith rows n slots ls))) ≡ 0 = from-none k (contents (mapWith rows n slots ls)) (f ls) in
+              omega arith;
+        }
+
+    pub counted-done : (k count : ℕ) (r : Next) → Counted rows n slots k count → Follows rows n slots k r → r ≡ Done → Numbers rows n slots count
+    counted-done k count r c f e = numbered k count c (λ ls. sym (f .next-is ls) ∙ ap nextIn e)
+
+    pub counted-end : (k count : ℕ) → Counted rows n slots k count → end ≤ k → Numbers rows n slots count
+    counted-end k count c h =
+        numbered k count c
+        (λ ls. first-none k 0 (contents (mapWith rows n slots ls)) (rising-all ls) (λ j g. look-all ls j ∙ beyond j (le-trans h g) ls))

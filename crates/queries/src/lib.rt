@@ -1,0 +1,365 @@
+// Looking: current records, what a scan walks over, hidden keys, and the contents. Nothing here changes an array.
+use index::leaves;
+use index::records;
+use index::records::Found;
+use index::rows;
+use indexlet::SLOTS;
+use map::Leaves;
+use map::Records;
+use map::Sizes;
+use map::Slots;
+use sets::WriteSet;
+use sets::leaves::LoggedLeaf;
+use sets::reads::Observed;
+use sets::writes;
+use spec::ADDRESSES;
+use spec::Address;
+use spec::Current;
+ghost use mathlib.Core.Path.{_≡_};
+ghost use Prim.Native.Nat.{_<_, _≤_, min};
+ghost use Rattle.lists.specs.Tests.{pick};
+ghost use Rattle.indexlet.specs.Promises as indexlet;
+ghost use Rattle.index.specs.Views as index;
+ghost use Rattle.index.specs.LeafPlaces.{Listed};
+ghost use Rattle.map.specs.Views.{lowsOf, versionsOf, lent, mapOf};
+ghost use Rattle.map.specs.Parts.{RecordsHeld, SlotsHeld, LeavesListed, LeafListed};
+ghost use Rattle.map.specs.WriteWalks.{Writing};
+ghost use Rattle.queries.specs.QueryViews.{Sees, Spans, SeenAt, Meets, LeafAt, LoggedAt};
+ghost use Rattle.queries.specs.NextViews.{IndexFrom, Nearer, SlotFrom, Follows, Numbers};
+ghost use Rattle.queries.specs.PhantomViews.{Holding, phantomAt, Owns, Logged, lockOnlyIn, lockOnlyCount};
+
+// Places from one up to, not including, another.
+pub struct Range {
+    pub from: usize,
+    pub to: usize,
+}
+
+// The next record of the contents.
+pub enum Next {
+    At {
+        address: Address,
+        value: u64,
+        commit: u64,
+    },
+    Done,
+}
+
+// The current record of an address: what a pending write leaves there, else what the index has.
+pub fn current_record(rows: &Records, slots: &Slots, n: usize, a: Address) -> Current
+    requires { ⌜ RecordsHeld (now rows) n ⌝ }
+    requires { ⌜ SlotsHeld (now slots) ⌝ }
+    ensures { λ r. ⌜ Sees (now (rows .entry)) n (now (slots .entry)) a r ⌝ }
+{
+    let looked = indexlet::look_up(slots, a);
+    let c = looked.content;
+    if c.kind == 0 {
+        let found = records::find(rows, n, a);
+        match found {
+            Found::At { value, commit } => {
+                return Current {
+                    there: true,
+                    value,
+                    commit,
+                };
+            }
+            Found::Nothing => {
+                return Current {
+                    there: false,
+                    value: 0,
+                    commit: 0,
+                };
+            }
+        }
+    }
+    Current {
+        there: c.kind == 1,
+        value: c.value,
+        commit: c.commit,
+    }
+}
+
+// The places of the records from lo to hi.
+pub fn records_between(rows: &Records, n: usize, lo: Address, hi: Address) -> Range
+    requires { ⌜ RecordsHeld (now rows) n ⌝ }
+    requires { ⌜ lo ≤ hi ⌝ }
+    ensures { λ r. ⌜ Spans (now (rows .entry)) n lo hi r ⌝ }
+{
+    let from = records::locate(rows, n, lo);
+    let to = records::locate(rows, n, hi);
+    if n <= to {
+        return Range { from, to };
+    }
+    let last = rows::get(rows, to);
+    if last.address == hi as u64 {
+        return Range { from, to: to + 1 };
+    }
+    Range { from, to }
+}
+
+// The record at place i of the index: its address, and its current record. With nothing pending there it is the row itself,
+// so nothing is searched in the index.
+pub fn seen_at(rows: &Records, slots: &Slots, n: usize, i: usize) -> Observed
+    requires { ⌜ RecordsHeld (now rows) n ⌝ }
+    requires { ⌜ SlotsHeld (now slots) ⌝ }
+    requires { ⌜ i < n ⌝ }
+    ensures { λ r. ⌜ SeenAt (now (rows .entry)) n (now (slots .entry)) i r ⌝ }
+{
+    let there = rows::get(rows, i);
+    let address = there.address as Address;
+    let looked = indexlet::look_up(slots, address);
+    let c = looked.content;
+    if c.kind == 0 {
+        let current = Current {
+            there: true,
+            value: there.value,
+            commit: there.commit,
+        };
+        return Observed { address, current };
+    }
+    let current = Current {
+        there: c.kind == 1,
+        value: c.value,
+        commit: c.commit,
+    };
+    Observed { address, current }
+}
+
+// The places of the leaves that meet lo to hi.
+pub fn leaves_meeting(leaves: &Leaves, m: usize, lo: Address, hi: Address) -> Range
+    requires { ⌜ LeavesListed (lowsOf (now leaves)) m ⌝ }
+    requires { ⌜ lo ≤ hi ⌝ }
+    ensures { λ r. ⌜ Meets (lowsOf (now (leaves .entry))) m lo hi r ⌝ }
+{
+    leaves::leaf_places(leaves);
+    let from = leaves::find_leaf(leaves, m, lo);
+    let last = leaves::find_leaf(leaves, m, hi);
+    Range { from, to: last + 1 }
+}
+
+// The place of the leaf that holds an address.
+fn place_of(leaves: &Leaves, m: usize, a: Address) -> usize
+    requires { ⌜ Listed (lowsOf (now leaves)) m ⌝ }
+    ensures { λ r. ⌜ LeafAt (lowsOf (now (leaves .entry))) m a r ⌝ }
+{
+    leaves::leaf_places(leaves);
+    leaves::find_leaf(leaves, m, a)
+}
+
+// The leaf at place i.
+pub fn leaf(leaves: &Leaves, i: usize) -> LoggedLeaf
+    requires { ⌜ LeafListed (lowsOf (now leaves)) i ⌝ }
+    ensures { λ r. ⌜ LoggedAt (lowsOf (now (leaves .entry))) (versionsOf (now (leaves .entry))) i r ⌝ }
+{
+    leaves::leaf_places(leaves);
+    let l = leaves::leaf_at(leaves, i);
+    LoggedLeaf {
+        version: l.version,
+        low: l.low as Address,
+    }
+}
+
+// 1 if the address lies in the leaf at place i, the index lacks it, and no write is pending there; else 0.
+fn lock_only_at(
+    rows: &Records,
+    leaves: &Leaves,
+    slots: &Slots,
+    n: usize,
+    m: usize,
+    i: usize,
+    a: Address,
+) -> usize
+    requires { ⌜ index.RecordsSorted (now rows) n ⌝ }
+    requires { ⌜ Listed (lowsOf (now leaves)) m ⌝ }
+    requires { ⌜ indexlet.SlotsHeld (now slots) ⌝ }
+    ensures { λ r. ⌜ r ≡ pick (lockOnlyIn (now (rows .entry)) (lowsOf (now (leaves .entry))) (now (slots .entry)) n m i a) 1 0 ⌝ }
+{
+    let p = leaves::find_leaf(leaves, m, a);
+    if p != i {
+        return 0;
+    }
+    let looked = indexlet::look_up(slots, a);
+    let c = looked.content;
+    if c.kind != 0 {
+        return 0;
+    }
+    let found = records::find(rows, n, a);
+    match found {
+        Found::At {
+            value: _,
+            commit: _,
+        } => 0,
+        Found::Nothing => 1,
+    }
+}
+
+// How many of a write set's addresses are so.
+fn count_lock_only(
+    rows: &Records,
+    leaves: &Leaves,
+    slots: &Slots,
+    ws: &WriteSet,
+    n: usize,
+    m: usize,
+    i: usize,
+    count: usize,
+) -> usize
+    requires { ⌜ index.RecordsSorted (now rows) n ⌝ }
+    requires { ⌜ Listed (lowsOf (now leaves)) m ⌝ }
+    requires { ⌜ indexlet.SlotsHeld (now slots) ⌝ }
+    requires { ⌜ Writing (now ws) count ⌝ }
+    ensures { λ r. ⌜ r ≡ lockOnlyCount (now (rows .entry)) (lowsOf (now (leaves .entry))) (now (slots .entry)) n m i (now (ws .entry)) count ⌝ }
+{
+    let mut x = 0;
+    let mut own = 0;
+    while x < count {
+        let e = writes::write_at(ws, x);
+        let one = lock_only_at(rows, leaves, slots, n, m, i, e.address);
+        own = own + one;
+        x += 1;
+    }
+    own
+}
+
+// A logged leaf is gone, or hides a key from worker w, whose locks are the addresses of the write set. The leaf is the
+// one of the low that was logged with it, or it is gone. Entries outside the index hide nothing if they are the
+// worker's own locks.
+pub fn phantom(
+    rows: &Records,
+    leaves: &Leaves,
+    slots: &Slots,
+    ws: &WriteSet,
+    z: Sizes,
+    n: usize,
+    w: u64,
+    version: u64,
+    low: Address,
+) -> bool
+    requires { ⌜ Holding (lent (now rows) (now leaves) (now slots)) z ⌝ }
+    requires { ⌜ Owns (now slots) (now ws) n w ⌝ }
+    requires { ⌜ Logged (mapOf (lent (now rows) (now leaves) (now slots)) z .leaves) version low ⌝ }
+    ensures { λ r. ⌜ r ≡ phantomAt (mapOf (lent (now (rows .entry)) (now (leaves .entry)) (now (slots .entry))) z) w version ⌝ }
+{
+    let i = place_of(leaves, z.leaves, low);
+    let l = leaves::leaf_at(leaves, i);
+    if l.version != version {
+        return true;
+    }
+    let out = l.outside;
+    if out == 0 {
+        return false;
+    }
+    let own = count_lock_only(rows, leaves, slots, ws, z.records, z.leaves, i, n);
+    (own as u64) < out
+}
+
+// The first address of the index from an address on, or 2 to the 32 if there is none.
+fn index_from(rows: &Records, n: usize, from: Address) -> u64
+    requires { ⌜ index.RecordsSorted (now rows) n ⌝ }
+    ensures { λ r. ⌜ IndexFrom (now (rows .entry)) n from r ⌝ }
+{
+    let p = records::locate(rows, n, from);
+    if n <= p {
+        return ADDRESSES;
+    }
+    let r = rows::get(rows, p);
+    r.address
+}
+
+// The key of a slot with an entry, if it lies from `from` on and below `best`; else `best`.
+fn nearer(s: indexlet::Slot, from: u64, best: u64) -> u64
+    ensures { λ r. ⌜ Nearer s from best r ⌝ }
+{
+    let c = s.content;
+    if indexlet::idle(c) {
+        return best;
+    }
+    if s.key < from {
+        return best;
+    }
+    if best <= s.key {
+        return best;
+    }
+    s.key
+}
+
+// The first address from an address on of which the indexlet says something, or 2 to the 32 if there is none.
+fn slot_from(slots: &Slots, from: Address) -> u64
+    requires { ⌜ indexlet.SlotsHeld (now slots) ⌝ }
+    ensures { λ r. ⌜ SlotFrom (now (slots .entry)) from r ⌝ }
+{
+    let low = from as u64;
+    let mut best = ADDRESSES;
+    let mut i = 0;
+    while i < SLOTS {
+        let s = indexlet::slot_at(slots, i);
+        best = nearer(s, low, best);
+        i += 1;
+    }
+    best
+}
+
+fn least(a: u64, b: u64) -> u64
+    ensures { λ r. ⌜ r ≡ min a b ⌝ }
+{
+    if a < b {
+        return a;
+    }
+    b
+}
+
+// The first record of the contents from an address on. Candidates are the addresses of the index and of the indexlet;
+// one that has no current record is passed over.
+pub fn next_record(rows: &Records, slots: &Slots, n: usize, from: u64) -> Next
+    requires { ⌜ RecordsHeld (now rows) n ⌝ }
+    requires { ⌜ SlotsHeld (now slots) ⌝ }
+    ensures { λ r. ⌜ Follows (now (rows .entry)) n (now (slots .entry)) from r ⌝ }
+{
+    let mut at = from;
+    while at < ADDRESSES {
+        let here = at as Address;
+        let a = index_from(rows, n, here);
+        let b = slot_from(slots, here);
+        let c = least(a, b);
+        if ADDRESSES <= c {
+            return Next::Done;
+        }
+        let address = c as Address;
+        let r = current_record(rows, slots, n, address);
+        if r.there {
+            return Next::At {
+                address,
+                value: r.value,
+                commit: r.commit,
+            };
+        }
+        at = c + 1;
+    }
+    Next::Done
+}
+
+// How many records the contents have.
+pub fn count_records(rows: &Records, slots: &Slots, n: usize) -> usize
+    requires { ⌜ RecordsHeld (now rows) n ⌝ }
+    requires { ⌜ SlotsHeld (now slots) ⌝ }
+    ensures { λ r. ⌜ Numbers (now (rows .entry)) n (now (slots .entry)) r ⌝ }
+{
+    let mut at: u64 = 0;
+    let mut count = 0;
+    while at < ADDRESSES {
+        let next = next_record(rows, slots, n, at);
+        match next {
+            Next::At {
+                address,
+                value: _,
+                commit: _,
+            } => {
+                count += 1;
+                at = address as u64 + 1;
+            }
+            Next::Done => {
+                return count;
+            }
+        }
+    }
+    count
+}

@@ -1,0 +1,83 @@
+-- `plans::carry_out` meets its contract.
+use native.Mathlib.Omega.{arith}
+use mathlib.Core.Path.{refl}
+use borrow.Author.Needs.{needs}
+use Rattle.ranges.specs.PlanLaws.{walkable, reads-room, leaves-room, room, filled}
+use Rattle.ranges.proofs.plans.carry_out.Statement.{statement}
+use Rattle.ranges.proofs.plans.carry_out.Tie as tie
+
+fill-requires : tie.Need-fill-requires
+fill-requires c κs =
+    let s = c .before .before .before .before .before .before .before in
+    let p = s .pre .1 .0 in (
+      walkable (s .pre .0) _ _ (p .index-within) (p .own-within),
+      (record { index = p .index-ordered; own = p .own-ordered }, room _ _ p),
+    )
+
+cast-log-rows : tie.Need-cast-log-rows
+cast-log-rows c = search needs
+
+log-rows-requires : tie.Need-log-rows-requires
+log-rows-requires c κs =
+    let f = c .before .before .before .before .before .before in
+    let s = f .before .before .before .before .before .before .before .before in
+    let p = s .pre .1 .0 in
+    (s .pre .1 .1 .0, reads-room (s .pre .0) _ (p .index-ordered) (p .index-within) (p .reads-fit))
+
+cast-log-leaves : tie.Need-cast-log-leaves
+cast-log-leaves c = search needs
+
+log-leaves-requires : tie.Need-log-leaves-requires
+log-leaves-requires c κs =
+    let f = c .before .before .before .before .before .before .before .before .before in
+    let s = f .before .before .before .before .before .before .before .before in
+    let p = s .pre .1 .0 in
+    (s .pre .1 .1 .1, leaves-room (s .pre .0) _ (p .met-ordered) (p .met-within) (p .leaves-fit))
+
+cast-t26 : tie.Need-cast-t26
+cast-t26 c =
+    let f = c .before .before .before .before .before .before .before .before .before .before in
+    let s = f .before .before .before .before .before .before .before .before in
+    omega (arith, s .pre .1 .0 .reads-fit, c .before .before .before .log-rows .ensures .count)
+
+cast-t27 : tie.Need-cast-t27
+cast-t27 c =
+    let f = c .before .before .before .before .before .before .before .before .before .before in
+    let s = f .before .before .before .before .before .before .before .before in
+    omega (arith, s .pre .1 .0 .leaves-fit, c .log-leaves .ensures .count)
+
+same-length : tie.Need-same-length
+same-length c =
+    let f = c .before .before .before .before .before .before .before .before .before .before in
+    f .fill .ensures .addresses .size
+
+same-length-2 : tie.Need-same-length-2
+same-length-2 c =
+    let f = c .before .before .before .before .before .before .before .before .before .before in
+    f .fill .ensures .values .size
+
+returns : tie.Need-returns
+returns c =
+    let f = c .before .before .before .before .before .before .before .before .before .before in
+    let s = f .before .before .before .before .before .before .before .before in
+    record {
+      fills = filled _ _ (s .pre .1 .0) _ _ _ (f .fill .ensures);
+      logs-rows = c .before .before .before .log-rows .ensures;
+      logs-leaves = c .log-leaves .ensures;
+      worker = refl;
+    }
+
+pub carry-out-spec : {M : Type 1} → statement M
+carry-out-spec =
+    tie.close
+    (tie.spec
+    fill-requires
+    cast-log-rows
+    log-rows-requires
+    cast-log-leaves
+    log-leaves-requires
+    cast-t26
+    cast-t27
+    same-length
+    same-length-2
+    returns)

@@ -1,0 +1,74 @@
+-- `script::parse_part` meets its contract: each state has its own function.
+use borrow.Author.Needs.{needs}
+use Rattle.script.specs.Parsing.{inNumber}
+use Rattle.script.specs.Tokens.{turns-as}
+use Rattle.script.proofs.parse_part.Statement.{statement}
+use Rattle.script.proofs.parse_part.Tie as tie
+
+enum-told : tie.Need-enum-told
+enum-told c = search needs
+
+start-requires : tie.Need-start-requires
+start-requires c κs = search needs
+
+enum-known-p : tie.Need-enum-known-p
+enum-known-p c = search needs
+
+after-letter-requires : tie.Need-after-letter-requires
+after-letter-requires c κs = search needs
+
+enum-known-p-2 : tie.Need-enum-known-p-2
+enum-known-p-2 c = search needs
+
+field-requires : tie.Need-field-requires
+field-requires c κs = search needs
+
+enum-known-p-3 : tie.Need-enum-known-p-3
+enum-known-p-3 c = search needs
+
+field-requires-2 : tie.Need-field-requires-2
+field-requires-2 c κs = search needs
+
+enum-known-p-4 : tie.Need-enum-known-p-4
+enum-known-p-4 c = search needs
+
+field-requires-3 : tie.Need-field-requires-3
+field-requires-3 c κs = search needs
+
+returns : tie.Need-returns
+returns c = (turns-as (c .before .enum-told .given .1) (c .start .ensures .0), c .start .ensures .1)
+
+returns-2 : tie.Need-returns-2
+returns-2 c = (turns-as (c .before .before .p .given .1) (c .after-letter .ensures .0), c .after-letter .ensures .1)
+
+returns-3 : tie.Need-returns-3
+unfolding inNumber
+returns-3 c = (turns-as (c .before .before .p2 .given .1) (c .field .ensures .0), c .field .ensures .1)
+
+returns-4 : tie.Need-returns-4
+unfolding inNumber
+returns-4 c = (turns-as (c .before .before .p3 .given .1) (c .field2 .ensures .0), c .field2 .ensures .1)
+
+returns-5 : tie.Need-returns-5
+unfolding inNumber
+returns-5 c = (turns-as (c .before .before .p4 .given .1) (c .field3 .ensures .0), c .field3 .ensures .1)
+
+pub parse-part-spec : {M : Type 1} → statement M
+parse-part-spec =
+    tie.close
+    (tie.spec
+    enum-told
+    start-requires
+    enum-known-p
+    after-letter-requires
+    enum-known-p-2
+    field-requires
+    enum-known-p-3
+    field-requires-2
+    enum-known-p-4
+    field-requires-3
+    returns
+    returns-2
+    returns-3
+    returns-4
+    returns-5)

@@ -1,0 +1,209 @@
+-- What one byte, a run of digits and the end of a number make of the parser.
+use Prim.Native.Nat.{ℕ, _+_, _-_, _*_, _<_, _≤_}
+use native.Mathlib.Omega.{arith}
+use mathlib.Core.Path.{_≡_, refl, sym, ap, _∙_}
+use mathlib.Core.Logic.{_⊎_, inl, inr, ⊎-elim}
+use mathlib.Core.Bool.{Bool, true, false}
+use mathlib.Core.List.{List, [], _∷_, _++_}
+use mathlib.Core.Option.{Option, none, some}
+use lib.ListN.{length, getD}
+use Rattle.lists.specs.Tests.{either, same, cases, same-true, same-false}
+use Rattle.lists.specs.Counting.{has-nil}
+use Rattle.script.specs.declared.Line.{Line}
+use Rattle.script.specs.declared.Fields.{Fields}
+use Rattle.script.specs.declared.Fields.the-variants.{None, One, Two}
+use Rattle.script.specs.declared.Parser.{Parser}
+use Rattle.script.specs.declared.Parser.the-variants.{Start, Letter, First, Second, Third}
+use Rattle.script.specs.declared.Event.{Event}
+use Rattle.script.specs.declared.Event.the-variants as event
+use Rattle.script.specs.declared.Parsed.{Parsed}
+use Rattle.script.specs.declared.Run.{Run}
+use Rattle.script.specs.Grammar.{isDigit, lineOf, meaning}
+use Rattle.script.specs.Parsing.{values, inNumber, fieldsOn, letterOn, started, continued}
+use Rattle.script.specs.GrammarLaws.{digit-from, fields-four, fields-digit, fields-other, fields-blank, fields-nothing, fields-end, fields-space, fields-wide, start-space, start-nothing, start-letter, letter-space, letter-nothing, letter-other}
+use Rattle.script.specs.Tokens.{Digits, Moves, Spells, Stops, Tells, ParsesPart, cut-byte, cut-join, cut-none, has-byte, moves-join, moves-none, tells-join, told}
+
+-- ---- a byte
+
+bad : (p : Parser) (b : ℕ) → (b ≡ 10 → continued p [] ≡ none) → ((rest : List ℕ) → (b ≡ 10 → ⊥) → continued p (b ∷ rest) ≡ none) → Tells p event.Malformed Start (b ∷ [])
+unfolding Tells
+bad p b h g = (
+  ⊎-elim
+      (λ e. let q : b ≡ 10 = same-true b 10 e in inl ([], record { unbroken = has-nil 10; fed = ap (λ (x : ℕ). x ∷ []) q }, h q))
+      (λ e. let q : b ≡ 10 → ⊥ = same-false b 10 e in inr (has-byte b q, λ rest. g rest q))
+      (cases (same b 10)),
+  refl,
+)
+
+pub start-bad : (b : ℕ) → (b ≡ 32) ⊎ (b ≡ 10) → Tells Start event.Malformed Start (b ∷ [])
+unfolding continued
+start-bad b h =
+    bad Start b (λ q. start-nothing)
+    (λ rest q. ⊎-elim (λ e. ap (λ (x : ℕ). meaning (x ∷ rest)) e ∙ start-space rest) (λ e. absurd (q e)) h)
+
+pub start-good : (b : ℕ) → (b ≡ 32 → ⊥) → (b ≡ 10 → ⊥) → Tells Start event.SliceEnd (Letter b) (b ∷ [])
+unfolding Tells continued
+start-good b h g = record { unbroken = has-byte b g; begun = refl; means = λ rest. start-letter b rest h }
+
+pub letter-bad : (c b : ℕ) → (b ≡ 32 → ⊥) → Tells (Letter c) event.Malformed Start (b ∷ [])
+unfolding continued
+letter-bad c b h = bad (Letter c) b (λ q. letter-nothing c) (λ rest q. letter-other c b rest h)
+
+pub letter-good : (c b : ℕ) → b ≡ 32 → Tells (Letter c) event.SliceEnd (First c false 0) (b ∷ [])
+unfolding Tells continued
+letter-good c b h =
+    record {
+      unbroken = has-byte b (λ q. omega arith);
+      begun = refl;
+      means = λ rest. ap (λ (x : ℕ). letterOn c (x ∷ rest)) h ∙ letter-space c rest;
+    }
+
+-- ---- a number
+
+pub within-none : (c : ℕ) (f : Fields) (d : Bool) (n : ℕ) → f ≡ None → First c d n ≡ inNumber c f d n
+unfolding inNumber
+within-none c f d n e = rw e refl
+
+pub within-one : (c : ℕ) (f : Fields) (d : Bool) (a n : ℕ) → f ≡ One a → Second c d a n ≡ inNumber c f d n
+unfolding inNumber
+within-one c f d a n e = rw e refl
+
+pub within-two : (c : ℕ) (f : Fields) (d : Bool) (a b n : ℕ) → f ≡ Two a b → Third c d a b n ≡ inNumber c f d n
+unfolding inNumber
+within-two c f d a b n e = rw e refl
+
+within-started : (c : ℕ) (f : Fields) (d : Bool) (n : ℕ) → started (inNumber c f d n) ≡ true
+unfolding inNumber
+within-started c None d n = refl
+within-started c (One a) d n = refl
+within-started c (Two a b) d n = refl
+
+within-continued : (c : ℕ) (f : Fields) (d : Bool) (n : ℕ) (l : List ℕ) → continued (inNumber c f d n) l ≡ fieldsOn c (values f) d n l
+unfolding inNumber continued
+within-continued c None d n l = refl
+within-continued c (One a) d n l = refl
+within-continued c (Two a b) d n l = refl
+
+-- a byte within a number, or the space after it
+within-moves : (c : ℕ) (f g : Fields) (d e : Bool) (n m b : ℕ) → (b ≡ 10 → ⊥)
+    → ((rest : List ℕ) → fieldsOn c (values f) d n (b ∷ rest) ≡ fieldsOn c (values g) e m rest) → Moves (inNumber c f d n) (inNumber c g e m) (b ∷ [])
+within-moves c f g d e n m b h w =
+    record {
+      unbroken = has-byte b h;
+      begun = within-started c g e m ∙ sym (ap (λ (x : Bool). either x true) (within-started c f d n));
+      means = λ rest. within-continued c f d n (b ∷ rest) ∙ w rest ∙ sym (within-continued c g e m rest);
+    }
+
+pub spells-none : (s : List ℕ) (i : ℕ) (d : Bool) (n : ℕ) → Spells s i d n i d n
+spells-none s i d n = record { taken = []; cut = cut-none s i; moves = λ c f. moves-none (inNumber c f d n) }
+
+digit-moves : (c : ℕ) (f : Fields) (d : Bool) (n b : ℕ) → isDigit b ≡ true → Moves (inNumber c f d n) (inNumber c f true (n * 10 + (b - 48))) (b ∷ [])
+digit-moves c f d n b e =
+    within-moves c f f d true n (n * 10 + (b - 48)) b (λ q. let h : 48 ≤ b = digit-from b e in omega arith)
+    (λ rest. fields-digit c (values f) d n b rest e)
+
+pub spells-digit : {s : List ℕ} {i j : ℕ} {d e : Bool} {n m : ℕ} → Spells s i d n j e m → j < length s → isDigit (getD s j 0) ≡ true
+    → Spells s i d n (j + 1) true (m * 10 + (getD s j 0 - 48))
+spells-digit {s} {i} {j} {d} {e} {n} {m} h g t =
+    record {
+      taken = h .taken ++ (getD s j 0 ∷ []);
+      cut = cut-join (h .cut) (cut-byte s j g);
+      moves = λ c f. moves-join (h .moves c f) (digit-moves c f e m (getD s j 0) t);
+    }
+
+pub field-bad : (c : ℕ) (f : Fields) (d : Bool) (n b : ℕ) → (b ≡ 32 → d ≡ false) → (b ≡ 10 → d ≡ false) → Stops n b → Tells (inNumber c f d n) event.Malformed Start (b ∷ [])
+field-bad c f d n b h g t =
+    bad (inNumber c f d n) b
+    (λ q. within-continued c f d n [] ∙ ap (λ (x : Bool). fieldsOn c (values f) x n []) (g q) ∙ fields-nothing c (values f) n)
+    (λ rest q. within-continued c f d n (b ∷ rest)
+    ∙ ⊎-elim
+    (λ e. let z : b ≡ 32 = same-true b 32 e in
+    ap (λ (x : ℕ). fieldsOn c (values f) d n (x ∷ rest)) z
+    ∙ ap (λ (x : Bool). fieldsOn c (values f) x n (32 ∷ rest)) (h z)
+    ∙ fields-blank c (values f) n rest)
+    (λ e. stopped rest (same-false b 32 e))
+    (cases (same b 32)))
+  where
+    stopped : (rest : List ℕ) → (b ≡ 32 → ⊥) → fieldsOn c (values f) d n (b ∷ rest) ≡ none
+    stopped rest z =
+        ⊎-elim
+        (λ y. ⊎-elim (λ o. fields-other c (values f) d n b rest o z) (λ w. fields-wide c f d n b rest y w) t)
+        (λ o. fields-other c (values f) d n b rest o z)
+        (cases (isDigit b))
+
+-- ---- the end of a number
+
+-- one more number before the current one
+pub field-space : (c : ℕ) (f g : Fields) (n : ℕ) → values g ≡ values f ++ (n ∷ []) → Tells (inNumber c f true n) event.SliceEnd (inNumber c g false 0) (32 ∷ [])
+unfolding Tells
+field-space c f g n e =
+    within-moves c f g true false n 0 32 (λ q. omega arith)
+    (λ rest. fields-space c (values f) n rest ∙ ap (λ (x : List ℕ). fieldsOn c x false 0 rest) (sym e))
+
+-- a fourth number
+pub field-fourth : (c a b n : ℕ) → Tells (inNumber c (Two a b) true n) event.Malformed Start (32 ∷ [])
+unfolding Tells continued inNumber
+field-fourth c a b n = (inr (has-byte 32 (λ q. omega arith), λ rest. fields-space c (a ∷ b ∷ []) n rest ∙ fields-four c a b n rest), refl)
+
+pub field-feed : (c : ℕ) (f : Fields) (n : ℕ) (o : Option Line) → lineOf c (values f ++ (n ∷ [])) ≡ o → Tells (inNumber c f true n) (told o) Start (10 ∷ [])
+unfolding Tells
+field-feed c f n none e = (inl ([], record { unbroken = has-nil 10; fed = refl }, within-continued c f true n [] ∙ fields-end c (values f) n ∙ e), refl)
+field-feed c f n (some x) e = ([], record { unbroken = has-nil 10; fed = refl }, within-continued c f true n [] ∙ fields-end c (values f) n ∙ e, refl)
+
+-- ---- the ends of a run of digits
+
+pub digits-stop : {s : List ℕ} {i j : ℕ} {d e : Bool} {n m : ℕ} → Spells s i d n j e m → Stops m (getD s j 0) → Digits s i d n (record { next = j; digit = e; value = m })
+digits-stop h t = record { spells = h; stops = λ q. t }
+
+pub digits-end : {s : List ℕ} {i j : ℕ} {d e : Bool} {n m : ℕ} → Spells s i d n j e m → length s ≤ j → Digits s i d n (record { next = j; digit = e; value = m })
+digits-end h t = record { spells = h; stops = λ q. absurd (omega arith) }
+
+pub space-none : (c : ℕ) (f : Fields) (n : ℕ) → f ≡ None → Tells (inNumber c f true n) event.SliceEnd (Second c false n 0) (32 ∷ [])
+unfolding inNumber
+space-none c f n e = rw e (field-space c None (One n) n refl)
+
+pub space-one : (c : ℕ) (f : Fields) (a n : ℕ) → f ≡ One a → Tells (inNumber c f true n) event.SliceEnd (Third c false a n 0) (32 ∷ [])
+unfolding inNumber
+space-one c f a n e = rw e (field-space c (One a) (Two a n) n refl)
+
+pub space-two : (c : ℕ) (f : Fields) (a b n : ℕ) → f ≡ Two a b → Tells (inNumber c f true n) event.Malformed Start (32 ∷ [])
+space-two c f a b n e = rw e (field-fourth c a b n)
+
+-- ---- a turn
+
+-- a turn of one byte
+pub turn-byte : (p : Parser) {s : List ℕ} {i : ℕ} (q : Parser) (e : Event) → i < length s → Tells p e q (getD s i 0 ∷ []) → ParsesPart s i p (record { parser = q; next = i + 1; event = e })
+turn-byte p {s} {i} q e h t = record { taken = getD s i 0 ∷ []; cut = cut-byte s i h; tells = t }
+
+-- a number at the slice's end
+pub field-ended : (c : ℕ) (f : Fields) {d : Bool} {n : ℕ} {s : List ℕ} {i : ℕ} {r : Run} {p : Parser} → Digits s i d n r
+    → p ≡ inNumber c f (r .digit) (r .value) → ParsesPart s i (inNumber c f d n) (record { parser = p; next = r .next; event = event.SliceEnd })
+unfolding Tells
+field-ended c f h e = rw e (record { taken = h .spells .taken; cut = h .spells .cut; tells = h .spells .moves c f })
+
+-- a number and the byte after it
+pub field-turn : (c : ℕ) (f : Fields) {d : Bool} {n : ℕ} {s : List ℕ} {i : ℕ} {run : Run} (r : Parsed) → Digits s i d n run → run .next < length s
+    → r .next ≡ run .next + 1 → Tells (inNumber c f (run .digit) (run .value)) (r .event) (r .parser) (getD s (run .next) 0 ∷ [])
+    → ParsesPart s i (inNumber c f d n) r
+field-turn c f {d} {n} {s} {i} {run} r h g e t =
+    record {
+      taken = h .spells .taken ++ (getD s (run .next) 0 ∷ []);
+      cut = cut-join (h .spells .cut) (rw e (cut-byte s (run .next) g));
+      tells = tells-join (r .event) (r .parser) (getD s (run .next) 0 ∷ []) (h .spells .moves c f) t;
+    }
+
+pub digits-from : {s : List ℕ} {i : ℕ} {d : Bool} {n : ℕ} {r : Run} → Digits s i d n r → i ≤ r .next
+digits-from h = let p = h .spells .cut .place in omega arith
+
+pub space-turn : (c : ℕ) (f : Fields) (d : Bool) (n b : ℕ) (r : Parsed) → d ≡ true → b ≡ 32
+    → Tells (inNumber c f true n) (r .event) (r .parser) (32 ∷ []) → Tells (inNumber c f d n) (r .event) (r .parser) (b ∷ [])
+space-turn c f d n b r p q t = rw (p, q) t
+
+pub feed-turn : (c : ℕ) (f : Fields) (d : Bool) (n b : ℕ) (e : Event) → d ≡ true → b ≡ 10
+    → e ≡ told (lineOf c (values f ++ (n ∷ []))) → Tells (inNumber c f d n) e Start (b ∷ [])
+feed-turn c f d n b e p q t = rw (p, q, t) (field-feed c f n (lineOf c (values f ++ (n ∷ []))) refl)
+
+-- neither a space nor a line feed follows a digit
+pub refused : (b : ℕ) (d : Bool) → ((b ≡ 32 → ⊥) × (b ≡ 10 → ⊥)) ⊎ (d ≡ false) → (b ≡ 32 → d ≡ false) × (b ≡ 10 → d ≡ false)
+refused b d (inl h) = (λ q. absurd (h .0 q), λ q. absurd (h .1 q))
+refused b d (inr h) = (λ q. h, λ q. h)

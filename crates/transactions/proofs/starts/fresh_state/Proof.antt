@@ -1,0 +1,16 @@
+use borrow.Author.Needs.{needs}
+use Rattle.map.specs.Views.{lent}
+use Rattle.transactions.specs.Starts.{fresh-start}
+use Rattle.transactions.proofs.starts.fresh_state.Statement.{statement}
+use Rattle.transactions.proofs.starts.fresh_state.Tie as tie
+
+fresh-map-requires : tie.Need-fresh-map-requires
+fresh-map-requires c κs = search needs
+
+returns : tie.Need-returns
+returns c =
+    let m = c .before .before .before .fresh-map in
+    fresh-start (lent (m .last .0) (m .last .1 .0) (m .last .1 .1 .0)) (m .result) (m .ensures)
+
+pub fresh-state-spec : {M : Type 1} → statement M
+fresh-state-spec = tie.close (tie.spec fresh-map-requires returns)

@@ -7,5 +7,6 @@ pub mod Places
 pub mod RunLineLaws
 pub mod Closings
 pub mod Finishes
+pub mod FinishLaws
 pub mod Examples
 pub mod WholeRuns

@@ -3,7 +3,8 @@ use Prim.Native.Nat.{ℕ, _^_, _<_, _≤_}
 use mathlib.Core.Path.{_≡_, refl, sym, ap, _∙_, subst}
 use mathlib.Core.Bool.{Bool}
 use mathlib.Core.List.{List}
-use Rattle.lists.specs.Tests.{pick, same, same-no, less-yes, less-no}
+use Rattle.lists.specs.Tests.{pick, same}
+use Rattle.lists.specs.TestLaws.{same-no, less-yes, less-no}
 use Rattle.map.specs.Views.{Lent}
 use Rattle.transactions.specs.declared.Core.{Core}
 use Rattle.transactions.specs.Views.{Logs}

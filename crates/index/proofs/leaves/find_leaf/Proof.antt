@@ -7,7 +7,8 @@ use borrow.Author.Needs.{needs}
 use Rattle.index.specs.Nearing.{few, Took, first-taken, near-start, near-few}
 use Rattle.index.specs.LeafPlaces.{lowPlace, place-inside, low-took}
 use Rattle.index.specs.Views.{recordPlaces}
-use Rattle.index.specs.LeafColumns.{lowsOf, column-places}
+use Rattle.index.specs.LeafColumns.{lowsOf}
+use Rattle.index.specs.LeafColumnLaws.{column-places}
 use Rattle.index.proofs.leaves.find_leaf.Statement.{statement}
 use Rattle.index.proofs.leaves.find_leaf.Tie as tie
 

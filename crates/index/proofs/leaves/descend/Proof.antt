@@ -6,7 +6,8 @@ use native.Mathlib.Omega.{arith}
 use borrow.Author.Needs.{needs}
 use Rattle.index.specs.Nearing.{Nearing, near-on, near-end}
 use Rattle.index.specs.LeafPlaces.{lowPlace, place-inside, low-took}
-use Rattle.index.specs.LeafColumns.{lowsOf, column-places}
+use Rattle.index.specs.LeafColumns.{lowsOf}
+use Rattle.index.specs.LeafColumnLaws.{column-places}
 use Rattle.index.proofs.leaves.descend.Statement.{statement}
 use Rattle.index.proofs.leaves.descend.Tie as tie
 

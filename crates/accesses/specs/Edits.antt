@@ -7,7 +7,8 @@ use mathlib.Core.Bool.{Bool, true, false, not}
 use mathlib.Core.List.{List, [], _∷_}
 use mathlib.Core.Option.{Option, none, some}
 use lib.ListN.{length, getD, set}
-use Rattle.lists.specs.Tests.{both, maybe, present, less, less-yes, less-no}
+use Rattle.lists.specs.Tests.{both, maybe, present, less}
+use Rattle.lists.specs.TestLaws.{less-yes, less-no}
 use Rattle.lists.specs.Rows.{look, any}
 use Rattle.spec.specs.declared.Refusal.{Refusal}
 use Rattle.spec.specs.declared.Refusal.the-variants.{WritesFull}
@@ -31,8 +32,10 @@ use Rattle.transactions.specs.declared.begins.Plain.the-variants.{Granted, Refu
 use Rattle.transactions.specs.declared.begins.Done.{Done}
 use Rattle.transactions.specs.Answering.{Yields, yields-granted, cause-holds, cause-fails, front, front-first}
 use Rattle.transactions.specs.Admits.{Turned, Entered}
-use Rattle.transactions.specs.Views.{Logs, logs, stateOf, coreWith, state-with}
-use Rattle.transactions.specs.Ready.{Within, Ready, Refines, refines, refines-refused}
+use Rattle.transactions.specs.Views.{Logs, logs, stateOf, coreWith}
+use Rattle.transactions.specs.ViewLaws.{state-with}
+use Rattle.transactions.specs.Ready.{Within, Ready, Refines}
+use Rattle.transactions.specs.ReadyLaws.{refines, refines-refused}
 use Rattle.transactions.specs.Begins.{plainIn}
 use Rattle.transactions.specs.CoreLaws.{worker-is, within, stored-worker}
 

@@ -7,7 +7,8 @@ use mathlib.Core.List.{List, [], _∷_, append-nil}
 use mathlib.Core.Option.{Option, none, some}
 use lib.ListN.{length, getD, set}
 use lib.Seq.{set-getD}
-use Rattle.lists.specs.Tests.{pick, both, maybe, present, less, less-yes, less-no}
+use Rattle.lists.specs.Tests.{pick, both, maybe, present, less}
+use Rattle.lists.specs.TestLaws.{less-yes, less-no}
 use Rattle.lists.specs.Rows.{row, look, any}
 use Rattle.spec.specs.declared.Current.{Current}
 use Rattle.spec.specs.declared.Refusal.{Refusal}
@@ -16,7 +17,7 @@ use Rattle.spec.specs.Refusals.{ends}
 use Rattle.spec.specs.Records.{standard, Record, Write, written, deleted, ownView, payloadOf}
 use Rattle.spec.specs.Maps.{current}
 use Rattle.spec.specs.Steps as model
-use Rattle.spec.specs.Steps.{State, read, Answer, refused, found, isOpen, workerOf, freeWorker, ownWrite, cause, noWorker, workerFree, wrongStage, readLogFull, causes, firstCause, refusal, granted, effect, withWorker, logged, readRows}
+use Rattle.spec.specs.Steps.{State, read, found, isOpen, workerOf, freeWorker, ownWrite, cause, noWorker, workerFree, wrongStage, readLogFull, causes, firstCause, refusal, granted, effect, withWorker, logged, readRows}
 use Rattle.laws.specs.WorkerLaws.{mild-cause}
 use Rattle.sets.specs.declared.workers.Worker.{Worker}
 use Rattle.sets.specs.declared.writes.Found.{Found}
@@ -37,16 +38,13 @@ use Rattle.accesses.specs.declared.reads.ReadDone.{ReadDone}
 use Rattle.accesses.specs.declared.reads.Taken.{Taken}
 use Rattle.transactions.specs.Answering.{Yields, yields-granted, cause-holds, cause-fails, front, front-first}
 use Rattle.transactions.specs.Admits.{Turned, Entered}
-use Rattle.transactions.specs.Views.{Logs, logs, stateOf, coreWith, state-with}
-use Rattle.transactions.specs.Ready.{Within, Ready, Refines, refines, refines-refused}
+use Rattle.transactions.specs.Views.{Logs, logs, stateOf, coreWith}
+use Rattle.transactions.specs.ViewLaws.{state-with}
+use Rattle.transactions.specs.Ready.{Within, Ready, Refines}
+use Rattle.transactions.specs.ReadyLaws.{refines, refines-refused}
 use Rattle.transactions.specs.CoreLaws.{Writable, ready-writable, worker-is, within, stored-worker}
 use Rattle.map.specs.Parts.{RecordsHeld, SlotsHeld, records-held, slots-held}
-
--- document 01's answer
-abbrev pub readAnswer : ReadAnswer → Answer
-readAnswer (Value v) = found (some (record { value = v }))
-readAnswer Absent = found none
-readAnswer (Refused r) = refused r
+use Rattle.accesses.specs.Answers.{readAnswer}
 
 -- What the arrays hold for a read that is logged.
 pub record Loggable (rs : List ReadRows) (rows : RecordRows) (slots : SlotRows) (c : Core) : Type 0 where

@@ -7,7 +7,8 @@ use mathlib.Core.Bool.{Bool, true, false}
 use mathlib.Core.List.{List, [], _∷_}
 use mathlib.Core.Option.{Option, none, some}
 use lib.ListN.{length, getD}
-use Rattle.lists.specs.Tests.{either, maybe, less, less-yes, less-no}
+use Rattle.lists.specs.Tests.{either, maybe, less}
+use Rattle.lists.specs.TestLaws.{less-yes, less-no}
 use Rattle.lists.specs.Rows.{Row, between, mapItems, any}
 use Rattle.spec.specs.declared.Refusal.{Refusal}
 use Rattle.spec.specs.declared.Refusal.the-variants.{Backward, LogFull, ShortBuffer}
@@ -36,7 +37,8 @@ use Rattle.transactions.specs.declared.Core.{Core}
 use Rattle.transactions.specs.Answering.{cause-holds, cause-fails, front, front-first}
 use Rattle.transactions.specs.Admits.{Turned, Entered}
 use Rattle.transactions.specs.Views.{Logs, stateOf}
-use Rattle.transactions.specs.Ready.{Within, Ready, Refines, refines-refused}
+use Rattle.transactions.specs.Ready.{Within, Ready, Refines}
+use Rattle.transactions.specs.ReadyLaws.{refines-refused}
 use Rattle.transactions.specs.CoreLaws.{ready-writable, worker-writable, worker-is, within}
 use Rattle.map.specs.Parts.{records-held, slots-held, leaves-listed}
 

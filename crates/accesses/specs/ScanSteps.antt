@@ -7,7 +7,8 @@ use mathlib.Core.List.{List, [], _∷_, _++_}
 use mathlib.Core.Option.{Option}
 use lib.ListN.{length, take, drop, getD, set, List·getD-append}
 use lib.Seq.{split-at, getD-append-add}
-use Rattle.lists.specs.Tests.{less, cases, less-true, less-false}
+use Rattle.lists.specs.Tests.{less}
+use Rattle.lists.specs.TestLaws.{cases, less-true, less-false}
 use Rattle.lists.specs.Rows.{Row}
 use Rattle.spec.specs.Records.{standard, Payload, Record}
 use Rattle.spec.specs.Leaves.{Leaf, firstLeaf, leafOf, versionAt, live}
@@ -34,8 +35,10 @@ use Rattle.ranges.specs.Plans.{Carried}
 use Rattle.transactions.specs.declared.Core.{Core}
 use Rattle.transactions.specs.Answering.{yields-granted}
 use Rattle.transactions.specs.Admits.{Entered}
-use Rattle.transactions.specs.Views.{Logs, logs, modelWorker, stateOf, coreWith, OthersSame, state-with}
-use Rattle.transactions.specs.Ready.{Within, LowsStay, Stored, Ready, Refines, refines}
+use Rattle.transactions.specs.Views.{Logs, logs, modelWorker, stateOf, coreWith, OthersSame}
+use Rattle.transactions.specs.ViewLaws.{state-with}
+use Rattle.transactions.specs.Ready.{Within, LowsStay, Stored, Ready, Refines}
+use Rattle.transactions.specs.ReadyLaws.{refines}
 use Rattle.transactions.specs.CoreLaws.{worker-is, within, stored-put}
 use Rattle.accesses.specs.ScanCauses.{PassedIn, scan-reads, scan-versions, scan-shown, passed-is}
 

@@ -28,7 +28,8 @@ ghost use Rattle.map.specs.Views.{lent};
 ghost use Rattle.transactions.specs.Views.{logs};
 ghost use Rattle.transactions.specs.Ready.{Ready, Refines};
 ghost use Rattle.transactions.specs.Admits.{Entered};
-ghost use Rattle.accesses.specs.ReadSteps.{readAnswer, Loggable, Readable, LogsCurrent, Tells, TellsCurrent};
+ghost use Rattle.accesses.specs.ReadSteps.{Loggable, Readable, LogsCurrent, Tells, TellsCurrent};
+ghost use Rattle.accesses.specs.Answers.{readAnswer};
 
 // The answer of a read: a value, or none there, or the refusal.
 pub enum ReadAnswer {

@@ -24,8 +24,10 @@ use Rattle.transactions.specs.declared.Core.{Core}
 use Rattle.transactions.specs.declared.begins.Plain.the-variants.{Granted, Refused}
 use Rattle.transactions.specs.Answering.{front, yields-granted}
 use Rattle.transactions.specs.Admits.{anyStage, Turned, Entered}
-use Rattle.transactions.specs.Views.{Logs, logs, stateOf, worker-at}
-use Rattle.transactions.specs.Ready.{workerAt, Ready, Refines, refines, refines-refused}
+use Rattle.transactions.specs.Views.{Logs, logs, stateOf}
+use Rattle.transactions.specs.ViewLaws.{worker-at}
+use Rattle.transactions.specs.Ready.{workerAt, Ready, Refines}
+use Rattle.transactions.specs.ReadyLaws.{refines, refines-refused}
 use Rattle.transactions.specs.Begins.{plainIn}
 use Rattle.commits.specs.Commits.{Reaches, worker-inside, writes-are}
 

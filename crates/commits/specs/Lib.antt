@@ -3,4 +3,5 @@ pub mod Finishes
 pub mod Locks
 pub mod Searching
 pub mod Validates
+pub mod Answers
 pub mod Verdicts

@@ -7,7 +7,8 @@ use mathlib.Core.Bool.{Bool, true, false}
 use mathlib.Core.List.{List, [], _∷_}
 use mathlib.Core.Option.{Option, none, some}
 use lib.ListN.{getD}
-use Rattle.lists.specs.Tests.{maybe, present, clash, less, less-yes, less-no, less-false}
+use Rattle.lists.specs.Tests.{maybe, present, less}
+use Rattle.lists.specs.TestLaws.{clash, less-yes, less-no, less-false}
 use Rattle.lists.specs.Rows.{keys, any}
 use Rattle.spec.specs.declared.Refusal.{Refusal}
 use Rattle.spec.specs.declared.Refusal.the-variants.{Held, IndexletFull, MapFull}
@@ -35,8 +36,10 @@ use Rattle.transactions.specs.declared.begins.Plain.{Plain}
 use Rattle.transactions.specs.declared.begins.Plain.the-variants.{Granted, Refused}
 use Rattle.transactions.specs.Answering.{front, front-first, cause-holds, cause-fails, yields-granted, yields-refused}
 use Rattle.transactions.specs.Admits.{Turned, Entered}
-use Rattle.transactions.specs.Views.{Logs, logs, stateOf, withBoth, worker-at}
-use Rattle.transactions.specs.Ready.{workerAt, Stored, Ready, Refines, refines, refines-refused}
+use Rattle.transactions.specs.Views.{Logs, logs, stateOf, withBoth}
+use Rattle.transactions.specs.ViewLaws.{worker-at}
+use Rattle.transactions.specs.Ready.{workerAt, Stored, Ready, Refines}
+use Rattle.transactions.specs.ReadyLaws.{refines, refines-refused}
 use Rattle.transactions.specs.Begins.{plainIn}
 use Rattle.commits.specs.Commits.{Reaches, reached, worker-inside, keys-are}
 use Rattle.commits.specs.Finishes.{mild}

@@ -2,16 +2,17 @@
 use Prim.Native.Nat.{ℕ, _+_, _<_, _≤_}
 use mathlib.Core.Path.{_≡_, refl, sym, ap, _∙_, subst}
 use mathlib.Core.Bool.{Bool, true, false, not}
-use mathlib.Core.List.{List, [], _∷_}
+use mathlib.Core.List.{[], _∷_}
 use mathlib.Core.Option.{Option, none, some}
 use lib.Dec.{eqb}
 use lib.ListN.{getD, set}
-use Rattle.lists.specs.Tests.{pick, both, same, less, same-yes, same-no, less-yes, less-no}
+use Rattle.lists.specs.Tests.{pick, both, same, less}
+use Rattle.lists.specs.TestLaws.{same-yes, same-no, less-yes, less-no}
 use Rattle.lists.specs.Rows.{Row, keys, has, any}
 use Rattle.spec.specs.declared.Current.{Current}
 use Rattle.spec.specs.declared.Refusal.{Refusal}
 use Rattle.spec.specs.declared.Refusal.the-variants.{Changed, UnderLock, Phantom, Spent}
-use Rattle.spec.specs.Steps.{Answer, refused, numbered, cause, firstCause}
+use Rattle.spec.specs.Steps.{numbered, cause, firstCause}
 use Rattle.spec.specs.Records.{standard, Record, samePayload, sameRecord}
 use Rattle.spec.specs.Slots.{contentOf}
 use Rattle.spec.specs.Maps.{MapState, current, heldByOther}
@@ -30,7 +31,6 @@ use Rattle.transactions.specs.declared.Core.{Core}
 use Rattle.commits.specs.declared.validates.Verdict.{Verdict}
 use Rattle.commits.specs.declared.validates.Verdict.the-variants as verdict
 use Rattle.commits.specs.declared.validates.Verdict.the-variants.{Passed}
-use Rattle.commits.specs.declared.validates.ValidateAnswer.{ValidateAnswer}
 use Rattle.commits.specs.declared.validates.ValidateAnswer.the-variants as answer
 use Rattle.commits.specs.declared.validates.ValidateAnswer.the-variants.{Number}
 use Rattle.commits.specs.declared.validates.ValidateDone.{ValidateDone}
@@ -80,11 +80,6 @@ judged l reads leaves z x w =
 abbrev pub verdictIn : Verdict → Option Refusal
 verdictIn Passed = none
 verdictIn (verdict.Refused r) = some r
-
--- document 01's answer
-abbrev pub validateIn : ValidateAnswer → Answer
-validateIn (Number n) = numbered n
-validateIn (answer.Refused r) = refused r
 
 -- the core after worker w, now y, took commit number n
 abbrev pub withNumber : Core → ℕ → Worker → ℕ → Core

@@ -7,7 +7,8 @@ use mathlib.Core.Bool.{Bool, true, false, not}
 use mathlib.Core.List.{List, [], _∷_}
 use mathlib.Core.Option.{Option, none, some}
 use lib.ListN.{getD}
-use Rattle.lists.specs.Tests.{pick, maybe, less, cases, less-true, less-false}
+use Rattle.lists.specs.Tests.{pick, maybe, less}
+use Rattle.lists.specs.TestLaws.{cases, less-true, less-false}
 use Rattle.lists.specs.Rows.{Row, keys, has, any}
 use Rattle.spec.specs.declared.Refusal.{Refusal}
 use Rattle.spec.specs.declared.Refusal.the-variants.{Changed, UnderLock, Phantom, Spent}
@@ -36,11 +37,14 @@ use Rattle.commits.specs.declared.validates.ValidateAnswer.the-variants.
 use Rattle.commits.specs.declared.validates.ValidateDone.{ValidateDone}
 use Rattle.transactions.specs.Answering.{Yields, yields-granted, cause-holds, cause-fails, front, front-first}
 use Rattle.transactions.specs.Admits.{Turned, Entered}
-use Rattle.transactions.specs.Views.{logs, modelWorker, stateOf, same-logs, state-with}
-use Rattle.transactions.specs.Ready.{Within, Stored, Ready, Refines, refines, refines-refused}
+use Rattle.transactions.specs.Views.{logs, modelWorker, stateOf}
+use Rattle.transactions.specs.ViewLaws.{same-logs, state-with}
+use Rattle.transactions.specs.Ready.{Within, Stored, Ready, Refines}
+use Rattle.transactions.specs.ReadyLaws.{refines, refines-refused}
 use Rattle.transactions.specs.CoreLaws.{ready-writable, worker-is, within, worker-writable, stored-worker}
 use Rattle.commits.specs.Commits.{Reaches, writing}
-use Rattle.commits.specs.Validates.{changedIn, lockedIn, LoggedAll, Examinable, firstOf, judged, verdictIn, validateIn, withNumber, numbering, number-spent, number-left}
+use Rattle.commits.specs.Validates.{changedIn, lockedIn, LoggedAll, Examinable, firstOf, judged, verdictIn, withNumber, numbering, number-spent, number-left}
+use Rattle.commits.specs.Answers.{validateIn}
 
 -- ---- the tests, in their order
 

@@ -33,7 +33,8 @@ ghost use Rattle.sets.specs.Reads.{recordIn, readsOf, ReadSetHeld};
 ghost use Rattle.sets.specs.Leaves.{versionsOf, LeafSetHeld};
 ghost use Rattle.transactions.specs.Views.{logs};
 ghost use Rattle.transactions.specs.Ready.{Ready, Refines};
-ghost use Rattle.commits.specs.Validates.{changedIn, lockedIn, LoggedAll, Examinable, verdictIn, judged, numbering, validateIn};
+ghost use Rattle.commits.specs.Validates.{changedIn, lockedIn, LoggedAll, Examinable, verdictIn, judged, numbering};
+ghost use Rattle.commits.specs.Answers.{validateIn};
 
 // A validation's answer: the commit number, or the refusal.
 pub enum ValidateAnswer {

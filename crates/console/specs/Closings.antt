@@ -8,12 +8,14 @@ use mathlib.Core.Bool.{true, false}
 use mathlib.Core.List.{List, [], _∷_, _++_, append-assoc, append-nil}
 use mathlib.Core.Option.{Option, none, some}
 use lib.ListN.{length}
-use Rattle.lists.specs.Tests.{maybe, present, less, cases, clash, less-true, less-false, less-yes, less-no}
+use Rattle.lists.specs.Tests.{maybe, present, less}
+use Rattle.lists.specs.TestLaws.{cases, clash, less-true, less-false, less-yes, less-no}
 use Rattle.lists.specs.Rows.{Row, row, keys, has, look, From, Rising}
 use Rattle.lists.specs.RowLaws.{has-keys, length-keys, rising-different}
 use Rattle.lists.specs.Counting.{has-append, different-within}
 use Rattle.lists.specs.Options.{both-options, some-same}
-use Rattle.lists.specs.Texts.{Wrote, wrote-join}
+use Rattle.lists.specs.Texts.{Wrote}
+use Rattle.lists.specs.TextLaws.{wrote-join}
 use Rattle.spec.specs.Records.{Settings, Record}
 use Rattle.spec.specs.Slots.{Content, entries}
 use Rattle.spec.specs.Maps.{MapState, outcomeOf, current, contents}

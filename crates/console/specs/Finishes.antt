@@ -1,25 +1,13 @@
 -- What is promised of the end of the input.
-use Prim.Native.Nat.{ℕ, _+_, _*_, _≤_}
-use native.Mathlib.Omega.{arith}
-use mathlib.Core.Path.{_≡_, refl, sym, ap, _∙_, subst}
-use mathlib.Core.Bool.{Bool, true, false, not}
-use mathlib.Core.List.{List, [], _∷_, _++_}
-use lib.ListN.{length}
-use Rattle.lists.specs.Tests.{pick}
-use Rattle.lists.specs.Rows.{Row}
-use Rattle.lists.specs.Texts.{Wrote, wrote-join}
-use Rattle.spec.specs.Records.{standard, Record}
-use Rattle.spec.specs.Maps.{contents}
+use Prim.Native.Nat.{ℕ, _+_, _*_}
+use mathlib.Core.List.{List, []}
+use Rattle.lists.specs.Texts.{Wrote}
+use Rattle.spec.specs.Records.{standard}
 use Rattle.map.specs.Views.{Lent}
 use Rattle.transactions.specs.Views.{Logs, stateOf}
-use Rattle.transactions.specs.Ready.{Ready}
-use Rattle.transactions.specs.declared.Core.{Core}
-use Rattle.script.specs.Parsing.{filled, After}
-use Rattle.script.specs.Output.{field, endLine, malformedLine}
+use Rattle.script.specs.Parsing.{After}
 use Rattle.console.specs.declared.session.Session.{Session}
-use Rattle.console.specs.Program.{writtenFrom}
 use Rattle.console.specs.Sessions.{due}
-use Rattle.console.specs.Closings.{allRecords, pairsFor, PairsPut, contents-count}
 
 -- the longest last line: a letter, a number, the pairs of a full map and a line feed
 abbrev pub longestEnd : ℕ
@@ -28,58 +16,3 @@ longestEnd = 23 + 42 * standard .mapLimit
 -- all that is still due was written, when no more input comes
 pub record Finishes (l : Lent) (g : Logs) (x : Session) (old new : List ℕ) (next : ℕ) : Type 0 where
   pub wrote : (seen : List ℕ) → After seen (x .parser) → Wrote old (x .at) (due (stateOf l g (x .core)) seen (x .stopped) [] 0 []) new next
-
--- ---- laws
-
--- `E`, the count, the pairs and a line feed
-pub end-wrote : {rs : List (Row Record)} {old a b new : List ℕ} {at i j k n : ℕ} → n ≡ length rs → Wrote old at (69 ∷ field n) a i → PairsPut rs a i b j
-    → Wrote b j (10 ∷ []) new k → Wrote old at (endLine rs) new k
-unfolding endLine
-end-wrote {rs} {old} {a} {b} {new} {at} {i} {j} {k} {n} e x y z =
-    subst (λ (m : ℕ). Wrote old at ((69 ∷ field m) ++ pairsFor rs ++ (10 ∷ [])) new k) e (wrote-join (wrote-join x (y .wrote)) z)
-
-pub records-fit : {l : Lent} {g : Logs} {c : Core} → Ready l g c → length (allRecords (l .rows) (c .sizes .records) (l .slots)) ≤ standard .mapLimit
-unfolding contents
-records-fit r = contents-count (r .stored .map .bounded)
-
-module _ (l : Lent) (g : Logs) (x : Session) (old : List ℕ) where
-  pub finish-stopped : x .stopped ≡ true → x .at ≤ length old → Finishes l g x old old (x .at)
-  unfolding due
-  finish-stopped e h =
-      record {
-        wrote = λ seen a.
-            subst (λ (b : Bool). Wrote old (x .at) (pick b [] (writtenFrom (stateOf l g (x .core)) seen [])) old (x .at)) (sym e)
-            (record { written = refl; within = omega arith; place = omega arith });
-      }
-
-  -- what is due at the end of the input
-  due-last : (seen : List ℕ) (b : Bool) → x .stopped ≡ false → filled seen ≡ b
-      → due (stateOf l g (x .core)) seen (x .stopped) [] 0 [] ≡ pick b malformedLine (endLine (contents (stateOf l g (x .core) .map)))
-  unfolding due writtenFrom
-  due-last seen b e f =
-      ap (λ (s : Bool). pick s [] (pick (filled seen) malformedLine (endLine (contents (stateOf l g (x .core) .map))))) e
-      ∙ ap (λ (s : Bool). pick s malformedLine (endLine (contents (stateOf l g (x .core) .map)))) f
-
-  module _ (new : List ℕ) (next : ℕ) (b : Bool) (e : x .stopped ≡ false) (h : (seen : List ℕ) → After seen (x .parser) → b ≡ not (filled seen)) where
-    pub finish-inside : b ≡ false → Wrote old (x .at) malformedLine new next → Finishes l g x old new next
-    finish-inside f w =
-        record {
-          wrote = λ seen a.
-              subst (λ (t : List ℕ). Wrote old (x .at) t new next) (sym (due-last seen true e (some-line (filled seen) (sym (h seen a) ∙ f)))) w;
-        }
-      where
-        some-line : (s : Bool) → not s ≡ false → s ≡ true
-        some-line true q = refl
-        some-line false q = sym q
-
-    pub finish-whole : b ≡ true → Wrote old (x .at) (endLine (allRecords (l .rows) (x .core .sizes .records) (l .slots))) new next → Finishes l g x old new next
-    unfolding contents stateOf
-    finish-whole f w =
-        record {
-          wrote = λ seen a.
-              subst (λ (t : List ℕ). Wrote old (x .at) t new next) (sym (due-last seen false e (no-line (filled seen) (sym (h seen a) ∙ f)))) w;
-        }
-      where
-        no-line : (s : Bool) → not s ≡ true → s ≡ false
-        no-line true q = sym q
-        no-line false q = refl

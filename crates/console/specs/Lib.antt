@@ -7,6 +7,7 @@ pub mod Places
 pub mod RunLineLaws
 pub mod Closings
 pub mod Finishes
+pub mod FinishLaws
 pub mod Examples
 pub mod WholeRuns
 pub mod SerialOutput

@@ -1,7 +1,7 @@
 -- Document 01, "The script program": what the program writes, as a function of the bytes that it reads.
 -- A line feed ends a line. Each line is a step, and its answer is written. At the first malformed line, or a last line
 -- without its line feed, `?` is written and nothing more; else, at the end of the input, the present records.
-use Prim.Native.Nat.{ℕ}
+use Prim.Native.Nat.{ℕ, _+_, _*_}
 use mathlib.Core.List.{List, [], _∷_, _++_}
 use Rattle.lists.specs.Tests.{pick, maybe, same}
 use Rattle.spec.specs.Records.{standard}
@@ -29,3 +29,7 @@ writtenFrom σ line (b ∷ bs) =
 -- what the program writes for an input
 abbrev pub output : List ℕ → List ℕ
 output input = writtenFrom (fresh standard) [] input
+
+-- the longest line: a letter, two numbers, a scan's pairs and a line feed
+abbrev pub longestLine : ℕ
+longestLine = 44 + 42 * places

@@ -6,7 +6,8 @@ use mathlib.Core.Logic.{⊎-elim}
 use mathlib.Core.Bool.{Bool, true, false}
 use mathlib.Core.List.{List, [], _∷_, _++_, append-assoc, append-nil}
 use mathlib.Core.Option.{Option, none, some}
-use Rattle.lists.specs.Tests.{pick, maybe, same, less, atMost, within, cases, clash, same-true, same-refl}
+use Rattle.lists.specs.Tests.{pick, maybe, same, less, atMost, within}
+use Rattle.lists.specs.TestLaws.{cases, clash, same-true, same-refl}
 use Rattle.lists.specs.Rows.{has}
 use Rattle.lists.specs.Counting.{has-cons, has-append}
 use Rattle.spec.specs.Steps.{State, answer, next}

@@ -6,7 +6,8 @@ use mathlib.Core.Path.{_≡_, refl, sym, ap, _∙_, subst}
 use mathlib.Core.List.{List, [], _∷_, _++_}
 use lib.ListN.{length, take, getD, length-append}
 use Rattle.lists.specs.Rows.{row}
-use Rattle.lists.specs.Shifts.{tabFrom, tab, tab-cons}
+use Rattle.lists.specs.Tabulation.{tabFrom, tab}
+use Rattle.lists.specs.Shifts.{tab-cons}
 use Rattle.lists.specs.Texts.{Wrote}
 use Rattle.spec.specs.declared.Refusal.{Refusal}
 use Rattle.spec.specs.Refusals.{numberOf}
@@ -24,7 +25,6 @@ use Rattle.engine.specs.declared.steps.Op.the-variants as op
 use Rattle.engine.specs.declared.steps.Reply.{Reply}
 use Rattle.engine.specs.declared.steps.Reply.the-variants as reply
 use Rattle.engine.specs.Performs.{stepIn, replyIn}
-use Rattle.console.specs.Program.{places}
 
 -- o is the operation that a line asks for, whatever the places of a scan's two buffers
 pub record Asks (l : Line) (o : Op) : Type 0 where
@@ -64,10 +64,6 @@ replyText c p ks vs = c ∷ answerText (replyIn p ks vs) ++ (10 ∷ [])
 -- it stands in the bytes from a place on, all others are as before, and next is the place after it
 pub record Replies (c : ℕ) (p : Reply) (ks vs old : List ℕ) (at : ℕ) (new : List ℕ) (next : ℕ) : Type 0 where
   pub wrote : Wrote old at (replyText c p ks vs) new next
-
--- the longest line: a letter, two numbers, a scan's pairs and a line feed
-abbrev pub longestLine : ℕ
-longestLine = 44 + 42 * places
 
 -- ---- a scan's buffers
 

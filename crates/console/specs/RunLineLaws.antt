@@ -7,10 +7,12 @@ use mathlib.Core.Bool.{Bool, true, false}
 use mathlib.Core.List.{List, [], _∷_, _++_, append-assoc, append-nil}
 use mathlib.Core.Option.{Option}
 use lib.ListN.{length, drop, length-drop}
-use Rattle.lists.specs.Tests.{pick, clash, same-refl}
+use Rattle.lists.specs.Tests.{pick}
+use Rattle.lists.specs.TestLaws.{clash, same-refl}
 use Rattle.lists.specs.Rows.{has}
 use Rattle.lists.specs.Counting.{has-nil, has-cons, has-append}
-use Rattle.lists.specs.Texts.{Wrote, wrote-length}
+use Rattle.lists.specs.Texts.{Wrote}
+use Rattle.lists.specs.TextLaws.{wrote-length}
 use Rattle.spec.specs.Steps.{State, answer, next}
 use Rattle.map.specs.Views.{Lent}
 use Rattle.transactions.specs.Views.{Logs, stateOf}

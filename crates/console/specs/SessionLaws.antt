@@ -1,10 +1,19 @@
 -- When a session goes on.
 use Prim.Native.Nat.{ℕ, _+_, _-_, _<_, _≤_}
-use mathlib.Core.Path.{_≡_, refl, sym, ap}
+use mathlib.Core.Path.{_≡_, refl, sym, ap, _∙_}
 use mathlib.Core.Bool.{Bool, true, false, not}
-use Rattle.lists.specs.Tests.{both, less, atMost, clash, less-yes, less-no, less-true, atMost-yes, atMost-no, atMost-true}
-use Rattle.console.specs.Replies.{longestLine}
-use Rattle.console.specs.Sessions.{canGoOn}
+use Rattle.lists.specs.Tests.{both, less, atMost}
+use Rattle.lists.specs.TestLaws.{clash, less-yes, less-no, less-true, atMost-yes, atMost-no, atMost-true}
+use Rattle.console.specs.Program.{longestLine}
+use Rattle.console.specs.Sessions.{canGoOn, Continues, Feeds, Started, due}
+use native.Mathlib.Omega.{arith}
+use mathlib.Core.List.{List, [], _++_, append-assoc}
+use lib.ListN.{length}
+use Rattle.lists.specs.TextLaws.{wrote-join}
+use Rattle.map.specs.Views.{Lent}
+use Rattle.transactions.specs.Views.{Logs, stateOf}
+use Rattle.transactions.specs.Ready.{Ready}
+use Rattle.console.specs.declared.session.Session.{Session}
 
 second-no : (s b d : Bool) → b ≡ false → false ≡ both (not s) (both b d)
 second-no true b d e = refl
@@ -42,3 +51,48 @@ module _ (s : Bool) (n z a r : ℕ) where
   goes-true e =
       let t = all-yes s (less n z) (atMost (a + longestLine) r) e in
       (t .0, less-true n z (t .1), atMost-true (a + longestLine) r (t .2))
+
+-- ---- laws
+
+pub feeds-none : {l : Lent} {g : Logs} {x : Session} (input : List ℕ) {old : List ℕ}
+    → Ready l g (x .core) → Started (x .parser) → x .at ≤ length old → Feeds l g x input old l g x old
+feeds-none input r s h =
+    record {
+      ready = r;
+      started = s;
+      size = refl;
+      room = h;
+      continues = λ seen a.
+          record {
+            text = [];
+            wrote = record { written = refl; within = omega arith; place = omega arith };
+            line = seen;
+            after = a;
+            rest = λ future. refl;
+          };
+    }
+
+pub feeds-join : {l l' l'' : Lent} {g g' g'' : Logs} {x y z : Session} {input old mid new : List ℕ}
+    → Feeds l g x input old l' g' y mid → Feeds l' g' y input mid l'' g'' z new → Feeds l g x input old l'' g'' z new
+feeds-join {l} {l'} {l''} {g} {g'} {g''} {x} {y} {z} {input} {old} {mid} {new} a b =
+    record {
+      ready = b .ready;
+      started = b .started;
+      size = b .size ∙ a .size;
+      room = b .room;
+      continues = λ seen s. joined seen (a .continues seen s);
+    }
+  where
+    joined : (seen : List ℕ) → Continues l g x input old l' g' y mid seen → Continues l g x input old l'' g'' z new seen
+    joined seen p =
+        let q = b .continues (p .line) (p .after) in
+        record {
+          text = p .text ++ q .text;
+          wrote = wrote-join (p .wrote) (q .wrote);
+          line = q .line;
+          after = q .after;
+          rest = λ future.
+              p .rest future
+              ∙ ap (λ (t : List ℕ). p .text ++ t) (q .rest future)
+              ∙ sym (append-assoc (p .text) (q .text) (due (stateOf l'' g'' (z .core)) (q .line) (z .stopped) input (z .next) future));
+        }

@@ -1,13 +1,12 @@
 -- A session: the engine's arrays and core, the parser, and the places in the input and in the output. What is promised of
 -- running it on: what was written and what is still due are what was due.
 use Prim.Native.Nat.{ℕ, _+_, _-_, _<_, _≤_}
-use native.Mathlib.Omega.{arith}
-use mathlib.Core.Path.{_≡_, refl, sym, ap, _∙_}
+use mathlib.Core.Path.{_≡_}
 use mathlib.Core.Bool.{Bool, false, not}
-use mathlib.Core.List.{List, [], _++_, append-assoc}
+use mathlib.Core.List.{List, [], _++_}
 use lib.ListN.{length, drop}
 use Rattle.lists.specs.Tests.{pick, both, less, atMost}
-use Rattle.lists.specs.Texts.{Wrote, wrote-join}
+use Rattle.lists.specs.Texts.{Wrote}
 use Rattle.spec.specs.Steps.{State}
 use Rattle.map.specs.Views.{Lent}
 use Rattle.transactions.specs.Views.{Logs, stateOf}
@@ -16,8 +15,7 @@ use Rattle.transactions.specs.Starts.{Fresh}
 use Rattle.script.specs.declared.Parser.{Parser}
 use Rattle.script.specs.Parsing.{After}
 use Rattle.console.specs.declared.session.Session.{Session}
-use Rattle.console.specs.Program.{writtenFrom}
-use Rattle.console.specs.Replies.{longestLine}
+use Rattle.console.specs.Program.{writtenFrom, longestLine, output}
 
 -- the parser has read some bytes of a line
 pub record Started (p : Parser) : Type 0 where
@@ -65,51 +63,6 @@ pub record Runs (l : Lent) (g : Logs) (x : Session) (input old : List ℕ) (l' :
   pub feeds : Feeds l g x input old l' g' y new
   pub ends : canGoOn (y .stopped) (y .next) (length input) (y .at) (length new) ≡ false
 
--- ---- laws
-
-pub feeds-none : {l : Lent} {g : Logs} {x : Session} (input : List ℕ) {old : List ℕ}
-    → Ready l g (x .core) → Started (x .parser) → x .at ≤ length old → Feeds l g x input old l g x old
-feeds-none input r s h =
-    record {
-      ready = r;
-      started = s;
-      size = refl;
-      room = h;
-      continues = λ seen a.
-          record {
-            text = [];
-            wrote = record { written = refl; within = omega arith; place = omega arith };
-            line = seen;
-            after = a;
-            rest = λ future. refl;
-          };
-    }
-
-pub feeds-join : {l l' l'' : Lent} {g g' g'' : Logs} {x y z : Session} {input old mid new : List ℕ}
-    → Feeds l g x input old l' g' y mid → Feeds l' g' y input mid l'' g'' z new → Feeds l g x input old l'' g'' z new
-feeds-join {l} {l'} {l''} {g} {g'} {g''} {x} {y} {z} {input} {old} {mid} {new} a b =
-    record {
-      ready = b .ready;
-      started = b .started;
-      size = b .size ∙ a .size;
-      room = b .room;
-      continues = λ seen s. joined seen (a .continues seen s);
-    }
-  where
-    joined : (seen : List ℕ) → Continues l g x input old l' g' y mid seen → Continues l g x input old l'' g'' z new seen
-    joined seen p =
-        let q = b .continues (p .line) (p .after) in
-        record {
-          text = p .text ++ q .text;
-          wrote = wrote-join (p .wrote) (q .wrote);
-          line = q .line;
-          after = q .after;
-          rest = λ future.
-              p .rest future
-              ∙ ap (λ (t : List ℕ). p .text ++ t) (q .rest future)
-              ∙ sym (append-assoc (p .text) (q .text) (due (stateOf l'' g'' (z .core)) (q .line) (z .stopped) input (z .next) future));
-        }
-
 -- ---- a session begins, and its buffers are filled and emptied
 
 -- a fresh map, at the start of a line
@@ -122,3 +75,9 @@ pub record Begins (l : Lent) (g : Logs) (x : Session) : Type 0 where
 
 abbrev pub withPlaces : Session → ℕ → ℕ → Session
 withPlaces x next at = record { core = x .core; parser = x .parser; next = next; at = at; stopped = x .stopped }
+
+-- A run over the input `whole` stands at session x: the bytes `line` of the current line are read, the piece `input` is
+-- read up to the session's place, `future` has not come yet, and `told` was written.
+pub record Told (whole : List ℕ) (l : Lent) (g : Logs) (x : Session) (line input future told : List ℕ) : Type 0 where
+  pub after : After line (x .parser)
+  pub is : output whole ≡ told ++ due (stateOf l g (x .core)) line (x .stopped) input (x .next) future

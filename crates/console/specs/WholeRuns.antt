@@ -10,16 +10,10 @@ use Rattle.lists.specs.Tests.{pick}
 use Rattle.spec.specs.Steps.{State}
 use Rattle.map.specs.Views.{Lent}
 use Rattle.transactions.specs.Views.{Logs, stateOf}
-use Rattle.script.specs.Parsing.{After}
 use Rattle.console.specs.declared.session.Session.{Session}
 use Rattle.console.specs.Program.{writtenFrom, output}
 use Rattle.console.specs.Sessions.{due, Continues, Begins, withPlaces}
-
--- A run over the input `whole` stands at session x: the bytes `line` of the current line are read, the piece `input` is
--- read up to the session's place, `future` has not come yet, and `told` was written.
-pub record Told (whole : List ℕ) (l : Lent) (g : Logs) (x : Session) (line input future told : List ℕ) : Type 0 where
-  pub after : After line (x .parser)
-  pub is : output whole ≡ told ++ due (stateOf l g (x .core)) line (x .stopped) input (x .next) future
+use Rattle.console.specs.Sessions.{Told}
 
 -- a fresh session: nothing has come, nothing was written
 pub told-start : {l : Lent} {g : Logs} {x : Session} (whole : List ℕ) → Begins l g x → Told whole l g x [] [] whole []

@@ -8,8 +8,8 @@ ghost use lib.ListN.{length, take};
 ghost use Rattle.lists.specs.Texts.{Wrote};
 ghost use Rattle.script.specs.Output.{field, absent, pairsOf};
 ghost use Rattle.engine.specs.Performs.{placesIn};
-ghost use Rattle.console.specs.Program.{places};
-ghost use Rattle.console.specs.Replies.{longestLine, Replies};
+ghost use Rattle.console.specs.Program.{places, longestLine};
+ghost use Rattle.console.specs.Replies.{Replies};
 
 // A read that finds nothing.
 fn put_absent_line(out: &mut [u8], at: usize, letter: u8) -> usize

@@ -1,2 +1,3 @@
 pub mod Performs
+pub mod PerformLaws
 pub mod Listings

@@ -5,7 +5,8 @@ use mathlib.Core.Path.{_≡_, refl, sym, ap, _∙_, subst}
 use mathlib.Core.List.{List}
 use mathlib.Core.Option.{Option, none, some}
 use lib.ListN.{length}
-use Rattle.lists.specs.Tests.{maybe, less-false}
+use Rattle.lists.specs.Tests.{maybe}
+use Rattle.lists.specs.TestLaws.{less-false}
 use Rattle.spec.specs.declared.Refusal.{Refusal}
 use Rattle.spec.specs.Steps as model
 use Rattle.spec.specs.Steps.{State, Step, Answer, refused, done, found, listed, numbered, counted, answer, granted, refusal, causes, scanned}

@@ -7,7 +7,8 @@ use mathlib.Core.Logic.{_⊎_, inl, inr, ⊎-elim}
 use mathlib.Core.List.{List, [], _∷_}
 use lib.ListN.{length, take, getD}
 use lib.Seq.{length-take-le, getD-take}
-use Rattle.lists.specs.Tests.{pick, both, less, atMost, cases, less-true, less-false, less-yes, less-no, atMost-true, atMost-false, atMost-yes, atMost-no}
+use Rattle.lists.specs.Tests.{pick, both, less, atMost}
+use Rattle.lists.specs.TestLaws.{cases, less-true, less-false, less-yes, less-no, atMost-true, atMost-false, atMost-yes, atMost-no}
 use Rattle.lists.specs.Ascending.{Ascends, ascends-at}
 use Rattle.index.specs.Views.{leafPlaces}
 use Rattle.index.specs.Nearing.{Took}

@@ -6,7 +6,8 @@ use mathlib.Core.Path.{_≡_, refl, sym, ap, _∙_}
 use mathlib.Core.Logic.{⊎-elim}
 use mathlib.Core.List.{List, [], _∷_, _++_, map}
 use lib.ListN.{length, take, drop, getD}
-use Rattle.lists.specs.Tests.{less, cases}
+use Rattle.lists.specs.Tests.{less}
+use Rattle.lists.specs.TestLaws.{cases}
 use Rattle.spec.specs.Leaves.{Leaf, firstLeaf, aroundFrom, around, leafOf}
 use Rattle.laws.specs.SettleLaws.{around-own}
 use Rattle.index.specs.Views.{paired}

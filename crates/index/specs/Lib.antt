@@ -5,6 +5,7 @@ pub mod Searches
 pub mod RecordLaws
 pub mod LeafPlaces
 pub mod LeafColumns
+pub mod LeafColumnLaws
 pub mod LeafViews
 pub mod Settles
 pub mod SettleRows

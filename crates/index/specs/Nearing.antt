@@ -4,8 +4,12 @@ use native.Mathlib.Nat.{le-refl}
 use native.Mathlib.Omega.{arith}
 use mathlib.Core.Path.{_≡_, sym, subst}
 use mathlib.Core.Logic.{_⊎_, ⊎-elim}
-use Rattle.lists.specs.Halving.{Narrowing, narrow-start, narrow-on, narrow-stay, narrow-end}
+use Rattle.lists.specs.Halving.{Narrowing, narrow-start, narrow-few, narrow-on, narrow-stay, narrow-end}
 use Rattle.index.specs.Views.{recordPlaces}
+
+-- so many records or leaves are few
+abbrev pub few : ℕ
+few = 128
 
 -- r is where a step from the base leads in the search for p: on if it does not pass p
 pub record Took (p base step r : ℕ) : Type 0 where
@@ -24,6 +28,10 @@ pub near-start : {p r : ℕ} → Took p 0 recordPlaces r → r ≤ 0 → Nearing
 near-start {p} {r} t s =
     let h : p < recordPlaces = ⊎-elim (λ (b : (r ≡ 0 + recordPlaces) × (0 + recordPlaces ≤ p)). let e = b .0 in absurd (omega arith)) (λ (b : (r ≡ 0) × (p < 0 + recordPlaces)). b .1) (t .led) in
     record { near = narrow-stay (omega arith) (narrow-start p (omega arith)) h; inside = le-refl recordPlaces }
+
+-- the place is one of the first few
+pub near-few : {p : ℕ} → p < few → Nearing p 0 (few / 2)
+near-few {p} h = record { near = narrow-few p h; inside = omega arith }
 
 pub near-on : {p base step r : ℕ} → 0 < step → Nearing p base step → Took p base step r → Nearing p r (step / 2)
 near-on {p} {base} {step} {r} h n t =

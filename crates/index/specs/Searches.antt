@@ -5,7 +5,8 @@ use mathlib.Core.Path.{_≡_, sym, ap, _∙_}
 use mathlib.Core.Logic.{_⊎_, inl, inr, ⊎-elim}
 use mathlib.Core.List.{List}
 use lib.ListN.{length, getD}
-use Rattle.lists.specs.Tests.{pick, both, less, atMost, cases, less-true, less-false, less-yes, less-no, atMost-true, atMost-false, atMost-yes, atMost-no}
+use Rattle.lists.specs.Tests.{pick, both, less, atMost}
+use Rattle.lists.specs.TestLaws.{cases, less-true, less-false, less-yes, less-no, atMost-true, atMost-false, atMost-yes, atMost-no}
 use Rattle.lists.specs.Rows.{Row, Rising}
 use Rattle.lists.specs.Places.{place, place-most, place-below, place-above}
 use Rattle.spec.specs.Records.{Record}

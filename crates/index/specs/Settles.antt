@@ -7,7 +7,8 @@ use mathlib.Core.Logic.{_⊎_, inl, inr, ⊎-elim}
 use mathlib.Core.List.{List, [], _∷_, _++_, append-assoc}
 use lib.ListN.{length, take, drop, getD, set, length-drop, length-set}
 use lib.Seq.{length-take-le, getD-take, set-split, split-at, set-append-left, take-set-lt}
-use Rattle.lists.specs.Shifts.{tab, tabFrom, tab-cons, tab-same, length-tab, over, moved, spread, taken-out}
+use Rattle.lists.specs.Tabulation.{tab, tabFrom}
+use Rattle.lists.specs.Shifts.{tab-cons, tab-same, length-tab, over, moved, spread, taken-out}
 use Rattle.spec.specs.Records.{Settings, standard}
 use Rattle.spec.specs.Leaves.{Leaf, around, freshLeaves, newLows, widened, settled, settle, versionsTaken}
 use Rattle.laws.specs.LeafCuts.{taken-some}

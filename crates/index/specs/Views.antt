@@ -5,7 +5,7 @@ use mathlib.Core.List.{List, [], _∷_}
 use mathlib.Core.Option.{Option, none, some}
 use lib.ListN.{take, drop, getD, set}
 use Rattle.lists.specs.Rows.{Row, row, keys, Rising}
-use Rattle.lists.specs.Shifts.{tab}
+use Rattle.lists.specs.Tabulation.{tab}
 use Rattle.lists.specs.Places.{place}
 use Rattle.spec.specs.Records.{standard, Record}
 use Rattle.spec.specs.Leaves.{Leaf}

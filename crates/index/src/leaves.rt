@@ -1,4 +1,5 @@
 // Rows of words: all that touches the words of leaves, and the search among them.
+use crate::FEW;
 use crate::LEAF_WORDS;
 use crate::Leaves;
 use spec::Address;
@@ -8,7 +9,8 @@ ghost use Prim.Native.Nat.{_+_, _<_, _≤_};
 ghost use lib.ListN.{length, take};
 ghost use Rattle.lists.specs.Shifts.{moved};
 ghost use Rattle.index.specs.Views.{recordPlaces, leafPlaces};
-ghost use Rattle.index.specs.LeafPlaces.{Listed, AtLeaf, probedLow};
+ghost use Rattle.index.specs.Nearing.{Nearing};
+ghost use Rattle.index.specs.LeafPlaces.{Listed, AtLeaf, lowPlace, probedLow};
 ghost use Rattle.index.specs.LeafColumns.{lowsOf, leafAt, leafPut};
 
 // A leaf in words: its low and its version (document 01: mark), and the phantomlet's numbers of the entries outside of the
@@ -104,23 +106,36 @@ fn probe(leaves: &Leaves, m: usize, key: u64, base: usize, step: usize) -> usize
     base
 }
 
-// The place of the leaf that holds an address. The last place of all is tried first; the steps that find the others are
-// the same for every count of leaves.
+// The place of the leaf that holds an address, by steps from half of the places on which it can be.
+fn descend(leaves: &Leaves, m: usize, key: u64, half: usize) -> usize
+    requires { ⌜ Listed (lowsOf (now leaves)) m ⌝ }
+    requires { ⌜ Nearing (lowPlace key (take m (lowsOf (now leaves)))) 0 half ⌝ }
+    ensures { λ r. ⌜ AtLeaf (lowsOf (now (leaves .entry))) m key r ⌝ }
+{
+    leaf_places(leaves);
+    let mut base = 0;
+    let mut step = half;
+    while 0 < step {
+        base = probe(leaves, m, key, base, step);
+        step = step / 2;
+    }
+    base
+}
+
+// The place of the leaf that holds an address. Few leaves take fewer steps; else the last place of all is tried first. For
+// each of the two the steps are always the same.
 pub fn find_leaf(leaves: &Leaves, m: usize, a: Address) -> usize
     requires { ⌜ Listed (lowsOf (now leaves)) m ⌝ }
     ensures { λ r. ⌜ AtLeaf (lowsOf (now (leaves .entry))) m a r ⌝ }
 {
     leaf_places(leaves);
     let key = a as u64;
+    if m <= FEW {
+        return descend(leaves, m, key, FEW / 2);
+    }
     let last = probe(leaves, m, key, 0, MAP_LIMIT);
     if 0 < last {
         return last;
     }
-    let mut base = 0;
-    let mut step = MAP_LIMIT / 2;
-    while 0 < step {
-        base = probe(leaves, m, key, base, step);
-        step = step / 2;
-    }
-    base
+    descend(leaves, m, key, MAP_LIMIT / 2)
 }

@@ -4,6 +4,7 @@
 // reads and writes the leaves' words, and nothing else touches them, moves leaves, and finds the leaf of an address;
 // `settles` settles leaves after a merge.
 use spec::MAP_LIMIT;
+use spec::RUN;
 
 pub mod leaves;
 pub mod records;
@@ -15,6 +16,9 @@ pub const RECORD_WORDS: usize = 3;
 
 // The records, a row each.
 pub type Records = [[u64; RECORD_WORDS]; MAP_LIMIT];
+
+// So many records or leaves are few: a search among them takes fewer steps. A full index in runs has no more leaves.
+const FEW: usize = MAP_LIMIT / RUN;
 
 // How many leaves there is room for: the first, and one for each record.
 pub const LEAVES: usize = MAP_LIMIT + 1;

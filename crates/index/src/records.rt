@@ -1,4 +1,5 @@
 // The records: look-up, put and drop by address.
+use crate::FEW;
 use crate::Records;
 use crate::rows;
 use crate::rows::RecordRow;
@@ -10,7 +11,9 @@ ghost use Prim.Native.Nat.{_+_, _<_, _≤_};
 ghost use mathlib.Core.List.{_∷_, _++_};
 ghost use lib.ListN.{length, take, drop};
 ghost use Rattle.lists.specs.Rows.{look, assign};
+ghost use Rattle.lists.specs.Places.{place};
 ghost use Rattle.index.specs.Views.{recordPlaces, RecordsSorted, RecordsAre, recordsOf, recordFrom, rowOf, foundOf, AtPlace};
+ghost use Rattle.index.specs.Nearing.{Nearing};
 ghost use Rattle.index.specs.Searches.{probed};
 
 // What a look-up finds.
@@ -36,24 +39,36 @@ fn probe(rows: &Records, n: usize, key: u64, base: usize, step: usize) -> usize
     base
 }
 
-// How many records have a smaller address: the place of the address, or where it would go. The end of a full index is
-// tried first; the steps that find the other places are the same for every count.
-pub fn locate(rows: &Records, n: usize, a: Address) -> usize
+// How many records have a smaller address, by steps from half of the places on which the address can be.
+fn descend(rows: &Records, n: usize, key: u64, half: usize) -> usize
     requires { ⌜ RecordsSorted (now rows) n ⌝ }
-    ensures { λ r. ⌜ AtPlace (now (rows .entry)) n a r ⌝ }
+    requires { ⌜ Nearing (place key (recordsOf (now rows) n)) 0 half ⌝ }
+    ensures { λ r. ⌜ AtPlace (now (rows .entry)) n key r ⌝ }
 {
-    let key = a as u64;
-    let end = probe(rows, n, key, 0, MAP_LIMIT);
-    if 0 < end {
-        return end;
-    }
     let mut base = 0;
-    let mut step = MAP_LIMIT / 2;
+    let mut step = half;
     while 0 < step {
         base = probe(rows, n, key, base, step);
         step = step / 2;
     }
     base
+}
+
+// How many records have a smaller address: the place of the address, or where it would go. Few records take fewer steps;
+// else the end of a full index is tried first. For each of the two the steps are always the same.
+pub fn locate(rows: &Records, n: usize, a: Address) -> usize
+    requires { ⌜ RecordsSorted (now rows) n ⌝ }
+    ensures { λ r. ⌜ AtPlace (now (rows .entry)) n a r ⌝ }
+{
+    let key = a as u64;
+    if n < FEW {
+        return descend(rows, n, key, FEW / 2);
+    }
+    let end = probe(rows, n, key, 0, MAP_LIMIT);
+    if 0 < end {
+        return end;
+    }
+    descend(rows, n, key, MAP_LIMIT / 2)
 }
 
 // The record at an address.

@@ -7,11 +7,12 @@ use mathlib.Core.List.{List, []}
 use mathlib.Core.Option.{Option, none, some}
 use lib.ListN.{length, getD, set, replicate, length-replicate, getD-replicate}
 use lib.Seq.{ext-getD}
-use Rattle.lists.specs.Tests.{pick, present, clash}
+use Rattle.lists.specs.Tests.{pick, present}
+use Rattle.lists.specs.TestLaws.{clash}
 use Rattle.lists.specs.Rows.{Row, row, look}
-use Rattle.spec.specs.Slots.{slotCount, homeSlot, Content, isIdle, Slot, emptySlot, emptySlots, entries, search, take, release, enter}
+use Rattle.spec.specs.Slots.{slotCount, homeSlot, Content, isIdle, Slot, emptySlot, emptySlots, entries, search, take, release, enter, kept}
 use Rattle.laws.specs.SlotCounts.{Good, absent-count, entries-most}
-use Rattle.laws.specs.SlotChanges.{kept, release-none, distance-absent, rewrite-at}
+use Rattle.laws.specs.SlotChanges.{release-none, distance-absent, rewrite-at}
 use Rattle.laws.specs.SlotLaws.{Room, goes, stands, fits, enter-idle, enter-present, enter-absent, enter-good, count-enter, fresh-good, kept-entry, content-none, content-some}
 use Rattle.laws.specs.Searches.{search-finds}
 use Rattle.indexlet.specs.declared.Content.{Content as ContentWords}

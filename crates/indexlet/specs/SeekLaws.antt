@@ -8,7 +8,8 @@ use mathlib.Core.Bool.{Bool, true, false}
 use mathlib.Core.List.{List}
 use mathlib.Core.Option.{none, some}
 use lib.ListN.{length, getD}
-use Rattle.lists.specs.Tests.{pick, present, same, cases, same-true, same-false, same-yes, same-no}
+use Rattle.lists.specs.Tests.{pick, present, same}
+use Rattle.lists.specs.TestLaws.{cases, same-true, same-false, same-yes, same-no}
 use Rattle.lists.specs.Rows.{Row, look}
 use Rattle.spec.specs.Slots.{slotCount, homeSlot, Content, Slot, emptySlot, entries, slotAt, holds, Searched, searchFrom, search}
 use Rattle.laws.specs.Probes.{gap}

@@ -5,7 +5,8 @@ use mathlib.Core.Path.{_≡_, refl, sym, ap, _∙_, subst}
 use mathlib.Core.List.{List}
 use lib.ListN.{getD}
 use lib.Bits.{bitXor, xor-lt}
-use Rattle.lists.specs.Shifts.{tabFrom, tab, getD-tab}
+use Rattle.lists.specs.Tabulation.{tabFrom, tab}
+use Rattle.lists.specs.Shifts.{getD-tab}
 use Rattle.spec.specs.Slots.{slotCount, tableEntry, byteOf, homeFrom, homeSlot}
 
 -- the table as a list. antt computes it where it meets the literal of the code: that is the test of all 256 numbers.

@@ -9,12 +9,13 @@ use mathlib.Core.Bool.{Bool, true, false}
 use mathlib.Core.List.{List}
 use mathlib.Core.Option.{Option, none, some}
 use lib.ListN.{length, set}
-use Rattle.lists.specs.Tests.{pick, same, cases, clash, same-true, same-false}
+use Rattle.lists.specs.Tests.{pick, same}
+use Rattle.lists.specs.TestLaws.{cases, clash, same-true, same-false}
 use Rattle.lists.specs.Rows.{Row, row}
-use Rattle.spec.specs.Slots.{slotCount, homeSlot, Content, isIdle, Slot, entries, slotAt, vacant, holds, distance, setSlot, countPassed, withEntry, take, release}
+use Rattle.spec.specs.Slots.{slotCount, homeSlot, Content, isIdle, Slot, entries, slotAt, vacant, holds, distance, setSlot, countPassed, withEntry, take, release, kept}
 use Rattle.laws.specs.Probes.{gap-less, home-less, counted, First, distance-some, distance-first, countPassed-next, countPassed-ahead}
 use Rattle.laws.specs.SlotCounts.{overflow-most}
-use Rattle.laws.specs.SlotChanges.{kept, vacancy, take-at, release-at, distance-place}
+use Rattle.laws.specs.SlotChanges.{vacancy, take-at, release-at, distance-place}
 use Rattle.laws.specs.Searches.{passed-counts}
 use Rattle.indexlet.specs.declared.Content.{Content as ContentWords}
 use Rattle.indexlet.specs.declared.Slot.{Slot as SlotWords}

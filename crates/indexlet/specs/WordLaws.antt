@@ -10,7 +10,8 @@ use lib.Dec.{eqb}
 use lib.ListN.{length, getD, set, length-set}
 use lib.Seq.{getD-set-same, getD-set-other, ext-getD}
 use borrow.Author.Tests.{ne-eqb}
-use Rattle.lists.specs.Tests.{pick, both, maybe, present, same, cases, same-true, same-false, same-yes, same-no}
+use Rattle.lists.specs.Tests.{pick, both, maybe, present, same}
+use Rattle.lists.specs.TestLaws.{cases, same-true, same-false, same-yes, same-no}
 use Rattle.lists.specs.Rows.{Row, row}
 use Rattle.lists.specs.Shifts.{length-tab, getD-tab}
 use Rattle.spec.specs.Slots.{slotCount, Content, isIdle, emptySlot, slotAt, vacant, holds}

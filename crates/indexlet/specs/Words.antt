@@ -4,10 +4,9 @@ use Prim.Native.Nat.{ℕ, zero, suc}
 use mathlib.Core.List.{List, [], _∷_}
 use mathlib.Core.Option.{Option, none, some}
 use lib.ListN.{getD, set}
-use Rattle.lists.specs.Shifts.{tab}
+use Rattle.lists.specs.Tabulation.{tab}
 use Rattle.spec.specs.Records.{written, deleted}
-use Rattle.spec.specs.Slots.{slotCount, Pending, Content, Slot}
-use Rattle.laws.specs.SlotChanges.{kept}
+use Rattle.spec.specs.Slots.{slotCount, Pending, Content, Slot, kept}
 use Rattle.indexlet.specs.declared.Content.{Content as ContentWords}
 use Rattle.indexlet.specs.declared.Slot.{Slot as SlotWords}
 

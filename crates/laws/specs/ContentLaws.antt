@@ -5,7 +5,8 @@ use mathlib.Core.Path.{_≡_, refl, sym, ap, _∙_}
 use mathlib.Core.Logic.{_⊎_, ⊎-elim}
 use mathlib.Core.List.{List, [], _∷_, map}
 use mathlib.Core.Option.{Option, none, some, Option·getD, Option·map}
-use Rattle.lists.specs.Tests.{pick, both, maybe, present, same, within, cases, clash, same-true, same-false}
+use Rattle.lists.specs.Tests.{pick, both, maybe, present, same, within}
+use Rattle.lists.specs.TestLaws.{cases, clash, same-true, same-false}
 use Rattle.lists.specs.Rows.{Row, row, look, between, keys, Rising, Different}
 use Rattle.lists.specs.RowLaws.{has-keys, look-here, look-there, look-nil, look-lay, look-between, rising-lay}
 use Rattle.spec.specs.Records.{Record}

@@ -4,7 +4,8 @@ use mathlib.Core.Path.{_≡_, refl, ap, _∙_}
 use mathlib.Core.Logic.{⊎-elim}
 use mathlib.Core.List.{List}
 use mathlib.Core.Option.{Option, none, some}
-use Rattle.lists.specs.Tests.{maybe, cases}
+use Rattle.lists.specs.Tests.{maybe}
+use Rattle.lists.specs.TestLaws.{cases}
 use Rattle.lists.specs.Rows.{Row, look, has}
 use Rattle.spec.specs.Records.{Settings, Record, Write, outcome}
 use Rattle.spec.specs.Slots.{Pending, Content, contentOf}

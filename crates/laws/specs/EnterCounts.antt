@@ -6,11 +6,12 @@ use mathlib.Core.Logic.{_⊎_, ⊎-elim}
 use mathlib.Core.Bool.{Bool, true, false}
 use mathlib.Core.List.{List}
 use mathlib.Core.Option.{Option, none, some, Option·getD}
-use Rattle.lists.specs.Tests.{pick, same, cases, same-true, same-false, same-refl}
+use Rattle.lists.specs.Tests.{pick, same}
+use Rattle.lists.specs.TestLaws.{cases, same-true, same-false, same-refl}
 use Rattle.lists.specs.Rows.{Row, row, look}
-use Rattle.spec.specs.Slots.{Content, idle, isIdle, Slot, entries, contentOf, enter}
+use Rattle.spec.specs.Slots.{Content, idle, isIdle, Slot, entries, contentOf, enter, kept}
 use Rattle.laws.specs.SlotCounts.{Good, entryAt, count, keyed, look-absent, slot-member}
-use Rattle.laws.specs.SlotChanges.{changed-tally, kept, Entered}
+use Rattle.laws.specs.SlotChanges.{changed-tally, Entered}
 use Rattle.laws.specs.Entering.{Room, Entering, entering}
 use Rattle.laws.specs.SlotLaws.{member-content}
 

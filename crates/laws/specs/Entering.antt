@@ -7,12 +7,13 @@ use mathlib.Core.Bool.{Bool, true, false}
 use mathlib.Core.List.{List}
 use mathlib.Core.Option.{Option, none, some}
 use lib.ListN.{length, getD, replicate, length-replicate, getD-replicate, List·getD-eq-default}
-use Rattle.lists.specs.Tests.{pick, present, same, less, cases, clash, same-true, same-false, same-yes, same-no, less-true, less-false}
+use Rattle.lists.specs.Tests.{pick, present, same, less}
+use Rattle.lists.specs.TestLaws.{cases, clash, same-true, same-false, same-yes, same-no, less-true, less-false}
 use Rattle.lists.specs.Rows.{Row, row, look}
 use Rattle.lists.specs.Sums.{total-none}
 use Rattle.lists.specs.Options.{both-options, some-same}
-use Rattle.spec.specs.Slots.{slotCount, homeSlot, Content, isIdle, Slot, emptySlot, emptySlots, entries, take, release, rewrite, enter}
-use Rattle.laws.specs.SlotChanges.{changed-tally, kept, Entered, release-none, distance-absent, take-entered, release-entered, rewrite-entered}
+use Rattle.spec.specs.Slots.{slotCount, homeSlot, Content, isIdle, Slot, emptySlot, emptySlots, entries, take, release, rewrite, enter, kept}
+use Rattle.laws.specs.SlotChanges.{changed-tally, Entered, release-none, distance-absent, take-entered, release-entered, rewrite-entered}
 use Rattle.laws.specs.SlotCounts.{entryAt, tally, count, keyed, passing, lookup, absent-count, present-place}
 use Rattle.laws.specs.SlotCounts.{Good}
 

@@ -7,7 +7,8 @@ use mathlib.Core.Logic.{_⊎_, ⊎-elim}
 use mathlib.Core.Bool.{true}
 use mathlib.Core.List.{List, [], _∷_, _++_, List·Memᴰ}
 use lib.ListN.{length, drop, getD, length-drop}
-use Rattle.lists.specs.Tests.{less, atMost, cases, clash, less-false, less-yes, less-no, atMost-yes}
+use Rattle.lists.specs.Tests.{less, atMost}
+use Rattle.lists.specs.TestLaws.{cases, clash, less-false, less-yes, less-no, atMost-yes}
 use Rattle.lists.specs.Ascending.{Ascends, ascends-at, ascends-drop, ascends-mem, mem-getD, mem-drop}
 use Rattle.spec.specs.Records.{Settings, standard}
 use Rattle.spec.specs.Leaves.{Leaf, leafFrom, live, runs, cuts, starts, newLows, freshLeaves, versionsTaken}

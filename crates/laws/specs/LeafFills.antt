@@ -7,7 +7,8 @@ use mathlib.Core.Logic.{⊎-elim}
 use mathlib.Core.Bool.{Bool, true, false}
 use mathlib.Core.List.{List, [], _∷_, _++_, map, tail, List·Memᴰ, Memᴰ·map, Memᴰ·cast}
 use lib.ListN.{length, length-map}
-use Rattle.lists.specs.Tests.{pick, same, less, cases, clash, same-no, less-true, less-false}
+use Rattle.lists.specs.Tests.{pick, same, less}
+use Rattle.lists.specs.TestLaws.{cases, clash, same-no, less-true, less-false}
 use Rattle.lists.specs.Rows.{Row, keys, any, has, Different}
 use Rattle.lists.specs.RowLaws.{length-keys}
 use Rattle.lists.specs.Counting.{has-nil, has-cons}

@@ -6,7 +6,8 @@ use mathlib.Core.Path.{_≡_, refl, sym, ap, _∙_}
 use mathlib.Core.Logic.{_⊎_, inl, inr, ⊎-elim}
 use mathlib.Core.Bool.{true, false}
 use mathlib.Core.List.{List, [], _∷_, _++_, append-nil}
-use Rattle.lists.specs.Tests.{pick, same, less, cases, clash, same-true, same-yes, less-true, less-false, less-yes, less-no}
+use Rattle.lists.specs.Tests.{pick, same, less}
+use Rattle.lists.specs.TestLaws.{cases, clash, same-true, same-yes, less-true, less-false, less-yes, less-no}
 use Rattle.lists.specs.Rows.{any}
 use Rattle.spec.specs.Leaves.{Leaf, leafFrom, leafOf, live}
 

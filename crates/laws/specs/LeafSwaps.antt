@@ -6,7 +6,7 @@ use mathlib.Core.Path.{_≡_, sym, ap, _∙_, subst}
 use mathlib.Core.Logic.{_⊎_, ⊎-elim}
 use mathlib.Core.Bool.{Bool, true, false}
 use mathlib.Core.List.{List, [], _∷_, _++_}
-use Rattle.lists.specs.Tests.{clash}
+use Rattle.lists.specs.TestLaws.{clash}
 use Rattle.spec.specs.Leaves.{Leaf, leafFrom, leafOf, versionAt, live}
 use Rattle.laws.specs.LeafParts.{LowsFrom, Covers, Above, Reached, Apart, Side, below, inside, beyond, sideOf, lows-exchange, live-left, live-right, live-parts, not-live, apart-left, apart-right, apart-cross, apart-join, leaf-live, leaf-below, leaf-from, leaf-inside, leaf-beyond}
 use Rattle.laws.specs.LeafVersions.{GoodLeaves}

@@ -6,7 +6,8 @@ use mathlib.Core.Path.{_≡_, refl, sym, ap, _∙_, subst}
 use mathlib.Core.Logic.{_⊎_, inl, inr, ⊎-elim}
 use mathlib.Core.Bool.{true}
 use mathlib.Core.List.{List, [], _∷_, _++_, List·Memᴰ, List·Memᴰ·head, List·Memᴰ·tail, Memᴰ·map, Memᴰ·of-map}
-use Rattle.lists.specs.Tests.{less, cases, clash, less-true, less-false, less-yes, atMost-yes}
+use Rattle.lists.specs.Tests.{less}
+use Rattle.lists.specs.TestLaws.{cases, clash, less-true, less-false, less-yes, atMost-yes}
 use Rattle.lists.specs.Rows.{filter}
 use Rattle.lists.specs.Ascending.{filter-mem, mem-filter}
 use Rattle.spec.specs.Leaves.{Leaf, firstLeaf, leafFrom, leafOf, versionAt, live, startsIn, meeting}

@@ -11,7 +11,8 @@ use mathlib.Core.Bool.{Bool, true, false, not}
 use mathlib.Core.List.{List, [], _∷_, _++_, List·Memᴰ}
 use mathlib.Core.Option.{Option, none, some}
 use lib.ListN.{length}
-use Rattle.lists.specs.Tests.{pick, both, maybe, present, same, cases, clash, same-false}
+use Rattle.lists.specs.Tests.{pick, both, maybe, present, same}
+use Rattle.lists.specs.TestLaws.{cases, clash, same-false}
 use Rattle.lists.specs.Rows.{Row, look, keys, has, filter, distinct, Rising}
 use Rattle.lists.specs.RowLaws.{has-keys, length-keys, rising-nil, rising-different}
 use Rattle.lists.specs.Ascending.{mem-filter, mem-keys, keys-mem}

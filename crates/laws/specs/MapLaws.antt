@@ -8,7 +8,8 @@ use mathlib.Core.Bool.{Bool, true, false, not}
 use mathlib.Core.List.{List, [], _∷_, _++_}
 use mathlib.Core.Option.{Option, none, some}
 use lib.ListN.{length}
-use Rattle.lists.specs.Tests.{pick, both, either, maybe, present, same, cases, clash, same-true, same-false, same-yes, same-no}
+use Rattle.lists.specs.Tests.{pick, both, either, maybe, present, same}
+use Rattle.lists.specs.TestLaws.{cases, clash, same-true, same-false, same-yes, same-no}
 use Rattle.lists.specs.Rows.{Row, look, keys, has, distinct, Different}
 use Rattle.lists.specs.RowLaws.{has-keys, length-keys, look-here, look-there}
 use Rattle.lists.specs.Counting.{has-nil, has-cons, has-append, Within, distinct-within, different-within}

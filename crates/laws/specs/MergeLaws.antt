@@ -7,7 +7,8 @@ use mathlib.Core.Logic.{_⊎_, ⊎-elim}
 use mathlib.Core.Bool.{Bool, true, false}
 use mathlib.Core.List.{List, [], _∷_}
 use mathlib.Core.Option.{Option, none}
-use Rattle.lists.specs.Tests.{pick, both, maybe, present, same, cases, clash, same-true, same-false, same-yes, same-no}
+use Rattle.lists.specs.Tests.{pick, both, maybe, present, same}
+use Rattle.lists.specs.TestLaws.{cases, clash, same-true, same-false, same-yes, same-no}
 use Rattle.lists.specs.Rows.{Row, look, keys, has, filter, Rising}
 use Rattle.lists.specs.RowLaws.{look-assign, rising-assign}
 use Rattle.lists.specs.Counting.{has-nil, has-cons}

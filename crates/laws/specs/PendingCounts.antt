@@ -8,7 +8,8 @@ use mathlib.Core.Bool.{Bool, true, false}
 use mathlib.Core.List.{List, [], _∷_, _++_}
 use mathlib.Core.Option.{Option, none, some, Option·getD}
 use lib.ListN.{length, length-append}
-use Rattle.lists.specs.Tests.{pick, maybe, present, same, cases, clash, same-true}
+use Rattle.lists.specs.Tests.{pick, maybe, present, same}
+use Rattle.lists.specs.TestLaws.{cases, clash, same-true}
 use Rattle.lists.specs.Rows.{Row, row, look, keys, has, Different}
 use Rattle.lists.specs.RowLaws.{has-keys, length-keys}
 use Rattle.lists.specs.Counting.{Within, has-here, has-cons}

@@ -9,7 +9,8 @@ use mathlib.Core.List.{List}
 use mathlib.Core.Option.{none, some}
 use lib.ListN.{length, getD, set, length-set}
 use lib.Seq.{getD-set-same, getD-set-other, ext-getD}
-use Rattle.lists.specs.Tests.{pick, same, less, cases, same-true, same-false, less-yes, less-no, less-true, less-false}
+use Rattle.lists.specs.Tests.{pick, same, less}
+use Rattle.lists.specs.TestLaws.{cases, same-true, same-false, less-yes, less-no, less-true, less-false}
 use Rattle.lists.specs.Options.{both-options, some-same}
 use Rattle.spec.specs.Slots.{slotCount, tableEntry, homeFrom, homeSlot, Slot, emptySlot, slotAt, setSlot, countPassed, distance}
 

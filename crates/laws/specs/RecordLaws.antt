@@ -3,7 +3,8 @@ use Prim.Native.Nat.{ℕ}
 use mathlib.Core.Path.{_≡_, refl, ap, _∙_}
 use mathlib.Core.Bool.{Bool, true, false}
 use mathlib.Core.Option.{Option, none, some}
-use Rattle.lists.specs.Tests.{both, same, clash, same-true, same-refl}
+use Rattle.lists.specs.Tests.{both, same}
+use Rattle.lists.specs.TestLaws.{clash, same-true, same-refl}
 use Rattle.spec.specs.Records.{Payload, Record, samePayload, sameRecord}
 
 pub both-left : (a b : Bool) → both a b ≡ true → a ≡ true

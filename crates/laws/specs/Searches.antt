@@ -7,7 +7,8 @@ use mathlib.Core.Bool.{Bool, true, false}
 use mathlib.Core.List.{List}
 use mathlib.Core.Option.{none, some}
 use lib.ListN.{length, getD}
-use Rattle.lists.specs.Tests.{pick, same, cases, same-true, same-false, same-yes, same-no, less-yes}
+use Rattle.lists.specs.Tests.{pick, same}
+use Rattle.lists.specs.TestLaws.{cases, same-true, same-false, same-yes, same-no, less-yes}
 use Rattle.lists.specs.Rows.{Row, look}
 use Rattle.lists.specs.Sums.{total-at}
 use Rattle.spec.specs.Slots.{slotCount, homeSlot, Content, Slot, emptySlot, entries, slotAt, holds, Searched, searchAt, searchFrom, search}

@@ -7,7 +7,8 @@ use mathlib.Core.Logic.{_⊎_, ⊎-elim}
 use mathlib.Core.Bool.{Bool, true}
 use mathlib.Core.List.{List, [], _∷_, _++_, append-assoc, tail, List·Memᴰ, List·Memᴰ·head, List·Memᴰ·not-nil}
 use lib.ListN.{length}
-use Rattle.lists.specs.Tests.{same, less, cases, clash, same-true}
+use Rattle.lists.specs.Tests.{same, less}
+use Rattle.lists.specs.TestLaws.{cases, clash, same-true}
 use Rattle.lists.specs.Rows.{Row, Rising, keys, filter}
 use Rattle.lists.specs.Ascending.{Ascends, rising-keys, rising-filter, mem-filter, mem-keys}
 use Rattle.spec.specs.Records.{Settings}

@@ -9,11 +9,12 @@ use mathlib.Core.List.{List, [], _∷_}
 use mathlib.Core.Option.{Option, none, some}
 use lib.ListN.{length, getD, set, length-set}
 use lib.Seq.{getD-set-same, getD-set-other}
-use Rattle.lists.specs.Tests.{pick, maybe, present, same, less, cases, clash, same-true, same-false}
+use Rattle.lists.specs.Tests.{pick, maybe, present, same, less}
+use Rattle.lists.specs.TestLaws.{cases, clash, same-true, same-false}
 use Rattle.lists.specs.Rows.{Row, row}
 use Rattle.lists.specs.Sums.{total, total-at, total-short, total-change}
 use Rattle.lists.specs.Options.{options}
-use Rattle.spec.specs.Slots.{slotCount, homeSlot, Content, isIdle, Slot, emptySlot, entries, slotAt, vacant, holds, distance, setSlot, countPassed, withEntry, take, release, rewrite}
+use Rattle.spec.specs.Slots.{slotCount, homeSlot, Content, isIdle, Slot, emptySlot, entries, slotAt, vacant, holds, distance, setSlot, countPassed, withEntry, take, release, rewrite, kept}
 use Rattle.laws.specs.Probes.{gap, gap-less, gap-at, gap-back, home-less, length-countPassed, at-countPassed, First, distance-some, distance-none, distance-first}
 use Rattle.laws.specs.SlotCounts.{entryAt, tally, count, filled, keyed, passing, Good, count-cons, keyed-here, keyed-there, length-entries, Place, keyed-holds, holds-yes, holds-no, only-here, absent-slot}
 
@@ -92,10 +93,6 @@ module _ (f : ℕ → ℕ) (ss : List Slot) (h d : ℕ) (full : length ss ≡ sl
           ∙ ap (λ (n : ℕ). getD (countPassed f ss h d) n emptySlot .overflow) (sym ip)
 
 -- ---- the three changes
-
--- the entry of k that says c
-abbrev pub kept : ℕ → Content → Option (Row Content)
-kept k c = pick (isIdle c) none (some (row k c))
 
 -- What `enter` does where it changes anything: one slot's entry, which was that of k or none, becomes that of k or none.
 pub record Entered (bytes : ℕ) (ss : List Slot) (k : ℕ) (c : Content) (ts : List Slot) : Type 0 where

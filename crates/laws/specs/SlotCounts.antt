@@ -9,7 +9,8 @@ use mathlib.Core.Bool.{Bool, true, false}
 use mathlib.Core.List.{List, [], _∷_, List·Memᴰ, List·Memᴰ·head, List·Memᴰ·tail, List·Memᴰ·cases-cons, List·Memᴰ·not-nil}
 use mathlib.Core.Option.{Option, none, some}
 use lib.ListN.{length, getD}
-use Rattle.lists.specs.Tests.{pick, maybe, present, same, less, cases, clash, same-true, same-yes, same-no, less-true, less-false}
+use Rattle.lists.specs.Tests.{pick, maybe, present, same, less}
+use Rattle.lists.specs.TestLaws.{cases, clash, same-true, same-yes, same-no, less-true, less-false}
 use Rattle.lists.specs.Rows.{Row, look}
 use Rattle.lists.specs.RowLaws.{look-here, look-there, look-nil}
 use Rattle.lists.specs.Sums.{total, total-at, total-two, total-some, total-most}

@@ -8,14 +8,15 @@ use mathlib.Core.Bool.{Bool, true, false, not}
 use mathlib.Core.List.{List, [], _∷_, List·Memᴰ}
 use mathlib.Core.Option.{Option, none, some, Option·getD}
 use lib.ListN.{length}
-use Rattle.lists.specs.Tests.{pick, both, maybe, present, same, cases, clash, same-true, same-false, same-no}
+use Rattle.lists.specs.Tests.{pick, both, maybe, present, same}
+use Rattle.lists.specs.TestLaws.{cases, clash, same-true, same-false, same-no}
 use Rattle.lists.specs.Rows.{Row, row, look, keys, any, has}
 use Rattle.lists.specs.Members.{look-member}
 use Rattle.lists.specs.Sums.{total}
 use Rattle.lists.specs.Options.{options}
-use Rattle.spec.specs.Slots.{Pending, Content, idle, isIdle, Slot, entries, contentOf, enter}
+use Rattle.spec.specs.Slots.{Pending, Content, idle, isIdle, Slot, entries, contentOf, enter, kept}
 use Rattle.lists.specs.Rows.{Different}
-use Rattle.laws.specs.SlotChanges.{changed-tally, kept, Entered}
+use Rattle.laws.specs.SlotChanges.{changed-tally, Entered}
 use Rattle.laws.specs.SlotCounts.{entryAt, tally, count, keyed, entries-some, entries-none, count-cons, keyed-here, look-absent, look-held, Place, member-slot, lookup}
 pub use Rattle.laws.specs.SlotCounts.{Good}
 pub use Rattle.laws.specs.Searches.{search-finds}

@@ -8,8 +8,10 @@ use mathlib.Core.Logic.{_⊎_, ⊎-elim}
 use mathlib.Core.List.{List, [], _∷_}
 use lib.ListN.{length, drop, getD}
 use lib.Seq.{getD-drop}
-use Rattle.lists.specs.Tests.{less, cases, less-true, less-false, atMost-yes, atMost-no}
-use Rattle.lists.specs.Shifts.{tab, tabFrom, tab-cons, length-tab}
+use Rattle.lists.specs.Tests.{less}
+use Rattle.lists.specs.TestLaws.{cases, less-true, less-false, atMost-yes, atMost-no}
+use Rattle.lists.specs.Tabulation.{tab, tabFrom}
+use Rattle.lists.specs.Shifts.{tab-cons, length-tab}
 use Rattle.spec.specs.Records.{standard}
 use Rattle.spec.specs.Leaves.{runs, cuts, starts, newLows, versionsTaken}
 use Rattle.laws.specs.LeafCuts.{runs-some, lows-taken}

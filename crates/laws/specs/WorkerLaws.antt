@@ -9,7 +9,8 @@ use mathlib.Core.List.{List, [], _∷_}
 use mathlib.Core.Option.{Option, none, some}
 use lib.ListN.{length, getD, set, replicate}
 use lib.Seq.{getD-set-same, getD-set-other}
-use Rattle.lists.specs.Tests.{pick, either, less, cases, clash, less-true, less-yes}
+use Rattle.lists.specs.Tests.{pick, either, less}
+use Rattle.lists.specs.TestLaws.{cases, clash, less-true, less-yes}
 use Rattle.lists.specs.Rows.{any}
 use Rattle.lists.specs.RowLaws.{some-not-none}
 use Rattle.lists.specs.Options.{some-same}

@@ -4,7 +4,8 @@ use Prim.Native.Nat.{ℕ}
 use mathlib.Core.Path.{_≡_, refl, ap, _∙_}
 use mathlib.Core.Logic.{⊎-elim}
 use mathlib.Core.Option.{Option, none, some}
-use Rattle.lists.specs.Tests.{maybe, cases}
+use Rattle.lists.specs.Tests.{maybe}
+use Rattle.lists.specs.TestLaws.{cases}
 use Rattle.lists.specs.Rows.{look}
 use Rattle.spec.specs.declared.Refusal.{Refusal}
 use Rattle.spec.specs.Refusals.{ends}

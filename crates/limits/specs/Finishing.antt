@@ -6,7 +6,8 @@ use mathlib.Core.Logic.{⊎-elim}
 use mathlib.Core.Bool.{true}
 use mathlib.Core.Option.{Option, none, some}
 use lib.ListN.{length}
-use Rattle.lists.specs.Tests.{present, cases, clash}
+use Rattle.lists.specs.Tests.{present}
+use Rattle.lists.specs.TestLaws.{cases, clash}
 use Rattle.lists.specs.Options.{both-options, some-same}
 use Rattle.lists.specs.Rows.{look}
 use Rattle.lists.specs.RowLaws.{has-keys, rising-different}

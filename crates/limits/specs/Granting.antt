@@ -5,7 +5,8 @@ use mathlib.Core.Logic.{_⊎_, inl, inr, ⊎-elim}
 use mathlib.Core.Bool.{Bool, true, false, not}
 use mathlib.Core.Option.{none}
 use lib.ListN.{length}
-use Rattle.lists.specs.Tests.{both, either, present, less, clash, less-true, less-false}
+use Rattle.lists.specs.Tests.{both, either, present, less}
+use Rattle.lists.specs.TestLaws.{clash, less-true, less-false}
 use Rattle.lists.specs.Rows.{has}
 use Rattle.lists.specs.RowLaws.{has-any}
 use Rattle.spec.specs.declared.Stage.{Stage}

@@ -13,7 +13,8 @@ use mathlib.Core.Bool.{true, false}
 use mathlib.Core.List.{List}
 use mathlib.Core.Option.{some}
 use lib.ListN.{length, replicate, length-replicate}
-use Rattle.lists.specs.Tests.{pick, clash}
+use Rattle.lists.specs.Tests.{pick}
+use Rattle.lists.specs.TestLaws.{clash}
 use Rattle.lists.specs.Options.{both-options}
 use Rattle.lists.specs.Rows.{look, has, Rising}
 use Rattle.lists.specs.RowLaws.{rising-nil}

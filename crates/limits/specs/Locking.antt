@@ -5,7 +5,8 @@ use mathlib.Core.Path.{_≡_, refl, sym, ap, _∙_}
 use mathlib.Core.Logic.{⊎-elim}
 use mathlib.Core.Bool.{Bool, true, false, not}
 use mathlib.Core.Option.{Option, none, some}
-use Rattle.lists.specs.Tests.{pick, maybe, same, cases, clash, same-true, same-false}
+use Rattle.lists.specs.Tests.{pick, maybe, same}
+use Rattle.lists.specs.TestLaws.{cases, clash, same-true, same-false}
 use Rattle.lists.specs.Options.{both-options, some-same}
 use Rattle.lists.specs.Rows.{has}
 use Rattle.spec.specs.declared.Stage.the-variants.{Locked}

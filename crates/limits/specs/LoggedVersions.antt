@@ -8,7 +8,8 @@ use mathlib.Core.List.{List, [], _++_, List·Memᴰ, List·Memᴰ·not-nil, List
 use mathlib.Core.Option.{Option, none, some}
 use lib.ListN.{length, getD, set}
 use lib.Seq.{set-out}
-use Rattle.lists.specs.Tests.{pick, maybe, same, less, cases, same-true, same-false, less-true, less-false}
+use Rattle.lists.specs.Tests.{pick, maybe, same, less}
+use Rattle.lists.specs.TestLaws.{cases, same-true, same-false, less-true, less-false}
 use Rattle.spec.specs.declared.Refusal.{Refusal}
 use Rattle.spec.specs.Refusals.{ends}
 use Rattle.spec.specs.Records.{Settings}

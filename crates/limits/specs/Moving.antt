@@ -7,7 +7,8 @@ use mathlib.Core.Logic.{⊎-elim}
 use mathlib.Core.Bool.{true, false}
 use mathlib.Core.Option.{Option, some}
 use lib.ListN.{length, getD, set, length-set}
-use Rattle.lists.specs.Tests.{pick, same, cases, same-true, same-false}
+use Rattle.lists.specs.Tests.{pick, same}
+use Rattle.lists.specs.TestLaws.{cases, same-true, same-false}
 use Rattle.lists.specs.Rows.{keys, has}
 use Rattle.lists.specs.Sums.{total-set}
 use Rattle.spec.specs.Records.{Settings}

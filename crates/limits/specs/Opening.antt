@@ -9,7 +9,8 @@ use mathlib.Core.Bool.{true, false}
 use mathlib.Core.List.{List, []}
 use mathlib.Core.Option.{Option, none, some}
 use lib.ListN.{length, length-append}
-use Rattle.lists.specs.Tests.{present, clash}
+use Rattle.lists.specs.Tests.{present}
+use Rattle.lists.specs.TestLaws.{clash}
 use Rattle.lists.specs.Rows.{Row, look}
 use Rattle.lists.specs.RowLaws.{rising-nil}
 use Rattle.lists.specs.Memberships.{rising-insert, insert-longer, insert-replaces}

@@ -6,7 +6,8 @@ use mathlib.Core.Logic.{_⊎_, inl, inr, ⊎-elim, _↔_}
 use mathlib.Core.Bool.{Bool, true, false, not}
 use mathlib.Core.List.{[], List·Memᴰ}
 use mathlib.Core.Option.{Option, none, some}
-use Rattle.lists.specs.Tests.{either, maybe, present, same, less, cases, clash, same-true, same-refl, same-yes, same-no, less-true, less-yes}
+use Rattle.lists.specs.Tests.{either, maybe, present, same, less}
+use Rattle.lists.specs.TestLaws.{cases, clash, same-true, same-refl, same-yes, same-no, less-true, less-yes}
 use Rattle.lists.specs.Options.{both-options}
 use Rattle.lists.specs.Rows.{Row, row, look, keys, any}
 use Rattle.lists.specs.RowLaws.{any-false, any-true, none-any, some-any}

@@ -7,7 +7,7 @@ use mathlib.Core.Logic.{⊎-elim}
 use mathlib.Core.Bool.{Bool, true}
 use mathlib.Core.List.{List, [], _∷_, List·Memᴰ, List·Memᴰ·head, List·Memᴰ·tail, List·Memᴰ·not-nil, List·Memᴰ·cases-cons}
 use lib.ListN.{length, drop, getD}
-use Rattle.lists.specs.Tests.{cases}
+use Rattle.lists.specs.TestLaws.{cases}
 use Rattle.lists.specs.Rows.{Row, From, Rising, keys, filter}
 use Rattle.lists.specs.RowLaws.{from-weaken}
 

@@ -6,7 +6,8 @@ use mathlib.Core.Logic.{_⊎_, ⊎-elim}
 use mathlib.Core.Bool.{Bool, true, false}
 use mathlib.Core.List.{List, [], _∷_, _++_}
 use lib.ListN.{length}
-use Rattle.lists.specs.Tests.{pick, either, same, cases, clash, same-true, same-false, same-no, same-refl}
+use Rattle.lists.specs.Tests.{pick, either, same}
+use Rattle.lists.specs.TestLaws.{cases, clash, same-true, same-false, same-no, same-refl}
 use Rattle.lists.specs.Rows.{any, has, distinct, Different}
 
 pub has-nil : (k : ℕ) → has k [] ≡ false

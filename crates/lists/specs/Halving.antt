@@ -26,6 +26,11 @@ pub narrow-start : (p : ℕ) → p < 2048 → Narrowing p 0 1024
 unfolding width stepOf
 narrow-start p h = record { left = 11; size = refl; small = le-refl 1024; from = zero-le; to = h }
 
+-- one of the first 128 places
+pub narrow-few : (p : ℕ) → p < 128 → Narrowing p 0 64
+unfolding width stepOf
+narrow-few p h = record { left = 7; size = refl; small = omega arith; from = zero-le; to = h }
+
 half : (e : ℕ) → width e / 2 ≡ stepOf e
 unfolding width stepOf
 half zero = refl

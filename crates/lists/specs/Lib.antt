@@ -1,4 +1,5 @@
 pub mod Tests
+pub mod TestLaws
 pub mod Rows
 pub mod RowLaws
 pub mod Counting
@@ -9,6 +10,8 @@ pub mod Members
 pub mod Memberships
 pub mod Halving
 pub mod Places
+pub mod Tabulation
 pub mod Shifts
 pub mod Mapped
 pub mod Texts
+pub mod TextLaws

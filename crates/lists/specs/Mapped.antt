@@ -4,7 +4,8 @@ use Prim.Native.Nat.{ℕ, zero, suc, _+_}
 use mathlib.Core.Path.{_≡_, refl, sym, ap, _∙_}
 use mathlib.Core.List.{List, [], _∷_, _++_, map, map-append}
 use lib.ListN.{length, take, drop, set, length-map}
-use Rattle.lists.specs.Shifts.{over, moved, tabFrom, tab}
+use Rattle.lists.specs.Tabulation.{tabFrom, tab}
+use Rattle.lists.specs.Shifts.{over, moved}
 
 module _ {A B : Type 0} (f : A → B) where
   pub mapped-set : (xs : List A) (i : ℕ) (x : A) → map f (set xs i x) ≡ set (map f xs) i (f x)

@@ -5,7 +5,8 @@ use mathlib.Core.Logic.{⊎-elim}
 use mathlib.Core.Bool.{true}
 use mathlib.Core.List.{List, [], _∷_, List·Memᴰ, List·Memᴰ·head, List·Memᴰ·tail}
 use mathlib.Core.Option.{some}
-use Rattle.lists.specs.Tests.{same, cases, same-true, same-false}
+use Rattle.lists.specs.Tests.{same}
+use Rattle.lists.specs.TestLaws.{cases, same-true, same-false}
 use Rattle.lists.specs.Rows.{Row, row, look}
 use Rattle.lists.specs.RowLaws.{look-here, look-there}
 use Rattle.lists.specs.Options.{both-options, some-same}

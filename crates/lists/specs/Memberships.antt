@@ -7,7 +7,8 @@ use mathlib.Core.Bool.{Bool, true}
 use mathlib.Core.List.{List, [], _∷_, _++_, List·Memᴰ, List·Memᴰ·head, List·Memᴰ·tail}
 use mathlib.Core.Option.{some}
 use lib.ListN.{length}
-use Rattle.lists.specs.Tests.{pick, either, present, same, cases, clash, same-true, same-false, same-yes, same-no}
+use Rattle.lists.specs.Tests.{pick, either, present, same}
+use Rattle.lists.specs.TestLaws.{cases, clash, same-true, same-false, same-yes, same-no}
 use Rattle.lists.specs.Rows.{Row, look, insert, assign, keys, filter, has, distinct, Rising, Different}
 use Rattle.lists.specs.RowLaws.{look-insert, has-keys, length-keys, rising-assign, rising-different}
 use Rattle.lists.specs.Counting.{has-nil, has-cons, has-here, has-there, has-append, Within, different-within}

@@ -7,7 +7,8 @@ use mathlib.Core.Logic.{_⊎_, ⊎-elim}
 use mathlib.Core.List.{List, [], _∷_, _++_}
 use mathlib.Core.Option.{none, some}
 use lib.ListN.{length, take, drop, getD, set}
-use Rattle.lists.specs.Tests.{pick, same, less, cases, same-true, same-false, same-yes, same-no, less-true, less-false, less-yes, less-no}
+use Rattle.lists.specs.Tests.{pick, same, less}
+use Rattle.lists.specs.TestLaws.{cases, same-true, same-false, same-yes, same-no, less-true, less-false, less-yes, less-no}
 use Rattle.lists.specs.Rows.{Row, row, look, insert, delete, From}
 use Rattle.lists.specs.RowLaws.{look-low}
 

@@ -9,7 +9,8 @@ use mathlib.Core.Bool.{Bool, true, false}
 use mathlib.Core.List.{List, [], _∷_, List·Memᴰ, List·Memᴰ·head, List·Memᴰ·tail}
 use mathlib.Core.Option.{Option, none, some, Option·getD, Option·map}
 use lib.ListN.{length}
-use Rattle.lists.specs.Tests.{pick, present, same, less, within, cases, clash, same-true, same-false, same-yes, same-no, less-true, less-false}
+use Rattle.lists.specs.Tests.{pick, present, same, less, within}
+use Rattle.lists.specs.TestLaws.{cases, clash, same-true, same-false, same-yes, same-no, less-true, less-false}
 use Rattle.lists.specs.Rows.{Row, row, look, insert, delete, assign, lay, between, keys, From, Rising, mapItems, any, has, Different}
 
 pub some-not-none : {A : Type 0} {a : A} → some a ≡ none → ⊥

@@ -6,6 +6,7 @@ use mathlib.Core.Path.{_≡_, refl, sym, ap, _∙_}
 use mathlib.Core.List.{List, [], _∷_, _++_, append-assoc}
 use lib.ListN.{length, take, drop, getD, set, length-append, length-take, length-drop, List·getD-append}
 use lib.Seq.{length-take-le, take-suc, drop-cons, getD-drop, getD-take, take-at, drop-at, set-at, take-take, take-append-le, take-nil}
+use Rattle.lists.specs.Tabulation.{tabFrom, tab}
 
 module _ {A : Type 0} where
   -- xs with ys from place `at` on
@@ -15,14 +16,6 @@ module _ {A : Type 0} where
   -- xs with n elements from place `from` on copied to place `to`
   unfoldable pub moved : List A → ℕ → ℕ → ℕ → List A
   moved xs from to n = over xs to (take n (drop from xs))
-
-  -- the first n values of f
-  unfoldable pub tabFrom : (ℕ → A) → ℕ → ℕ → List A
-  tabFrom f i zero = []
-  tabFrom f i (suc n) = f i ∷ tabFrom f (suc i) n
-
-  unfoldable pub tab : (ℕ → A) → ℕ → List A
-  tab f n = tabFrom f 0 n
 
   -- ---- tables
 

@@ -6,7 +6,8 @@ use mathlib.Core.Path.{_≡_, refl, ap}
 use mathlib.Core.Logic.{⊎-elim}
 use mathlib.Core.List.{List, [], _∷_}
 use lib.ListN.{length, getD, set}
-use Rattle.lists.specs.Tests.{less, cases, less-true, less-false}
+use Rattle.lists.specs.Tests.{less}
+use Rattle.lists.specs.TestLaws.{cases, less-true, less-false}
 
 module _ {A : Type 0} where
   -- the sum of f i x over the elements x, each at its place i

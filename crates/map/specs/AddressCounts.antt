@@ -9,7 +9,8 @@ use mathlib.Core.Bool.{Bool, true, false, not}
 use mathlib.Core.List.{List, [], _∷_, _++_}
 use mathlib.Core.Option.{Option, none, some}
 use lib.ListN.{length, length-append}
-use Rattle.lists.specs.Tests.{pick, both, either, present, cases, clash}
+use Rattle.lists.specs.Tests.{pick, both, either, present}
+use Rattle.lists.specs.TestLaws.{cases, clash}
 use Rattle.lists.specs.Rows.{Row, look, keys, has, filter, distinct, Rising, Different}
 use Rattle.lists.specs.RowLaws.{has-keys, length-keys, rising-different}
 use Rattle.lists.specs.Ascending.{mem-filter, filter-mem}

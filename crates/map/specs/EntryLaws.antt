@@ -10,14 +10,14 @@ use mathlib.Core.List.{List, [], _∷_, map}
 use mathlib.Core.Option.{Option, none, some}
 use lib.ListN.{set, length, take, getD, length-set}
 use lib.Seq.{length-take-le, getD-set-same, getD-set-other}
-use Rattle.lists.specs.Tests.{pick, both, present, same, cases, clash, same-true, same-false, same-yes, same-no}
+use Rattle.lists.specs.Tests.{pick, both, present, same}
+use Rattle.lists.specs.TestLaws.{cases, clash, same-true, same-false, same-yes, same-no}
 use Rattle.lists.specs.Rows.{Row, row, look}
 use Rattle.lists.specs.Sums.{total-most}
 use Rattle.spec.specs.Leaves.{Leaf, firstLeaf, versionAt, live}
-use Rattle.spec.specs.Slots.{slotCount, Pending, Content, isIdle, Slot, entries, contentOf, enter}
+use Rattle.spec.specs.Slots.{slotCount, Pending, Content, isIdle, Slot, entries, contentOf, enter, kept}
 use Rattle.spec.specs.Maps.{MapState, withSlots}
 use Rattle.laws.specs.SlotCounts.{Good, tally}
-use Rattle.laws.specs.SlotChanges.{kept}
 use Rattle.laws.specs.SlotLaws.{Room}
 use Rattle.laws.specs.LeafParts.{Apart, live-head, live-later}
 use Rattle.laws.specs.MapLaws.{idle-pending}
@@ -30,7 +30,8 @@ use Rattle.index.specs.LeafPlaces.{AtLeaf, lowPlace}
 use Rattle.index.specs.LeafViews.{paired-length, paired-lows, parted, parted-leaf}
 use Rattle.map.specs.declared.Sizes.{Sizes}
 use Rattle.map.specs.declared.entries.Change.{Change}
-use Rattle.index.specs.LeafColumns.{lowsOf, versionsOf, outsideOf, pendingOf, leafAt, column-getD}
+use Rattle.index.specs.LeafColumns.{lowsOf, versionsOf, outsideOf, pendingOf, leafAt}
+use Rattle.index.specs.LeafColumnLaws.{column-getD}
 use Rattle.phantomlet.specs.LeafWrites.{Renumbered, numbered, numbered-same, numbered-outside, numbered-pending}
 use Rattle.map.specs.Views.{RecordRows, LeafRows, SlotRows, Lent, byColumns, mapOf}
 use Rattle.phantomlet.specs.Phantoms.{weigh, howMany, outsideAny, outsideIn, pendingIn, versionOf, Phantomlet, many-change, weigh-kept}

@@ -20,7 +20,8 @@ use Rattle.laws.specs.LeafVersions.{GoodLeaves, fresh-leaves}
 use Rattle.laws.specs.MapBounds.{Bounded, fresh-bounded}
 use Rattle.indexlet.specs.Words.{slotsOf}
 use Rattle.indexlet.specs.Promises as indexlet
-use Rattle.index.specs.LeafColumns.{column, column-set, column-places}
+use Rattle.index.specs.LeafColumns.{column}
+use Rattle.index.specs.LeafColumnLaws.{column-set, column-places}
 use Rattle.index.specs.Views.{leafPlaces, paired, recordsOf, leavesOf}
 use Rattle.map.specs.declared.Sizes.{Sizes}
 use Rattle.map.specs.Views.{SlotRows, LeafRows, RecordRows, byColumns, mapOf}

@@ -8,7 +8,8 @@ use mathlib.Core.Bool.{true, false}
 use mathlib.Core.List.{List, [], _∷_, _++_}
 use lib.ListN.{length, drop, getD, length-append, List·getD-append}
 use lib.Seq.{getD-append-add, getD-take, getD-drop, length-take-le}
-use Rattle.lists.specs.Tests.{same, cases, clash, same-no}
+use Rattle.lists.specs.Tests.{same}
+use Rattle.lists.specs.TestLaws.{cases, clash, same-no}
 use Rattle.spec.specs.Records.{Settings}
 use Rattle.spec.specs.Leaves.{Leaf, firstLeaf, versionAt, live, newLows, freshLeaves, around, widened, settled, settle, versionsTaken}
 use Rattle.laws.specs.LeafCuts.{taken-some, lows-taken}

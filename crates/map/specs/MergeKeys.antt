@@ -13,9 +13,8 @@ use Rattle.lists.specs.Memberships.{member-has, has-member}
 use Rattle.lists.specs.Shifts.{getD-tab}
 use Rattle.spec.specs.Records.{Record}
 use Rattle.spec.specs.Leaves.{Leaf, firstLeaf}
-use Rattle.spec.specs.Slots.{slotCount, Content, Slot, emptySlot, entries}
+use Rattle.spec.specs.Slots.{slotCount, Content, Slot, emptySlot, entries, kept}
 use Rattle.laws.specs.SlotCounts.{member-slot}
-use Rattle.laws.specs.SlotChanges.{kept}
 use Rattle.laws.specs.SlotLaws.{kept-entry}
 use Rattle.laws.specs.LeafParts.{Covers}
 use Rattle.laws.specs.LeafVersions.{GoodLeaves}

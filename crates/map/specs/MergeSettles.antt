@@ -8,7 +8,8 @@ use mathlib.Core.Logic.{_⊎_, inl, inr, ⊎-elim}
 use mathlib.Core.Bool.{Bool, true}
 use mathlib.Core.List.{List, [], _∷_, _++_, map}
 use lib.ListN.{length, drop, getD, length-append, List·getD-eq-default}
-use Rattle.lists.specs.Tests.{less, cases, less-true, less-false}
+use Rattle.lists.specs.Tests.{less}
+use Rattle.lists.specs.TestLaws.{cases, less-true, less-false}
 use Rattle.lists.specs.Rows.{Row, keys, has, filter}
 use Rattle.lists.specs.Ascending.{Ascends, mem-getD, mem-filter, mem-keys, keys-mem}
 use Rattle.lists.specs.Memberships.{member-has}
@@ -20,7 +21,8 @@ use Rattle.laws.specs.SettleLaws.{around-parts}
 use Rattle.index.specs.Views.{leafPlaces, recordPlaces, recordsOf, keysBetween}
 use Rattle.index.specs.Views as index
 use Rattle.index.specs.declared.leaves.Leaf.{Leaf as LeafWords}
-use Rattle.index.specs.LeafColumns.{lowsOf, pendingOf, leafAt, column-getD}
+use Rattle.index.specs.LeafColumns.{lowsOf, pendingOf, leafAt}
+use Rattle.index.specs.LeafColumnLaws.{column-getD}
 use Rattle.index.specs.Settles.{Settling}
 use Rattle.index.specs.SettleRows.{SettledRows}
 use Rattle.phantomlet.specs.LeafTests.{placed}

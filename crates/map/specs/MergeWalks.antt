@@ -11,7 +11,8 @@ use mathlib.Core.List.{List, [], _∷_, _++_}
 use mathlib.Core.Option.{Option, none, some}
 use lib.ListN.{length, drop, drop-of-length-le, getD}
 use lib.Seq.{drop-cons}
-use Rattle.lists.specs.Tests.{pick, both, maybe, present, same, cases, clash, same-true, same-false, same-no}
+use Rattle.lists.specs.Tests.{pick, both, maybe, present, same}
+use Rattle.lists.specs.TestLaws.{cases, clash, same-true, same-false, same-no}
 use Rattle.lists.specs.Rows.{Row, row, look, assign, keys, has, filter, distinct, Rising}
 use Rattle.lists.specs.RowLaws.{has-keys, length-keys, look-assign, rising-assign, rising-different}
 use Rattle.lists.specs.Ascending.{keys-mem}
@@ -20,10 +21,9 @@ use Rattle.lists.specs.Memberships.{member-has, has-left, has-right}
 use Rattle.lists.specs.Sums.{total-at}
 use Rattle.spec.specs.Records.{Record, outcome}
 use Rattle.spec.specs.Leaves.{Leaf}
-use Rattle.spec.specs.Slots.{slotCount, Pending, Content, isIdle, Slot, emptySlot, entries, contentOf, holds, enter}
+use Rattle.spec.specs.Slots.{slotCount, Pending, Content, isIdle, Slot, emptySlot, entries, contentOf, holds, enter, kept}
 use Rattle.spec.specs.Maps.{MapState, outcomeOf, current, each, mergeEntry}
 use Rattle.laws.specs.SlotCounts.{Good, entryAt, tally, count, keyed, keyed-here, keyed-holds, holds-yes, only-here, entries-some, entries-none, slot-member}
-use Rattle.laws.specs.SlotChanges.{kept}
 use Rattle.laws.specs.Entering.{Entering, entering, kept-entry}
 use Rattle.laws.specs.SlotLaws.{Room, stands, member-content}
 use Rattle.laws.specs.MapLaws.{has-entry}

@@ -9,7 +9,8 @@ use mathlib.Core.Bool.{Bool, true, false, not}
 use mathlib.Core.List.{List, [], _∷_, map}
 use mathlib.Core.Option.{Option, some}
 use lib.ListN.{length, take, getD}
-use Rattle.lists.specs.Tests.{both, present, same, less, cases, clash, same-true, same-false, same-yes, same-no, less-true, less-false}
+use Rattle.lists.specs.Tests.{both, present, same, less}
+use Rattle.lists.specs.TestLaws.{cases, clash, same-true, same-false, same-yes, same-no, less-true, less-false}
 use Rattle.lists.specs.Rows.{Row, look, keys, has, filter}
 use Rattle.lists.specs.RowLaws.{length-keys}
 use Rattle.lists.specs.Ascending.{Ascends}
@@ -31,7 +32,8 @@ use Rattle.index.specs.Views.{leafPlaces, recordPlaces, recordsOf, leavesOf}
 use Rattle.index.specs.ViewLaws.{length-records}
 use Rattle.index.specs.LeafPlaces.{lowPlace, AtLeaf, Listed}
 use Rattle.index.specs.LeafViews.{parted}
-use Rattle.index.specs.LeafColumns.{lowsOf, versionsOf, outsideOf, pendingOf, column-places}
+use Rattle.index.specs.LeafColumns.{lowsOf, versionsOf, outsideOf, pendingOf}
+use Rattle.index.specs.LeafColumnLaws.{column-places}
 use Rattle.index.specs.Settles.{SettledAs}
 use Rattle.index.specs.SettleRows.{Shifted}
 use Rattle.map.specs.declared.Sizes.{Sizes}

@@ -5,7 +5,7 @@ use native.Mathlib.Omega.{arith}
 use mathlib.Core.Path.{_≡_, refl, sym, ap, _∙_, subst}
 use mathlib.Core.List.{List, []}
 use lib.ListN.{length}
-use Rattle.lists.specs.Texts.{wrote-length}
+use Rattle.lists.specs.TextLaws.{wrote-length}
 use Rattle.map.specs.Views.{Lent}
 use Rattle.transactions.specs.Views.{Logs}
 use Rattle.transactions.specs.Ready.{Ready}

@@ -9,7 +9,8 @@ use mathlib.Core.List.{List, [], _∷_, List·Memᴰ}
 use mathlib.Core.Option.{Option, none, some}
 use lib.ListN.{length}
 use borrow.Author.Tests.{not-true}
-use Rattle.lists.specs.Tests.{pick, both, either, maybe, present, same, less, cases, clash, same-true, same-refl, less-true, less-false, less-yes, less-no}
+use Rattle.lists.specs.Tests.{pick, both, either, maybe, present, same, less}
+use Rattle.lists.specs.TestLaws.{cases, clash, same-true, same-refl, less-true, less-false, less-yes, less-no}
 use Rattle.lists.specs.Rows.{Row, row, look, keys, any, filter, has, Different}
 use Rattle.lists.specs.RowLaws.{length-keys}
 use Rattle.lists.specs.Ascending.{mem-filter, filter-mem, mem-keys, keys-mem}

@@ -10,7 +10,8 @@ use mathlib.Core.Option.{Option, none, some}
 use lib.Dec.{ltb}
 use lib.ListN.{length, take, drop, drop-of-length-le, getD, set, length-set}
 use lib.Seq.{drop-cons, getD-set-same, getD-set-other}
-use Rattle.lists.specs.Tests.{pick, both, present, same, less, atMost, cases, clash, same-yes, same-no, same-true, same-false, less-yes, less-no, less-true, less-false, atMost-true, atMost-false}
+use Rattle.lists.specs.Tests.{pick, both, present, same, less, atMost}
+use Rattle.lists.specs.TestLaws.{cases, clash, same-yes, same-no, same-true, same-false, less-yes, less-no, less-true, less-false, atMost-true, atMost-false}
 use Rattle.lists.specs.Rows.{Row, look}
 use Rattle.lists.specs.Sums.{total, total-most, total-none}
 use Rattle.lists.specs.Options.{options}
@@ -20,7 +21,8 @@ use Rattle.laws.specs.SlotCounts.{entryAt, tally, count, count-cons}
 use Rattle.sets.specs.Sets.{addresses}
 use Rattle.index.specs.Views.{leafPlaces}
 use Rattle.index.specs.declared.leaves.Leaf.{Leaf as LeafWords}
-use Rattle.index.specs.LeafColumns.{LeafRows, lowsOf, leafAt, column-getD}
+use Rattle.index.specs.LeafColumns.{LeafRows, lowsOf, leafAt}
+use Rattle.index.specs.LeafColumnLaws.{column-getD}
 use Rattle.index.specs.LeafPlaces.{lowPlace, AtLeaf, Listed}
 use Rattle.phantomlet.specs.Phantoms.{weigh, howMany}
 use Rattle.phantomlet.specs.LeafRows.{low-from, low-before, low-below, low-inside}

@@ -7,7 +7,8 @@ use mathlib.Core.Bool.{Bool}
 use mathlib.Core.List.{List}
 use lib.ListN.{length, getD, set, length-set}
 use lib.Seq.{getD-set-same, getD-set-other}
-use Rattle.lists.specs.Tests.{pick, same, cases, same-true, same-false}
+use Rattle.lists.specs.Tests.{pick, same}
+use Rattle.lists.specs.TestLaws.{cases, same-true, same-false}
 use Rattle.spec.specs.Slots.{slotCount}
 
 -- ---- clearing
@@ -72,7 +73,7 @@ sum-one p x (suc n) h =
     ⊎-elim
     (λ t. let q : p ≡ n = same-true p n t in
     let a : sumTo (λ (i : ℕ). pick (same p i) x 0) n ≡ 0
-    = sum-none (λ (i : ℕ). pick (same p i) x 0) n (λ i l. ap (λ (b : Bool). pick b x 0) (Rattle.lists.specs.Tests.same-no {m = p} {n = i} (λ w. let u : ⊥ = omega arith in u))) in
+    = sum-none (λ (i : ℕ). pick (same p i) x 0) n (λ i l. ap (λ (b : Bool). pick b x 0) (Rattle.lists.specs.TestLaws.same-no {m = p} {n = i} (λ w. let u : ⊥ = omega arith in u))) in
     let b : pick (same p n) x 0 ≡ x = ap (λ (b : Bool). pick b x 0) t in
     omega arith)
     (λ t. let q : p ≡ n → ⊥ = same-false p n t in

@@ -8,7 +8,8 @@ use mathlib.Core.Bool.{Bool, true, false}
 use mathlib.Core.List.{List, [], _∷_}
 use lib.ListN.{length, take, drop, getD, length-drop}
 use lib.Seq.{take-nil, drop-nil, length-take-le, getD-take, getD-drop, take-take}
-use Rattle.lists.specs.Tests.{pick, less, cases, less-true, less-false, same-yes, same-no}
+use Rattle.lists.specs.Tests.{pick, less}
+use Rattle.lists.specs.TestLaws.{cases, less-true, less-false, same-yes, same-no}
 use Rattle.lists.specs.Rows.{Row, keys, filter, Rising}
 use Rattle.lists.specs.Ascending.{Ascends, ascends-at, ascends-drop}
 use Rattle.lists.specs.Places.{place, place-most, place-below, place-above}

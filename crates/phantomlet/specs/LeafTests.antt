@@ -9,7 +9,8 @@ use mathlib.Core.List.{List, [], _∷_, map}
 use mathlib.Core.Option.{Option}
 use lib.ListN.{length, take, getD, length-map}
 use lib.Seq.{length-take-le}
-use Rattle.lists.specs.Tests.{both, present, same, cases, clash, same-true, same-false, same-yes, same-no}
+use Rattle.lists.specs.Tests.{both, present, same}
+use Rattle.lists.specs.TestLaws.{cases, clash, same-true, same-false, same-yes, same-no}
 use Rattle.lists.specs.Rows.{Row, filter}
 use Rattle.lists.specs.Options.{options}
 use Rattle.spec.specs.Leaves.{Leaf, firstLeaf, versionAt, live}

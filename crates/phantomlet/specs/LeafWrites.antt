@@ -6,7 +6,8 @@ use mathlib.Core.List.{List, []}
 use lib.ListN.{length, getD, set, length-set}
 use Rattle.index.specs.declared.leaves.Leaf.{Leaf as LeafWords}
 use Rattle.index.specs.Views.{leafPlaces}
-use Rattle.index.specs.LeafColumns.{LeafRows, lowsOf, versionsOf, outsideOf, pendingOf, leafAt, leafPut, leafWords, column-length, column-getD, column-set, column-kept}
+use Rattle.index.specs.LeafColumns.{LeafRows, lowsOf, versionsOf, outsideOf, pendingOf, leafAt, leafPut, leafWords}
+use Rattle.index.specs.LeafColumnLaws.{column-length, column-getD, column-set, column-kept}
 use Rattle.phantomlet.specs.LeafNumbers.{Clearing, clear-start, clear-on}
 
 -- the same leaves, with other numbers

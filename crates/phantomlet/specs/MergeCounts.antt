@@ -9,18 +9,19 @@ use mathlib.Core.Option.{Option, none, some}
 use lib.ListN.{length, take, getD, set}
 use lib.Seq.{length-take-le}
 use mathlib.Core.Logic.{⊎-elim}
-use Rattle.lists.specs.Tests.{pick, both, present, same, atMost, cases, clash, same-true, same-yes, same-no, atMost-true}
+use Rattle.lists.specs.Tests.{pick, both, present, same, atMost}
+use Rattle.lists.specs.TestLaws.{cases, clash, same-true, same-yes, same-no, atMost-true}
 use Rattle.lists.specs.Rows.{Row, row, look}
 use Rattle.lists.specs.Sums.{total}
-use Rattle.spec.specs.Slots.{slotCount, Content, isIdle, Slot}
+use Rattle.spec.specs.Slots.{slotCount, Content, isIdle, Slot, kept}
 use Rattle.laws.specs.SlotCounts.{entryAt, tally, count-cons}
-use Rattle.laws.specs.SlotChanges.{kept}
 use Rattle.indexlet.specs.Words.{SlotRows, pendingIn, contentIn, slotIn, slotsOf}
 use Rattle.indexlet.specs.declared.Content.{Content as ContentWords}
 use Rattle.indexlet.specs.declared.Slot.{Slot as SlotWords}
 use Rattle.indexlet.specs.Promises as indexlet
 use Rattle.index.specs.Views.{leafPlaces, RecordRows, recordsOf}
-use Rattle.index.specs.LeafColumns.{LeafRows, lowsOf, outsideOf, pendingOf, column-places}
+use Rattle.index.specs.LeafColumns.{LeafRows, lowsOf, outsideOf, pendingOf}
+use Rattle.index.specs.LeafColumnLaws.{column-places}
 use Rattle.index.specs.Views as index
 use Rattle.index.specs.LeafPlaces.{lowPlace, place-inside, AtLeaf, Listed}
 use Rattle.phantomlet.specs.Phantoms.{weigh, howMany}

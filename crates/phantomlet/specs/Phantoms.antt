@@ -10,10 +10,9 @@ use lib.ListN.{length, getD}
 use Rattle.lists.specs.Tests.{pick, both, present, same}
 use Rattle.lists.specs.Rows.{Row, row, look}
 use Rattle.spec.specs.Leaves.{firstLeaf, versionAt}
-use Rattle.spec.specs.Slots.{Content, isIdle, Slot, contentOf, enter}
+use Rattle.spec.specs.Slots.{Content, isIdle, Slot, contentOf, enter, kept}
 use Rattle.spec.specs.Maps.{MapState}
 use Rattle.laws.specs.SlotCounts.{Good, count}
-use Rattle.laws.specs.SlotChanges.{kept}
 use Rattle.laws.specs.SlotLaws.{Room}
 use Rattle.laws.specs.EnterCounts.{count-change}
 

@@ -8,17 +8,17 @@ use mathlib.Core.Bool.{Bool, true, false}
 use mathlib.Core.List.{List, [], _∷_}
 use mathlib.Core.Option.{none, some}
 use lib.ListN.{length, getD}
-use Rattle.lists.specs.Tests.{pick, maybe, same, less, cases, clash, same-true, same-false, less-true, less-false, less-yes, less-no}
+use Rattle.lists.specs.Tests.{pick, maybe, same, less}
+use Rattle.lists.specs.TestLaws.{cases, clash, same-true, same-false, less-true, less-false, less-yes, less-no}
 use Rattle.lists.specs.Rows.{Row, row, look, From, Rising}
 use Rattle.lists.specs.RowLaws.{look-here, look-there, look-low, look-nil}
 use Rattle.lists.specs.Options.{both-options, some-same}
 use Rattle.lists.specs.Places.{place}
 use Rattle.spec.specs.Records.{Record}
 use Rattle.spec.specs.Leaves.{Leaf}
-use Rattle.spec.specs.Slots.{slotCount, Content, isIdle, Slot, entries}
+use Rattle.spec.specs.Slots.{slotCount, Content, isIdle, Slot, entries, kept}
 use Rattle.spec.specs.Maps.{outcomeOf, current, contents}
 use Rattle.laws.specs.SlotCounts.{entryAt, Place, lookup}
-use Rattle.laws.specs.SlotChanges.{kept}
 use Rattle.laws.specs.SlotLaws.{content-none, kept-entry}
 use Rattle.laws.specs.ContentLaws.{look-contents, rising-contents}
 use Rattle.indexlet.specs.declared.Slot.{Slot as SlotWords}

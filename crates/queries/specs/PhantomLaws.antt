@@ -10,7 +10,8 @@ use mathlib.Core.Option.{some}
 use lib.Dec.{ltb}
 use lib.ListN.{length, take, getD}
 use lib.Seq.{length-take-le}
-use Rattle.lists.specs.Tests.{pick, both, either, present, same, less, cases, clash, same-true, same-false, same-yes, same-no}
+use Rattle.lists.specs.Tests.{pick, both, either, present, same, less}
+use Rattle.lists.specs.TestLaws.{cases, clash, same-true, same-false, same-yes, same-no}
 use Rattle.lists.specs.Rows.{look, keys, filter}
 use Rattle.lists.specs.RowLaws.{rising-different}
 use Rattle.spec.specs.Leaves.{Leaf, firstLeaf, versionAt, live}
@@ -29,7 +30,8 @@ use Rattle.phantomlet.specs.LeafTests.{filter-same}
 use Rattle.phantomlet.specs.MergeCounts.{pick-most}
 use Rattle.phantomlet.specs.Phantoms.{howMany, outsideIn}
 use Rattle.map.specs.Views.{SlotRows, LeafRows, RecordRows, Lent, mapOf}
-use Rattle.index.specs.LeafColumns.{versionsOf, outsideOf, leafAt, column-getD}
+use Rattle.index.specs.LeafColumns.{versionsOf, outsideOf, leafAt}
+use Rattle.index.specs.LeafColumnLaws.{column-getD}
 use Rattle.index.specs.declared.leaves.Leaf.{Leaf as LeafWords}
 use Rattle.map.specs.WriteWalks.{writeAt, restKeys, keys-all, keys-cons, keys-none}
 use Rattle.sets.specs.Writes.{WriteRows, writesOf}

@@ -7,7 +7,8 @@ use mathlib.Core.Logic.{⊎-elim}
 use mathlib.Core.List.{List, [], _∷_, map}
 use lib.ListN.{length, take, drop, getD}
 use lib.Seq.{drop-cons}
-use Rattle.lists.specs.Tests.{pick, present, same, less, within, cases, same-true, same-false, less-true, less-false, less-yes, less-no, atMost-yes, atMost-no}
+use Rattle.lists.specs.Tests.{pick, present, same, less, within}
+use Rattle.lists.specs.TestLaws.{cases, same-true, same-false, less-true, less-false, less-yes, less-no, atMost-yes, atMost-no}
 use Rattle.lists.specs.Rows.{Row, look, between, From, filter}
 use Rattle.lists.specs.RowLaws.{look-here, look-there, look-low}
 use Rattle.lists.specs.Places.{place}

@@ -19,7 +19,8 @@ use Rattle.laws.specs.LeafVersions.{GoodLeaves}
 use Rattle.index.specs.declared.rows.RecordRow.{RecordRow}
 use Rattle.index.specs.declared.records.Found.the-variants.{At}
 use Rattle.index.specs.declared.leaves.Leaf.{Leaf as LeafWords}
-use Rattle.index.specs.LeafColumns.{LeafRows, lowsOf, versionsOf, leafAt, column-getD, column-places}
+use Rattle.index.specs.LeafColumns.{LeafRows, lowsOf, versionsOf, leafAt}
+use Rattle.index.specs.LeafColumnLaws.{column-getD, column-places}
 use Rattle.index.specs.Views.{leafPlaces, foundOf, rowOf, noRow, rowAt, recordsOf, leavesOf, RecordsSorted, AtPlace}
 use Rattle.index.specs.ViewLaws.{length-records, record-at}
 use Rattle.index.specs.RecordLaws.{present-at, absent-at, absent-past}

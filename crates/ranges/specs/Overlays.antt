@@ -7,7 +7,8 @@ use mathlib.Core.Path.{_≡_, refl, sym, ap, _∙_, subst}
 use mathlib.Core.List.{List, [], _∷_, map}
 use mathlib.Core.Option.{Option, none, some}
 use lib.ListN.{take, drop}
-use Rattle.lists.specs.Tests.{maybe, same-no, same-refl, less-yes, less-no}
+use Rattle.lists.specs.Tests.{maybe}
+use Rattle.lists.specs.TestLaws.{same-no, same-refl, less-yes, less-no}
 use Rattle.lists.specs.Rows.{Row, row, insert, delete, assign, lay, From, Rising}
 use Rattle.lists.specs.RowLaws.{from-weaken, from-assign}
 

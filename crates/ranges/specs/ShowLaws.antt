@@ -9,9 +9,11 @@ use mathlib.Core.Bool.{Bool, true, false}
 use mathlib.Core.List.{List, [], _∷_, _++_, append-assoc, append-nil}
 use lib.ListN.{length, getD, set, length-set, length-append}
 use lib.Seq.{getD-set-same, getD-set-other}
-use Rattle.lists.specs.Tests.{pick, cases}
+use Rattle.lists.specs.Tests.{pick}
+use Rattle.lists.specs.TestLaws.{cases}
 use Rattle.lists.specs.Rows.{Row, row}
-use Rattle.lists.specs.Shifts.{tab, tabFrom, tab-same, tab-snoc, length-tab}
+use Rattle.lists.specs.Tabulation.{tab, tabFrom}
+use Rattle.lists.specs.Shifts.{tab-same, tab-snoc, length-tab}
 use Rattle.spec.specs.Records.{Payload}
 use Rattle.ranges.specs.declared.walks.Turn.{Turn}
 use Rattle.ranges.specs.Overlays.{shown}

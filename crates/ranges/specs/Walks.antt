@@ -9,7 +9,7 @@ use lib.ListN.{length, drop, getD}
 use lib.Dec.{eqb}
 use Rattle.lists.specs.Tests.{pick}
 use Rattle.lists.specs.Rows.{Row, row, mapItems}
-use Rattle.lists.specs.Shifts.{tab}
+use Rattle.lists.specs.Tabulation.{tab}
 use Rattle.spec.specs.Records.{Payload, Record, Write, ownView, payloadOf}
 use Rattle.sets.specs.declared.writes.Entry.{Entry}
 use Rattle.sets.specs.declared.reads.Observed.{Observed}

@@ -4,7 +4,8 @@ use mathlib.Core.Path.{_≡_, refl, sym, ap, _∙_, subst}
 use mathlib.Core.Bool.{Bool, true, false}
 use mathlib.Core.List.{List}
 use lib.ListN.{length}
-use Rattle.lists.specs.Tests.{pick, both, same, less, atMost, same-no, less-yes, less-no, atMost-yes, atMost-no, atMost-true}
+use Rattle.lists.specs.Tests.{pick, both, same, less, atMost}
+use Rattle.lists.specs.TestLaws.{same-no, less-yes, less-no, atMost-yes, atMost-no, atMost-true}
 use Rattle.map.specs.Views.{Lent}
 use Rattle.transactions.specs.declared.Core.{Core}
 use Rattle.transactions.specs.Views.{Logs}

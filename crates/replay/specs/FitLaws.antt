@@ -5,7 +5,8 @@ use mathlib.Core.Path.{_≡_, sym, ap, _∙_}
 use mathlib.Core.Bool.{Bool, true, false, not}
 use mathlib.Core.Logic.{⊎-elim}
 use lib.Dec.{leb}
-use Rattle.lists.specs.Tests.{less, atMost, less-yes, less-no, less-true, less-false, atMost-true, atMost-false, cases, clash}
+use Rattle.lists.specs.Tests.{less, atMost}
+use Rattle.lists.specs.TestLaws.{less-yes, less-no, less-true, less-false, atMost-true, atMost-false, cases, clash}
 use Rattle.replay.specs.Replays.{longestAnswer}
 
 pub fits-few : (room m n : ℕ) → room < 3 → false ≡ not (less room (longestAnswer m n))

@@ -8,7 +8,8 @@ use lib.ListN.{length, drop, length-append, length-drop}
 use lib.Seq.{length-sets}
 use Rattle.lists.specs.Tests.{pick, same, less}
 use Rattle.lists.specs.Rows.{Row}
-use Rattle.lists.specs.Texts.{Wrote, wrote-join, wrote-length}
+use Rattle.lists.specs.Texts.{Wrote}
+use Rattle.lists.specs.TextLaws.{wrote-join, wrote-length}
 use Rattle.spec.specs.Records.{standard, Payload}
 use Rattle.spec.specs.Maps.{MapState, contents}
 use Rattle.spec.specs.Steps.{State, Step, fresh, Answer, refused, done, found, listed, numbered, counted, answer, next, Event, final, history}

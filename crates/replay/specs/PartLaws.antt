@@ -7,7 +7,8 @@ use mathlib.Core.Logic.{⊎-elim}
 use lib.ListN.{length, getD, take, drop, length-take, length-drop}
 use lib.Seq.{length-take-le, getD-take, getD-drop, take-at, drop-at}
 use Rattle.lists.specs.Shifts.{tab-same}
-use Rattle.lists.specs.Tests.{less, less-true, less-false, cases}
+use Rattle.lists.specs.Tests.{less}
+use Rattle.lists.specs.TestLaws.{less-true, less-false, cases}
 use Rattle.lists.specs.Rows.{row}
 use Rattle.spec.specs.Steps.{listed, Answer, Step}
 use Rattle.map.specs.Views.{Lent}

@@ -5,7 +5,7 @@ use mathlib.Core.Path.{_≡_, refl, sym, ap, _∙_, subst}
 use mathlib.Core.List.{List, [], _∷_, _++_, append-nil}
 use lib.ListN.{length, getD, drop}
 use lib.Seq.{drop-cons}
-use Rattle.lists.specs.Tests.{less-yes, less-no}
+use Rattle.lists.specs.TestLaws.{less-yes, less-no}
 use Rattle.lists.specs.Texts.{Wrote}
 use Rattle.spec.specs.Steps.{State, Answer, answer, next, Event}
 use Rattle.map.specs.Views.{Lent}

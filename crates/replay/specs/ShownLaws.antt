@@ -6,7 +6,7 @@ use mathlib.Core.Path.{_≡_, refl, sym, ap, _∙_}
 use mathlib.Core.List.{List, _∷_, _++_, map}
 use lib.ListN.{length, getD, take, drop, take-append-drop, length-drop}
 use lib.Seq.{sets, sets-eq, ext-getD, getD-drop, length-take-le, drop-cons}
-use Rattle.lists.specs.Shifts.{tab, tabFrom}
+use Rattle.lists.specs.Tabulation.{tab, tabFrom}
 use Rattle.lists.specs.Rows.{row}
 use Rattle.ranges.specs.Walks.{rowsIn, Beyond}
 use Rattle.engine.specs.declared.steps.Reply.{Reply}

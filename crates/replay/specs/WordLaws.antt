@@ -6,9 +6,11 @@ use native.Mathlib.Omega.{arith}
 use mathlib.Core.Path.{_≡_, refl, sym, ap, _∙_, subst}
 use mathlib.Core.List.{List, [], _∷_, _++_, append-nil}
 use lib.ListN.{length, getD, set}
-use Rattle.lists.specs.Shifts.{tab, tabFrom, tab-snoc}
+use Rattle.lists.specs.Shifts.{tab-snoc}
+use Rattle.lists.specs.Tabulation.{tab, tabFrom}
 use Rattle.lists.specs.Rows.{Row, row}
-use Rattle.lists.specs.Texts.{Wrote, wrote-join, wrote-length, wrote-byte}
+use Rattle.lists.specs.Texts.{Wrote}
+use Rattle.lists.specs.TextLaws.{wrote-join, wrote-length, wrote-byte}
 use Rattle.spec.specs.Records.{Payload}
 use Rattle.ranges.specs.Walks.{rowsIn}
 use Rattle.ranges.specs.ShowLaws.{length-rows}

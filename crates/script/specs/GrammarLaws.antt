@@ -6,7 +6,8 @@ use mathlib.Core.Logic.{⊎-elim}
 use mathlib.Core.Bool.{Bool, true, false}
 use mathlib.Core.List.{List, [], _∷_, _++_}
 use mathlib.Core.Option.{Option, none, some}
-use Rattle.lists.specs.Tests.{pick, both, maybe, same, less, within, atMost, cases, clash, same-no, same-refl, less-no, atMost-yes, atMost-no, atMost-true}
+use Rattle.lists.specs.Tests.{pick, both, maybe, same, less, within, atMost}
+use Rattle.lists.specs.TestLaws.{cases, clash, same-no, same-refl, less-no, atMost-yes, atMost-no, atMost-true}
 use lib.Seq.{append-snoc}
 use Rattle.script.specs.declared.Line.{Line}
 use Rattle.script.specs.declared.Fields.{Fields}

@@ -5,7 +5,8 @@ use mathlib.Core.Logic.{⊎-elim}
 use mathlib.Core.Bool.{false}
 use mathlib.Core.List.{List, [], _∷_, _++_, append-assoc}
 use mathlib.Core.Option.{some}
-use Rattle.lists.specs.Tests.{same, cases, clash, same-yes}
+use Rattle.lists.specs.Tests.{same}
+use Rattle.lists.specs.TestLaws.{cases, clash, same-yes}
 use Rattle.lists.specs.Rows.{has}
 use Rattle.lists.specs.Counting.{has-cons}
 use Rattle.script.specs.declared.Line.{Line}

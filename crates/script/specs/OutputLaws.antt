@@ -8,8 +8,10 @@ use mathlib.Core.Logic.{⊎-elim}
 use mathlib.Core.List.{List, [], _∷_, _++_, append-assoc, append-nil}
 use lib.ListN.{length, getD, take, set, length-append}
 use lib.Seq.{sets, length-sets, set-comm, append-snoc, take-suc, length-take-le}
-use Rattle.lists.specs.Tests.{pick, less, cases, less-yes, less-no, less-true, less-false}
-use Rattle.lists.specs.Texts.{Wrote, wrote-join}
+use Rattle.lists.specs.Tests.{pick, less}
+use Rattle.lists.specs.TestLaws.{cases, less-yes, less-no, less-true, less-false}
+use Rattle.lists.specs.Texts.{Wrote}
+use Rattle.lists.specs.TextLaws.{wrote-join}
 use Rattle.script.specs.Output.{digitsWithin, decimal, field, pair, pairsOf}
 
 -- ---- the equations that a reader expects

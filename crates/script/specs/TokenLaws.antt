@@ -7,7 +7,8 @@ use mathlib.Core.Bool.{Bool, true, false}
 use mathlib.Core.List.{List, [], _∷_, _++_}
 use mathlib.Core.Option.{Option, none, some}
 use lib.ListN.{length, getD}
-use Rattle.lists.specs.Tests.{either, same, cases, same-true, same-false}
+use Rattle.lists.specs.Tests.{either, same}
+use Rattle.lists.specs.TestLaws.{cases, same-true, same-false}
 use Rattle.lists.specs.Counting.{has-nil}
 use Rattle.script.specs.declared.Line.{Line}
 use Rattle.script.specs.declared.Fields.{Fields}

@@ -10,7 +10,8 @@ use mathlib.Core.List.{List, [], _∷_, _++_, append-assoc}
 use mathlib.Core.Option.{Option, none, some}
 use lib.ListN.{length, drop, getD, length-append, drop-of-length-le}
 use lib.Seq.{drop-cons}
-use Rattle.lists.specs.Tests.{either, same-no}
+use Rattle.lists.specs.Tests.{either}
+use Rattle.lists.specs.TestLaws.{same-no}
 use Rattle.lists.specs.Rows.{has}
 use Rattle.lists.specs.Counting.{has-nil, has-cons, has-append}
 use Rattle.script.specs.declared.Line.{Line}

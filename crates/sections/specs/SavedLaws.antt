@@ -7,7 +7,8 @@ use mathlib.Core.Logic.{⊎-elim}
 use mathlib.Core.List.{List, [], _∷_}
 use lib.ListN.{length, getD, set, length-set}
 use lib.Seq.{ext-getD, getD-set-same, getD-set-other}
-use Rattle.lists.specs.Tests.{same, cases, same-true, same-false, same-no}
+use Rattle.lists.specs.Tests.{same}
+use Rattle.lists.specs.TestLaws.{cases, same-true, same-false, same-no}
 use Rattle.spec.specs.declared.Stage.{Stage}
 use Rattle.spec.specs.declared.Stage.the-variants.{Free, Open, Locked, Checked}
 use Rattle.spec.specs.Records.{standard}

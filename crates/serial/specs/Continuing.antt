@@ -9,7 +9,8 @@ use mathlib.Core.Bool.{Bool, true, false}
 use mathlib.Core.List.{List, [], _∷_, _++_, List·Memᴰ·head, List·Memᴰ·cases-cons, Memᴰ·append-left, Memᴰ·append-right}
 use mathlib.Core.Option.{Option, none, some}
 use lib.ListN.{length}
-use Rattle.lists.specs.Tests.{pick, both, maybe, present, within, cases, clash, atMost-yes}
+use Rattle.lists.specs.Tests.{pick, both, maybe, present, within}
+use Rattle.lists.specs.TestLaws.{cases, clash, atMost-yes}
 use Rattle.lists.specs.Rows.{Row, row, look, insert, Rising}
 use Rattle.lists.specs.RowLaws.{from-insert}
 use Rattle.spec.specs.Records.{Payload, Record, Write, written, deleted, payloadOf, ownView}

@@ -10,7 +10,8 @@ use mathlib.Core.Logic.{⊎-elim}
 use mathlib.Core.Bool.{true}
 use mathlib.Core.List.{List, [], _∷_, _++_, List·Memᴰ, List·Memᴰ·head, List·Memᴰ·tail}
 use mathlib.Core.Option.{Option, none, some}
-use Rattle.lists.specs.Tests.{pick, maybe, present, same, cases, same-true, same-false}
+use Rattle.lists.specs.Tests.{pick, maybe, present, same}
+use Rattle.lists.specs.TestLaws.{cases, same-true, same-false}
 use Rattle.lists.specs.Rows.{Row, row, look, insert, Rising}
 use Rattle.lists.specs.RowLaws.{some-not-none, look-insert, look-assign, look-here, look-there, look-nil, rising-assign, rising-nil}
 use Rattle.spec.specs.Records.{Record, Write, written, deleted, outcome}

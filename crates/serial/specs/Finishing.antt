@@ -7,7 +7,8 @@ use mathlib.Core.Bool.{Bool, true, false, not}
 use mathlib.Core.List.{List, _∷_, List·Memᴰ}
 use mathlib.Core.Option.{Option, none, some}
 use lib.ListN.{length}
-use Rattle.lists.specs.Tests.{pick, both, either, maybe, present, same, cases, clash, same-yes, same-no}
+use Rattle.lists.specs.Tests.{pick, both, either, maybe, present, same}
+use Rattle.lists.specs.TestLaws.{cases, clash, same-yes, same-no}
 use Rattle.lists.specs.Rows.{Row, row, look, keys, any, Rising}
 use Rattle.lists.specs.RowLaws.{any-false, member-keys, look-delete, some-not-none, rising-nil, rising-different}
 use Rattle.spec.specs.Records.{Record, Write, outcome, sameRecord}

@@ -8,7 +8,8 @@ use mathlib.Core.Logic.{_⊎_, inl, inr, ⊎-elim}
 use mathlib.Core.Bool.{true, false}
 use mathlib.Core.List.{List, _∷_, List·Memᴰ, List·Memᴰ·cases-cons}
 use mathlib.Core.Option.{Option, none, some}
-use Rattle.lists.specs.Tests.{present, same, less, cases, clash, same-true, same-false, less-true, less-false}
+use Rattle.lists.specs.Tests.{present, same, less}
+use Rattle.lists.specs.TestLaws.{cases, clash, same-true, same-false, less-true, less-false}
 use Rattle.lists.specs.Rows.{Row, row, look, keys, has, Different}
 use Rattle.lists.specs.RowLaws.{look-there, has-keys}
 use Rattle.spec.specs.Records.{Record, Write, deleted, outcome}

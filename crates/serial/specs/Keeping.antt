@@ -8,7 +8,8 @@ use mathlib.Core.Logic.{_⊎_, inl, ⊎-elim}
 use mathlib.Core.Bool.{Bool, true, false}
 use mathlib.Core.List.{List, List·Memᴰ}
 use mathlib.Core.Option.{Option, some}
-use Rattle.lists.specs.Tests.{same, cases, clash, same-true, same-false}
+use Rattle.lists.specs.Tests.{same}
+use Rattle.lists.specs.TestLaws.{cases, clash, same-true, same-false}
 use Rattle.lists.specs.Rows.{Row, look, keys, Different}
 use Rattle.spec.specs.Records.{Record}
 use Rattle.spec.specs.Steps.{Worker, isFree, isChecked}

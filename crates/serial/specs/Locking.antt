@@ -7,7 +7,8 @@ use mathlib.Core.Bool.{Bool, true, false, not}
 use mathlib.Core.List.{List, [], List·Memᴰ, List·Memᴰ·not-nil}
 use mathlib.Core.Option.{Option, some}
 use lib.ListN.{length}
-use Rattle.lists.specs.Tests.{pick, maybe, present, same, cases, clash}
+use Rattle.lists.specs.Tests.{pick, maybe, present, same}
+use Rattle.lists.specs.TestLaws.{cases, clash}
 use Rattle.lists.specs.Rows.{Row, look, has, Rising}
 use Rattle.lists.specs.RowLaws.{has-keys, rising-nil}
 use Rattle.spec.specs.declared.Stage.the-variants.{Open, Locked}
@@ -80,7 +81,7 @@ fine-slots σ m' r l s f =
       settings = f .settings;
       slots = s;
       records = subst Rising (sym r) (f .records);
-      leaves = subst (Rattle.laws.specs.LeafLaws.GoodLeaves (σ .counters .version)) (sym l) (f .leaves);
+      leaves = subst (Rattle.laws.specs.LeafVersions.GoodLeaves (σ .counters .version)) (sym l) (f .leaves);
       crew = f .crew;
       writes = f .writes;
     }
@@ -95,7 +96,7 @@ pub record Lockable (σ : State) (w : ℕ) : Type 0 where
 pub other-holds : (w : ℕ) (c : Content) (v : ℕ) → (v ≡ w → ⊥) → c .holder ≡ some v → heldByOther w c ≡ true
 unfolding heldByOther
 other-holds w c v d e =
-    ap (λ (o : Option ℕ). maybe o false (λ (h : ℕ). not (same h w))) e ∙ ap not (Rattle.lists.specs.Tests.same-no {m = v} {n = w} d)
+    ap (λ (o : Option ℕ). maybe o false (λ (h : ℕ). not (same h w))) e ∙ ap not (Rattle.lists.specs.TestLaws.same-no {m = v} {n = w} d)
 
 module _ {σ : State} {ρ : Reading} {w : ℕ} (h : Sound σ ρ) (o : IsOpen σ w) (l : Lockable σ w) where
   m' : MapState

@@ -10,7 +10,8 @@ use mathlib.Core.List.{List, _∷_}
 use mathlib.Core.Option.{Option, none, some}
 use lib.ListN.{length, getD, replicate, length-set, length-replicate, List·getD-eq-default}
 use lib.Seq.{getD-set-same, getD-set-other, set-out}
-use Rattle.lists.specs.Tests.{pick, maybe, present, same, less, cases, same-true, same-false, less-true, less-false}
+use Rattle.lists.specs.Tests.{pick, maybe, present, same, less}
+use Rattle.lists.specs.TestLaws.{cases, same-true, same-false, less-true, less-false}
 use Rattle.lists.specs.Rows.{look, Rising}
 use Rattle.lists.specs.RowLaws.{look-insert, some-not-none, rising-nil}
 use Rattle.spec.specs.Records.{Settings, Record, Write}
@@ -141,12 +142,12 @@ read-running ρ w t = record { place = le-step (le-refl (ρ .place)); given = re
 
 pub running-same : (ρ : Reading) (w : ℕ) (t : Transaction) → look (runningNow ρ w t .running) w ≡ some t
 unfolding runningNow
-running-same ρ w t = look-insert w t (ρ .running) w ∙ (rw (Rattle.lists.specs.Tests.same-refl w))
+running-same ρ w t = look-insert w t (ρ .running) w ∙ (rw (Rattle.lists.specs.TestLaws.same-refl w))
 
 pub running-other : (ρ : Reading) (w : ℕ) (t : Transaction) (v : ℕ) → (v ≡ w → ⊥) → look (runningNow ρ w t .running) v ≡ look (ρ .running) v
 unfolding runningNow
 running-other ρ w t v d =
-    look-insert w t (ρ .running) v ∙ (rw (Rattle.lists.specs.Tests.same-no {m = w} {n = v} (λ e. d (sym e))))
+    look-insert w t (ρ .running) v ∙ (rw (Rattle.lists.specs.TestLaws.same-no {m = w} {n = v} (λ e. d (sym e))))
 
 pub goesOn-some : (ρ : Reading) (w : ℕ) (e : Event) (t : Transaction) → look (ρ .running) w ≡ some t → goesOn ρ w e ≡ runningNow ρ w (extended e t)
 unfolding goesOn

@@ -6,7 +6,8 @@ use mathlib.Core.Logic.{_⊎_, ⊎-elim}
 use mathlib.Core.Bool.{Bool, true}
 use mathlib.Core.List.{List, [], _∷_, _++_, List·Memᴰ·head, List·Memᴰ·tail}
 use mathlib.Core.Option.{Option, none, some, Option·getD, Option·map}
-use Rattle.lists.specs.Tests.{pick, both, maybe, within, atMost, cases, atMost-true}
+use Rattle.lists.specs.Tests.{pick, both, maybe, within, atMost}
+use Rattle.lists.specs.TestLaws.{cases, atMost-true}
 use Rattle.lists.specs.Rows.{Row, look, Rising, lay, between, mapItems}
 use Rattle.lists.specs.RowLaws.{rows-equal, look-lay, look-nil, look-mapItems, look-between, rising-lay, rising-nil, rising-mapItems, rising-between}
 use Rattle.spec.specs.Records.{Payload, Record, Write, written, deleted, outcome, ownView, payloadOf}
@@ -85,7 +86,7 @@ shown ws lo hi rows = lay (mapItems ownView (between lo hi ws)) (lay (mapItems p
 within-low : (lo hi k : ℕ) → within lo hi k ≡ true → (lo ≤ k) × (k ≤ hi)
 unfolding within
 within-low lo hi k e =
-    ⊎-elim (λ a. (atMost-true lo k a, atMost-true k hi (sym (side a) ∙ e))) (λ a. Rattle.lists.specs.Tests.clash e (rw a)) (cases (atMost lo k))
+    ⊎-elim (λ a. (atMost-true lo k a, atMost-true k hi (sym (side a) ∙ e))) (λ a. Rattle.lists.specs.TestLaws.clash e (rw a)) (cases (atMost lo k))
   where
     side : atMost lo k ≡ true → both (atMost lo k) (atMost k hi) ≡ atMost k hi
     side a = rw a

@@ -1,7 +1,7 @@
 -- A stage is one of four.
 use mathlib.Core.Path.{_≡_, refl}
 use mathlib.Core.Bool.{true, false}
-use Rattle.lists.specs.Tests.{clash}
+use Rattle.lists.specs.TestLaws.{clash}
 use Rattle.spec.specs.declared.Stage.{Stage}
 use Rattle.spec.specs.declared.Stage.the-variants.{Free, Open, Locked, Checked}
 use Rattle.spec.specs.Steps.{isFree, isOpen, isLocked, isChecked}

@@ -7,7 +7,8 @@ use mathlib.Core.Bool.{true, false, not}
 use mathlib.Core.List.{List, [], _∷_, List·Memᴰ·not-nil}
 use mathlib.Core.Option.{Option, none, some, Option·getD}
 use lib.ListN.{length, replicate}
-use Rattle.lists.specs.Tests.{maybe, less, cases, clash, less-true, less-false}
+use Rattle.lists.specs.Tests.{maybe, less}
+use Rattle.lists.specs.TestLaws.{cases, clash, less-true, less-false}
 use Rattle.lists.specs.Rows.{Row, look, keys, Different}
 use Rattle.lists.specs.RowLaws.{has-any, look-nil}
 use Rattle.spec.specs.declared.Refusal.{Refusal}

@@ -8,7 +8,8 @@ use mathlib.Core.Logic.{_⊎_, inl, ⊎-elim}
 use mathlib.Core.Bool.{true, false}
 use mathlib.Core.List.{List, List·Memᴰ}
 use mathlib.Core.Option.{Option, none, some}
-use Rattle.lists.specs.Tests.{present, same, cases, clash, same-true, same-false}
+use Rattle.lists.specs.Tests.{present, same}
+use Rattle.lists.specs.TestLaws.{cases, clash, same-true, same-false}
 use Rattle.lists.specs.Rows.{Row, row, look, keys, Different}
 use Rattle.spec.specs.Records.{Record}
 use Rattle.spec.specs.Steps.{Worker, isFree, isOpen, isChecked}

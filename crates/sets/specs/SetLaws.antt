@@ -6,8 +6,10 @@ use mathlib.Core.Logic.{⊎-elim}
 use mathlib.Core.List.{List, [], _∷_, _++_, map, map-append}
 use lib.ListN.{length, take, drop, getD, set, replicate, length-set, length-map, length-replicate, getD-replicate, List·getD-map}
 use lib.Seq.{length-take-le, getD-take, getD-set-same, getD-set-other, take-set-lt, take-suc-set, ext-getD}
-use Rattle.lists.specs.Tests.{same, cases, same-true, same-false}
-use Rattle.lists.specs.Shifts.{moved, length-moved, tab, tabFrom, length-tab, getD-tab, put-in}
+use Rattle.lists.specs.Tests.{same}
+use Rattle.lists.specs.TestLaws.{cases, same-true, same-false}
+use Rattle.lists.specs.Tabulation.{tab, tabFrom}
+use Rattle.lists.specs.Shifts.{moved, length-moved, length-tab, getD-tab, put-in}
 use Rattle.sets.specs.Sets.{Each, firstRows}
 
 -- ---- one of the lists is replaced: a row of a set, or a worker's set

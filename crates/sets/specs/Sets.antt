@@ -3,7 +3,7 @@ use Prim.Native.Nat.{ℕ, _^_, _<_}
 use mathlib.Core.Path.{_≡_}
 use mathlib.Core.List.{List, []}
 use lib.ListN.{length, getD}
-use Rattle.lists.specs.Shifts.{tab}
+use Rattle.lists.specs.Tabulation.{tab}
 
 -- how many addresses there are: a stored address is below
 abbrev pub addresses : ℕ

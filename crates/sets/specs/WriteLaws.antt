@@ -9,7 +9,8 @@ use mathlib.Core.Option.{none, some}
 use lib.Dec.{eqb}
 use lib.ListN.{length, take, drop, getD, set, replicate}
 use borrow.Author.Tests.{eqb-true, eqb-false}
-use Rattle.lists.specs.Tests.{both, present, less, cases, clash, same-yes, same-no, less-true}
+use Rattle.lists.specs.Tests.{both, present, less}
+use Rattle.lists.specs.TestLaws.{cases, clash, same-yes, same-no, less-true}
 use Rattle.lists.specs.Rows.{Row, row, look, insert, assign, Rising}
 use Rattle.lists.specs.RowLaws.{rising-assign}
 use Rattle.lists.specs.Shifts.{moved, Raising, raising-start, raising-on, raising-end}

@@ -158,3 +158,7 @@ unfoldable pub enter : ℕ → List Slot → ℕ → Content → List Slot
 enter bytes ss k c =
     pick (isIdle c) (release bytes ss k)
     (pick (present (look (entries ss) k)) (rewrite ss k c) (take bytes ss k c))
+
+-- the entry of k that says c: none if nothing is said
+abbrev pub kept : ℕ → Content → Option (Row Content)
+kept k c = pick (isIdle c) none (some (row k c))

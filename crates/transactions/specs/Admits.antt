@@ -3,7 +3,8 @@ use Prim.Native.Nat.{ℕ, _<_, _≤_}
 use mathlib.Core.Path.{_≡_, refl, sym, ap, _∙_, subst}
 use mathlib.Core.Bool.{Bool, true, false, not}
 use mathlib.Core.List.{List, [], _∷_}
-use Rattle.lists.specs.Tests.{less, less-yes, less-no, same, same-yes, same-no}
+use Rattle.lists.specs.Tests.{less, same}
+use Rattle.lists.specs.TestLaws.{less-yes, less-no, same-yes, same-no}
 use mathlib.Core.Option.{none, some}
 use lib.ListN.{length, getD}
 use Rattle.spec.specs.declared.Stage.{Stage}
@@ -20,7 +21,8 @@ use Rattle.transactions.specs.declared.Core.{Core}
 use Rattle.transactions.specs.declared.admits.Admit.{Admit}
 use Rattle.transactions.specs.declared.admits.Admit.the-variants.{Refused, Allowed}
 use Rattle.transactions.specs.Answering.{cause-holds, cause-fails, front, front-none, front-free, front-wrong, front-passed}
-use Rattle.transactions.specs.Views.{Logs, stateOf, worker-at}
+use Rattle.transactions.specs.Views.{Logs, stateOf}
+use Rattle.transactions.specs.ViewLaws.{worker-at}
 
 -- the stages numbered
 abbrev pub rankOf : Stage → ℕ

@@ -4,7 +4,8 @@ use mathlib.Core.Path.{_≡_, refl, ap, _∙_}
 use mathlib.Core.Bool.{Bool, true, false, not}
 use mathlib.Core.List.{List, [], _∷_}
 use mathlib.Core.Option.{Option, none, some}
-use Rattle.lists.specs.Tests.{pick, maybe, less, less-yes, less-no}
+use Rattle.lists.specs.Tests.{pick, maybe, less}
+use Rattle.lists.specs.TestLaws.{less-yes, less-no}
 use Rattle.spec.specs.declared.Refusal.{Refusal}
 use Rattle.spec.specs.declared.Refusal.the-variants.{NoWorker, WorkerFree, WrongStage}
 use Rattle.spec.specs.declared.Stage.{Stage}

@@ -7,7 +7,8 @@ use mathlib.Core.Bool.{Bool}
 use mathlib.Core.List.{List, []}
 use lib.ListN.{getD, set, length-set}
 use lib.Seq.{getD-set-same, getD-set-other}
-use Rattle.lists.specs.Tests.{same, cases, same-true, same-false}
+use Rattle.lists.specs.Tests.{same}
+use Rattle.lists.specs.TestLaws.{cases, same-true, same-false}
 use Rattle.lists.specs.Rows.{Rising}
 use Rattle.spec.specs.declared.Stage.{Stage}
 use Rattle.spec.specs.Leaves.{Leaf}
@@ -23,7 +24,8 @@ use Rattle.map.specs.declared.Sizes.{Sizes}
 use Rattle.map.specs.Views.{Lent, mapOf}
 use Rattle.map.specs.MapHeld as map
 use Rattle.transactions.specs.declared.Core.{Core}
-use Rattle.transactions.specs.Views.{Logs, logs, modelWorker, stateOf, coreWith, withBoth, worker-at}
+use Rattle.transactions.specs.Views.{Logs, logs, modelWorker, stateOf, coreWith, withBoth}
+use Rattle.transactions.specs.ViewLaws.{worker-at}
 use Rattle.transactions.specs.Admits.{Entered}
 use Rattle.transactions.specs.Ready.{workerAt, Within, LowsStay, Stored, Ready}
 

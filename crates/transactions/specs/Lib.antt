@@ -1,8 +1,12 @@
 pub mod Answering
 pub mod Views
+pub mod ViewLaws
 pub mod Ready
+pub mod ReadyLaws
 pub mod Admits
 pub mod CoreLaws
 pub mod Begins
+pub mod BeginLaws
 pub mod Starts
+pub mod StartLaws
 pub mod MergeSteps

@@ -8,7 +8,7 @@ use mathlib.Core.Bool.{true, false}
 use mathlib.Core.List.{[], List·Memᴰ}
 use mathlib.Core.Option.{none}
 use lib.ListN.{getD}
-use Rattle.lists.specs.Tests.{cases}
+use Rattle.lists.specs.TestLaws.{cases}
 use Rattle.spec.specs.Records.{standard}
 use Rattle.spec.specs.Leaves.{versionAt, live}
 use Rattle.spec.specs.Maps.{MapState, mergeAt}
@@ -27,8 +27,10 @@ use Rattle.map.specs.Views.{Lent, mapOf}
 use Rattle.map.specs.Merges.{Merges}
 use Rattle.transactions.specs.declared.Core.{Core}
 use Rattle.transactions.specs.Answering.{yields-granted}
-use Rattle.transactions.specs.Views.{Logs, stateOf, worker-at}
-use Rattle.transactions.specs.Ready.{workerAt, Stored, Ready, Refines, refines}
+use Rattle.transactions.specs.Views.{Logs, stateOf}
+use Rattle.transactions.specs.ViewLaws.{worker-at}
+use Rattle.transactions.specs.Ready.{workerAt, Stored, Ready, Refines}
+use Rattle.transactions.specs.ReadyLaws.{refines}
 
 -- the core after a merge
 abbrev pub mergedCore : Core → Merged → Core

@@ -1,19 +1,15 @@
 -- The invariant of the engine: every public entry asks it, `fresh_state` establishes it and every entry keeps it. And what a
 -- step promises: its answer and the state after it are the model's.
 use Prim.Native.Nat.{ℕ, _<_, _≤_}
-use mathlib.Core.Path.{_≡_, refl, sym, _∙_, subst}
-use mathlib.Core.Bool.{true, false}
+use mathlib.Core.Path.{_≡_}
+use mathlib.Core.Bool.{true}
 use mathlib.Core.List.{List, []}
-use mathlib.Core.Option.{some}
 use lib.ListN.{length, getD}
-use Rattle.spec.specs.declared.Refusal.{Refusal}
 use Rattle.spec.specs.Records.{standard}
-use Rattle.spec.specs.Refusals.{ends}
 use Rattle.spec.specs.Leaves.{Leaf, versionAt, live}
-use Rattle.spec.specs.Steps.{State, Step, Answer, refused, refusal, answer, next}
+use Rattle.spec.specs.Steps.{Step, Answer, answer, next}
 use Rattle.limits.specs.Invariant.{Kept}
-use Rattle.limits.specs.Keeping.{next-kept}
-use Rattle.limits.specs.LoggedVersions.{LoggedOld, next-logged}
+use Rattle.limits.specs.LoggedVersions.{LoggedOld}
 use Rattle.sets.specs.declared.workers.Worker.{Worker}
 use Rattle.sets.specs.Workers.{freed}
 use Rattle.sets.specs.Reads.{ReadsHeld}
@@ -23,7 +19,6 @@ use Rattle.map.specs.Views.{Lent, mapOf}
 use Rattle.map.specs.MapHeld as map
 use Rattle.transactions.specs.declared.Core.{Core}
 use Rattle.transactions.specs.Views.{Logs, stateOf}
-use Rattle.transactions.specs.Answering.{Yields, yields-refused}
 
 abbrev pub workerAt : Core → ℕ → Worker
 workerAt c w = getD (c .workers) w freed
@@ -59,23 +54,3 @@ pub record Refines (l : Lent) (g : Logs) (c : Core) (s : Step) (l' : Lent) (g' :
   pub ready : Ready l' g' c'
   pub state : stateOf l' g' c' ≡ next (stateOf l g c) s
   pub says : a ≡ answer (stateOf l g c) s
-
-pub refines : {l l' : Lent} {g g' : Logs} {c c' : Core} {s : Step} {a : Answer} {σ' : State}
-    → Ready l g c → Yields (stateOf l g c) s a σ' → stateOf l' g' c' ≡ σ' → Stored l' g' c' → Refines l g c s l' g' c' a
-refines {l} {l'} {g} {g'} {c} {c'} {s} h k e t =
-    let q : stateOf l' g' c' ≡ next (stateOf l g c) s = e ∙ sym (k .leaves) in
-    record {
-      ready =
-          record {
-            stored = t;
-            kept = subst Kept (sym q) (next-kept (h .kept) s);
-            logged = subst LoggedOld (sym q) (next-logged (h .kept) (h .logged) s);
-          };
-      state = q;
-      says = sym (k .answers);
-    }
-
--- a refusal leaves everything
-pub refines-refused : {l : Lent} {g : Logs} {c : Core} {s : Step} {r : Refusal}
-    → Ready l g c → refusal (stateOf l g c) s ≡ some r → ends r ≡ false → Refines l g c s l g c (refused r)
-refines-refused {l} {g} {c} {s} {r} h e t = refines h (yields-refused (stateOf l g c) s r e t) refl (h .stored)

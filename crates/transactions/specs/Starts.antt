@@ -1,30 +1,19 @@
 -- The arrays of a fresh map, with every worker free.
-use Prim.Native.Nat.{ℕ, zero, suc, _<_, zero-le}
-use native.Mathlib.Nat.{not-suc-le-zero}
-use mathlib.Core.Path.{_≡_, refl, sym, subst}
-use mathlib.Core.List.{List, _∷_}
-use lib.ListN.{getD, replicate, length-replicate}
+use Prim.Native.Nat.{ℕ}
+use mathlib.Core.Path.{_≡_}
+use mathlib.Core.List.{List}
+use lib.ListN.{replicate}
 use Rattle.spec.specs.Records.{standard}
-use Rattle.spec.specs.Maps.{freshMap}
-use Rattle.spec.specs.Steps.{fresh, freeWorker}
-use Rattle.laws.specs.WorkerLaws.{standard-settings}
-use Rattle.limits.specs.Invariant.{Kept, fresh-kept}
-use Rattle.limits.specs.LoggedVersions.{LoggedOld, fresh-logged}
-use Rattle.sets.specs.declared.workers.Worker.{Worker}
+use Rattle.spec.specs.Steps.{fresh}
 use Rattle.sets.specs.Workers.{freed}
 use Rattle.sets.specs.Reads.{readWords}
 use Rattle.sets.specs.Leaves.{leafSetWords}
 use Rattle.sets.specs.Writes.{writeWords}
-use Rattle.sets.specs.ReadLaws.{reads-zero}
-use Rattle.sets.specs.LeafLaws.{leaves-zero}
-use Rattle.sets.specs.WriteLaws.{writes-zero}
-use Rattle.sets.specs.WorkerLaws.{free-in}
 use Rattle.map.specs.declared.Sizes.{Sizes}
 use Rattle.map.specs.Views.{Lent}
-use Rattle.map.specs.Entries.{MapBecomes}
 use Rattle.transactions.specs.declared.Core.{Core}
-use Rattle.transactions.specs.Views.{Logs, logs, modelWorker, workersFrom, stateOf}
-use Rattle.transactions.specs.Ready.{workerAt, Within, Stored, Ready}
+use Rattle.transactions.specs.Views.{Logs, logs, stateOf}
+use Rattle.transactions.specs.Ready.{Ready}
 
 pub record Fresh (l : Lent) (g : Logs) (c : Core) : Type 0 where
   pub ready : Ready l g c
@@ -39,54 +28,3 @@ noLogs = logs (zeros (standard .readLimit) readWords) (zeros (standard .leafSetL
 
 abbrev pub startCore : Sizes → Core
 startCore z = record { workers = replicate (standard .workers) freed; sizes = z; counters = record { number = 0; version = 0 } }
-
-free-worker : (g : Logs) (w : ℕ) → modelWorker g freed w ≡ freeWorker
-free-worker g w = free-in (g .reads) (g .leaves) (g .writes) w
-
-free-workers : (g : Logs) (n w : ℕ) → workersFrom g (replicate n freed) w ≡ replicate n freeWorker
-unfolding workersFrom
-free-workers g zero w = refl
-free-workers g (suc n) w = λ i. free-worker g w i ∷ free-workers g n (suc w) i
-
-getD-free : (n w : ℕ) → getD (replicate n freed) w freed ≡ freed
-getD-free zero w = refl
-getD-free (suc n) zero = refl
-getD-free (suc n) (suc w) = getD-free n w
-
-module _ (l : Lent) (z : Sizes) (b : MapBecomes l z 0 freshMap) where
-  fresh-state : stateOf l noLogs (startCore z) ≡ fresh standard
-  unfolding stateOf
-  fresh-state =
-      λ i. record {
-        settings = standard;
-        counters = record { number = 0; version = 0 };
-        map = b .map i;
-        workers = free-workers noLogs (standard .workers) 0 i;
-      }
-
-  no-leaf : (w i : ℕ) → i < workerAt (startCore z) w .leaves → {A : Type 0} → A
-  no-leaf w i h = absurd (not-suc-le-zero (subst (λ (x : Worker). i < x .leaves) (getD-free (standard .workers) w) h))
-
-  fresh-stored : Stored l noLogs (startCore z)
-  fresh-stored =
-      record {
-        map = b .held;
-        reads = reads-zero;
-        leaves = leaves-zero;
-        writes = writes-zero;
-        workers = length-replicate (standard .workers) freed;
-        counts = λ w h. subst Within (sym (getD-free (standard .workers) w)) (record { reads = zero-le; leaves = zero-le; writes = zero-le });
-        lows = λ w h i j. no-leaf w i j;
-      }
-
-  pub fresh-start : Fresh l noLogs (startCore z)
-  fresh-start =
-      record {
-        ready =
-            record {
-              stored = fresh-stored;
-              kept = subst Kept (sym fresh-state) (fresh-kept standard standard-settings);
-              logged = subst LoggedOld (sym fresh-state) (fresh-logged standard);
-            };
-        state = fresh-state;
-      }

@@ -1,6 +1,6 @@
 -- `indexlet::entry_of` meets its contract by the table's rule.
 use borrow.Author.Needs.{needs}
-use Rattle.lists.specs.Shifts.{tabFrom, tab}
+use Rattle.lists.specs.Tabulation.{tabFrom, tab}
 use Rattle.spec.specs.Slots.{tableEntry}
 use Rattle.indexlet.specs.Table.{table-at}
 use Rattle.indexlet.proofs.entry_of.Statement.{statement}

@@ -2,7 +2,7 @@
 use Prim.Native.Nat.{_<_, _^_}
 use native.Mathlib.Omega.{arith}
 use borrow.Author.Needs.{needs}
-use Rattle.lists.specs.Shifts.{tabFrom, tab}
+use Rattle.lists.specs.Tabulation.{tabFrom, tab}
 use Rattle.spec.specs.Slots.{tableEntry}
 use Rattle.indexlet.specs.Table.{step0-less, mix0-less, mix1-less, mix2-less, home-steps}
 use Rattle.indexlet.proofs.home.Statement.{statement}

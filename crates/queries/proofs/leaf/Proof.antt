@@ -1,7 +1,7 @@
 -- `queries::leaf` meets its contract.
 use Prim.Native.Nat.{ℕ, _^_, _<_}
 use mathlib.Core.Path.{sym, subst}
-use Rattle.index.specs.LeafColumns.{column-places}
+use Rattle.index.specs.LeafColumnLaws.{column-places}
 use Rattle.phantomlet.specs.LeafCounts.{low-of}
 use Rattle.queries.specs.ScanLaws.{logged-at}
 use borrow.Author.Needs.{needs}

@@ -1,5 +1,6 @@
 -- `queries::leaves_meeting` meets its contract.
-use Rattle.index.specs.LeafColumns.{lowsOf, column-places}
+use Rattle.index.specs.LeafColumns.{lowsOf}
+use Rattle.index.specs.LeafColumnLaws.{column-places}
 use Rattle.queries.specs.ScanLaws.{meets}
 use borrow.Author.Needs.{needs}
 use Rattle.queries.proofs.leaves_meeting.Statement.{statement}

@@ -1,5 +1,6 @@
 -- `queries::place_of` meets its contract.
-use Rattle.index.specs.LeafColumns.{lowsOf, column-places}
+use Rattle.index.specs.LeafColumns.{lowsOf}
+use Rattle.index.specs.LeafColumnLaws.{column-places}
 use Rattle.queries.specs.ScanLaws.{leaf-at}
 use borrow.Author.Needs.{needs}
 use Rattle.queries.proofs.place_of.Statement.{statement}

@@ -5,7 +5,7 @@ use mathlib.Core.Path.{sym, _∙_}
 use mathlib.Core.Logic.{inl, inr}
 use lib.ListN.{length}
 use borrow.Author.Tests.{not-true, not-false}
-use Rattle.lists.specs.Tests.{less-true, less-false}
+use Rattle.lists.specs.TestLaws.{less-true, less-false}
 use Rattle.script.specs.GrammarLaws.{digit-yes, digit-low, digit-high}
 use Rattle.script.specs.Tokens.{Spells}
 use Rattle.script.specs.TokenLaws.{spells-none, spells-digit, digits-stop, digits-end}

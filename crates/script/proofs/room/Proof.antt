@@ -1,6 +1,6 @@
 use native.Mathlib.Omega.{arith}
 use mathlib.Core.Path.{sym}
-use Rattle.lists.specs.Tests.{less-yes, less-no}
+use Rattle.lists.specs.TestLaws.{less-yes, less-no}
 use Rattle.script.proofs.room.Statement.{statement}
 use Rattle.script.proofs.room.Tie as tie
 

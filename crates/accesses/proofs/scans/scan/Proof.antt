@@ -7,7 +7,7 @@ use Rattle.transactions.specs.Admits.{Admitted}
 use Rattle.ranges.specs.Plans.{Plans}
 use Rattle.ranges.specs.PlanLaws.{planned}
 use Rattle.accesses.specs.ScanCauses.{planning}
-use Rattle.accesses.specs.Scans.{scans-turned, scans-declined, scans-granted}
+use Rattle.accesses.specs.ScanLaws.{scans-turned, scans-declined, scans-granted}
 use Rattle.accesses.proofs.scans.scan.Statement.{statement}
 use Rattle.accesses.proofs.scans.scan.Tie as tie
 

@@ -1,8 +1,8 @@
 -- `closing::finish` meets its contract, case by case.
 use native.Mathlib.Omega.{arith}
-use Rattle.lists.specs.Texts.{wrote-length}
+use Rattle.lists.specs.TextLaws.{wrote-length}
 use Rattle.map.specs.Parts.{records-held, slots-held}
-use Rattle.console.specs.Finishes.{records-fit, finish-stopped, finish-whole, finish-inside}
+use Rattle.console.specs.FinishLaws.{records-fit, finish-stopped, finish-whole, finish-inside}
 use Rattle.console.proofs.closing.finish.Statement.{statement}
 use Rattle.console.proofs.closing.finish.Tie as tie
 

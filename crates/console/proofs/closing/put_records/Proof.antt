@@ -3,7 +3,7 @@ use Prim.Native.Nat.{_-_}
 use native.Mathlib.Omega.{arith}
 use mathlib.Core.Path.{refl}
 use borrow.Author.Needs.{needs}
-use Rattle.lists.specs.Texts.{wrote-length}
+use Rattle.lists.specs.TextLaws.{wrote-length}
 use Rattle.queries.specs.NextLaws.{passed-start, follows-done}
 use Rattle.sets.specs.Sets.{addresses}
 use Rattle.console.specs.Closings.{allRecords, Listing, rising-all, next-at, next-done, listing-start, listing-room, listing-above, listing-on, listing-end}

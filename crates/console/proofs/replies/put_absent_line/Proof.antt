@@ -1,7 +1,7 @@
 -- `replies::put_absent_line` meets its contract: an answer, the mark of absence and a byte.
 use native.Mathlib.Omega.{arith}
 use borrow.Author.Needs.{needs}
-use Rattle.lists.specs.Texts.{wrote-join}
+use Rattle.lists.specs.TextLaws.{wrote-join}
 use Rattle.script.specs.OutputLaws.{field-most}
 use Rattle.console.proofs.replies.put_absent_line.Statement.{statement}
 use Rattle.console.proofs.replies.put_absent_line.Tie as tie

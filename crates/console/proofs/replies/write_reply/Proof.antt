@@ -5,7 +5,7 @@ use native.Mathlib.Omega.{arith}
 use mathlib.Core.Path.{_≡_, subst}
 use lib.ListN.{length}
 use denote.Ref.{now}
-use Rattle.lists.specs.Texts.{wrote-length}
+use Rattle.lists.specs.TextLaws.{wrote-length}
 use Rattle.engine.specs.declared.steps.Reply.{Reply}
 use Rattle.engine.specs.Performs.{placesIn}
 use Rattle.console.specs.Program.{places}

@@ -2,7 +2,8 @@
 use mathlib.Core.Path.{sym, _∙_}
 use Rattle.map.specs.Views.{lent}
 use Rattle.transactions.specs.Views.{logs}
-use Rattle.console.specs.Sessions.{Feeds, left, feeds-none, feeds-join}
+use Rattle.console.specs.Sessions.{Feeds, left}
+use Rattle.console.specs.SessionLaws.{feeds-none, feeds-join}
 use Rattle.console.proofs.session.feed.Statement.{statement}
 use Rattle.console.proofs.session.feed.Tie as tie
 

@@ -1,7 +1,7 @@
 -- `session::run_line` meets its contract, event by event.
 use borrow.Author.Needs.{needs}
 use native.Mathlib.Omega.{arith}
-use Rattle.lists.specs.Texts.{wrote-length}
+use Rattle.lists.specs.TextLaws.{wrote-length}
 use Rattle.console.specs.SessionLaws.{goes-true}
 use Rattle.console.specs.Places.{places-fit}
 use Rattle.console.specs.RunLineLaws.{turn-ended, turn-malformed, turn-line}

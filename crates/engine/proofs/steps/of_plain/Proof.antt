@@ -1,5 +1,5 @@
 -- `steps::of_plain` meets its contract: by what the answer is.
-use Rattle.engine.specs.Performs.{plain-is}
+use Rattle.engine.specs.PerformLaws.{plain-is}
 use borrow.Author.Needs.{needs}
 use Rattle.engine.proofs.steps.of_plain.Statement.{statement}
 use Rattle.engine.proofs.steps.of_plain.Tie as tie

@@ -1,5 +1,5 @@
 -- `steps::of_read` meets its contract: by what the answer is.
-use Rattle.engine.specs.Performs.{read-is}
+use Rattle.engine.specs.PerformLaws.{read-is}
 use borrow.Author.Needs.{needs}
 use Rattle.engine.proofs.steps.of_read.Statement.{statement}
 use Rattle.engine.proofs.steps.of_read.Tie as tie

@@ -1,5 +1,5 @@
 -- `steps::of_scan` meets its contract: by what the answer is.
-use Rattle.engine.specs.Performs.{scan-is}
+use Rattle.engine.specs.PerformLaws.{scan-is}
 use borrow.Author.Needs.{needs}
 use Rattle.engine.proofs.steps.of_scan.Statement.{statement}
 use Rattle.engine.proofs.steps.of_scan.Tie as tie

@@ -1,6 +1,6 @@
 -- `steps::perform` meets its contract: the promise of the function that it calls, under the operation's name.
 use mathlib.Core.Path.{refl}
-use Rattle.engine.specs.Performs.{quiet-plain, quiet-merge, quiet-as, performs-quiet, performs-as}
+use Rattle.engine.specs.PerformLaws.{quiet-plain, quiet-merge, quiet-as, performs-quiet, performs-as}
 use borrow.Author.Needs.{needs}
 use Rattle.engine.proofs.steps.perform.Statement.{statement}
 use Rattle.engine.proofs.steps.perform.Tie as tie

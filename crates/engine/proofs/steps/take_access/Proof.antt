@@ -1,6 +1,6 @@
 -- `steps::take_access` meets its contract: the promise of the entry that it calls, under the operation's name.
 use mathlib.Core.Path.{refl}
-use Rattle.engine.specs.Performs.{accesses, quiet-plain, quiet-read, performs-quiet, performs-scan}
+use Rattle.engine.specs.PerformLaws.{accesses, quiet-plain, quiet-read, performs-quiet, performs-scan}
 use borrow.Author.Needs.{needs}
 use Rattle.engine.proofs.steps.take_access.Statement.{statement}
 use Rattle.engine.proofs.steps.take_access.Tie as tie

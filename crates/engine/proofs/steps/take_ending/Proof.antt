@@ -1,6 +1,6 @@
 -- `steps::take_ending` meets its contract: the promise of the entry that it calls, under the operation's name.
 use mathlib.Core.Path.{refl}
-use Rattle.engine.specs.Performs.{ending-is, quiet-plain, quiet-validate}
+use Rattle.engine.specs.PerformLaws.{ending-is, quiet-plain, quiet-validate}
 use borrow.Author.Needs.{needs}
 use Rattle.engine.proofs.steps.take_ending.Statement.{statement}
 use Rattle.engine.proofs.steps.take_ending.Tie as tie

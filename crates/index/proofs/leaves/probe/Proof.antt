@@ -3,7 +3,8 @@ use mathlib.Core.Path.{sym, ap, _∙_}
 use lib.ListN.{length}
 use Rattle.index.specs.declared.leaves.Leaf.{Leaf}
 use Rattle.index.specs.LeafPlaces.{leaf-step, leaf-stay, leaf-end}
-use Rattle.index.specs.LeafColumns.{lowsOf, column-places, column-getD}
+use Rattle.index.specs.LeafColumns.{lowsOf}
+use Rattle.index.specs.LeafColumnLaws.{column-places, column-getD}
 use borrow.Author.Needs.{needs}
 use Rattle.index.proofs.leaves.probe.Statement.{statement}
 use Rattle.index.proofs.leaves.probe.Tie as tie

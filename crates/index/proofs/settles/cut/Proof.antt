@@ -1,6 +1,7 @@
 use Prim.Native.Nat.{_+_, _-_}
 use mathlib.Core.Path.{refl, ap, _∙_}
-use Rattle.lists.specs.Shifts.{over, tab}
+use Rattle.lists.specs.Tabulation.{tab}
+use Rattle.lists.specs.Shifts.{over}
 use Rattle.index.specs.declared.leaves.Leaf.{Leaf}
 use Rattle.index.specs.LeafColumns.{LeafRows, leafAt, leafPut}
 use Rattle.index.specs.SettleRows.{madeLeaf, runRow, made-rows}

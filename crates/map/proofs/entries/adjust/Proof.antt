@@ -4,7 +4,8 @@ use native.Mathlib.Omega.{arith}
 use mathlib.Core.Path.{_≡_, sym, ap, _∙_}
 use lib.ListN.{getD}
 use Rattle.index.specs.declared.leaves.Leaf.{Leaf as LeafWords}
-use Rattle.index.specs.LeafColumns.{outsideOf, pendingOf, leafPut, column-getD}
+use Rattle.index.specs.LeafColumns.{outsideOf, pendingOf, leafPut}
+use Rattle.index.specs.LeafColumnLaws.{column-getD}
 use Rattle.map.specs.EntryLaws.{adjusts}
 use borrow.Author.Needs.{needs}
 use Rattle.map.proofs.entries.adjust.Statement.{statement}

@@ -1,7 +1,8 @@
 -- `map::merge::leaf_rows` meets its contract: the rows from the place of the leaf's low to that of the next low.
 use Prim.Native.Nat.{ℕ, _+_, _^_, _<_}
 use mathlib.Core.Path.{sym, subst}
-use Rattle.index.specs.LeafColumns.{lowsOf, column-places}
+use Rattle.index.specs.LeafColumns.{lowsOf}
+use Rattle.index.specs.LeafColumnLaws.{column-places}
 use Rattle.phantomlet.specs.LeafCounts.{low-of}
 use Rattle.phantomlet.specs.LeafRows.{spans-next, spans-last}
 use Rattle.map.specs.MergeSettles.{at-low}

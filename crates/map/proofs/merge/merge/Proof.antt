@@ -2,7 +2,7 @@
 use Prim.Native.Nat.{ℕ}
 use mathlib.Core.Path.{sym, ap, _∙_}
 use Rattle.index.specs.declared.leaves.Leaf.{Leaf as LeafWords}
-use Rattle.index.specs.LeafColumns.{column-getD}
+use Rattle.index.specs.LeafColumnLaws.{column-getD}
 use Rattle.map.specs.Merges.{merges-nothing, starting, ranging, resettling, recounting, merges-some}
 use Rattle.map.specs.MergeSettles.{pending-of, pending-some}
 use borrow.Author.Needs.{needs}

@@ -2,7 +2,8 @@
 use mathlib.Core.Path.{refl, sym, ap, _∙_, subst}
 use Prim.Native.Nat.{ℕ, _-_}
 use Rattle.index.specs.declared.leaves.Leaf.{Leaf as LeafWords}
-use Rattle.index.specs.LeafColumns.{lowsOf, column-places, column-getD}
+use Rattle.index.specs.LeafColumns.{lowsOf}
+use Rattle.index.specs.LeafColumnLaws.{column-places, column-getD}
 use Rattle.sets.specs.Sets.{addresses}
 use Rattle.phantomlet.specs.LeafCounts.{Range, low-of, range-next, range-last}
 use borrow.Author.Needs.{needs}

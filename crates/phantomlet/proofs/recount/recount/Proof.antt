@@ -3,7 +3,7 @@ use Prim.Native.Nat.{ℕ}
 use mathlib.Core.Path.{refl, sym, _∙_, subst}
 use mathlib.Core.List.{List}
 use Rattle.index.specs.LeafPlaces.{Listed}
-use Rattle.index.specs.LeafColumns.{column-places}
+use Rattle.index.specs.LeafColumnLaws.{column-places}
 use Rattle.phantomlet.specs.LeafWrites.{same-leaves, renumbered-on}
 use Rattle.phantomlet.specs.MergeCounts.{carried, ranging, tally-start, numbers-small, counting}
 use borrow.Author.Needs.{needs}

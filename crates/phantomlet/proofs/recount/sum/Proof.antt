@@ -7,7 +7,8 @@ use lib.ListN.{getD}
 use borrow.Author.Needs.{needs}
 use Rattle.index.specs.declared.leaves.Leaf.{Leaf as LeafWords}
 use Rattle.index.specs.Views.{leafPlaces}
-use Rattle.index.specs.LeafColumns.{outsideOf, column-getD}
+use Rattle.index.specs.LeafColumns.{outsideOf}
+use Rattle.index.specs.LeafColumnLaws.{column-getD}
 use Rattle.phantomlet.specs.LeafNumbers.{Summing, summing-start, summing-on, summing-end, summing-small}
 use Rattle.phantomlet.proofs.recount.sum.Statement.{statement}
 use Rattle.phantomlet.proofs.recount.sum.Tie as tie

@@ -1,7 +1,8 @@
 -- `runs::last_stop` meets its contract: by the words left over.
 use mathlib.Core.Path.{sym, ap}
 use mathlib.Core.Bool.{Bool}
-use Rattle.lists.specs.Tests.{pick, same-yes, same-no}
+use Rattle.lists.specs.Tests.{pick}
+use Rattle.lists.specs.TestLaws.{same-yes, same-no}
 use Rattle.replay.specs.declared.runs.Stop.the-variants as stop
 use Rattle.replay.proofs.runs.last_stop.Statement.{statement}
 use Rattle.replay.proofs.runs.last_stop.Tie as tie

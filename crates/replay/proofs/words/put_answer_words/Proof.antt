@@ -1,7 +1,7 @@
 -- `words::put_answer_words` meets its contract: three words, and a scan's records.
 use native.Mathlib.Omega.{arith}
 use mathlib.Core.Path.{refl}
-use Rattle.lists.specs.Texts.{wrote-length}
+use Rattle.lists.specs.TextLaws.{wrote-length}
 use Rattle.replay.specs.WordLaws.{wrote-short, wrote-long, roomy-listed}
 use borrow.Author.Needs.{needs}
 use Rattle.replay.proofs.words.put_answer_words.Statement.{statement}

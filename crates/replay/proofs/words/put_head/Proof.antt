@@ -1,6 +1,6 @@
 -- `words::put_head` meets its contract: two words and one.
 use borrow.Author.Needs.{needs}
-use Rattle.lists.specs.Texts.{wrote-join}
+use Rattle.lists.specs.TextLaws.{wrote-join}
 use Rattle.replay.proofs.words.put_head.Statement.{statement}
 use Rattle.replay.proofs.words.put_head.Tie as tie
 

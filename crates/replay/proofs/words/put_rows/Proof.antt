@@ -1,7 +1,7 @@
 -- `words::put_rows` meets its contract. The invariant: the first i records are written.
 use Prim.Native.Nat.{_-_, _≤_}
 use native.Mathlib.Omega.{arith}
-use Rattle.lists.specs.Texts.{wrote-length}
+use Rattle.lists.specs.TextLaws.{wrote-length}
 use Rattle.replay.specs.WordLaws.{Putting, putting-none, putting-on, putting-end}
 use mathlib.Core.Path.{refl}
 use Rattle.replay.proofs.words.put_rows.Statement.{statement}

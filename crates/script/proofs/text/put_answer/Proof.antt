@@ -1,6 +1,6 @@
 -- `script::text::put_answer` meets its contract: a byte and a field.
 use borrow.Author.Needs.{needs}
-use Rattle.lists.specs.Texts.{wrote-join}
+use Rattle.lists.specs.TextLaws.{wrote-join}
 use Rattle.script.proofs.text.put_answer.Statement.{statement}
 use Rattle.script.proofs.text.put_answer.Tie as tie
 

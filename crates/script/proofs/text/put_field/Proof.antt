@@ -1,6 +1,6 @@
 -- `script::text::put_field` meets its contract: a byte and a number.
 use borrow.Author.Needs.{needs}
-use Rattle.lists.specs.Texts.{wrote-join}
+use Rattle.lists.specs.TextLaws.{wrote-join}
 use Rattle.script.specs.Output.{field}
 use Rattle.script.proofs.text.put_field.Statement.{statement}
 use Rattle.script.proofs.text.put_field.Tie as tie

@@ -1,7 +1,7 @@
 -- `script::text::put_line` meets its contract: an answer and a byte.
 use native.Mathlib.Omega.{arith}
 use borrow.Author.Needs.{needs}
-use Rattle.lists.specs.Texts.{wrote-join}
+use Rattle.lists.specs.TextLaws.{wrote-join}
 use Rattle.script.specs.OutputLaws.{field-most}
 use Rattle.script.proofs.text.put_line.Statement.{statement}
 use Rattle.script.proofs.text.put_line.Tie as tie

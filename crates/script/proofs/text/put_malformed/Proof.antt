@@ -1,6 +1,6 @@
 -- `script::text::put_malformed` meets its contract: two bytes.
 use borrow.Author.Needs.{needs}
-use Rattle.lists.specs.Texts.{wrote-join}
+use Rattle.lists.specs.TextLaws.{wrote-join}
 use Rattle.script.proofs.text.put_malformed.Statement.{statement}
 use Rattle.script.proofs.text.put_malformed.Tie as tie
 

@@ -1,7 +1,7 @@
 -- `script::text::put_pair` meets its contract: two fields; the first leaves room for the second.
 use native.Mathlib.Omega.{arith}
 use borrow.Author.Needs.{needs}
-use Rattle.lists.specs.Texts.{wrote-join}
+use Rattle.lists.specs.TextLaws.{wrote-join}
 use Rattle.script.specs.Output.{pair}
 use Rattle.script.specs.OutputLaws.{field-most}
 use Rattle.script.proofs.text.put_pair.Statement.{statement}

@@ -1,7 +1,7 @@
 -- `script::text::put_pairs` meets its contract. The invariant: the first i pairs are written.
 use Prim.Native.Nat.{_-_, _≤_}
 use native.Mathlib.Omega.{arith}
-use Rattle.lists.specs.Texts.{wrote-length}
+use Rattle.lists.specs.TextLaws.{wrote-length}
 use Rattle.script.specs.OutputLaws.{Pairing, pairing-none, pairing-on, pairing-end}
 use Rattle.script.proofs.text.put_pairs.Statement.{statement}
 use Rattle.script.proofs.text.put_pairs.Tie as tie

@@ -1,6 +1,6 @@
 use mathlib.Core.Path.{subst}
 use borrow.Author.Needs.{needs}
-use Rattle.transactions.specs.Begins.{begin-refused, begin-granted}
+use Rattle.transactions.specs.BeginLaws.{begin-refused, begin-granted}
 use Rattle.transactions.specs.Admits.{Begun}
 use Rattle.transactions.proofs.begins.begin.Statement.{statement}
 use Rattle.transactions.proofs.begins.begin.Tie as tie

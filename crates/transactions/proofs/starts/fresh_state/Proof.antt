@@ -1,6 +1,6 @@
 use borrow.Author.Needs.{needs}
 use Rattle.map.specs.Views.{lent}
-use Rattle.transactions.specs.Starts.{fresh-start}
+use Rattle.transactions.specs.StartLaws.{fresh-start}
 use Rattle.transactions.proofs.starts.fresh_state.Statement.{statement}
 use Rattle.transactions.proofs.starts.fresh_state.Tie as tie
 

@@ -1,0 +1,11 @@
+-- How the answers of a read are read as the model's.
+use mathlib.Core.Option.{none, some}
+use Rattle.spec.specs.Steps.{Answer, refused, found}
+use Rattle.accesses.specs.declared.reads.ReadAnswer.{ReadAnswer}
+use Rattle.accesses.specs.declared.reads.ReadAnswer.the-variants.{Value, Absent, Refused}
+
+-- document 01's answer
+abbrev pub readAnswer : ReadAnswer → Answer
+readAnswer (Value v) = found (some (record { value = v }))
+readAnswer Absent = found none
+readAnswer (Refused r) = refused r

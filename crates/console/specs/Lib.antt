@@ -11,4 +11,5 @@ pub mod FinishLaws
 pub mod Examples
 pub mod WholeRuns
 pub mod SerialOutput
+pub mod TranscriptLaws
 pub mod SerialOutputLaws

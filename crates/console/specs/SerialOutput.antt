@@ -1,6 +1,7 @@
 -- Demand 3, of what the script program reads and writes: the history is read off the lines of the input and the lines of the
 -- output, and the contents off the last line.
 use Prim.Native.Nat.{ℕ}
+use mathlib.Core.Path.{_≡_}
 use mathlib.Core.List.{List, [], _∷_, _++_}
 use mathlib.Core.Option.{Option, none, some}
 use Rattle.lists.specs.Tests.{pick, maybe, same}
@@ -57,4 +58,6 @@ pub record SerialOutput (ls : List Line) (text : List ℕ) : Type 0 where
   pub events : List Event
   pub contents : List (Row Record)
   pub transcript : Transcript ls text events contents
+  -- no other history can be read off them
+  pub only : (h : List Event) (rs : List (Row Record)) → Transcript ls text h rs → h ≡ events
   pub serial : SerialRun events contents

@@ -1,7 +1,7 @@
 -- What the program writes for an input without a malformed line is the output of a serial run.
 use Prim.Native.Nat.{ℕ}
 use native.Mathlib.Omega.{arith}
-use mathlib.Core.Path.{_≡_, refl, sym, ap, _∙_, subst}
+use mathlib.Core.Path.{_≡_, refl, subst}
 use mathlib.Core.Bool.{Bool, true, false}
 use mathlib.Core.List.{List, [], _∷_, _++_}
 use mathlib.Core.Option.{Option, none, some}
@@ -9,13 +9,14 @@ use Rattle.lists.specs.Tests.{pick, maybe, same}
 use Rattle.spec.specs.declared.Refusal.{Refusal}
 use Rattle.spec.specs.Records.{standard}
 use Rattle.spec.specs.Maps.{contents}
-use Rattle.spec.specs.Steps.{State, Step, begin, read, scan, put, remove, lock, validate, install, abort, merge, Answer, refused, fresh, refusal, granted, answer, next, final, history}
+use Rattle.spec.specs.Steps.{State, Step, begin, read, scan, put, remove, lock, validate, install, abort, merge, refused, fresh, refusal, granted, answer, next, final, history}
 use Rattle.serial.specs.Theorem.{theorem}
 use Rattle.script.specs.declared.Line.{Line}
 use Rattle.script.specs.Grammar.{meaning}
 use Rattle.script.specs.Parsing.{filled}
 use Rattle.script.specs.Output.{stepOf, answerLine, endLine, malformedLine}
 use Rattle.console.specs.Program.{places, writtenFrom, output}
+use Rattle.console.specs.TranscriptLaws.{one-history}
 use Rattle.console.specs.SerialOutput.{linesFrom, linesOf, Answers, not-granted, begun, value, records, written, removed, locked, number, installed, aborted, count, Transcript, end-line, answer-line, SerialOutput}
 
 -- ---- what the model answers is an answer to the step
@@ -92,9 +93,11 @@ transcribes σ line (b ∷ bs) ls e =
 -- Demand 3 of the program's output.
 pub output-serial : (input : List ℕ) (ls : List Line) → linesOf input ≡ some ls → SerialOutput ls (output input)
 output-serial input ls e =
+    let t : Transcribes (fresh standard) ls (output input) = transcribes (fresh standard) [] input ls e in
     record {
       events = history (fresh standard) (stepsIn ls);
       contents = contents (final (fresh standard) (stepsIn ls) .map);
-      transcript = transcribes (fresh standard) [] input ls e;
+      transcript = t;
+      only = λ h rs q. one-history q t;
       serial = theorem (stepsIn ls);
     }

@@ -17,7 +17,7 @@ use Rattle.spec.specs.Runs.{stepsOf}
 use Rattle.spec.specs.Claim.{SerialRun}
 use Rattle.serial.specs.Theorem.{theorem}
 use Rattle.calls.specs.CallLaws.{map-in}
-use Rattle.map.specs.Views.{Lent, mapOf}
+use Rattle.map.specs.Views.{Lent}
 use Rattle.transactions.specs.declared.Core.{Core}
 use Rattle.transactions.specs.Views.{Logs, stateOf}
 use Rattle.transactions.specs.Ready.{Ready}
@@ -200,14 +200,14 @@ module _ {words ks₀ vs₀ out₀ : List ℕ} {l : Lent} {g : Logs} {c : Core} 
 module _ {l l' : Lent} {g g' : Logs} {c : Core} {k : Code} {ks vs out ks' vs' out' : List ℕ} {at : ℕ} {t : AfterCode}
     (u : TakesCode l g c k ks vs out at l' g' ks' vs' out' t)
   where
-    pub turned-addresses : length ks' ≡ length ks
-    turned-addresses = ap length (u .addresses) ∙ left-length addressOf (u .events) ks
+    pub code-addresses : length ks' ≡ length ks
+    code-addresses = ap length (u .addresses) ∙ left-length addressOf (u .events) ks
 
-    pub turned-values : length vs' ≡ length vs
-    turned-values = ap length (u .values) ∙ left-length valueOf (u .events) vs
+    pub code-values : length vs' ≡ length vs
+    code-values = ap length (u .values) ∙ left-length valueOf (u .events) vs
 
-    pub turned-out : length out' ≡ length out
-    turned-out = wrote-length (u .wrote)
+    pub code-out : length out' ≡ length out
+    code-out = wrote-length (u .wrote)
 
     pub takes-as : {j : Code} → k ≡ j → TakesCode l g c j ks vs out at l' g' ks' vs' out' t
     takes-as e = subst (λ (x : Code). TakesCode l g c x ks vs out at l' g' ks' vs' out' t) e u
@@ -217,11 +217,11 @@ module _ {words ks₀ vs₀ out₀ : List ℕ} {l l' : Lent} {g g' : Logs} {c : 
     (whole : stepWords * i + stepWords ≤ length words)
   where
     -- the run after the code
-    turned : runOf words ks₀ vs₀ out₀
+    run-on : runOf words ks₀ vs₀ out₀
         ≡ allFollowedBy (h .events)
         (chained (u .events) (t .stop) (stateOf l' g' (t .core))
         (ran (length ks₀) (length vs₀) (stateOf l' g' (t .core)) (length out₀ - t .at) (drop (stepWords * (i + 1)) words)))
-    turned =
+    run-on =
         let m : length ks ≡ length ks₀ = replaying-addresses h in
         let n : length vs ≡ length vs₀ = replaying-values h in
         let o : length out ≡ length out₀ = replaying-out h in
@@ -256,7 +256,7 @@ module _ {words ks₀ vs₀ out₀ : List ℕ} {l l' : Lent} {g g' : Logs} {c : 
           ready = u .ready;
           wrote = all-wrote;
           run =
-              turned
+              run-on
               ∙ ap (λ (x : Stop). allFollowedBy (h .events) (chained (u .events) x (stateOf l' g' (t .core)) r)) e
               ∙ ap (λ (es : List Event). record { events = es; stop = r .stop; state = r .state }) (sym (append-assoc (h .events) (u .events) (r .events)));
           count = omega arith;
@@ -276,7 +276,7 @@ module _ {words ks₀ vs₀ out₀ : List ℕ} {l l' : Lent} {g g' : Logs} {c : 
         let all : h .events ++ u .events ≡ h .events = ap (λ (es : List Event). h .events ++ es) none ∙ append-nil (h .events) in
         let r = ran (length ks₀) (length vs₀) (stateOf l' g' (t .core)) (length out₀ - t .at) (drop (stepWords * (i + 1)) words) in
         ends (u .ready)
-        (turned
+        (run-on
         ∙ ap (λ (y : Stop). allFollowedBy (h .events) (chained (u .events) y (stateOf l' g' (t .core)) r)) e
         ∙ ap (λ (es : List Event). allFollowedBy (h .events) (chained es x (stateOf l' g' (t .core)) r)) none
         ∙ ap (allFollowedBy (h .events)) (q r (stateOf l' g' (t .core)))

@@ -6,7 +6,7 @@ use borrow.Author.Needs.{needs}
 use Rattle.map.specs.Views.{lent}
 use Rattle.transactions.specs.Views.{logs}
 use Rattle.replay.specs.declared.runs.Stop.the-variants as stop
-use Rattle.replay.specs.LoopLaws.{Replaying, replaying-start, replaying-on, replaying-at, replaying-out, replaying-addresses, replaying-values, turned-out, turned-addresses, turned-values, takes-as, replays-stop, replays-end}
+use Rattle.replay.specs.LoopLaws.{Replaying, replaying-start, replaying-on, replaying-at, replaying-out, replaying-addresses, replaying-values, code-out, code-addresses, code-values, takes-as, replays-stop, replays-end}
 use Rattle.replay.proofs.runs.take_all.Statement.{statement}
 use Rattle.replay.proofs.runs.take_all.Tie as tie
 
@@ -43,13 +43,13 @@ enum-told-2 : tie.Need-enum-told-2 Inv-loop μ-loop
 enum-told-2 c = search needs
 
 same-length : tie.Need-same-length Inv-loop μ-loop
-same-length c = turned-out (c .before .before .before .before .before .before .before .before .before .take-code .ensures) ∙ replaying-out (c .before .before .before .before .before .before .before .before .before .before .before .before .before .before .before .before .before .before .before .before .before .loop .inv)
+same-length c = code-out (c .before .before .before .before .before .before .before .before .before .take-code .ensures) ∙ replaying-out (c .before .before .before .before .before .before .before .before .before .before .before .before .before .before .before .before .before .before .before .before .before .loop .inv)
 
 same-length-2 : tie.Need-same-length-2 Inv-loop μ-loop
-same-length-2 c = turned-addresses (c .before .before .before .before .before .before .before .before .before .take-code .ensures) ∙ replaying-addresses (c .before .before .before .before .before .before .before .before .before .before .before .before .before .before .before .before .before .before .before .before .before .loop .inv)
+same-length-2 c = code-addresses (c .before .before .before .before .before .before .before .before .before .take-code .ensures) ∙ replaying-addresses (c .before .before .before .before .before .before .before .before .before .before .before .before .before .before .before .before .before .before .before .before .before .loop .inv)
 
 same-length-3 : tie.Need-same-length-3 Inv-loop μ-loop
-same-length-3 c = turned-values (c .before .before .before .before .before .before .before .before .before .take-code .ensures) ∙ replaying-values (c .before .before .before .before .before .before .before .before .before .before .before .before .before .before .before .before .before .before .before .before .before .loop .inv)
+same-length-3 c = code-values (c .before .before .before .before .before .before .before .before .before .take-code .ensures) ∙ replaying-values (c .before .before .before .before .before .before .before .before .before .before .before .before .before .before .before .before .before .before .before .before .before .loop .inv)
 
 returns : tie.Need-returns Inv-loop μ-loop
 returns c = replays-stop (c .before .before .before .before .before .before .before .before .before .before .before .before .before .before .before .before .before .before .before .before .before .loop .inv) (takes-as (c .before .before .before .before .before .before .before .before .before .take-code .ensures) (c .before .before .before .before .before .before .before .before .before .before .before .before .before .before .before .before .before .before .before .code-at .ensures .0)) (omega (arith, c .before .before .before .before .before .before .before .before .before .before .before .before .before .before .before .before .before .before .before .before .loop-test .taken)) stop.Meaningless (c .enum-told2 .given .1) refl (λ r σ. refl)
@@ -58,13 +58,13 @@ enum-told-3 : tie.Need-enum-told-3 Inv-loop μ-loop
 enum-told-3 c = search needs
 
 same-length-4 : tie.Need-same-length-4 Inv-loop μ-loop
-same-length-4 c = turned-out (c .before .before .before .before .before .before .before .before .before .take-code .ensures) ∙ replaying-out (c .before .before .before .before .before .before .before .before .before .before .before .before .before .before .before .before .before .before .before .before .before .loop .inv)
+same-length-4 c = code-out (c .before .before .before .before .before .before .before .before .before .take-code .ensures) ∙ replaying-out (c .before .before .before .before .before .before .before .before .before .before .before .before .before .before .before .before .before .before .before .before .before .loop .inv)
 
 same-length-5 : tie.Need-same-length-5 Inv-loop μ-loop
-same-length-5 c = turned-addresses (c .before .before .before .before .before .before .before .before .before .take-code .ensures) ∙ replaying-addresses (c .before .before .before .before .before .before .before .before .before .before .before .before .before .before .before .before .before .before .before .before .before .loop .inv)
+same-length-5 c = code-addresses (c .before .before .before .before .before .before .before .before .before .take-code .ensures) ∙ replaying-addresses (c .before .before .before .before .before .before .before .before .before .before .before .before .before .before .before .before .before .before .before .before .before .loop .inv)
 
 same-length-6 : tie.Need-same-length-6 Inv-loop μ-loop
-same-length-6 c = turned-values (c .before .before .before .before .before .before .before .before .before .take-code .ensures) ∙ replaying-values (c .before .before .before .before .before .before .before .before .before .before .before .before .before .before .before .before .before .before .before .before .before .loop .inv)
+same-length-6 c = code-values (c .before .before .before .before .before .before .before .before .before .take-code .ensures) ∙ replaying-values (c .before .before .before .before .before .before .before .before .before .before .before .before .before .before .before .before .before .before .before .before .before .loop .inv)
 
 returns-2 : tie.Need-returns-2 Inv-loop μ-loop
 returns-2 c = replays-stop (c .before .before .before .before .before .before .before .before .before .before .before .before .before .before .before .before .before .before .before .before .before .loop .inv) (takes-as (c .before .before .before .before .before .before .before .before .before .take-code .ensures) (c .before .before .before .before .before .before .before .before .before .before .before .before .before .before .before .before .before .before .before .code-at .ensures .0)) (omega (arith, c .before .before .before .before .before .before .before .before .before .before .before .before .before .before .before .before .before .before .before .before .loop-test .taken)) stop.Full (c .enum-told3 .given .1) refl (λ r σ. refl)

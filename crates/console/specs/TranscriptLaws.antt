@@ -7,7 +7,8 @@ use mathlib.Core.Bool.{false}
 use mathlib.Core.List.{List, [], _∷_, _++_, append-assoc, append-nil}
 use mathlib.Core.Option.{none, some}
 use lib.ListN.{length}
-use Rattle.lists.specs.Tests.{pick, same, less, atMost, within, atMost-yes, less-true, less-false, cases}
+use Rattle.lists.specs.Tests.{pick, same, less, atMost, within}
+use Rattle.lists.specs.TestLaws.{atMost-yes, less-true, less-false, cases}
 use Rattle.lists.specs.Rows.{Row, row}
 use Rattle.spec.specs.declared.Refusal.{Refusal}
 use Rattle.spec.specs.declared.Refusal.the-variants.{NoWorker, WorkerFree, WorkerTaken, WrongStage, Backward, LogFull, WritesFull, ShortBuffer, Held, IndexletFull, MapFull, Changed, UnderLock, Phantom, Spent}

@@ -11,7 +11,7 @@ use Rattle.transactions.specs.declared.Core.{Core}
 use Rattle.accesses.specs.declared.scans.ScanAnswer.the-variants.{Count, Refused}
 use Rattle.ranges.specs.declared.plans.Task.{Task}
 use Rattle.transactions.specs.Admits.{Turned, Entered}
-use Rattle.ranges.specs.Walks.{rowsIn}
+use Rattle.ranges.specs.Buffers.{rowsIn}
 use Rattle.ranges.specs.ShowLaws.{beyond-refl}
 use Rattle.sets.specs.Reads.{ReadRows}
 use Rattle.sets.specs.Leaves.{LeafSetRows}

@@ -29,7 +29,7 @@ use Rattle.queries.specs.QueryViews.{versionIn}
 use Rattle.queries.specs.ScanLaws.{length-leaves}
 use Rattle.ranges.specs.declared.plans.Task.{Task}
 use Rattle.ranges.specs.Parts.{getD-walk}
-use Rattle.ranges.specs.Walks.{rowsIn}
+use Rattle.ranges.specs.Buffers.{rowsIn}
 use Rattle.ranges.specs.Scanning.{span, across, lowIn}
 use Rattle.ranges.specs.Plans.{Carried}
 use Rattle.transactions.specs.declared.Core.{Core}

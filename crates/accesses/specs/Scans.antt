@@ -8,7 +8,7 @@ use Rattle.transactions.specs.declared.Core.{Core}
 use Rattle.accesses.specs.declared.scans.ScanAnswer.{ScanAnswer}
 use Rattle.accesses.specs.declared.scans.ScanAnswer.the-variants.{Count, Refused}
 use Rattle.accesses.specs.declared.scans.ScanDone.{ScanDone}
-use Rattle.ranges.specs.Walks.{rowsIn, Beyond}
+use Rattle.ranges.specs.Buffers.{rowsIn, Beyond}
 use Rattle.transactions.specs.Views.{Logs}
 use Rattle.transactions.specs.Ready.{Refines}
 

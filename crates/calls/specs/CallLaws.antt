@@ -4,8 +4,7 @@ use mathlib.Core.List.{List, _∷_}
 use lib.ListN.{length}
 use Rattle.spec.specs.Records.{standard}
 use Rattle.spec.specs.Maps.{MapState, contents}
-use Rattle.spec.specs.Steps.{State, Answer, fresh, final, history, next, answer, Event}
-use Rattle.spec.specs.Runs.{stepsOf}
+use Rattle.spec.specs.Steps.{State, Answer, fresh, final, history, next, answer, Event, stepsOf}
 use Rattle.spec.specs.Claim.{SerialRun}
 use Rattle.serial.specs.Theorem.{theorem}
 use Rattle.map.specs.Views.{Lent, mapOf}

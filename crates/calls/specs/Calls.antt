@@ -7,8 +7,7 @@ use Prim.Native.Nat.{ℕ}
 use lib.ListN.{length}
 use Rattle.spec.specs.Records.{standard}
 use Rattle.spec.specs.Maps.{contents}
-use Rattle.spec.specs.Steps.{fresh, final, history, Event}
-use Rattle.spec.specs.Runs.{stepsOf}
+use Rattle.spec.specs.Steps.{fresh, final, history, Event, stepsOf}
 use Rattle.spec.specs.Claim.{SerialRun}
 use Rattle.map.specs.Views.{Lent, mapOf}
 use Rattle.transactions.specs.declared.Core.{Core}

@@ -1,4 +1,4 @@
--- What lock, install and the end of a transaction make of the state: a new map, and a new seat of one worker.
+-- What lock, install and the end of a transaction make of the state: a new map, and one worker put anew.
 use Prim.Native.Nat.{ℕ, _<_, zero-le}
 use mathlib.Core.Path.{_≡_, refl, sym, ap, _∙_, subst}
 use mathlib.Core.Logic.{inr}
@@ -34,7 +34,7 @@ pub record Reaches (f : State → State) (l : Lent) (ws : List WriteRows) (c : C
 pub writing : {ws : WriteRows} {n : ℕ} → WriteSetOrdered ws n → Writing ws n
 writing o = record { held = o .held; few = o .room }
 
--- ---- a new map and a new seat
+-- ---- a new map and a new worker
 
 new-map : (l l' : Lent) (g : Logs) (c : Core) (z : Sizes) (m : MapState) → mapOf l' z ≡ m
     → stateOf l' g (record { workers = c .workers; sizes = z; counters = c .counters }) ≡ withMap (stateOf l g c) m
@@ -80,7 +80,7 @@ module _ (l : Lent) (g : Logs) (c : Core) (w : ℕ) (inside : w < length (c .wor
   unfolding writeKeys
   keys-are = ap keys writes-are
 
--- A change f of the state that is a new map m and a new seat x of worker w: `is` says that it is, `within` that the seat's
+-- A change f of the state that is a new map m and x put as worker w: `is` says that it is, `within` that the worker's
 -- counts stay within its rows.
 pub reached : (f : State → State) (l l' : Lent) (ws : List WriteRows) (c : Core) (w : ℕ) (x : Worker) (z : Sizes) (m : MapState) → w < standard .workers
     → MapBecomes l' z (c .counters .version) m → m .leaves ≡ mapOf l (c .sizes) .leaves → LeavesKept c w x

@@ -35,7 +35,7 @@ use Rattle.commits.specs.declared.validates.ValidateAnswer.the-variants 
 use Rattle.commits.specs.declared.validates.ValidateAnswer.the-variants.{Number}
 use Rattle.commits.specs.declared.validates.ValidateDone.{ValidateDone}
 use Rattle.transactions.specs.Ready.{Within}
-use Rattle.map.specs.Views as views
+use Rattle.map.specs.Parts as map-parts
 use Rattle.map.specs.Views.{recordFrom, slotsIn, mapOf, Lent, SlotRows, RecordRows}
 
 -- the logged row's address has another record now
@@ -187,7 +187,7 @@ module _ (c : Core) (w : ℕ) (x : Worker) where
 
   -- the number is taken from the counters
   pub number-taken : (k : Counters) (n : ℕ) (y : Worker) → c .counters .number < standard .lastNumber
-      → (n ≡ views.numbered (c .counters) .number) × (k ≡ views.numbered (c .counters)) → y ≡ atCheck x n
+      → (n ≡ map-parts.numbered (c .counters) .number) × (k ≡ map-parts.numbered (c .counters)) → y ≡ atCheck x n
       → record { core = record { workers = set (c .workers) w y; sizes = c .sizes; counters = k }; answer = Number n } ≡ numbering c w x
   number-taken k n y h (p, q) e =
       (λ i. record { core = record { workers = set (c .workers) w ((e ∙ ap (atCheck x) p) i); sizes = c .sizes; counters = q i }; answer = Number (p i) })

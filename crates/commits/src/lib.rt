@@ -1,4 +1,6 @@
-// The steps towards the end of a transaction: lock, validate, install and abort.
+// How a transaction commits, or ends without: lock, validate, install and abort.
+pub mod aborts;
 mod drops;
+pub mod installs;
 pub mod locks;
 pub mod validates;

@@ -131,7 +131,7 @@ fn phantoms(
     let mut i = 0;
     while i < k {
         let m = leaves::logged_leaf_at(leafset, i);
-        if queries::phantom(rows, leaves, slots, ws, z, n, w as u64, m.version, m.low) {
+        if queries::phantom(rows, leaves, slots, ws, z, n, m.version, m.low) {
             return true;
         }
         i += 1;

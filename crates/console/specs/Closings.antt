@@ -26,7 +26,8 @@ use Rattle.map.specs.Parts.{RecordsHeld}
 use Rattle.queries.specs.declared.Next.{Next}
 use Rattle.queries.specs.declared.Next.the-variants.{At, Done}
 use Rattle.queries.specs.QueryViews.{mapWith}
-use Rattle.queries.specs.NextViews.{firstFrom, rowsFrom, nextIn, Follows}
+use Rattle.queries.specs.NextViews.{rowsFrom, nextIn, Follows}
+use Rattle.queries.specs.Contents.{firstFrom}
 use Rattle.script.specs.Output.{pair, pairs}
 use Rattle.script.specs.OutputLaws.{pair-most}
 use Rattle.map.specs.Views.{recordFrom, SlotRows, RecordRows}

@@ -15,7 +15,7 @@ use Rattle.spec.specs.Records.{Payload}
 use Rattle.script.specs.declared.Line.{Line}
 use Rattle.script.specs.Output.{field, absent, pair, pairs, pairsOf, stepOf, answerText}
 use Rattle.script.specs.OutputLaws.{pair-most}
-use Rattle.ranges.specs.Walks.{rowsIn}
+use Rattle.ranges.specs.Buffers.{rowsIn}
 use Rattle.ranges.specs.ShowLaws.{length-rows}
 use Rattle.script.specs.declared.Line.the-variants as line
 use Rattle.engine.specs.declared.steps.Access.the-variants as access

@@ -49,7 +49,7 @@ pub record Feeds (l : Lent) (g : Logs) (x : Session) (input old : List ℕ) (l' 
 abbrev pub left : List ℕ → Session → ℕ
 left input x = pick (x .stopped) 0 1 + (length input - x .next)
 
--- a turn: the same, and there is less to do
+-- a line run: the same, and there is less to do
 pub record RunsLine (l : Lent) (g : Logs) (x : Session) (input old : List ℕ) (l' : Lent) (g' : Logs) (y : Session) (new : List ℕ) : Type 0 where
   pub feeds : Feeds l g x input old l' g' y new
   pub fewer : left input y < left input x

@@ -12,8 +12,7 @@ use Rattle.map.specs.Views.{Lent}
 use Rattle.transactions.specs.Views.{Logs, stateOf}
 use Rattle.console.specs.declared.session.Session.{Session}
 use Rattle.console.specs.Program.{writtenFrom, output}
-use Rattle.console.specs.Sessions.{due, Continues, Begins, withPlaces}
-use Rattle.console.specs.Sessions.{Told}
+use Rattle.console.specs.Sessions.{due, Continues, Begins, withPlaces, Told}
 
 -- a fresh session: nothing has come, nothing was written
 pub told-start : {l : Lent} {g : Logs} {x : Session} (whole : List ℕ) → Begins l g x → Told whole l g x [] [] whole []

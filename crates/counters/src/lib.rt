@@ -38,7 +38,7 @@ impl Counters {
 }
 
 // Takes the next `count` commit numbers, and answers the last one given.
-pub fn next_numbers(k: &mut Counters, count: u64) -> u64
+fn next_numbers(k: &mut Counters, count: u64) -> u64
     requires { ⌜ now k .number + count < 2 ^ 64 ⌝ }
     ensures { λ r. ⌜ (r ≡ counted (now (k .entry)) count .number) × (now (k .exit) ≡ counted (now (k .entry)) count) ⌝ }
 {
@@ -49,7 +49,7 @@ pub fn next_numbers(k: &mut Counters, count: u64) -> u64
 }
 
 // Takes the next `count` leaf versions, and answers the last one given.
-pub fn next_versions(k: &mut Counters, count: u64) -> u64
+fn next_versions(k: &mut Counters, count: u64) -> u64
     requires { ⌜ now k .version + count < 2 ^ 64 ⌝ }
     ensures { λ r. ⌜ (r ≡ versioned (now (k .entry)) count .version) × (now (k .exit) ≡ versioned (now (k .entry)) count) ⌝ }
 {

@@ -43,7 +43,7 @@ impl Leaf {
 }
 
 // The low address of leaf i.
-pub fn set_low(made: &mut [Leaf], i: usize, low: u64)
+fn set_low(made: &mut [Leaf], i: usize, low: u64)
     requires { ⌜ i < length (now made) ⌝ }
     ensures { λ _. ⌜ now (made .exit) ≡ withLow (now (made .entry)) i low ⌝ }
 {
@@ -51,7 +51,7 @@ pub fn set_low(made: &mut [Leaf], i: usize, low: u64)
 }
 
 // The version of leaf i.
-pub fn set_version(made: &mut [Leaf], i: usize, version: u64)
+fn set_version(made: &mut [Leaf], i: usize, version: u64)
     requires { ⌜ i < length (now made) ⌝ }
     ensures { λ _. ⌜ now (made .exit) ≡ withVersion (now (made .entry)) i version ⌝ }
 {

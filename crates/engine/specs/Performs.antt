@@ -30,7 +30,7 @@ use Rattle.engine.specs.declared.steps.Op.the-variants as op
 use Rattle.engine.specs.declared.steps.Reply.{Reply}
 use Rattle.engine.specs.declared.steps.Reply.the-variants as reply
 use Rattle.engine.specs.declared.steps.Performed.{Performed}
-use Rattle.ranges.specs.Walks.{rowsIn, Beyond}
+use Rattle.ranges.specs.Buffers.{rowsIn, Beyond}
 use Rattle.accesses.specs.Scans.{places}
 use Rattle.transactions.specs.Views.{Logs}
 use Rattle.transactions.specs.Ready.{Refines}

@@ -6,6 +6,8 @@ use accesses::reads::ReadDone;
 use accesses::scans;
 use accesses::scans::ScanAnswer;
 use accesses::scans::ScanDone;
+use commits::aborts;
+use commits::installs;
 use commits::locks;
 use commits::validates;
 use commits::validates::ValidateAnswer;
@@ -254,7 +256,7 @@ fn take_ending(
             c,
             w,
         )),
-        Ending::Install => of_plain(locks::install(
+        Ending::Install => of_plain(installs::install(
             leaves,
             slots,
             rows,
@@ -264,7 +266,16 @@ fn take_ending(
             c,
             w,
         )),
-        Ending::Abort => of_plain(locks::abort(leaves, slots, rows, reads, leafsets, writes, c, w)),
+        Ending::Abort => of_plain(aborts::abort(
+            leaves,
+            slots,
+            rows,
+            reads,
+            leafsets,
+            writes,
+            c,
+            w,
+        )),
     }
 }
 

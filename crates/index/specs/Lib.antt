@@ -1,4 +1,5 @@
 pub mod Views
+pub mod RecordPlaces
 pub mod ViewLaws
 pub mod Nearing
 pub mod Searches

@@ -12,7 +12,8 @@ use Rattle.lists.specs.Shifts.{moved, length-moved, put-in, taken-out}
 use Rattle.lists.specs.Places.{place, place-most, Present, Absent, look-present, look-absent, insert-present, insert-absent, delete-present, delete-absent}
 use Rattle.spec.specs.Records.{Record}
 use Rattle.index.specs.declared.rows.RecordRow.{RecordRow}
-use Rattle.index.specs.Views.{recordPlaces, RecordRows, recordFrom, noRow, rowOf, rowAt, stored, rowsOf, recordsOf, RecordsSorted, RecordsAre, AtPlace}
+use Rattle.index.specs.Views.{recordPlaces, RecordRows, recordFrom, noRow, rowOf, rowAt, stored, rowsOf, recordsOf, RecordsSorted, RecordsAre}
+use Rattle.index.specs.RecordPlaces.{AtPlace}
 use Rattle.index.specs.ViewLaws.{length-rows, rows-stored, rows-moved, length-records, record-at}
 
 -- ---- whether a key stands at its place

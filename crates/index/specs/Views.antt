@@ -6,7 +6,6 @@ use mathlib.Core.Option.{Option, none, some}
 use lib.ListN.{take, drop, getD, set}
 use Rattle.lists.specs.Rows.{Row, row, keys, Rising}
 use Rattle.lists.specs.Tabulation.{tab}
-use Rattle.lists.specs.Places.{place}
 use Rattle.spec.specs.Records.{standard, Record}
 use Rattle.spec.specs.Leaves.{Leaf}
 use Rattle.index.specs.declared.rows.RecordRow.{RecordRow}
@@ -88,11 +87,6 @@ foundOf Nothing = none
 pub record RecordsAre (rows : RecordRows) (n : ℕ) (rs : List (Row Record)) : Type 0 where
   pub held : RecordsSorted rows n
   pub same : recordsOf rows n ≡ rs
-
--- p is the place of the key among the n records: how many have a smaller one.
-pub record AtPlace (rows : RecordRows) (n k p : ℕ) : Type 0 where
-  pub is : p ≡ place k (recordsOf rows n)
-  pub within : p ≤ n
 
 -- the addresses of the rows from row i up to, not including, row j
 unfoldable pub keysBetween : RecordRows → ℕ → ℕ → List ℕ

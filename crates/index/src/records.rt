@@ -12,8 +12,9 @@ ghost use mathlib.Core.List.{_∷_, _++_};
 ghost use lib.ListN.{length, take, drop};
 ghost use Rattle.lists.specs.Rows.{look, assign};
 ghost use Rattle.lists.specs.Places.{place};
-ghost use Rattle.index.specs.Views.{recordPlaces, RecordsSorted, RecordsAre, recordsOf, recordFrom, rowOf, foundOf, AtPlace};
+ghost use Rattle.index.specs.Views.{recordPlaces, RecordsSorted, RecordsAre, recordsOf, recordFrom, rowOf, foundOf};
 ghost use Rattle.index.specs.Nearing.{Nearing};
+ghost use Rattle.index.specs.RecordPlaces.{AtPlace};
 ghost use Rattle.index.specs.Searches.{probed};
 
 // What a look-up finds.

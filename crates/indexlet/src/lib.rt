@@ -5,7 +5,7 @@ ghost use mathlib.Core.Path.{_≡_};
 ghost use mathlib.Core.Bool.{false};
 ghost use Prim.Native.Nat.{_<_};
 ghost use lib.ListN.{length};
-ghost use Rattle.spec.specs.Slots.{slotCount, tableEntry, homeSlot, isIdle, holds, entries};
+ghost use Rattle.spec.specs.Slots.{slotCount, homeSlot, isIdle, holds, entries};
 ghost use Rattle.spec.specs.Slots as model;
 ghost use Rattle.laws.specs.SlotLaws.{Room};
 ghost use Rattle.indexlet.specs.Words.{contentIn, slotIn, rowAt, store, slotsOf};
@@ -306,13 +306,6 @@ const TABLE: [u8; 256] = [
     191,
     102,
 ];
-
-// The entry of the constant table for a byte.
-pub fn entry_of(b: u8) -> u8
-    ensures { λ r. ⌜ r ≡ tableEntry b ⌝ }
-{
-    TABLE[b as usize]
-}
 
 // The home slot of an address: its bytes, highest first, through the table.
 fn home(a: Address) -> usize

@@ -1,7 +1,6 @@
 -- Comparisons of two numbers as Bools that stay shut, so that goals stay short.
 -- A closed comparison still computes where `same`, `less` and `atMost` are unfolded.
-use Prim.Native.Nat.{ℕ, _<_, _≤_}
-use mathlib.Core.Path.{_≡_}
+use Prim.Native.Nat.{ℕ}
 use mathlib.Core.Bool.{Bool, true, false}
 use mathlib.Core.Option.{Option, none, some}
 use lib.Dec.{leb, ltb, eqb}

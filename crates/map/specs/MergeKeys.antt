@@ -1,5 +1,5 @@
 -- What the arrays hold are addresses: the keys of entries and records, and the lows of leaves, of which the first is 0.
-use Prim.Native.Nat.{ℕ, suc, _-_, _^_, _<_, _≤_}
+use Prim.Native.Nat.{ℕ, suc, _^_, _<_, _≤_}
 use native.Mathlib.Omega.{arith}
 use mathlib.Core.Path.{_≡_, refl, sym, ap, _∙_, subst}
 use mathlib.Core.Bool.{true}

@@ -1,6 +1,6 @@
 -- The second part of a merge: the leaf settles around the records that it has now. There is room for the leaves and the
 -- versions that it makes, and their lows are addresses.
-use Prim.Native.Nat.{ℕ, zero, suc, _+_, _-_, _^_, _<_, _≤_, suc-le-suc}
+use Prim.Native.Nat.{ℕ, zero, suc, _+_, _^_, _<_, _≤_, suc-le-suc}
 use native.Mathlib.Nat.{not-suc-le-zero, le-of-suc-le-suc}
 use native.Mathlib.Omega.{arith}
 use mathlib.Core.Path.{_≡_, refl, sym, ap, _∙_, subst}
@@ -20,6 +20,7 @@ use Rattle.laws.specs.LeafCuts.{taken-none, lows-taken}
 use Rattle.laws.specs.SettleLaws.{around-parts}
 use Rattle.index.specs.Views.{leafPlaces, recordPlaces, recordsOf, keysBetween}
 use Rattle.index.specs.Views as index
+use Rattle.index.specs.RecordPlaces.{AtPlace}
 use Rattle.index.specs.declared.leaves.Leaf.{Leaf as LeafWords}
 use Rattle.index.specs.LeafColumns.{lowsOf, pendingOf, leafAt}
 use Rattle.index.specs.LeafColumnLaws.{column-getD}
@@ -34,8 +35,8 @@ unfoldable pub leafKeys : List ℕ → RecordRows → ℕ → ℕ → ℕ → Li
 leafKeys lows rows n m i = keys (filter (λ (r : Row Record). placed lows m i (r .key)) (recordsOf rows n))
 
 -- the place of an address that is a leaf's low
-pub at-low : {rows : RecordRows} {n k low p : ℕ} → k ≡ low → index.AtPlace rows n k p → index.AtPlace rows n low p
-at-low {rows} {n} {k} {low} {p} e a = subst (λ (x : ℕ). index.AtPlace rows n x p) e a
+pub at-low : {rows : RecordRows} {n k low p : ℕ} → k ≡ low → AtPlace rows n k p → AtPlace rows n low p
+at-low {rows} {n} {k} {low} {p} e a = subst (λ (x : ℕ). AtPlace rows n x p) e a
 
 -- the number of pending writes of a leaf that was read
 pub pending-of : (ls : LeafRows) (i : ℕ) {l : LeafWords} → l ≡ leafAt ls i → getD (pendingOf ls) i 0 ≡ l .pending

@@ -10,6 +10,8 @@ use Rattle.index.specs.LeafPlaces.{Listed}
 use Rattle.map.specs.declared.Sizes.{Sizes}
 use Rattle.map.specs.Views.{RecordRows, SlotRows, Lent}
 use Rattle.map.specs.MapHeld.{perLeaf, Tables}
+use Rattle.counters.specs.declared.Counters.{Counters}
+use Rattle.counters.specs.Taking as taking
 
 -- n records, whose keys are addresses
 pub record RecordsHeld (rows : RecordRows) (n : ℕ) : Type 0 where
@@ -44,3 +46,7 @@ module _ {l : Lent} {z : Sizes} {v : ℕ} (t : Tables l z v) where
 
   pub leaves-listed : LeavesListed (l .lows) (z .leaves)
   leaves-listed = record { listed = t .lows; narrow = t .lows-narrow }
+
+-- the counters once the next commit number is given
+abbrev pub numbered : Counters → Counters
+numbered k = taking.numbered k

@@ -11,8 +11,6 @@ use Rattle.indexlet.specs.Words.{slotsOf}
 use Rattle.index.specs.Views as index
 use Rattle.index.specs.LeafColumns as columns
 use Rattle.index.specs.Views.{recordsOf, leavesOf}
-use Rattle.counters.specs.declared.Counters.{Counters}
-use Rattle.counters.specs.Taking as taking
 use Rattle.map.specs.declared.Sizes.{Sizes}
 
 -- The lent rows of records, of leaves and of slots, as lists of words.
@@ -70,7 +68,3 @@ mapOf l z =
       leaves = leavesOf (l .lows) (l .versions) (z .leaves);
       slots = slotsOf (l .slots);
     }
-
--- the counters once the next commit number is given
-abbrev pub numbered : Counters → Counters
-numbered k = taking.numbered k

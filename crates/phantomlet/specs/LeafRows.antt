@@ -3,7 +3,7 @@ use Prim.Native.Nat.{ℕ, zero, suc, _+_, _-_, _^_, _<_, _≤_, zero-le}
 use native.Mathlib.Nat.{not-suc-le-zero}
 use native.Mathlib.Omega.{arith}
 use mathlib.Core.Path.{_≡_, sym, ap, _∙_, subst}
-use mathlib.Core.Logic.{_⊎_, ⊎-elim}
+use mathlib.Core.Logic.{⊎-elim}
 use mathlib.Core.Bool.{Bool, true, false}
 use mathlib.Core.List.{List, [], _∷_}
 use lib.ListN.{length, take, drop, getD, length-drop}
@@ -15,7 +15,8 @@ use Rattle.lists.specs.Ascending.{Ascends, ascends-at, ascends-drop}
 use Rattle.lists.specs.Places.{place, place-most, place-below, place-above}
 use Rattle.lists.specs.Shifts.{drop-take}
 use Rattle.spec.specs.Records.{Record}
-use Rattle.index.specs.Views.{leafPlaces, RecordRows, noRow, rowsOf, recordsOf, keysBetween, RecordsSorted, AtPlace}
+use Rattle.index.specs.Views.{leafPlaces, RecordRows, noRow, rowsOf, recordsOf, keysBetween, RecordsSorted}
+use Rattle.index.specs.RecordPlaces.{AtPlace}
 use Rattle.index.specs.ViewLaws.{length-records}
 use Rattle.index.specs.LeafPlaces.{lowPlace, place-inside, leaf-below, leaf-above, Listed}
 use Rattle.phantomlet.specs.LeafTests.{placed}

@@ -4,5 +4,6 @@ pub mod RangeLaws
 pub mod ScanLaws
 pub mod PhantomViews
 pub mod PhantomLaws
+pub mod Contents
 pub mod NextViews
 pub mod NextLaws

@@ -27,14 +27,16 @@ use Rattle.indexlet.specs.Words as words
 use Rattle.indexlet.specs.WordLaws.{slots-at}
 use Rattle.indexlet.specs.Promises as indexlet
 use Rattle.index.specs.declared.rows.RecordRow.{RecordRow}
-use Rattle.index.specs.Views.{recordFrom, rowOf, noRow, rowAt, recordsOf, RecordsSorted, AtPlace}
+use Rattle.index.specs.Views.{recordFrom, rowOf, noRow, rowAt, recordsOf, RecordsSorted}
+use Rattle.index.specs.RecordPlaces.{AtPlace}
 use Rattle.index.specs.ViewLaws.{length-records, record-at}
 use Rattle.spec.specs.declared.Current.{Current}
 use Rattle.queries.specs.declared.Next.{Next}
 use Rattle.queries.specs.declared.Next.the-variants.{At, Done}
 use Rattle.sets.specs.Reads.{recordIn}
 use Rattle.queries.specs.QueryViews.{mapWith, Sees}
-use Rattle.queries.specs.NextViews.{end, firstFrom, rowsFrom, nextIn, Follows, Numbers, IndexFrom, SlotFrom, Nearer, Walked, Passed, Counted}
+use Rattle.queries.specs.NextViews.{end, rowsFrom, nextIn, Follows, Numbers, IndexFrom, SlotFrom, Nearer, Walked, Passed, Counted}
+use Rattle.queries.specs.Contents.{firstFrom}
 use Rattle.map.specs.Views.{SlotRows, RecordRows}
 use Rattle.map.specs.Parts.{RecordsHeld}
 

@@ -19,15 +19,11 @@ use Rattle.queries.specs.declared.Next.{Next}
 use Rattle.queries.specs.declared.Next.the-variants.{At, Done}
 use Rattle.queries.specs.QueryViews.{mapWith}
 use Rattle.map.specs.Views.{SlotRows, RecordRows}
+use Rattle.queries.specs.Contents.{firstFrom}
 
 -- past all addresses
 abbrev pub end : ℕ
 end = addresses
-
--- the first row with a key of k or more
-unfoldable pub firstFrom : {A : Type 0} → ℕ → List (Row A) → Option (Row A)
-firstFrom k [] = none
-firstFrom k (r ∷ rs) = pick (less (r .key) k) (firstFrom k rs) (some r)
 
 -- the rows from the first one with a key of k or more
 unfoldable pub rowsFrom : {A : Type 0} → ℕ → List (Row A) → List (Row A)

@@ -21,7 +21,8 @@ use Rattle.index.specs.declared.records.Found.the-variants.{At}
 use Rattle.index.specs.declared.leaves.Leaf.{Leaf as LeafWords}
 use Rattle.index.specs.LeafColumns.{LeafRows, lowsOf, versionsOf, leafAt}
 use Rattle.index.specs.LeafColumnLaws.{column-getD, column-places}
-use Rattle.index.specs.Views.{leafPlaces, foundOf, rowOf, noRow, rowAt, recordsOf, leavesOf, RecordsSorted, AtPlace}
+use Rattle.index.specs.Views.{leafPlaces, foundOf, rowOf, noRow, rowAt, recordsOf, leavesOf, RecordsSorted}
+use Rattle.index.specs.RecordPlaces.{AtPlace}
 use Rattle.index.specs.ViewLaws.{length-records, record-at}
 use Rattle.index.specs.RecordLaws.{present-at, absent-at, absent-past}
 use Rattle.index.specs.LeafPlaces.{upTo, lowPlace, place-inside, AtLeaf}

@@ -16,7 +16,7 @@ use spec::ADDRESSES;
 use spec::Address;
 use spec::Current;
 ghost use mathlib.Core.Path.{_≡_};
-ghost use Prim.Native.Nat.{_<_, _≤_, min};
+ghost use Prim.Native.Nat.{ℕ, _<_, _≤_, min};
 ghost use Rattle.lists.specs.Tests.{pick};
 ghost use Rattle.indexlet.specs.Promises as indexlet;
 ghost use Rattle.index.specs.Views as index;
@@ -220,7 +220,7 @@ fn count_lock_only(
     own
 }
 
-// A logged leaf is gone, or hides a key from worker w, whose locks are the addresses of the write set. The leaf is the
+// A logged leaf is gone, or hides a key from the worker whose locks are the addresses of the write set. The leaf is the
 // one of the low that was logged with it, or it is gone. Entries outside the index hide nothing if they are the
 // worker's own locks.
 pub fn phantom(
@@ -230,14 +230,13 @@ pub fn phantom(
     ws: &WriteSet,
     z: Sizes,
     n: usize,
-    w: u64,
     version: u64,
     low: Address,
 ) -> bool
     requires { ⌜ Holding (lent (now rows) (now leaves) (now slots)) z ⌝ }
-    requires { ⌜ Owns (now slots) (now ws) n w ⌝ }
+    requires { ⌜ Writing (now ws) n ⌝ }
     requires { ⌜ Logged (mapOf (lent (now rows) (now leaves) (now slots)) z .leaves) version low ⌝ }
-    ensures { λ r. ⌜ r ≡ phantomAt (mapOf (lent (now (rows .entry)) (now (leaves .entry)) (now (slots .entry))) z) w version ⌝ }
+    ensures { λ r. ⌜ ((w : ℕ) → Owns (now (slots .entry)) (now (ws .entry)) n w → r ≡ phantomAt (mapOf (lent (now (rows .entry)) (now (leaves .entry)) (now (slots .entry))) z) w version) ⌝ }
 {
     let i = place_of(leaves, z.leaves, low);
     let l = leaves::leaf_at(leaves, i);

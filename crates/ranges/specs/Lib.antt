@@ -1,5 +1,6 @@
 pub mod Overlays
 pub mod Parts
+pub mod Buffers
 pub mod Walks
 pub mod WalkLaws
 pub mod ShowLaws

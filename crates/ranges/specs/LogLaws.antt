@@ -17,7 +17,8 @@ use Rattle.sets.specs.declared.reads.Observed.{Observed}
 use Rattle.sets.specs.declared.leaves.LoggedLeaf.{LoggedLeaf}
 use Rattle.sets.specs.Reads.{ReadRows, readsOf, ReadSetHeld, LogsRead}
 use Rattle.sets.specs.Leaves.{LeafSetRows, versionsOf, lowsOf, LeafSetHeld, LogsLeaf}
-use Rattle.sets.specs.Writes.{WriteRows, noWrite, writeIn, writesOf, WriteSetOrdered, PlaceOf, GivesWrite}
+use Rattle.sets.specs.Writes.{WriteRows, noWrite, writeIn, writesOf, WriteSetOrdered, GivesWrite}
+use Rattle.sets.specs.WritePlaces.{PlaceOf}
 use Rattle.sets.specs.SetLaws.{length-rows}
 use Rattle.map.specs.Views.{leavesIn, SlotRows, RecordRows}
 use Rattle.queries.specs.declared.Range.{Range}

@@ -17,7 +17,8 @@ use Rattle.lists.specs.Shifts.{tab-same, tab-snoc, length-tab}
 use Rattle.spec.specs.Records.{Payload}
 use Rattle.ranges.specs.declared.walks.Turn.{Turn}
 use Rattle.ranges.specs.Overlays.{shown}
-use Rattle.ranges.specs.Walks.{Ground, rest, Walks, Inside, turnIn, ComesNext, rowsIn, Beyond, Fits, Shows, Room, Fills, Counting, Filling}
+use Rattle.ranges.specs.Walks.{Ground, rest, Walks, Inside, turnIn, ComesNext, Fits, Shows, Room, Fills, Counting, Filling}
+use Rattle.ranges.specs.Buffers.{rowsIn, Beyond}
 use Rattle.ranges.specs.WalkLaws.{rest-end}
 
 -- ---- one turn

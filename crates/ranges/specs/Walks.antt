@@ -5,11 +5,10 @@ use mathlib.Core.Path.{_≡_}
 use mathlib.Core.Bool.{true}
 use mathlib.Core.List.{List, [], _++_}
 use mathlib.Core.Option.{Option, none, some}
-use lib.ListN.{length, drop, getD}
+use lib.ListN.{length, drop}
 use lib.Dec.{eqb}
 use Rattle.lists.specs.Tests.{pick}
 use Rattle.lists.specs.Rows.{Row, row, mapItems}
-use Rattle.lists.specs.Tabulation.{tab}
 use Rattle.spec.specs.Records.{Payload, Record, Write, ownView, payloadOf}
 use Rattle.sets.specs.declared.writes.Entry.{Entry}
 use Rattle.sets.specs.declared.reads.Observed.{Observed}
@@ -20,6 +19,7 @@ use Rattle.ranges.specs.declared.walks.Turn.{Turn}
 use Rattle.ranges.specs.Overlays.{shown, overlay}
 use Rattle.map.specs.Views.{SlotRows, RecordRows}
 use Rattle.map.specs.Parts.{RecordsHeld, SlotsHeld}
+use Rattle.ranges.specs.Buffers.{rowsIn, Beyond}
 
 -- What is walked over: the rows of the index, of the slots and of the worker's write set, and where the walk ends.
 pub record Ground : Type 0 where
@@ -73,17 +73,6 @@ pub record ComesNext (g : Ground) (i j : ℕ) (r : Turn) : Type 0 where
   pub on : i + j < r .i + r .j
   pub inside : Inside (g .bounds) (r .i) (r .j)
   pub rest-is : rest g i j ≡ shown (turnIn r) (rest g (r .i) (r .j))
-
--- ---- buffers
-
--- the first n places of two buffers, as rows
-unfoldable pub rowsIn : ℕ → List ℕ → List ℕ → List (Row Payload)
-rowsIn n ks vs = tab (λ (i : ℕ). row (getD ks i 0) (record { value = getD vs i 0 })) n
-
--- Every place from n on is as it was, and there are as many.
-pub record Beyond (n : ℕ) (ks ls : List ℕ) : Type 0 where
-  pub size : length ls ≡ length ks
-  pub same : (p : ℕ) → n ≤ p → getD ls p 0 ≡ getD ks p 0
 
 -- there is a place for what is shown
 pub record Fits (ks vs : List ℕ) (at : ℕ) (x : Turn) : Type 0 where

@@ -12,8 +12,7 @@ use Rattle.lists.specs.Texts.{Wrote}
 use Rattle.lists.specs.TextLaws.{wrote-join, wrote-length}
 use Rattle.spec.specs.Records.{standard, Payload}
 use Rattle.spec.specs.Maps.{MapState, contents}
-use Rattle.spec.specs.Steps.{State, Step, fresh, Answer, refused, done, found, listed, numbered, counted, answer, next, Event, final, history}
-use Rattle.spec.specs.Runs.{stepsOf}
+use Rattle.spec.specs.Steps.{State, Step, fresh, Answer, refused, done, found, listed, numbered, counted, answer, next, Event, final, history, stepsOf}
 use Rattle.spec.specs.Claim.{SerialRun}
 use Rattle.serial.specs.Theorem.{theorem}
 use Rattle.calls.specs.CallLaws.{map-in}

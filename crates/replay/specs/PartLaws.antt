@@ -12,7 +12,7 @@ use Rattle.lists.specs.TestLaws.{less-true, less-false, cases}
 use Rattle.lists.specs.Rows.{row}
 use Rattle.spec.specs.Steps.{listed, Answer, Step}
 use Rattle.map.specs.Views.{Lent}
-use Rattle.ranges.specs.Walks.{rowsIn, Beyond}
+use Rattle.ranges.specs.Buffers.{rowsIn, Beyond}
 use Rattle.transactions.specs.declared.Core.{Core}
 use Rattle.transactions.specs.Views.{Logs, stateOf}
 use Rattle.transactions.specs.Ready.{Refines}

@@ -8,7 +8,7 @@ use lib.ListN.{length, getD, take, drop, take-append-drop, length-drop}
 use lib.Seq.{sets, sets-eq, ext-getD, getD-drop, length-take-le, drop-cons}
 use Rattle.lists.specs.Tabulation.{tab, tabFrom}
 use Rattle.lists.specs.Rows.{row}
-use Rattle.ranges.specs.Walks.{rowsIn, Beyond}
+use Rattle.ranges.specs.Buffers.{rowsIn, Beyond}
 use Rattle.engine.specs.declared.steps.Reply.{Reply}
 use Rattle.engine.specs.declared.steps.Reply.the-variants as reply
 use Rattle.engine.specs.Performs.{replyIn, placesIn}

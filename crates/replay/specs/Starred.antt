@@ -9,9 +9,9 @@ use Rattle.spec.specs.Records.{standard, Record}
 use Rattle.spec.specs.Leaves.{cuts}
 use Rattle.spec.specs.Slots.{homeSlot}
 use Rattle.spec.specs.Maps.{contents}
-use Rattle.spec.specs.Steps.{State, Step, begin, read, scan, put, remove, lock, validate, install, abort, merge, fresh, final, Event}
+use Rattle.spec.specs.Steps.{State, Step, begin, read, scan, put, remove, lock, validate, install, abort, merge, fresh, final, Event, stepsOf}
 use Rattle.spec.specs.Computing.{model}
-use Rattle.spec.specs.Runs.{Run, home, leaves, script, stepsOf, starred, Holds}
+use Rattle.spec.specs.Runs.{Run, home, leaves, script, starred, Holds}
 use Rattle.map.specs.Views.{Lent, mapOf}
 use Rattle.transactions.specs.Views.{Logs, stateOf}
 use Rattle.calls.specs.CallLaws.{map-in}

@@ -2,7 +2,7 @@
 use Prim.Native.Nat.{ℕ, _+_, _*_, _≤_}
 use mathlib.Core.List.{List, [], _∷_}
 use lib.ListN.{length}
-use Rattle.ranges.specs.Walks.{rowsIn}
+use Rattle.ranges.specs.Buffers.{rowsIn}
 use Rattle.engine.specs.declared.steps.Reply.{Reply}
 use Rattle.engine.specs.declared.steps.Reply.the-variants as reply
 use Rattle.engine.specs.Performs.{placesIn}

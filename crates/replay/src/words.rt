@@ -7,7 +7,7 @@ ghost use mathlib.Core.List.{[], _∷_};
 ghost use Prim.Native.Nat.{_+_, _*_, _≤_};
 ghost use lib.ListN.{length};
 ghost use Rattle.lists.specs.Texts.{Wrote};
-ghost use Rattle.ranges.specs.Walks.{rowsIn};
+ghost use Rattle.ranges.specs.Buffers.{rowsIn};
 ghost use Rattle.engine.specs.Performs.{replyIn};
 ghost use Rattle.replay.specs.Codes.{codedOf, pairWords, wordsOf};
 ghost use Rattle.replay.specs.Words.{headWords, Roomy};

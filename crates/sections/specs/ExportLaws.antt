@@ -12,7 +12,8 @@ use Rattle.spec.specs.Maps.{contents}
 use Rattle.queries.specs.declared.Next.{Next}
 use Rattle.queries.specs.declared.Next.the-variants.{At, Done}
 use Rattle.map.specs.Views.{recordFrom, Lent, mapOf}
-use Rattle.queries.specs.NextViews.{firstFrom, nextIn, Follows}
+use Rattle.queries.specs.NextViews.{nextIn, Follows}
+use Rattle.queries.specs.Contents.{firstFrom}
 use Rattle.transactions.specs.declared.Core.{Core}
 use Rattle.transactions.specs.Views.{Logs}
 use Rattle.transactions.specs.Ready.{Ready}

@@ -9,7 +9,7 @@ use Rattle.lists.specs.Rows.{Row}
 use Rattle.spec.specs.Records.{Record}
 use Rattle.spec.specs.Maps.{contents}
 use Rattle.map.specs.Views.{Lent, mapOf}
-use Rattle.queries.specs.NextViews.{firstFrom}
+use Rattle.queries.specs.Contents.{firstFrom}
 use Rattle.transactions.specs.Views.{Logs}
 use Rattle.transactions.specs.Ready.{Ready}
 use Rattle.replay.specs.declared.codes.Code.{Code}

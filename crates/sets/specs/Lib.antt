@@ -2,6 +2,7 @@ pub mod Sets
 pub mod Reads
 pub mod Leaves
 pub mod Writes
+pub mod WritePlaces
 pub mod Workers
 pub mod SetLaws
 pub mod ReadLaws

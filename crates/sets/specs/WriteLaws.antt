@@ -19,7 +19,8 @@ use Rattle.spec.specs.Records.{standard, Write, written, deleted}
 use Rattle.sets.specs.declared.writes.Line.{Line}
 use Rattle.sets.specs.declared.writes.Entry.{Entry}
 use Rattle.sets.specs.Sets.{addresses}
-use Rattle.sets.specs.Writes.{WriteRows, writeWords, writeOf, noWrite, lineAt, wordsOf, writeIn, writesOf, WriteSetHeld, WritesHeld, WriteSetOrdered, WritesBecome, PlaceOf, WritesHave, PutsWrite, GivesWrite}
+use Rattle.sets.specs.Writes.{WriteRows, writeWords, writeOf, noWrite, lineAt, wordsOf, writeIn, writesOf, WriteSetHeld, WritesHeld, WriteSetOrdered, WritesBecome, PutsWrite, GivesWrite}
+use Rattle.sets.specs.WritePlaces.{PlaceOf, WritesHave}
 use Rattle.sets.specs.SetLaws.{each-set, each-alike, length-rows, row-at, row-replaced, row-put}
 
 -- ---- kinds

@@ -2,13 +2,11 @@
 use Prim.Native.Nat.{ℕ, _<_, _≤_}
 use mathlib.Core.Path.{_≡_}
 use mathlib.Core.Logic.{_⊎_}
-use mathlib.Core.Bool.{Bool, true, false}
 use mathlib.Core.List.{List, [], _∷_}
 use mathlib.Core.Option.{Option, none, some}
 use lib.ListN.{length, getD}
 use Rattle.lists.specs.Tests.{pick, same}
 use Rattle.lists.specs.Rows.{Row, row, insert, Rising}
-use Rattle.lists.specs.Places.{place, Present, Absent}
 use Rattle.spec.specs.Records.{standard, Write, written, deleted}
 use Rattle.sets.specs.declared.writes.Entry.{Entry}
 use Rattle.sets.specs.declared.writes.Line.{Line}
@@ -85,16 +83,6 @@ pub record WriteSetOrdered (rs : WriteRows) (n : ℕ) : Type 0 where
 pub record WritesBecome (rs us : WriteRows) : Type 0 where
   pub held : WriteSetHeld us
   pub rows : us ≡ rs
-
--- how many of the n writes have an address below a
-pub record PlaceOf (rs : WriteRows) (n a p : ℕ) : Type 0 where
-  pub is : p ≡ place a (writesOf rs n)
-  pub within : p ≤ n
-
--- whether there is a write at the address
-pub record WritesHave (rs : WriteRows) (n a : ℕ) (r : Bool) : Type 0 where
-  pub present : r ≡ true → Present a (writesOf rs n) noWrite
-  pub absent : r ≡ false → Absent a (writesOf rs n) noWrite
 
 -- the rows after a write was put among the n writes, and how many there are now
 pub record PutsWrite (rs : WriteRows) (n a kind value : ℕ) (us : WriteRows) (r : ℕ) : Type 0 where

@@ -12,7 +12,8 @@ ghost use Rattle.lists.specs.Rows.{look};
 ghost use Rattle.lists.specs.Shifts.{moved};
 ghost use Rattle.spec.specs.Records.{standard};
 ghost use Rattle.sets.specs.Sets.{addresses};
-ghost use Rattle.sets.specs.Writes.{lineAt, wordsOf, writesOf, foundIn, WriteSetHeld, WriteSetOrdered, WritesBecome, PlaceOf, WritesHave, PutsWrite, GivesWrite};
+ghost use Rattle.sets.specs.Writes.{lineAt, wordsOf, writesOf, foundIn, WriteSetHeld, WriteSetOrdered, WritesBecome, PutsWrite, GivesWrite};
+ghost use Rattle.sets.specs.WritePlaces.{PlaceOf, WritesHave};
 
 // A row of a write set: the kind is 1 (a put) or 2 (a deletion).
 pub struct Entry {

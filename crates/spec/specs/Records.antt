@@ -9,7 +9,7 @@ use Rattle.lists.specs.Tests.{both, same}
 
 -- The limits of a map, as document 01 and the requests give them.
 pub record Settings : Type 0 where
-  pub workers : ℕ  -- workers
+  pub workers : ℕ  -- seats
   pub readLimit : ℕ  -- record entries of a log
   pub leafSetLimit : ℕ  -- marks of a log
   pub writeLimit : ℕ  -- edited addresses of a job

@@ -9,7 +9,7 @@ use Rattle.spec.specs.Records.{standard, Payload, Record}
 use Rattle.spec.specs.Leaves.{cuts}
 use Rattle.spec.specs.Slots.{homeSlot}
 use Rattle.spec.specs.Maps.{contents}
-use Rattle.spec.specs.Steps.{fresh, Step, begin, read, scan, put, remove, lock, validate, install, abort, merge, Answer, refused, done, found, listed, numbered, counted, answer, Event, final, history}
+use Rattle.spec.specs.Steps.{fresh, Step, begin, read, scan, put, remove, lock, validate, install, abort, merge, Answer, refused, done, found, listed, numbered, counted, answer, Event, final, history, stepsOf}
 use Rattle.spec.specs.Computing.{model}
 
 abbrev pub value : ℕ → Payload
@@ -20,10 +20,6 @@ event s a = record { step = s; answer = a }
 
 abbrev pub entryOf : ℕ → ℕ → ℕ → Row Record
 entryOf k n c = row k (record { payload = value n; commit = c })
-
-abbrev pub stepsOf : List Event → List Step
-stepsOf [] = []
-stepsOf (e ∷ es) = e .step ∷ stepsOf es
 
 -- A row of the table: a home slot; the leaves that so many records make; a script with its answers and the contents that
 -- it leaves.

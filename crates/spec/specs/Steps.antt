@@ -341,3 +341,8 @@ final σ (s ∷ ss) = final (next σ s) ss
 unfoldable pub history : State → List Step → List Event
 history σ [] = []
 history σ (s ∷ ss) = record { step = s; answer = answer σ s } ∷ history (next σ s) ss
+
+-- the steps of a history
+abbrev pub stepsOf : List Event → List Step
+stepsOf [] = []
+stepsOf (e ∷ es) = e .step ∷ stepsOf es

@@ -17,22 +17,22 @@ leaf-at-requires c κs = search needs
 returns : tie.Need-returns
 returns c =
     let s = c .before .before .before .before in
-    phantom-gone _ _ (s .pre .0) _ _ _ _ (c .before .before .before .place-of .ensures) (s .pre .1 .1) (λ e. c .if1 .taken (version-of (s .args .leaves .now) _ (c .before .before .leaf-at .ensures) ∙ e))
+    λ w o. phantom-gone _ _ (s .pre .0) _ _ _ _ (c .before .before .before .place-of .ensures) (s .pre .1 .1) (λ e. c .if1 .taken (version-of (s .args .leaves .now) _ (c .before .before .leaf-at .ensures) ∙ e))
 
 returns-2 : tie.Need-returns-2
 returns-2 c =
     let s = c .before .before .before .before .before in
-    phantom-none _ _ (s .pre .0) (s .args .ws .now) _ _ (s .pre .1 .0) _ _ _ (c .before .before .before .before .place-of .ensures) (sym (version-of (s .args .leaves .now) _ (c .before .before .before .leaf-at .ensures)) ∙ c .before .if1 .left) (sym (outside-of (s .args .leaves .now) _ (c .before .before .before .leaf-at .ensures)) ∙ c .if2 .taken)
+    λ w o. phantom-none _ _ (s .pre .0) (s .args .ws .now) _ _ o _ _ _ (c .before .before .before .before .place-of .ensures) (sym (version-of (s .args .leaves .now) _ (c .before .before .before .leaf-at .ensures)) ∙ c .before .if1 .left) (sym (outside-of (s .args .leaves .now) _ (c .before .before .before .leaf-at .ensures)) ∙ c .if2 .taken)
 
 count-lock-only-requires : tie.Need-count-lock-only-requires
 count-lock-only-requires c κs =
     let s = c .before .before .before .before .before in
-    (s .pre .0 .held .tables .rows, (s .pre .0 .held .tables .lows, (s .pre .0 .held .tables .words, s .pre .1 .0 .fitting)))
+    (s .pre .0 .held .tables .rows, (s .pre .0 .held .tables .lows, (s .pre .0 .held .tables .words, s .pre .1 .0)))
 
 returns-3 : tie.Need-returns-3
 returns-3 c =
     let s = c .before .before .before .before .before .before in
-    phantom-count _ _ (s .pre .0) (s .args .ws .now) _ _ (s .pre .1 .0) _ _ _ _ _ (outside-of (s .args .leaves .now) _ (c .before .before .before .before .leaf-at .ensures)) (c .before .before .before .before .before .place-of .ensures) (sym (version-of (s .args .leaves .now) _ (c .before .before .before .before .leaf-at .ensures)) ∙ c .before .before .if1 .left) (c .count-lock-only .ensures)
+    λ w o. phantom-count _ _ (s .pre .0) (s .args .ws .now) _ _ o _ _ _ _ _ (outside-of (s .args .leaves .now) _ (c .before .before .before .before .leaf-at .ensures)) (c .before .before .before .before .before .place-of .ensures) (sym (version-of (s .args .leaves .now) _ (c .before .before .before .before .leaf-at .ensures)) ∙ c .before .before .if1 .left) (c .count-lock-only .ensures)
 
 pub phantom-spec : {M : Type 1} → statement M
 phantom-spec =

@@ -1,4 +1,4 @@
--- `drops::drop_transaction` meets its contract: the locks of the write set go, and the seat is free.
+-- `drops::drop_transaction` meets its contract: the locks of the write set go, and the worker is free.
 use borrow.Author.Needs.{needs}
 use Rattle.commits.specs.Commits.{writing, drops}
 use Rattle.commits.proofs.drops.drop_transaction.Statement.{statement}

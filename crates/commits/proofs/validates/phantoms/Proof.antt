@@ -32,7 +32,7 @@ phantom-requires c κs =
     let t = c .before in
     let s = t .before .before in
     let p = s .pre in
-    (p .0, (p .1 .0, row-logged (s .args .k) (t .loop-test .taken) (p .1 .1 .1 .0) (c .logged-leaf-at .ensures)))
+    (p .0, (p .1 .0 .fitting, row-logged (s .args .k) (t .loop-test .taken) (p .1 .1 .1 .0) (c .logged-leaf-at .ensures)))
 
 returns : tie.Need-returns Inv-loop μ-loop
 returns c =
@@ -43,7 +43,7 @@ returns c =
     let h = t .loop-test .taken in
     let e = length-rows versionIn (a .leafset .now) (a .k) in
     search-hit 0 (omega arith)
-    (row-phantom (mapOf (lent (a .rows .now) (a .leaves .now) (a .slots .now)) (a .z)) (a .w) (a .k) h (o .before .logged-leaf-at .ensures) (o .phantom .ensures) (c .if1 .taken))
+    (row-phantom (mapOf (lent (a .rows .now) (a .leaves .now) (a .slots .now)) (a .z)) (a .w) (a .k) h (o .before .logged-leaf-at .ensures) (o .phantom .ensures (a .w) (s .pre .1 .0)) (c .if1 .taken))
     (t .before .loop .inv .1)
 
 add-i : tie.Need-add-i Inv-loop μ-loop
@@ -62,7 +62,7 @@ loop-again c =
     let e = length-rows versionIn (a .leafset .now) (a .k) in (
       omega arith,
       search-on 0 (omega arith)
-          (row-phantom (mapOf (lent (a .rows .now) (a .leaves .now) (a .slots .now)) (a .z)) (a .w) (a .k) h (o .before .logged-leaf-at .ensures) (o .phantom .ensures) (c .if1 .left))
+          (row-phantom (mapOf (lent (a .rows .now) (a .leaves .now) (a .slots .now)) (a .z)) (a .w) (a .k) h (o .before .logged-leaf-at .ensures) (o .phantom .ensures (a .w) (s .pre .1 .0)) (c .if1 .left))
           (t .before .loop .inv .1),
     )
 

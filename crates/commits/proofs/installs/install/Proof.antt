@@ -1,12 +1,12 @@
--- `locks::install` meets its contract: refused by 1, 2 or 4, or the writes are installed.
+-- `installs::install` meets its contract: refused by 1, 2 or 4, or the writes are installed.
 use mathlib.Core.Path.{subst}
 use borrow.Author.Needs.{needs}
 use Rattle.spec.specs.Steps.{isChecked}
 use Rattle.transactions.specs.Admits.{Admitted}
 use Rattle.transactions.specs.CoreLaws.{ready-writable}
 use Rattle.commits.specs.Finishes.{install-refused, install-can, install-granted}
-use Rattle.commits.proofs.locks.install.Statement.{statement}
-use Rattle.commits.proofs.locks.install.Tie as tie
+use Rattle.commits.proofs.installs.install.Statement.{statement}
+use Rattle.commits.proofs.installs.install.Tie as tie
 
 checked-requires : tie.Need-checked-requires
 checked-requires c κs = search needs

@@ -1,11 +1,11 @@
--- `locks::abort` meets its contract: refused by 1 or 2, or the transaction is dropped.
+-- `aborts::abort` meets its contract: refused by 1 or 2, or the transaction is dropped.
 use mathlib.Core.Path.{subst}
 use borrow.Author.Needs.{needs}
 use Rattle.transactions.specs.Admits.{anyStage, Admitted}
 use Rattle.transactions.specs.CoreLaws.{ready-writable}
 use Rattle.commits.specs.Finishes.{abort-refused, abort-granted}
-use Rattle.commits.proofs.locks.abort.Statement.{statement}
-use Rattle.commits.proofs.locks.abort.Tie as tie
+use Rattle.commits.proofs.aborts.abort.Statement.{statement}
+use Rattle.commits.proofs.aborts.abort.Tie as tie
 
 busy-requires : tie.Need-busy-requires
 busy-requires c κs = search needs

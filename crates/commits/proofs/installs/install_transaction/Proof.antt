@@ -1,8 +1,8 @@
--- `locks::install_transaction` meets its contract: the writes are pending, and the seat is free.
+-- `installs::install_transaction` meets its contract: the writes are pending, and the worker is free.
 use borrow.Author.Needs.{needs}
 use Rattle.commits.specs.Commits.{writing, installs}
-use Rattle.commits.proofs.locks.install_transaction.Statement.{statement}
-use Rattle.commits.proofs.locks.install_transaction.Tie as tie
+use Rattle.commits.proofs.installs.install_transaction.Statement.{statement}
+use Rattle.commits.proofs.installs.install_transaction.Tie as tie
 
 mul-x : tie.Need-mul-x
 mul-x c = search needs

@@ -1,0 +1,96 @@
+// Install: the writes of a validated transaction enter the map.
+use map::Leaves;
+use map::Records;
+use map::Slots;
+use sets::LeafSets;
+use sets::ReadSets;
+use sets::WriteSets;
+use transactions::Core;
+use transactions::admits;
+use transactions::admits::Admit;
+use transactions::begins::Done;
+use transactions::begins::Plain;
+ghost use mathlib.Core.List.{[]};
+ghost use Prim.Native.Nat.{_<_};
+ghost use lib.ListN.{getD};
+ghost use Rattle.spec.specs.Records.{standard};
+ghost use Rattle.spec.specs.Steps as model;
+ghost use Rattle.spec.specs.Steps.{State, effect};
+ghost use Rattle.laws.specs.MapLaws.{Installable};
+ghost use Rattle.sets.specs.Writes.{writesIn, WriteSetOrdered};
+ghost use Rattle.map.specs.Views.{lent, slotsIn};
+ghost use Rattle.map.specs.MapHeld as map;
+ghost use Rattle.transactions.specs.Views.{logs};
+ghost use Rattle.transactions.specs.Ready.{workerAt, Ready, Refines};
+ghost use Rattle.transactions.specs.Begins.{plainIn};
+ghost use Rattle.commits.specs.Commits.{Reaches};
+
+// The writes of worker w's transaction are pending from now on, under its commit number, and the worker is free.
+fn install_transaction(
+    leaves: &mut Leaves,
+    slots: &mut Slots,
+    rows: &Records,
+    writes: &WriteSets,
+    c: Core,
+    w: usize,
+) -> Core
+    requires { ⌜ map.MapHeld (lent (now rows) (now leaves) (now slots)) (c .sizes) (c .counters .version) ⌝ }
+    requires { ⌜ w < standard .workers ⌝ }
+    requires { ⌜ WriteSetOrdered (getD (now writes) w []) (workerAt c w .writes) ⌝ }
+    requires { ⌜ Installable (slotsIn (now slots)) (writesIn (now writes) w (workerAt c w .writes)) ⌝ }
+    ensures { λ r. ⌜ Reaches (λ (σ : State). effect σ (model.install w)) (lent (now (rows .entry)) (now (leaves .entry)) (now (slots .entry))) (now (writes .entry)) c (lent (now (rows .entry)) (now (leaves .exit)) (now (slots .exit))) r ⌝ }
+{
+    let mut workers = c.workers;
+    let sizes = c.sizes;
+    let counters = c.counters;
+    let x = workers[w];
+    let z = map::locks::install_all(
+        leaves,
+        slots,
+        rows,
+        &writes[w],
+        sizes,
+        counters,
+        x.writes as usize,
+        x.number as u64,
+    );
+    let free = x.free();
+    workers[w] = free;
+    Core {
+        workers,
+        sizes: z,
+        counters,
+    }
+}
+
+// Worker w's writes enter the map, under the commit number of its validation.
+pub fn install(
+    leaves: &mut Leaves,
+    slots: &mut Slots,
+    rows: &Records,
+    reads: &ReadSets,
+    leafsets: &LeafSets,
+    writes: &WriteSets,
+    c: Core,
+    w: u32,
+) -> Done
+    requires { ⌜ Ready (lent (now rows) (now leaves) (now slots)) (logs (now reads) (now leafsets) (now writes)) c ⌝ }
+    ensures { λ r. ⌜ Refines (lent (now (rows .entry)) (now (leaves .entry)) (now (slots .entry)))
+        (logs (now (reads .entry)) (now (leafsets .entry)) (now (writes .entry))) c (model.install w) (lent (now (rows .entry)) (now (leaves .exit)) (now (slots .exit)))
+        (logs (now (reads .entry)) (now (leafsets .entry)) (now (writes .entry))) (r .core) (plainIn (r .answer)) ⌝ }
+{
+    let workers = c.workers;
+    match admits::checked(workers, w) {
+        Admit::Refused(r) => Done {
+            core: c,
+            answer: Plain::Refused(r),
+        },
+        Admit::Allowed(_) => {
+            let core = install_transaction(leaves, slots, rows, writes, c, w as usize);
+            Done {
+                core,
+                answer: Plain::Granted,
+            }
+        }
+    }
+}

@@ -8,7 +8,7 @@
 #include <inttypes.h>
 #include <stdio.h>
 
-/* A map is 94 KB: static memory suits it. */
+/* A map is 96 KB: static memory suits it. */
 static struct sections map;
 
 static void say(const char *step, enum sections_refusal refusal)
@@ -87,6 +87,10 @@ int main(void)
     struct sections_record r;
     for (bool more = sections_first(&map, &r); more; more = sections_after(&map, &r))
         printf("address %" PRIu32 ", value %" PRIu64 ", stamp %" PRIu32 "\n", r.address, r.value, r.stamp);
+
+    /* A fold that picks its own leaf: the one whose edit has waited longest. With nothing waiting it counts 0. */
+    fold = sections_fold_oldest(&map);
+    printf("fold of the oldest: %zu waiting edit, then %zu\n", fold.count, sections_fold_oldest(&map).count);
 
     /* A list of steps in one call, from a fresh map: three words for each answer. */
     struct sections_code list[] = {sections_code_begin(0), sections_code_put(0, 4096, 32), sections_code_begin(0)};

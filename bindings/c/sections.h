@@ -38,7 +38,7 @@
 #define SECTIONS_CORE ((SECTIONS_SEATS + 2) * 5)
 #define SECTIONS_RECORDS (SECTIONS_MAP_LIMIT * 3)
 #define SECTIONS_LEAVES ((SECTIONS_MAP_LIMIT + 1) * 4)
-#define SECTIONS_SLOTS (SECTIONS_SLOT_COUNT * 6)
+#define SECTIONS_SLOTS (SECTIONS_SLOT_COUNT * 7)
 #define SECTIONS_READS (SECTIONS_SEATS * SECTIONS_READ_LIMIT * 4)
 #define SECTIONS_MARKS (SECTIONS_SEATS * SECTIONS_MARK_LIMIT * 2)
 #define SECTIONS_WRITES (SECTIONS_SEATS * SECTIONS_WRITE_LIMIT * 3)
@@ -202,6 +202,11 @@ static inline struct sections_code sections_code_fold(uint32_t address)
     return sections_code_of(9, address, 0, 0, 0, 0);
 }
 
+static inline struct sections_code sections_code_fold_oldest(void)
+{
+    return sections_code_of(10, 0, 0, 0, 0, 0);
+}
+
 /* A coded answer: a number of enum sections_refusal, one of enum sections_told, and what that says. */
 #define SECTIONS_ANSWER_WORDS 3
 
@@ -360,9 +365,17 @@ static inline enum sections_refusal sections_abort(struct sections *map, uint32_
     return sections_refusal_of(sections_perform(map, sections_code_abort(seat), NULL));
 }
 
+/* All waiting edits of the leaf around the address. */
 static inline struct sections_count sections_fold(struct sections *map, uint32_t address)
 {
     return sections_count_of(sections_perform(map, sections_code_fold(address), NULL));
+}
+
+/* The same of the leaf with the edit that has waited longest, so that an edit waits for 192 such folds at most. Its age counts
+ * from the install that began the waiting; of one install the lower address is older. */
+static inline struct sections_count sections_fold_oldest(struct sections *map)
+{
+    return sections_count_of(sections_perform(map, sections_code_fold_oldest(), NULL));
 }
 
 /* ---- Contents and lists. */

@@ -1,4 +1,4 @@
-/* Answers a script as mapscript does, by the functions of sections.h. Its lines must be well formed. */
+/* Answers a script as mapscript does, by the functions of sections.h. Its lines must be well formed: only a T stands alone. */
 #include "sections.h"
 
 #include <inttypes.h>
@@ -48,9 +48,8 @@ static void validate(uint32_t seat)
     printf(job.refusal ? "%d" : "%d %" PRIu32, job.refusal, job.serial);
 }
 
-static void fold(uint32_t address)
+static void fold(struct sections_count folded)
 {
-    struct sections_count folded = sections_fold(&map, address);
     printf("%d %zu", folded.refusal, folded.count);
 }
 
@@ -68,7 +67,7 @@ static void answer(char letter, uint32_t first)
     case 'I': printf("%d", sections_install(&map, first)); break;
     case 'A': printf("%d", sections_abort(&map, first)); break;
     case 'V': validate(first); break;
-    case 'M': fold(first); break;
+    case 'M': fold(sections_fold(&map, first)); break;
     case 'R': read(first, number32()); break;
     case 'S':
         second = number32();
@@ -82,9 +81,11 @@ int main(void)
 {
     sections_init(&map);
     for (int letter = getchar(); letter != EOF; letter = getchar()) {
-        getchar();
         printf("%c ", letter);
-        answer((char)letter, number32());
+        if (getchar() == '\n')
+            fold(sections_fold_oldest(&map));
+        else
+            answer((char)letter, number32());
         printf("\n");
     }
     size_t count = 0;

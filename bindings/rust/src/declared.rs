@@ -14,7 +14,7 @@ pub const WRITE_LIMIT: usize = 16;
 const CORE_WORDS: usize = 5;
 const RECORD_WORDS: usize = 3;
 const LEAF_WORDS: usize = 4;
-const SLOT_WORDS: usize = 6;
+const SLOT_WORDS: usize = 7;
 const READ_WORDS: usize = 4;
 const MARK_WORDS: usize = 2;
 const WRITE_WORDS: usize = 3;
@@ -237,7 +237,7 @@ mod tests {
     fn steps_with_no_meaning() {
         let map = &mut *fresh();
         let codes: [Code; 8] = [
-            [10, 0, 0, 0, 0, 0],
+            [11, 0, 0, 0, 0, 0],
             [0, WIDE, 0, 0, 0, 0],
             [1, 0, WIDE, 0, 0, 0],
             [2, 0, 0, WIDE, 0, 0],
@@ -250,6 +250,7 @@ mod tests {
         // A value may be any number, and what a step does not have is not looked at.
         assert_eq!(number(map, [0, 0, u64::MAX, u64::MAX, u64::MAX, u64::MAX]), 0);
         assert_eq!(number(map, [2, 0, 0, 0, 4, 6]), 0);
+        assert_eq!(number(map, [10, WIDE, u64::MAX, u64::MAX, u64::MAX, u64::MAX]), 0);
         assert_eq!(number(map, [3, 0, 5, u64::MAX, u64::MAX, u64::MAX]), 0);
         let read = [1, 0, 5, u64::MAX, u64::MAX, u64::MAX];
         assert_eq!(step(map, &read, &mut [], &mut []), [0, VALUE, u64::MAX]);
@@ -275,7 +276,7 @@ mod tests {
         assert_eq!(run(&steps, 5), (1, 3, 2, answered(&[0; 3], 2)));
         assert_eq!(run(&[steps[0], [2, 0, 0, 9, 3, 3]], 50).2, 1);
         assert_eq!(run(&[steps[0], [2, 0, 0, 9, 2, 4]], 50).2, 1);
-        assert_eq!(run(&[[10, 0, 0, 0, 0, 0]], 10), (0, 0, 1, vec![70; 10]));
+        assert_eq!(run(&[[11, 0, 0, 0, 0, 0]], 10), (0, 0, 1, vec![70; 10]));
         let (_, ran) = replay(&steps.concat()[..17], &mut [0; 2], &mut [0; 3], &mut [0; 50]);
         assert_eq!(ran, Ran { taken: 2, written: 6, stop: 1 });
     }

@@ -79,7 +79,7 @@ impl fmt::Display for SerialNumber {
     }
 }
 
-/// One map with its eight seats, 94 KB. A clone goes on by itself.
+/// One map with its eight seats, 96 KB. A clone goes on by itself.
 #[derive(Clone)]
 pub struct Sections {
     map: Box<Map>,
@@ -189,6 +189,26 @@ impl Sections {
     /// many there were.
     pub fn fold(&mut self, address: Address) -> Result<usize, Refusal> {
         self.call(Step::Fold { address }).map(|[_, count]| count as usize)
+    }
+
+    /// The same of the leaf with the edit that has waited longest, counted from the
+    /// install that began the waiting; of one install the lower address is older.
+    /// An edit waits for 192 such folds at most, whatever else comes between.
+    ///
+    /// ```
+    /// # use sections::{Refusal, Sections};
+    /// let mut map = Sections::new();
+    /// map.begin(0)?;
+    /// map.put(0, 4096, 32)?;
+    /// map.lock(0)?;
+    /// map.validate(0)?;
+    /// map.install(0)?;
+    /// assert_eq!(map.fold_oldest()?, 1);
+    /// assert_eq!(map.fold_oldest()?, 0);
+    /// # Ok::<(), Refusal>(())
+    /// ```
+    pub fn fold_oldest(&mut self) -> Result<usize, Refusal> {
+        self.call(Step::FoldOldest).map(|[_, count]| count as usize)
     }
 
     /// Any step, with buffers of its own for a scan.

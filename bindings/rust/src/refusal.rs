@@ -33,8 +33,8 @@ macro_rules! refusals {
 }
 
 refusals! {
-    1 NoSeat "no seat" "All but fold: the seat is above 7."
-    2 SeatFree "seat free" "All but begin and fold."
+    1 NoSeat "no seat" "All but folds: the seat is above 7."
+    2 SeatFree "seat free" "All but begin and folds."
     3 SeatTaken "seat taken" "Begin."
     4 WrongStage "wrong stage" "Read, scan, put, remove, lock, validate, install."
     5 Backward "backward" "Scan: lo is above hi."

@@ -47,6 +47,8 @@ pub enum Step {
     Fold {
         address: Address,
     },
+    /// Of the leaf with the edit that has waited longest.
+    FoldOldest,
 }
 
 /// What a granted step answers.
@@ -80,6 +82,7 @@ impl Step {
             Step::Install { seat } => (7, [seat.into(), 0, 0, 0, 0]),
             Step::Abort { seat } => (8, [seat.into(), 0, 0, 0, 0]),
             Step::Fold { address } => (9, [address.into(), 0, 0, 0, 0]),
+            Step::FoldOldest => (10, [0; 5]),
         };
         let [a, b, c, d, e] = numbers;
         [kind, a, b, c, d, e]
@@ -99,7 +102,7 @@ impl Step {
             Step::Read { .. } => Answer::Value((told == VALUE).then_some(value)),
             Step::Scan { .. } => Answer::Found(found),
             Step::Validate { .. } => Answer::Serial(SerialNumber(value)),
-            Step::Fold { .. } => Answer::Folded(value as usize),
+            Step::Fold { .. } | Step::FoldOldest => Answer::Folded(value as usize),
             _ => Answer::Granted,
         }
     }

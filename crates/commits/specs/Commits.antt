@@ -1,14 +1,15 @@
 -- What lock, install and the end of a transaction make of the state: a new map, and one worker put anew.
-use Prim.Native.Nat.{ℕ, _<_, zero-le}
+use Prim.Native.Nat.{ℕ, suc, _+_, _<_, zero-le}
+use native.Mathlib.Omega.{arith}
 use mathlib.Core.Path.{_≡_, refl, sym, ap, _∙_, subst}
 use mathlib.Core.Logic.{inr}
 use mathlib.Core.List.{List}
-use lib.ListN.{length}
+use lib.ListN.{length, set}
 use Rattle.lists.specs.Rows.{Row, keys}
 use Rattle.spec.specs.Records.{standard, Write}
 use Rattle.spec.specs.Maps.{MapState, withSlots, unlockAll, installAll}
 use Rattle.spec.specs.Steps as model
-use Rattle.spec.specs.Steps.{State, workerOf, writeKeys, withWorker, withMap, dropped, effect, install}
+use Rattle.spec.specs.Steps.{State, freeWorker, workerOf, writeKeys, withWorker, withMap, installedMap, dropped, effect, install}
 use Rattle.sets.specs.declared.workers.Worker.{Worker}
 use Rattle.sets.specs.Workers.{workerIn, freed}
 use Rattle.sets.specs.WorkerLaws.{free-in}
@@ -16,7 +17,9 @@ use Rattle.sets.specs.Reads.{ReadRows}
 use Rattle.sets.specs.Leaves.{LeafSetRows}
 use Rattle.sets.specs.Writes.{WriteRows, writesIn, WriteSetOrdered}
 use Rattle.map.specs.declared.Sizes.{Sizes}
+use Rattle.counters.specs.declared.Counters.{Counters}
 use Rattle.map.specs.Views.{Lent, mapOf}
+use Rattle.map.specs.Parts.{installCounted}
 use Rattle.map.specs.Entries.{MapBecomes}
 use Rattle.map.specs.WriteWalks.{Writing}
 use Rattle.transactions.specs.declared.Core.{Core}
@@ -44,7 +47,7 @@ new-map l l' g c z m e =
     (λ (x : MapState).
     record {
       settings = standard;
-      counters = record { number = c .counters .number; version = c .counters .version };
+      counters = record { number = c .counters .number; version = c .counters .version; installs = c .counters .installs };
       map = x;
       workers = workersFrom g (c .workers) 0;
     })
@@ -120,23 +123,75 @@ drops l l' ws c w y z h q b =
 
 -- ---- install
 
-install-leaves : (n : ℕ) (m : MapState) (rs : List (Row Write)) → installAll standard n m rs .leaves ≡ m .leaves
+install-leaves : (n t : ℕ) (m : MapState) (rs : List (Row Write)) → installAll standard n t m rs .leaves ≡ m .leaves
 unfolding installAll withSlots
-install-leaves n m rs = refl
+install-leaves n t m rs = refl
 
--- y the worker after it
-pub installs : (l l' : Lent) (ws : List WriteRows) (c : Core) (w : ℕ) (y : Worker) (z : Sizes) → w < standard .workers → y ≡ freed
-    → MapBecomes l' z (c .counters .version) (installAll standard (workerAt c w .number) (mapOf l (c .sizes)) (writesIn ws w (workerAt c w .writes)))
-    → Reaches (λ (σ : State). effect σ (install w)) l ws c l' (withBoth c w y z)
-installs l l' ws c w y z h q b =
-    subst (λ (u : Worker). Reaches (λ (σ : State). effect σ (install w)) l ws c l' (withBoth c w u z)) (sym q)
-    (reached (λ (σ : State). effect σ (install w)) l l' ws c w freed z _ h b
-    (install-leaves (workerAt c w .number) (mapOf l (c .sizes)) (writesIn ws w (workerAt c w .writes))) (inr refl) (λ rs ls t. freed-within)
+-- the core with one install more
+abbrev countedCore : Core → Core
+countedCore c = record { workers = c .workers; sizes = c .sizes; counters = installCounted (c .counters) }
+
+one-more : (n : ℕ) → n + 1 ≡ suc n
+one-more n = omega arith
+
+counted-state : (l : Lent) (g : Logs) (c : Core) → stateOf l g (countedCore c) ≡ model.installCounted (stateOf l g c)
+unfolding stateOf model.installCounted
+counted-state l g c =
+    ap
+    (λ (n : ℕ).
+    record {
+      settings = standard;
+      counters = record { number = c .counters .number; version = c .counters .version; installs = n };
+      map = mapOf l (c .sizes);
+      workers = workersFrom g (c .workers) 0;
+    })
+    (one-more (c .counters .installs))
+
+counted-stored : {l : Lent} {g : Logs} {c : Core} → Stored l g c → Stored l g (countedCore c)
+counted-stored t =
+    record {
+      map = t .map;
+      reads = t .reads;
+      leaves = t .leaves;
+      writes = t .writes;
+      workers = t .workers;
+      counts = t .counts;
+      lows = t .lows;
+    }
+
+-- a change, and an install counted
+counts : {f : State → State} {l l' : Lent} {ws : List WriteRows} {c c' : Core} → Reaches f l ws c l' c'
+    → Reaches (λ (σ : State). model.installCounted (f σ)) l ws c l' (countedCore c')
+counts {f} {l} {l'} {ws} {c} {c'} r =
+    record {
+      state = λ rs ls t. counted-state l' (logs rs ls ws) c' ∙ ap model.installCounted (r .state rs ls t);
+      stored = λ rs ls t. counted-stored (r .stored rs ls t);
+    }
+
+-- the map and the worker after an install, which is not counted yet
+abbrev installedState : ℕ → State → State
+installedState w σ = withWorker (withMap σ (installedMap σ w)) w freeWorker
+
+-- y the worker after it, k the counters
+pub installs : (l l' : Lent) (ws : List WriteRows) (c : Core) (w : ℕ) (y : Worker) (z : Sizes) (k : Counters) → w < standard .workers → y ≡ freed
+    → k ≡ installCounted (c .counters)
+    → MapBecomes l' z (c .counters .version) (installAll standard (workerAt c w .number) (k .installs) (mapOf l (c .sizes)) (writesIn ws w (workerAt c w .writes)))
+    → Reaches (λ (σ : State). effect σ (install w)) l ws c l' (record { workers = set (c .workers) w y; sizes = z; counters = k })
+unfolding effect
+installs l l' ws c w y z k h q e b =
+    subst (λ (x : Counters). Reaches (λ (σ : State). effect σ (install w)) l ws c l' (record { workers = set (c .workers) w y; sizes = z; counters = x })) (sym e)
+    (counts
+    (subst (λ (u : Worker). Reaches (installedState w) l ws c l' (withBoth c w u z)) (sym q)
+    (reached (installedState w) l l' ws c w freed z _ h b
+    (install-leaves (workerAt c w .number) (k .installs) (mapOf l (c .sizes)) (writesIn ws w (workerAt c w .writes))) (inr refl) (λ rs ls t. freed-within)
     (λ rs ls t.
     (λ i.
-    withWorker (withMap (stateOf l (logs rs ls ws) c) (installAll standard (number rs ls t i) (mapOf l (c .sizes)) (writes rs ls t i))) w (free-in rs ls ws w i))
-    ∙ (unfold effect stateOf in refl)))
+    withWorker (withMap (stateOf l (logs rs ls ws) c) (installAll standard (number rs ls t i) (install-number i) (mapOf l (c .sizes)) (writes rs ls t i))) w (free-in rs ls ws w i))
+    ∙ (unfold stateOf in refl)))))
   where
+    install-number : k .installs ≡ suc (c .counters .installs)
+    install-number = ap (λ (x : Counters). x .installs) e ∙ one-more (c .counters .installs)
+
     number : (rs : List ReadRows) (ls : List LeafSetRows) → Stored l (logs rs ls ws) c → workerAt c w .number ≡ workerOf (stateOf l (logs rs ls ws) c) w .number
     number rs ls t = sym (number-is l (logs rs ls ws) c w (worker-inside t w h))
 

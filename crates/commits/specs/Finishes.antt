@@ -1,5 +1,5 @@
 -- Abort and install, as they go: refused by 1, 2 or 4, or the transaction is over.
-use Prim.Native.Nat.{ℕ, _<_}
+use Prim.Native.Nat.{ℕ, _+_, _^_, _<_}
 use mathlib.Core.Path.{_≡_, refl, sym, ap, _∙_, subst}
 use mathlib.Core.Bool.{false}
 use mathlib.Core.List.{List}
@@ -13,6 +13,7 @@ use Rattle.spec.specs.Steps as model
 use Rattle.spec.specs.Steps.{State, workerOf, Step, abort, install, isChecked, Cause, noWorker, workerFree, wrongStage, causes, firstCause, refusal, granted, effect, dropped}
 use Rattle.laws.specs.WorkerLaws.{mild-cause}
 use Rattle.laws.specs.MapLaws.{Installable}
+use Rattle.limits.specs.Invariant.{standard-counters}
 use Rattle.limits.specs.Finishing.{installable}
 use Rattle.sets.specs.declared.workers.Worker.{Worker}
 use Rattle.sets.specs.Workers.{workerIn}
@@ -63,6 +64,13 @@ module _ {l : Lent} {rs : List ReadRows} {ls : List LeafSetRows} {ws : List Writ
       (q .state rs ls (k .stored)) (q .stored rs ls (k .stored))
 
 -- ---- install
+
+-- an installed transaction took a commit number, so the installs are far from their end
+pub install-fits : {l : Lent} {g : Logs} {c : Core} → Ready l g c → c .counters .installs + 1 < 2 ^ 64
+unfolding stateOf
+install-fits {l} {g} {c} k =
+    let i : (c .counters .number < 2 ^ 64) × (c .counters .version < 2 ^ 64) × (c .counters .installs + 1 < 2 ^ 64) = standard-counters (k .kept) refl in
+    i .2
 
 install-front : (σ : State) (w : ℕ) → refusal σ (install w) ≡ front isChecked σ w
 unfolding refusal causes front

@@ -83,7 +83,7 @@ verdictIn (verdict.Refused r) = some r
 
 -- the core after worker w, now y, took commit number n
 abbrev pub withNumber : Core → ℕ → Worker → ℕ → Core
-withNumber c w y n = record { workers = set (c .workers) w y; sizes = c .sizes; counters = record { number = n; version = c .counters .version } }
+withNumber c w y n = record { workers = set (c .workers) w y; sizes = c .sizes; counters = record { number = n; version = c .counters .version; installs = c .counters .installs } }
 
 -- what a validation answers if a commit number is left, and if none is
 abbrev takes : Core → ℕ → Worker → Bool → ValidateDone

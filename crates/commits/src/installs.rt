@@ -11,7 +11,7 @@ use transactions::admits::Admit;
 use transactions::begins::Done;
 use transactions::begins::Plain;
 ghost use mathlib.Core.List.{[]};
-ghost use Prim.Native.Nat.{_<_};
+ghost use Prim.Native.Nat.{_+_, _^_, _<_};
 ghost use lib.ListN.{getD};
 ghost use Rattle.spec.specs.Records.{standard};
 ghost use Rattle.spec.specs.Steps as model;
@@ -38,11 +38,13 @@ fn install_transaction(
     requires { ⌜ w < standard .workers ⌝ }
     requires { ⌜ WriteSetOrdered (getD (now writes) w []) (workerAt c w .writes) ⌝ }
     requires { ⌜ Installable (slotsIn (now slots)) (writesIn (now writes) w (workerAt c w .writes)) ⌝ }
+    requires { ⌜ c .counters .installs + 1 < 2 ^ 64 ⌝ }
     ensures { λ r. ⌜ Reaches (λ (σ : State). effect σ (model.install w)) (lent (now (rows .entry)) (now (leaves .entry)) (now (slots .entry))) (now (writes .entry)) c (lent (now (rows .entry)) (now (leaves .exit)) (now (slots .exit))) r ⌝ }
 {
     let mut workers = c.workers;
     let sizes = c.sizes;
     let counters = c.counters;
+    let counted = counters::count_install(counters);
     let x = workers[w];
     let z = map::locks::install_all(
         leaves,
@@ -53,13 +55,14 @@ fn install_transaction(
         counters,
         x.writes as usize,
         x.number as u64,
+        counted.installs,
     );
     let free = x.free();
     workers[w] = free;
     Core {
         workers,
         sizes: z,
-        counters,
+        counters: counted,
     }
 }
 

@@ -7,7 +7,7 @@ use mathlib.Core.Path.{_≡_, refl}
 use mathlib.Core.List.{List, [], _∷_}
 use Rattle.lists.specs.Tests.{same, less, atMost, within}
 use Rattle.spec.specs.Computing.{model}
-use Rattle.script.specs.Grammar.{firstWord, moreWords, isDigit, extend, number, numbers, oneNumber, twoNumbers, threeNumbers, lineOf, lettered, meaning}
+use Rattle.script.specs.Grammar.{firstWord, moreWords, isDigit, extend, number, numbers, noNumber, oneNumber, twoNumbers, threeNumbers, lineOf, lettered, meaning}
 use Rattle.script.specs.Output.{digitsWithin, decimal, field, pair, pairs, answerText, answerLine, endLine}
 use Rattle.console.specs.Program.{writtenFrom, output}
 
@@ -21,11 +21,13 @@ pub record Answered : Type 0 where
       output (bytes "B 0\nP 0 4096 32\nL 0\nV 0\nI 0\nB 1\nS 1 4000 5000\nL 1\nV 1\nM 4096\nB 1\nS 1 4000 5000\nL 1\nV 1\nI 1\n")
       ≡ bytes "B 0\nP 0\nL 0\nV 0 1\nI 0\nB 0\nS 0 0\nL 0\nV 14\nM 0 1\nB 0\nS 0 1 4096 32\nL 0\nV 0 2\nI 0\nE 1 4096 32\n"
   pub nothing : output [] ≡ bytes "E 0\n"
+  -- a merge of the oldest has no number
+  pub oldest : output (bytes "B 0\nP 0 9 1\nL 0\nV 0\nI 0\nT\nT\n") ≡ bytes "B 0\nP 0\nL 0\nV 0 1\nI 0\nT 0 1\nT 0 0\nE 1 9 1\n"
   -- after a malformed line nothing more is read
   pub malformed : output (bytes "B 0\nB\nB 1\n") ≡ bytes "B 0\n?\n"
   -- a line without its line feed takes no effect
   pub unended : output (bytes "B 0\nB 1") ≡ bytes "B 0\n?\n"
 
 pub answered : Answered
-unfolding model same less atMost within firstWord moreWords isDigit extend number numbers oneNumber twoNumbers threeNumbers lineOf lettered meaning digitsWithin decimal field pair pairs answerText answerLine endLine writtenFrom
-answered = record { full-run = refl; nothing = refl; malformed = refl; unended = refl }
+unfolding model same less atMost within firstWord moreWords isDigit extend number numbers noNumber oneNumber twoNumbers threeNumbers lineOf lettered meaning digitsWithin decimal field pair pairs answerText answerLine endLine writtenFrom
+answered = record { full-run = refl; nothing = refl; oldest = refl; malformed = refl; unended = refl }

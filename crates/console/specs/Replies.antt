@@ -41,6 +41,7 @@ opOf (line.Validate w) = op.Ending w ending.Validate
 opOf (line.Install w) = op.Ending w ending.Install
 opOf (line.Abort w) = op.Ending w ending.Abort
 opOf (line.Merge k) = op.Merge k
+opOf line.MergeOldest = op.MergeOldest
 
 of-line : (l : Line) → Asks l (opOf l)
 of-line (line.Begin w) = record { step = λ n. refl }
@@ -53,6 +54,7 @@ of-line (line.Validate w) = record { step = λ n. refl }
 of-line (line.Install w) = record { step = λ n. refl }
 of-line (line.Abort w) = record { step = λ n. refl }
 of-line (line.Merge k) = record { step = λ n. refl }
+of-line line.MergeOldest = record { step = λ n. refl }
 
 pub asks : {l s : Line} {o : Op} → l ≡ s → o ≡ opOf s → Asks l o
 asks {l} {s} {o} e f = subst (λ (x : Op). Asks l x) (sym f) (subst (λ (x : Line). Asks x (opOf s)) (sym e) (of-line s))

@@ -8,7 +8,7 @@ use Rattle.lists.specs.Tests.{pick, maybe, same}
 use Rattle.lists.specs.Rows.{Row}
 use Rattle.spec.specs.declared.Refusal.{Refusal}
 use Rattle.spec.specs.Records.{Payload, Record}
-use Rattle.spec.specs.Steps.{Step, begin, read, scan, put, remove, lock, validate, install, abort, merge, Answer, refused, done, found, listed, numbered, counted, Event}
+use Rattle.spec.specs.Steps.{Step, begin, read, scan, put, remove, lock, validate, install, abort, merge, mergeOldest, Answer, refused, done, found, listed, numbered, counted, Event}
 use Rattle.spec.specs.Claim.{SerialRun}
 use Rattle.script.specs.declared.Line.{Line}
 use Rattle.script.specs.Grammar.{meaning}
@@ -45,6 +45,7 @@ pub data Answers : Step → Answer → Type 0 where
   installed : (w : ℕ) → Answers (install w) done
   aborted : (w : ℕ) → Answers (abort w) done
   count : (a n : ℕ) → Answers (merge a) (counted n)
+  oldest-count : (n : ℕ) → Answers mergeOldest (counted n)
 
 -- The lines of an input and the bytes of an output, read side by side: each line of the input with the line of the output that
 -- tells its answer, and at the end the line of the contents.

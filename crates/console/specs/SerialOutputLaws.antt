@@ -9,7 +9,7 @@ use Rattle.lists.specs.Tests.{pick, maybe, same}
 use Rattle.spec.specs.declared.Refusal.{Refusal}
 use Rattle.spec.specs.Records.{standard}
 use Rattle.spec.specs.Maps.{contents}
-use Rattle.spec.specs.Steps.{State, Step, begin, read, scan, put, remove, lock, validate, install, abort, merge, refused, fresh, refusal, granted, answer, next, final, history}
+use Rattle.spec.specs.Steps.{State, Step, begin, read, scan, put, remove, lock, validate, install, abort, merge, mergeOldest, refused, fresh, refusal, granted, answer, next, final, history}
 use Rattle.serial.specs.Theorem.{theorem}
 use Rattle.script.specs.declared.Line.{Line}
 use Rattle.script.specs.Grammar.{meaning}
@@ -17,7 +17,7 @@ use Rattle.script.specs.Parsing.{filled}
 use Rattle.script.specs.Output.{stepOf, answerLine, endLine, malformedLine}
 use Rattle.console.specs.Program.{places, writtenFrom, output}
 use Rattle.console.specs.TranscriptLaws.{one-history}
-use Rattle.console.specs.SerialOutput.{linesFrom, linesOf, Answers, not-granted, begun, value, records, written, removed, locked, number, installed, aborted, count, Transcript, end-line, answer-line, SerialOutput}
+use Rattle.console.specs.SerialOutput.{linesFrom, linesOf, Answers, not-granted, begun, value, records, written, removed, locked, number, installed, aborted, count, oldest-count, Transcript, end-line, answer-line, SerialOutput}
 
 -- ---- what the model answers is an answer to the step
 
@@ -33,6 +33,7 @@ granted-answers σ (validate w) = number w _
 granted-answers σ (install w) = installed w
 granted-answers σ (abort w) = aborted w
 granted-answers σ (merge a) = count a _
+granted-answers σ mergeOldest = oldest-count _
 
 answers : (σ : State) (s : Step) → Answers s (answer σ s)
 unfolding answer

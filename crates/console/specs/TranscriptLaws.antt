@@ -14,13 +14,13 @@ use Rattle.spec.specs.declared.Refusal.{Refusal}
 use Rattle.spec.specs.declared.Refusal.the-variants.{NoWorker, WorkerFree, WorkerTaken, WrongStage, Backward, LogFull, WritesFull, ShortBuffer, Held, IndexletFull, MapFull, Changed, UnderLock, Phantom, Spent}
 use Rattle.spec.specs.Refusals.{numberOf}
 use Rattle.spec.specs.Records.{Payload, Record}
-use Rattle.spec.specs.Steps.{Step, begin, read, scan, put, remove, lock, validate, install, abort, merge, Answer, refused, done, found, listed, numbered, counted, Event}
+use Rattle.spec.specs.Steps.{Step, begin, read, scan, put, remove, lock, validate, install, abort, merge, mergeOldest, Answer, refused, done, found, listed, numbered, counted, Event}
 use Rattle.script.specs.declared.Line.{Line}
 use Rattle.script.specs.Grammar.{isDigit}
 use Rattle.script.specs.Output.{decimal, field, absent, pair, pairs, answerText, answerLine, stepOf}
 use Rattle.script.specs.OutputLaws.{decimal-one, decimal-more}
 use Rattle.console.specs.Program.{places}
-use Rattle.console.specs.SerialOutput.{Answers, not-granted, begun, value, records, written, removed, locked, number, installed, aborted, count, Transcript, end-line, answer-line}
+use Rattle.console.specs.SerialOutput.{Answers, not-granted, begun, value, records, written, removed, locked, number, installed, aborted, count, oldest-count, Transcript, end-line, answer-line}
 
 -- ---- numbers
 
@@ -133,6 +133,7 @@ grantedKind (validate w) = 4
 grantedKind (install w) = 1
 grantedKind (abort w) = 1
 grantedKind (merge a) = 5
+grantedKind mergeOldest = 5
 
 -- the number at the front of an answer's text
 abbrev answerNumber : Answer → ℕ
@@ -174,6 +175,7 @@ kind-told (number w n) = refl
 kind-told (installed w) = refl
 kind-told (aborted w) = refl
 kind-told (count a n) = refl
+kind-told (oldest-count n) = refl
 
 -- the text after that number
 abbrev more : Answer → List ℕ

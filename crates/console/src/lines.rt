@@ -22,6 +22,7 @@ pub fn op_of(l: Line) -> Op
         Line::Install(w) => Op::Ending(w, Ending::Install),
         Line::Abort(w) => Op::Ending(w, Ending::Abort),
         Line::Merge(k) => Op::Merge(k),
+        Line::MergeOldest => Op::MergeOldest,
     }
 }
 
@@ -40,5 +41,6 @@ pub fn letter_of(l: Line) -> u8
         Line::Install(_) => b'I',
         Line::Abort(_) => b'A',
         Line::Merge(_) => b'M',
+        Line::MergeOldest => b'T',
     }
 }

@@ -1,16 +1,19 @@
-// The counters: the last commit number and the last leaf version given, and the functions that take the next ones.
+// The counters: the last commit number and the last leaf version given, and the functions that take the next ones; and how
+// many installs there were.
 //
 // `next_numbers` and `next_versions` are lent the counters: such a function is proved by a walk of its code by hand, and so
 // is one that lends them. `take_numbers` and `take_versions` lend them in their bodies alone, so their callers need no walk.
 // The four are two pairs of one shape, and each pair has one walk.
 ghost use mathlib.Core.Path.{_≡_};
 ghost use Prim.Native.Nat.{_+_, _^_, _<_};
-ghost use Rattle.counters.specs.Taking.{numbered, counted, versioned};
+ghost use Rattle.counters.specs.Taking.{numbered, counted, versioned, installed};
 
-// The last commit number and the last leaf version given (document 01: serial number and mark); they travel together.
+// The last commit number and the last leaf version given (document 01: serial number and mark), and how many installs there
+// were; they travel together.
 pub struct Counters {
     pub number: u64,
     pub version: u64,
+    pub installs: u64,
 }
 
 impl Counters {
@@ -22,6 +25,7 @@ impl Counters {
         Counters {
             number: self.number + count,
             version: self.version,
+            installs: self.installs,
         }
     }
 
@@ -33,6 +37,7 @@ impl Counters {
         Counters {
             number: self.number,
             version: self.version + count,
+            installs: self.installs,
         }
     }
 }
@@ -81,6 +86,18 @@ pub fn take_number(k: Counters) -> Taken
     ensures { λ r. ⌜ (r .last ≡ numbered k .number) × (r .counters ≡ numbered k) ⌝ }
 {
     take_numbers(k, 1)
+}
+
+// One install more is counted.
+pub fn count_install(k: Counters) -> Counters
+    requires { ⌜ k .installs + 1 < 2 ^ 64 ⌝ }
+    ensures { λ r. ⌜ r ≡ installed k ⌝ }
+{
+    Counters {
+        number: k.number,
+        version: k.version,
+        installs: k.installs + 1,
+    }
 }
 
 // The next `count` leaf versions, where the counters go by value.

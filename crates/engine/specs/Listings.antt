@@ -69,6 +69,7 @@ listed-fits σ (op.Ending w ending.Validate) m n = none-listed σ (model.validat
 listed-fits σ (op.Ending w ending.Install) m n = none-listed σ (model.install w) (min m n) refl
 listed-fits σ (op.Ending w ending.Abort) m n = none-listed σ (model.abort w) (min m n) refl
 listed-fits σ (op.Merge a) m n = none-listed σ (model.merge a) (min m n) refl
+listed-fits σ op.MergeOldest m n = none-listed σ model.mergeOldest (min m n) refl
 
 places-count : (p : Reply) (ks vs : List ℕ) → placesIn p ≡ countIn (replyIn p ks vs)
 places-count reply.Granted ks vs = refl

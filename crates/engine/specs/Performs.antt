@@ -47,6 +47,7 @@ stepIn (op.Ending w ending.Validate) m n = model.validate w
 stepIn (op.Ending w ending.Install) m n = model.install w
 stepIn (op.Ending w ending.Abort) m n = model.abort w
 stepIn (op.Merge a) m n = model.merge a
+stepIn op.MergeOldest m n = model.mergeOldest
 
 -- document 01's answer: of a scan, the first places of the buffers after it
 abbrev pub replyIn : Reply → List ℕ → List ℕ → Answer

@@ -48,12 +48,13 @@ pub enum Ending {
     Abort,
 }
 
-// A step of document 01; each names its worker first but a merge.
+// A step of document 01 and the requests; each names its worker first but the merges, at an address and of the oldest.
 pub enum Op {
     Begin(u32),
     Access(u32, Access),
     Ending(u32, Ending),
     Merge(Address),
+    MergeOldest,
 }
 
 // Its answer. A scan tells how many places of the buffers it filled.
@@ -323,6 +324,15 @@ pub fn perform(
             writes,
             c,
             a,
+        )),
+        Op::MergeOldest => of_merge(merges::merge_oldest(
+            rows,
+            leaves,
+            slots,
+            reads,
+            leafsets,
+            writes,
+            c,
         )),
     }
 }

@@ -14,21 +14,22 @@ ghost use Rattle.indexlet.specs.Promises.{SlotsHeld, SlotsBecome, SlotsF
 // How many slots there are, and how many words a slot has.
 pub const SLOTS: usize = 256;
 
-pub const SLOT_WORDS: usize = 6;
+pub const SLOT_WORDS: usize = 7;
 
 // The slots, a row each.
 pub type Slots = [[u64; SLOT_WORDS]; SLOTS];
 
-// What is said of a key: a pending write (kind 0: none, 1: a put, else a deletion), its value and commit number, and the
-// lock (0: free, else its holder and one more).
+// What is said of a key: a pending write (kind 0: none, 1: a put, else a deletion), its value and commit number, the install
+// since which the key waits, and the lock (0: free, else its holder and one more).
 pub struct Content {
     pub kind: u64,
     pub value: u64,
     pub commit: u64,
+    pub since: u64,
     pub lock: u64,
 }
 
-// A row of six words. It has an entry if it says anything.
+// A row of words. It has an entry if it says anything.
 pub struct Slot {
     pub key: u64,
     pub content: Content,
@@ -352,12 +353,13 @@ fn get(t: &Slots, i: usize) -> Slot
         kind: t[i][1],
         value: t[i][2],
         commit: t[i][3],
-        lock: t[i][4],
+        since: t[i][4],
+        lock: t[i][5],
     };
     Slot {
         key: t[i][0],
         content,
-        overflow: t[i][5],
+        overflow: t[i][6],
     }
 }
 
@@ -367,7 +369,15 @@ fn put(t: &mut Slots, i: usize, s: Slot)
     ensures { λ _. ⌜ now (t .exit) ≡ store (now (t .entry)) i s ⌝ }
 {
     let c = s.content;
-    let row = [s.key, c.kind, c.value, c.commit, c.lock, s.overflow];
+    let row = [
+        s.key,
+        c.kind,
+        c.value,
+        c.commit,
+        c.since,
+        c.lock,
+        s.overflow,
+    ];
     t[i] = row;
 }
 
@@ -438,6 +448,7 @@ pub fn look_up(t: &Slots, a: Address) -> Looked
         kind: 0,
         value: 0,
         commit: 0,
+        since: 0,
         lock: 0,
     };
     Looked {
@@ -505,6 +516,7 @@ fn release(t: &mut Slots, a: Address, h: usize, passed: usize)
         kind: 0,
         value: 0,
         commit: 0,
+        since: 0,
         lock: 0,
     };
     let none = Slot {

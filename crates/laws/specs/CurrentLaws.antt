@@ -33,17 +33,17 @@ unlock-current s w m ks g k =
     ∙ ⊎-elim (λ t. rw t (unlocked-pending w (contentOf (m .slots) k))) (λ t. rw t) (cases (has k ks)))
 
 -- a write leaves its outcome under the commit number n
-pub install-current : (s : Settings) (n : ℕ) (m : MapState) (ws : List (Row Write)) → GoodMap s m → Installable (m .slots) ws
-    → (k : ℕ) → current (installAll s n m ws) k ≡ maybe (look ws k) (current m k) (outcome n)
-install-current s n m ws g i k = go (look ws k) refl
+pub install-current : (s : Settings) (n t : ℕ) (m : MapState) (ws : List (Row Write)) → GoodMap s m → Installable (m .slots) ws
+    → (k : ℕ) → current (installAll s n t m ws) k ≡ maybe (look ws k) (current m k) (outcome n)
+install-current s n t m ws g i k = go (look ws k) refl
   where
-    pending : (o : Option Write) → look ws k ≡ o → contentOf (installAll s n m ws .slots) k .pending ≡ writtenBy n o (contentOf (m .slots) k) .pending
+    pending : (o : Option Write) → look ws k ≡ o → contentOf (installAll s n t m ws .slots) k .pending ≡ writtenBy n t o (contentOf (m .slots) k) .pending
     pending o q =
-        ap (λ (c : Content). c .pending) (install-says s n m ws g i k)
-        ∙ ap (λ (x : Option Write). writtenBy n x (contentOf (m .slots) k) .pending) q
+        ap (λ (c : Content). c .pending) (install-says s n t m ws g i k)
+        ∙ ap (λ (x : Option Write). writtenBy n t x (contentOf (m .slots) k) .pending) q
 
-    go : (o : Option Write) → look ws k ≡ o → current (installAll s n m ws) k ≡ maybe o (current m k) (outcome n)
-    go none q = current-by m (installAll s n m ws) (unfold installAll withSlots in refl) k (pending none q)
+    go : (o : Option Write) → look ws k ≡ o → current (installAll s n t m ws) k ≡ maybe o (current m k) (outcome n)
+    go none q = current-by m (installAll s n t m ws) (unfold installAll withSlots in refl) k (pending none q)
     go (some e) q =
         unfold current outcomeOf in
-        ap (λ (p : Option Pending). maybe p (look (installAll s n m ws .records) k) outcomeOf) (pending (some e) q)
+        ap (λ (p : Option Pending). maybe p (look (installAll s n t m ws .records) k) outcomeOf) (pending (some e) q)

@@ -22,3 +22,5 @@ pub mod PendingCounts
 pub mod VersionBounds
 pub mod WorkerLaws
 pub mod CurrentLaws
+pub mod OldestLaws
+pub mod WaitingLaws

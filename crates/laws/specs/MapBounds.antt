@@ -175,14 +175,14 @@ unlock-bounded {s} {v} {m} b w ks = fewer-bounded b _ (unlock-good s w m ks (b .
         ∙ ⊎-elim (λ q. rw q) (λ q. rw q) (cases (has k ks)))
         ∙ t
 
-pub install-bounded : {s : Settings} {v : ℕ} {m : MapState} → Bounded s v m → (n : ℕ) (ws : List (Row Write)) → Installable (m .slots) ws
-    → Bounded s v (installAll s n m ws)
+pub install-bounded : {s : Settings} {v : ℕ} {m : MapState} → Bounded s v m → (n t : ℕ) (ws : List (Row Write)) → Installable (m .slots) ws
+    → Bounded s v (installAll s n t m ws)
 unfolding installAll withSlots
-install-bounded {s} {v} {m} b n ws i = fewer-bounded b _ (install-good s n m ws (b .slots) i) (λ k e. busy k e (look ws k) refl)
+install-bounded {s} {v} {m} b n t ws i = fewer-bounded b _ (install-good s n t m ws (b .slots) i) (λ k e. busy k e (look ws k) refl)
   where
-    busy : (k : ℕ) → Busy (installAll s n m ws .slots) k → (o : Option Write) → look ws k ≡ o → Busy (m .slots) k
+    busy : (k : ℕ) → Busy (installAll s n t m ws .slots) k → (o : Option Write) → look ws k ≡ o → Busy (m .slots) k
     busy k e none q =
-        sym (ap isIdle (install-says s n m ws (b .slots) i k ∙ ap (λ (x : Option Write). writtenBy n x (contentOf (m .slots) k)) q)) ∙ e
+        sym (ap isIdle (install-says s n t m ws (b .slots) i k ∙ ap (λ (x : Option Write). writtenBy n t x (contentOf (m .slots) k)) q)) ∙ e
     busy k e (some x) q = i .held k (ap present q)
 
 -- ---- merge

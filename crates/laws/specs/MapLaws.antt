@@ -15,7 +15,7 @@ use Rattle.lists.specs.RowLaws.{has-keys, length-keys, look-here, look-there}
 use Rattle.lists.specs.Counting.{has-nil, has-cons, has-append, Within, distinct-within, different-within}
 use Rattle.spec.specs.Records.{Settings, Write}
 use Rattle.spec.specs.Slots.{Pending, Content, idle, isIdle, Slot, slotCount, entries, contentOf, enter}
-use Rattle.spec.specs.Maps.{MapState, lockKey, unlockKey, installRow, each, withSlots, lockAll, unlockAll, installAll}
+use Rattle.spec.specs.Maps.{MapState, lockKey, unlockKey, writtenOver, installRow, each, withSlots, lockAll, unlockAll, installAll}
 use Rattle.laws.specs.SlotCounts.{Good}
 use Rattle.laws.specs.SlotLaws.{Room, goes, stands, fits, enter-good, content-enter, present-content, keys-differ}
 
@@ -278,8 +278,8 @@ unlocking bytes w =
 
 -- ---- install
 
-abbrev pub installedAs : ℕ → Row Write → Content → Content
-installedAs n r c = record { pending = some (record { write = r .item; commit = n }); holder = none }
+abbrev pub installedAs : ℕ → ℕ → Row Write → Content → Content
+installedAs n t r c = writtenOver n t (r .item) c
 
 abbrev pub rowKey : Row Write → ℕ
 rowKey r = r .key
@@ -289,27 +289,26 @@ pub record Installable (ss : List Slot) (ws : List (Row Write)) : Type 0 where
   pub held : (k : ℕ) → present (look ws k) ≡ true → isIdle (contentOf ss k) ≡ false
   pub once : Different (keys ws)
 
-installed-busy : (n : ℕ) (r : Row Write) (c : Content) → isIdle (installedAs n r c) ≡ false
+installed-busy : (n t : ℕ) (r : Row Write) (c : Content) → isIdle (installedAs n t r c) ≡ false
 unfolding isIdle
-installed-busy n r c = refl
-
--- the first write of an address stands: a write set has one
-pub updated-rows : (n : ℕ) (ws : List (Row Write)) (j : ℕ) (c : Content)
-    → updated rowKey (installedAs n) ws j c ≡ maybe (look ws j) c (λ (e : Write). record { pending = some (record { write = e; commit = n }); holder = none })
-updated-rows n [] j c = unfold look in refl
-updated-rows n (r ∷ ws) j c =
-    ⊎-elim
-    (λ e. (rw e) ∙ sym (ap (λ (o : Option Write). maybe o c (λ (x : Write). record { pending = some (record { write = x; commit = n }); holder = none })) (look-here r ws j (same-true (r .key) j e))))
-    (λ e. (rw e (updated-rows n ws j c)) ∙ sym (ap (λ (o : Option Write). maybe o c (λ (x : Write). record { pending = some (record { write = x; commit = n }); holder = none })) (look-there r ws j (same-false (r .key) j e))))
-    (cases (same (r .key) j))
+installed-busy n t r c = refl
 
 -- what is installed at an address
-abbrev pub writtenBy : ℕ → Option Write → Content → Content
-writtenBy n o c = maybe o c (λ (e : Write). record { pending = some (record { write = e; commit = n }); holder = none })
+abbrev pub writtenBy : ℕ → ℕ → Option Write → Content → Content
+writtenBy n t o c = maybe o c (λ (e : Write). writtenOver n t e c)
 
-install-room : {bytes : ℕ} {ss : List Slot} → Good bytes ss → (n : ℕ) (r : Row Write) (ws : List (Row Write)) → Installable ss (r ∷ ws)
-    → Room ss (r .key) (installedAs n r idle)
-install-room a n r ws i = stands (has-entry a (r .key) (i .held (r .key) (ap present (look-here r ws (r .key) refl))))
+-- the first write of an address stands: a write set has one
+pub updated-rows : (n t : ℕ) (ws : List (Row Write)) (j : ℕ) (c : Content) → updated rowKey (installedAs n t) ws j c ≡ writtenBy n t (look ws j) c
+updated-rows n t [] j c = unfold look in refl
+updated-rows n t (r ∷ ws) j c =
+    ⊎-elim
+    (λ e. (rw e) ∙ sym (ap (λ (o : Option Write). writtenBy n t o c) (look-here r ws j (same-true (r .key) j e))))
+    (λ e. (rw e (updated-rows n t ws j c)) ∙ sym (ap (λ (o : Option Write). writtenBy n t o c) (look-there r ws j (same-false (r .key) j e))))
+    (cases (same (r .key) j))
+
+install-room : {bytes : ℕ} {ss : List Slot} → Good bytes ss → (c : Content) (r : Row Write) (ws : List (Row Write)) → Installable ss (r ∷ ws)
+    → Room ss (r .key) c
+install-room a c r ws i = stands (has-entry a (r .key) (i .held (r .key) (ap present (look-here r ws (r .key) refl))))
 
 first-once : (r : Row Write) (ws : List (Row Write)) → Different (keys (r ∷ ws)) → look ws (r .key) ≡ none
 unfolding keys Different
@@ -323,26 +322,29 @@ rest-once : (r : Row Write) (ws : List (Row Write)) → Different (keys (r ∷ w
 unfolding keys Different
 rest-once r ws d = d .1
 
-pub installing : (bytes n : ℕ) → Changes bytes (Row Write) (installRow bytes n) rowKey (installedAs n) Installable
+pub installing : (bytes n t : ℕ) → Changes bytes (Row Write) (installRow bytes n t) rowKey (installedAs n t) Installable
 unfolding installRow
-installing bytes n =
+installing bytes n t =
     record {
-      good = λ ss r ws a i. enter-good a (install-room a n r ws i);
-      says = λ ss r ws a i j. content-enter a (install-room a n r ws i) j;
+      good = λ ss r ws a i. enter-good a (install-room a (installedAs n t r (contentOf ss (r .key))) r ws i);
+      says =
+          λ ss r ws a i j.
+          content-enter a (install-room a (installedAs n t r (contentOf ss (r .key))) r ws i) j
+          ∙ at-own (λ (x : ℕ). installedAs n t r (contentOf ss x)) (contentOf ss) (r .key) j (λ e. ap (λ (x : ℕ). installedAs n t r (contentOf ss x)) e);
       rest = λ ss r ws a i. record { held = held ss r ws a i; once = rest-once r ws (i .once) };
       once =
           λ ss r ws i j c e.
-          updated-rows n ws j (installedAs n r c)
-          ∙ ap (λ (o : Option Write). writtenBy n o (installedAs n r c)) (ap (look ws) (sym e) ∙ first-once r ws (i .once));
+          updated-rows n t ws j (installedAs n t r c)
+          ∙ ap (λ (o : Option Write). writtenBy n t o (installedAs n t r c)) (ap (look ws) (sym e) ∙ first-once r ws (i .once));
     }
   where
     held : (ss : List Slot) (r : Row Write) (ws : List (Row Write)) → Good bytes ss → Installable ss (r ∷ ws)
-        → (k : ℕ) → present (look ws k) ≡ true → isIdle (contentOf (enter bytes ss (r .key) (installedAs n r idle)) k) ≡ false
+        → (k : ℕ) → present (look ws k) ≡ true → isIdle (contentOf (enter bytes ss (r .key) (installedAs n t r (contentOf ss (r .key)))) k) ≡ false
     held ss r ws a i k p =
-        ap isIdle (content-enter a (install-room a n r ws i) k)
+        ap isIdle (content-enter a (install-room a (installedAs n t r (contentOf ss (r .key))) r ws i) k)
         ∙ ⊎-elim
-        (λ e. ap (λ (b : Bool). isIdle (pick b (installedAs n r idle) (contentOf ss k))) e ∙ installed-busy n r idle)
-        (λ e. ap (λ (b : Bool). isIdle (pick b (installedAs n r idle) (contentOf ss k))) e
+        (λ e. ap (λ (b : Bool). isIdle (pick b (installedAs n t r (contentOf ss (r .key))) (contentOf ss k))) e ∙ installed-busy n t r (contentOf ss (r .key)))
+        (λ e. ap (λ (b : Bool). isIdle (pick b (installedAs n t r (contentOf ss (r .key))) (contentOf ss k))) e
         ∙ i .held k (ap present (look-there r ws k (same-false (r .key) k e)) ∙ p))
         (cases (same (r .key) k))
 
@@ -371,12 +373,12 @@ unfolding unlockAll withSlots
 unlock-says s w m ks a j =
     each-says (unlocking (s .bytes) w) (m .slots) ks a tt j ∙ updated-keys (unlocked w) ks j (contentOf (m .slots) j)
 
-pub install-good : (s : Settings) (n : ℕ) (m : MapState) (ws : List (Row Write)) → GoodMap s m → Installable (m .slots) ws → GoodMap s (installAll s n m ws)
+pub install-good : (s : Settings) (n t : ℕ) (m : MapState) (ws : List (Row Write)) → GoodMap s m → Installable (m .slots) ws → GoodMap s (installAll s n t m ws)
 unfolding installAll withSlots
-install-good s n m ws a i = each-good (installing (s .bytes) n) (m .slots) ws a i
+install-good s n t m ws a i = each-good (installing (s .bytes) n t) (m .slots) ws a i
 
-pub install-says : (s : Settings) (n : ℕ) (m : MapState) (ws : List (Row Write)) → GoodMap s m → Installable (m .slots) ws
-    → (j : ℕ) → contentOf (installAll s n m ws .slots) j ≡ writtenBy n (look ws j) (contentOf (m .slots) j)
+pub install-says : (s : Settings) (n t : ℕ) (m : MapState) (ws : List (Row Write)) → GoodMap s m → Installable (m .slots) ws
+    → (j : ℕ) → contentOf (installAll s n t m ws .slots) j ≡ writtenBy n t (look ws j) (contentOf (m .slots) j)
 unfolding installAll withSlots
-install-says s n m ws a i j =
-    each-says (installing (s .bytes) n) (m .slots) ws a i j ∙ updated-rows n ws j (contentOf (m .slots) j)
+install-says s n t m ws a i j =
+    each-says (installing (s .bytes) n t) (m .slots) ws a i j ∙ updated-rows n t ws j (contentOf (m .slots) j)

@@ -112,20 +112,20 @@ unlock-pending s w m ks g =
         ap (λ (c : Content). present (c .pending)) (unlock-says s w m ks g k)
         ∙ ⊎-elim (λ t. rw t (ap present (unlocked-pending w (contentOf (m .slots) k)))) (λ t. rw t) (cases (has k ks))
 
-pub install-pending : (s : Settings) (n : ℕ) (m : MapState) (ws : List (Row Write)) → GoodMap s m → Installable (m .slots) ws
-    → pendingCount (installAll s n m ws .slots) ≤ pendingCount (m .slots) + length ws
-install-pending s n m ws g i =
-    le-trans (pending-within (install-good s n m ws g i) (pendingKeys (entries (m .slots)) ++ keys ws) (λ k e. inside k e (look ws k) refl))
+pub install-pending : (s : Settings) (n t : ℕ) (m : MapState) (ws : List (Row Write)) → GoodMap s m → Installable (m .slots) ws
+    → pendingCount (installAll s n t m ws .slots) ≤ pendingCount (m .slots) + length ws
+install-pending s n t m ws g i =
+    le-trans (pending-within (install-good s n t m ws g i) (pendingKeys (entries (m .slots)) ++ keys ws) (λ k e. inside k e (look ws k) refl))
     (le-of-eq (length-append (pendingKeys (entries (m .slots))) (keys ws)
     ∙ ap (λ (x : ℕ). x + length (keys ws)) (sym (count-keys (m .slots)))
     ∙ ap (λ (x : ℕ). pendingCount (m .slots) + x) (length-keys ws)))
   where
-    inside : (k : ℕ) → pendingAt (installAll s n m ws .slots) k ≡ true → (o : Option Write) → look ws k ≡ o
+    inside : (k : ℕ) → pendingAt (installAll s n t m ws .slots) k ≡ true → (o : Option Write) → look ws k ≡ o
         → has k (pendingKeys (entries (m .slots)) ++ keys ws) ≡ true
     inside k e none q =
         has-left k (pendingKeys (entries (m .slots))) (keys ws)
         (pending-has g k
-        ∙ sym (ap (λ (c : Content). present (c .pending)) (install-says s n m ws g i k ∙ ap (λ (o : Option Write). writtenBy n o (contentOf (m .slots) k)) q))
+        ∙ sym (ap (λ (c : Content). present (c .pending)) (install-says s n t m ws g i k ∙ ap (λ (o : Option Write). writtenBy n t o (contentOf (m .slots) k)) q))
         ∙ e)
     inside k e (some x) q = has-right k (pendingKeys (entries (m .slots))) (keys ws) (has-keys ws k ∙ ap present q)
 

@@ -1,6 +1,6 @@
 -- The current records change by a granted install only, which lays the worker's writes over. In particular a merge
 -- alters none.
-use Prim.Native.Nat.{ℕ}
+use Prim.Native.Nat.{ℕ, suc}
 use mathlib.Core.Path.{_≡_, refl, ap, _∙_}
 use mathlib.Core.Logic.{⊎-elim}
 use mathlib.Core.Option.{Option, none, some}
@@ -10,8 +10,8 @@ use Rattle.lists.specs.Rows.{look}
 use Rattle.spec.specs.declared.Refusal.{Refusal}
 use Rattle.spec.specs.Refusals.{ends}
 use Rattle.spec.specs.Records.{outcome}
-use Rattle.spec.specs.Maps.{current}
-use Rattle.spec.specs.Steps.{State, workerOf, Step, begin, read, scan, put, remove, lock, validate, install, abort, merge, writeKeys, causes, firstCause, refusal, withWorker, withMap, withCounters, dropped, merged, effect, next}
+use Rattle.spec.specs.Maps.{current, oldest}
+use Rattle.spec.specs.Steps.{State, workerOf, Step, begin, read, scan, put, remove, lock, validate, install, abort, merge, mergeOldest, writeKeys, causes, firstCause, refusal, withWorker, withMap, withCounters, installCounted, dropped, merged, effect, next}
 use Rattle.laws.specs.MergeLaws.{merges}
 use Rattle.laws.specs.MapBounds.{lock-room}
 use Rattle.laws.specs.CurrentLaws.{lock-current, unlock-current, install-current}
@@ -36,7 +36,7 @@ module _ {σ : State} (h : Kept σ) where
   merged-current a k = merges a (h .settings .cut) (h .map .slots) (h .map .records) (h .map .leaves) .same-current k
 
   granted-current : (s : Step) → refusal σ s ≡ none → (GrantedInstall σ s → ⊥) → (k : ℕ) → current (effect σ s .map) k ≡ current (σ .map) k
-  unfolding effect withWorker withMap withCounters
+  unfolding effect merged withWorker withMap withCounters
   granted-current (begin w) e n k = refl
   granted-current (read w j) e n k = refl
   granted-current (scan w lo hi p q) e n k = refl
@@ -49,6 +49,7 @@ module _ {σ : State} (h : Kept σ) where
   granted-current (install w) e n k = absurd (n (record { worker = w; is = refl; granted = e }))
   granted-current (abort w) e n k = dropped-current w k
   granted-current (merge a) e n k = merged-current a k
+  granted-current mergeOldest e n k = merged-current (oldest (σ .map)) k
 
   -- a step that is no granted install alters no current record
   pub current-same : (s : Step) → (GrantedInstall σ s → ⊥) → (k : ℕ) → current (next σ s .map) k ≡ current (σ .map) k
@@ -72,6 +73,6 @@ module _ {σ : State} (h : Kept σ) where
       → (k : ℕ) → current (next σ (install w) .map) k ≡ maybe (look (workerOf σ w .writes) k) (current (σ .map) k) (outcome (workerOf σ w .number))
   installed-current w e k =
       ap (λ (τ : State). current (τ .map) k) (next-granted σ (install w) e)
-      ∙ (unfold effect withWorker withMap in
-      install-current (σ .settings) (workerOf σ w .number) (σ .map) (workerOf σ w .writes) (h .map .slots)
+      ∙ (unfold effect installCounted withWorker withMap in
+      install-current (σ .settings) (workerOf σ w .number) (suc (σ .counters .installs)) (σ .map) (workerOf σ w .writes) (h .map .slots)
       (installable h w (install-passed σ w e .stage)) k)

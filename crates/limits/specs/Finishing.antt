@@ -13,8 +13,8 @@ use Rattle.lists.specs.Rows.{look}
 use Rattle.lists.specs.RowLaws.{has-keys, rising-different}
 use Rattle.spec.specs.Records.{Write}
 use Rattle.spec.specs.Slots.{Content, isIdle, contentOf}
-use Rattle.spec.specs.Maps.{MapState, installAll, mergeAt}
-use Rattle.spec.specs.Steps.{freeWorker, State, workerOf, isFree, isLocked, isChecked, writeKeys, withWorker, withMap, withCounters, checkedAs, merged}
+use Rattle.spec.specs.Maps.{MapState, mergeAt}
+use Rattle.spec.specs.Steps.{freeWorker, State, workerOf, isFree, isLocked, isChecked, writeKeys, withWorker, withMap, withCounters, installCounted, checkedAs, installedMap, merged}
 use Rattle.laws.specs.MapLaws.{Installable, idle-holder, install-says, writtenBy}
 use Rattle.laws.specs.MergeLaws.{Merges, merges}
 use Rattle.laws.specs.MapBounds.{install-bounded, merge-bounded}
@@ -22,7 +22,7 @@ use Rattle.laws.specs.PendingCounts.{pendingCount, install-pending}
 use Rattle.laws.specs.VersionBounds.{versionsPerMerge, merge-spends}
 use Rattle.laws.specs.WorkerLaws.{hasLocks, locked-locks, checked-locks, locked-unchecked}
 use Rattle.limits.specs.Invariant.{Kept, free-good}
-use Rattle.limits.specs.Moving.{holderOf, moved-kept, count-spent, count-more, owed-validate, owed-install, owed-merge}
+use Rattle.limits.specs.Moving.{holderOf, moved-kept, count-spent, count-more, installs-validate, installs-install, owed-validate, owed-install, owed-merge}
 use Rattle.limits.specs.Granting.{AtStage}
 use Rattle.limits.specs.Opening.{inside}
 
@@ -51,6 +51,10 @@ module _ {σ : State} (h : Kept σ) where
         held-by = λ k e. (unfold hasLocks isLocked in refl, h .held-by w k e .1);
         later = le-step (le-refl (σ .counters .number));
         numbers = l;
+        installs =
+            subst (λ (c : ℕ). σ .counters .installs + c ≤ suc (σ .counters .number))
+            (sym (count-more σ w _ (inside h w (a .inside)) (locked-unchecked (workerOf σ w .stage) (a .stage)) refl))
+            (installs-validate (σ .counters .installs) _ _ (h .installs));
         versions =
             subst
             (λ (c : ℕ). σ .counters .version + versionsPerMerge (σ .settings) * (pendingCount (σ .map .slots) + σ .settings .writeLimit * c)
@@ -73,13 +77,13 @@ module _ {σ : State} (h : Kept σ) where
       holder k e = h .holds w k (checked-locks (workerOf σ w .stage) t) (unfold writeKeys in has-keys (workerOf σ w .writes) k ∙ e)
 
   pub install-kept : (w : ℕ) → AtStage isChecked σ w
-      → Kept (withWorker (withMap σ (installAll (σ .settings) (workerOf σ w .number) (σ .map) (workerOf σ w .writes))) w freeWorker)
-  unfolding withWorker withMap writeKeys
+      → Kept (installCounted (withWorker (withMap σ (installedMap σ w)) w freeWorker))
+  unfolding installCounted withWorker withMap writeKeys
   install-kept w a =
       moved-kept h
       (record {
         inside = inside h w (a .inside);
-        map = install-bounded (h .map) (workerOf σ w .number) (workerOf σ w .writes) can;
+        map = install-bounded (h .map) (workerOf σ w .number) (suc (σ .counters .installs)) (workerOf σ w .writes) can;
         worker = free-good (σ .settings) (σ .counters .number);
         others-keep = λ v k d e. keep v k d e (look (workerOf σ w .writes) k) refl;
         others-get = λ v k d e. get v k e (look (workerOf σ w .writes) k) refl;
@@ -87,9 +91,12 @@ module _ {σ : State} (h : Kept σ) where
         held-by = λ k e. absurd (gone k (get w k e (look (workerOf σ w .writes) k) refl) e (look (workerOf σ w .writes) k) refl);
         later = le-refl (σ .counters .number);
         numbers = h .numbers;
+        installs =
+            installs-install (σ .counters .installs) _ _ _
+            (count-spent σ w freeWorker (inside h w (a .inside)) (a .stage) (unfold isChecked in refl)) (h .installs);
         versions =
             owed-install (versionsPerMerge (σ .settings)) (σ .settings .writeLimit) _ _ _ _ _ (length (workerOf σ w .writes)) _
-            (install-pending (σ .settings) (workerOf σ w .number) (σ .map) (workerOf σ w .writes) (h .map .slots) can)
+            (install-pending (σ .settings) (workerOf σ w .number) (suc (σ .counters .installs)) (σ .map) (workerOf σ w .writes) (h .map .slots) can)
             (h .worker w .writes)
             (count-spent σ w freeWorker (inside h w (a .inside)) (a .stage) (unfold isChecked in refl)) (h .versions);
       })
@@ -98,13 +105,13 @@ module _ {σ : State} (h : Kept σ) where
       can = installable w (a .stage)
 
       after : MapState
-      after = installAll (σ .settings) (workerOf σ w .number) (σ .map) (workerOf σ w .writes)
+      after = installedMap σ w
 
       holder : (k : ℕ) (o : Option Write) → look (workerOf σ w .writes) k ≡ o
-          → holderOf after k ≡ writtenBy (workerOf σ w .number) o (contentOf (σ .map .slots) k) .holder
+          → holderOf after k ≡ writtenBy (workerOf σ w .number) (suc (σ .counters .installs)) o (contentOf (σ .map .slots) k) .holder
       holder k o q =
-          ap (λ (c : Content). c .holder) (install-says (σ .settings) (workerOf σ w .number) (σ .map) (workerOf σ w .writes) (h .map .slots) can k)
-          ∙ ap (λ (x : Option Write). writtenBy (workerOf σ w .number) x (contentOf (σ .map .slots) k) .holder) q
+          ap (λ (c : Content). c .holder) (install-says (σ .settings) (workerOf σ w .number) (suc (σ .counters .installs)) (σ .map) (workerOf σ w .writes) (h .map .slots) can k)
+          ∙ ap (λ (x : Option Write). writtenBy (workerOf σ w .number) (suc (σ .counters .installs)) x (contentOf (σ .map .slots) k) .holder) q
 
       own : (k : ℕ) → present (look (workerOf σ w .writes) k) ≡ true → holderOf (σ .map) k ≡ some w
       own k e = h .holds w k (checked-locks (workerOf σ w .stage) (a .stage)) (has-keys (workerOf σ w .writes) k ∙ e)
@@ -135,6 +142,7 @@ module _ {σ : State} (h : Kept σ) where
         holds = λ w k t e. r .same-holder k ∙ h .holds w k t e;
         held-by = λ w k e. h .held-by w k (sym (r .same-holder k) ∙ e);
         numbers = h .numbers;
+        installs = h .installs;
         versions =
             owed-merge (versionsPerMerge (σ .settings)) (σ .settings .writeLimit) _ _ _ _ _ _
             (merge-spends a (h .settings .cut) (h .map)) (h .versions);

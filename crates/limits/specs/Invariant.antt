@@ -1,6 +1,6 @@
 -- What holds of the state after every step (`Kept`): the map is within its limits, a worker's sets are within theirs, a
 -- lock is held by exactly the locked and checked workers that have its address in their write sets, commit numbers are
--- within their limit, and the leaf versions given are bounded by the commit numbers given. So neither counter wraps.
+-- within their limit, and the installs and the leaf versions given are bounded by the commit numbers given. So no counter wraps.
 --
 -- The bound of the versions is a potential. A merge takes at most `versionsPerMerge` versions and uses up a pending write;
 -- an install turns a checked worker into at most `writeLimit` pending writes; a validation makes a checked worker and
@@ -57,6 +57,8 @@ pub record Kept (σ : State) : Type 0 where
   -- and there are no other locks
   pub held-by : (w k : ℕ) → contentOf (σ .map .slots) k .holder ≡ some w → (hasLocks (workerOf σ w .stage) ≡ true) × (has k (writeKeys σ w) ≡ true)
   pub numbers : σ .counters .number ≤ σ .settings .lastNumber
+  -- an install uses up a checked transaction, which took a commit number
+  pub installs : σ .counters .installs + checkedCount (σ .workers) ≤ σ .counters .number
   pub versions :
       σ .counters .version + versionsPerMerge (σ .settings) * owed σ
       ≤ versionsPerMerge (σ .settings) * σ .settings .writeLimit * σ .counters .number
@@ -77,13 +79,15 @@ pub standard-version : {σ : State} → Kept σ → σ .settings ≡ standard �
 standard-version {σ} h e =
     subst (λ (s : Settings). σ .counters .version ≤ versionsPerMerge s * s .writeLimit * s .lastNumber) e (version-limit h)
 
--- neither counter wraps
-pub standard-counters : {σ : State} → Kept σ → σ .settings ≡ standard → (σ .counters .number < 2 ^ 64) × (σ .counters .version < 2 ^ 64)
+-- no counter wraps
+pub standard-counters : {σ : State} → Kept σ → σ .settings ≡ standard
+    → (σ .counters .number < 2 ^ 64) × (σ .counters .version < 2 ^ 64) × (σ .counters .installs + 1 < 2 ^ 64)
 standard-counters {σ} h e =
     let n : σ .counters .number ≤ standard .lastNumber = subst (λ (s : Settings). σ .counters .number ≤ s .lastNumber) e (h .numbers) in
     let v : σ .counters .version ≤ versionsPerMerge standard * standard .writeLimit * standard .lastNumber = standard-version h e in
     let p : versionsPerMerge standard ≡ 129 = standard-per in
-    (omega arith, omega arith)
+    let i : σ .counters .installs + checkedCount (σ .workers) ≤ σ .counters .number = h .installs in
+    (omega arith, omega arith, omega arith)
 
 -- ---- a fresh map
 
@@ -105,6 +109,9 @@ unfolding checkedCount total isChecked
 none-checked zero = refl
 none-checked (suc n) = let e : total (λ (i : ℕ) (x : Worker). pick (isChecked (x .stage)) 1 0) (replicate n freeWorker) ≡ 0 = none-checked n in omega arith
 
+at-most-none : (c : ℕ) → c ≡ 0 → 0 + c ≤ 0
+at-most-none c e = omega arith
+
 pub fresh-kept : (s : Settings) → GoodSettings s → Kept (fresh s)
 fresh-kept s g =
     record {
@@ -115,6 +122,7 @@ fresh-kept s g =
       holds = λ w k t. clash t (unlocked w);
       held-by = λ w k e. both-options e (unfold contentOf entries look in refl);
       numbers = zero-le;
+      installs = at-most-none _ (none-checked (s .workers));
       versions = nothing;
     }
   where

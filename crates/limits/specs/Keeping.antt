@@ -2,6 +2,7 @@
 -- document 01's limits no list of steps passes any of them (`every-run`): 1,024 records, 1,025 leaves, 192 waiting and
 -- locked addresses, a worker's 64, 32 and 16, 1,000,000 commit numbers, and the versions that these allow.
 use Prim.Native.Nat.{_+_, ℕ, suc, _*_, _≤_}
+use native.Mathlib.Omega.{arith}
 use mathlib.Core.Path.{_≡_, refl, sym, ap, _∙_, subst}
 use mathlib.Core.Logic.{⊎-elim}
 use mathlib.Core.List.{List, [], _∷_, _++_}
@@ -13,7 +14,8 @@ use Rattle.spec.specs.declared.Refusal.{Refusal}
 use Rattle.spec.specs.Refusals.{ends}
 use Rattle.spec.specs.Records.{Settings, standard, written, deleted}
 use Rattle.spec.specs.Slots.{entries}
-use Rattle.spec.specs.Steps.{State, fresh, workerOf, Step, begin, read, scan, put, remove, lock, validate, install, abort, merge, scanReads, scanVersions, refusal, withWorker, withMap, withCounters, dropped, merged, effect, next, final}
+use Rattle.spec.specs.Maps.{oldest}
+use Rattle.spec.specs.Steps.{State, fresh, workerOf, Step, begin, read, scan, put, remove, lock, validate, install, abort, merge, mergeOldest, scanReads, scanVersions, refusal, withWorker, withMap, withCounters, installCounted, dropped, merged, effect, next, final}
 use Rattle.laws.specs.MapBounds.{record-count, leaf-limit}
 use Rattle.laws.specs.WorkerLaws.{standard-settings}
 use Rattle.limits.specs.Invariant.{Kept, fresh-kept, standard-version}
@@ -39,6 +41,7 @@ module _ {σ : State} (h : Kept σ) where
   granted-kept (install w) e = install-kept h w (install-passed σ w e)
   granted-kept (abort w) e = dropped-kept h w (abort-passed σ w e)
   granted-kept (merge a) e = merge-kept h a
+  granted-kept mergeOldest e = merge-kept h (oldest (σ .map))
 
   refused-kept : (s : Step) (r : Refusal) → refusal σ s ≡ some r → Kept (next σ s)
   refused-kept s r e =
@@ -64,7 +67,7 @@ final-kept h (s ∷ ss) = final-kept (next-kept h s) ss
 
 -- ---- the limits stay what they are
 
-next-settings : (σ : State) (s : Step) → next σ s .settings ≡ σ .settings
+pub next-settings : (σ : State) (s : Step) → next σ s .settings ≡ σ .settings
 next-settings σ s = go (refusal σ s) refl
   where
     granted-settings : (x : Step) → effect σ x .settings ≡ σ .settings
@@ -75,9 +78,10 @@ next-settings σ s = go (refusal σ s) refl
     granted-settings (remove w k) = unfold effect withWorker in refl
     granted-settings (lock w) = unfold effect withWorker withMap in refl
     granted-settings (validate w) = unfold effect withWorker withCounters in refl
-    granted-settings (install w) = unfold effect withWorker withMap in refl
+    granted-settings (install w) = unfold effect installCounted withWorker withMap in refl
     granted-settings (abort w) = unfold effect dropped withWorker withMap in refl
     granted-settings (merge a) = unfold effect merged withCounters withMap in refl
+    granted-settings mergeOldest = unfold effect merged withCounters withMap in refl
 
     go : (o : Option Refusal) → refusal σ s ≡ o → next σ s .settings ≡ σ .settings
     go none e = ap (λ (τ : State). τ .settings) (next-granted σ s e) ∙ granted-settings s
@@ -104,7 +108,11 @@ pub record WithinLimits (σ : State) : Type 0 where
   pub versions : (w : ℕ) → length (workerOf σ w .versions) ≤ standard .leafSetLimit
   pub writes : (w : ℕ) → length (workerOf σ w .writes) ≤ standard .writeLimit
   pub number : σ .counters .number ≤ standard .lastNumber
+  pub installs : σ .counters .installs ≤ σ .counters .number
   pub version : σ .counters .version ≤ versionsPerMerge standard * standard .writeLimit * standard .lastNumber
+
+at-most : (i c n : ℕ) → i + c ≤ n → i ≤ n
+at-most i c n h = omega arith
 
 pub standard-limits : {σ : State} → Kept σ → σ .settings ≡ standard → WithinLimits σ
 standard-limits {σ} h e =
@@ -118,6 +126,7 @@ standard-limits {σ} h e =
       versions = λ w. subst (λ (s : Settings). length (workerOf σ w .versions) ≤ s .leafSetLimit) e (h .worker w .versions);
       writes = λ w. subst (λ (s : Settings). length (workerOf σ w .writes) ≤ s .writeLimit) e (h .worker w .writes);
       number = subst (λ (s : Settings). σ .counters .number ≤ s .lastNumber) e (h .numbers);
+      installs = at-most (σ .counters .installs) _ _ (h .installs);
       version = standard-version h e;
     }
 

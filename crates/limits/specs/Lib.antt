@@ -9,3 +9,5 @@ pub mod Keeping
 pub mod Currents
 pub mod Validating
 pub mod LoggedVersions
+pub mod Aging
+pub mod BoundedWaiting

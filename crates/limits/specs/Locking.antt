@@ -19,7 +19,7 @@ use Rattle.laws.specs.PendingCounts.{lock-pending, unlock-pending}
 use Rattle.laws.specs.VersionBounds.{versionsPerMerge}
 use Rattle.laws.specs.WorkerLaws.{not-false, hasLocks, open-no-locks, no-locks-unchecked}
 use Rattle.limits.specs.Invariant.{Kept, free-good}
-use Rattle.limits.specs.Moving.{holderOf, moved-kept, count-fewer, owed-less}
+use Rattle.limits.specs.Moving.{holderOf, moved-kept, count-fewer, installs-less, owed-less}
 use Rattle.limits.specs.Granting.{AtStage, LockFits}
 use Rattle.limits.specs.Opening.{inside}
 
@@ -101,6 +101,7 @@ module _ {σ : State} (h : Kept σ) where
         );
         later = le-refl (σ .counters .number);
         numbers = h .numbers;
+        installs = installs-less (σ .counters .installs) _ _ _ (count-fewer σ w _ (inside h w (a .inside)) refl) (h .installs);
         versions =
             owed-less (versionsPerMerge (σ .settings)) (σ .settings .writeLimit) _ _ _ _ _ _
             (lock-pending (σ .settings) w (σ .map) (writeKeys σ w) (h .map .slots) room)
@@ -154,6 +155,7 @@ module _ {σ : State} (h : Kept σ) where
             (cases (has k (writeKeys σ w)));
         later = le-refl (σ .counters .number);
         numbers = h .numbers;
+        installs = installs-less (σ .counters .installs) _ _ _ (count-fewer σ w freeWorker (inside h w i) refl) (h .installs);
         versions =
             owed-less (versionsPerMerge (σ .settings)) (σ .settings .writeLimit) _ _ _ _ _ _
             (unlock-pending (σ .settings) w (σ .map) (writeKeys σ w) (h .map .slots))

@@ -13,7 +13,8 @@ use Rattle.lists.specs.TestLaws.{cases, same-true, same-false, less-true, less-
 use Rattle.spec.specs.declared.Refusal.{Refusal}
 use Rattle.spec.specs.Refusals.{ends}
 use Rattle.spec.specs.Records.{Settings}
-use Rattle.spec.specs.Steps.{Worker, freeWorker, State, fresh, workerOf, Step, begin, read, scan, put, remove, lock, validate, install, abort, merge, stepWorker, scanVersions, refusal, withWorker, withMap, withCounters, atStage, logged, writing, checkedAs, dropped, merged, effect, afterRefusal, next}
+use Rattle.spec.specs.Maps.{mergeAt, oldest}
+use Rattle.spec.specs.Steps.{Worker, freeWorker, State, fresh, workerOf, Step, begin, read, scan, put, remove, lock, validate, install, abort, merge, mergeOldest, stepWorker, scanVersions, refusal, withWorker, withMap, withCounters, installCounted, atStage, logged, writing, checkedAs, dropped, merged, effect, afterRefusal, next}
 use Rattle.laws.specs.LeafVersions.{meeting-old}
 use Rattle.laws.specs.MergeLaws.{merges}
 use Rattle.laws.specs.WorkerLaws.{set-same, set-other, worker-fresh}
@@ -58,8 +59,11 @@ module _ {σ : State} (k : Kept σ) (h : AllOld (σ .counters .version) (σ .wor
   unfolding dropped withWorker withMap
   dropped-old w = set-old (σ .counters .version) (σ .workers) w freeWorker h (none-old (σ .counters .version))
 
+  merged-old : (a : ℕ) → AllOld (mergeAt (σ .settings) (σ .counters .version) (σ .map) a .version) (σ .workers)
+  merged-old a w u m = le-trans (h w u m) (merges a (k .settings .cut) (k .map .slots) (k .map .records) (k .map .leaves) .later)
+
   granted-old : (s : Step) → AllOld (effect σ s .counters .version) (effect σ s .workers)
-  unfolding effect withWorker withMap withCounters atStage logged writing checkedAs merged
+  unfolding effect installCounted withWorker withMap withCounters atStage logged writing checkedAs merged
   granted-old (begin w) = set-old (σ .counters .version) (σ .workers) w _ h (none-old (σ .counters .version))
   granted-old (read w j) = set-old (σ .counters .version) (σ .workers) w _ h (more-old _ (workerOf σ w .versions) [] (own w) (none-old _))
   granted-old (scan w lo hi m n) =
@@ -72,7 +76,8 @@ module _ {σ : State} (k : Kept σ) (h : AllOld (σ .counters .version) (σ .wor
   granted-old (install w) = set-old (σ .counters .version) (σ .workers) w freeWorker h (none-old (σ .counters .version))
   granted-old (abort w) = dropped-old w
   granted-old (merge a) =
-      λ w u m. le-trans (h w u m) (merges a (k .settings .cut) (k .map .slots) (k .map .records) (k .map .leaves) .later)
+      merged-old a
+  granted-old mergeOldest = merged-old (oldest (σ .map))
 
   refused-old : (s : Step) (r : Refusal) → AllOld (afterRefusal σ s r .counters .version) (afterRefusal σ s r .workers)
   unfolding afterRefusal

@@ -41,6 +41,7 @@ pub record Moves (σ : State) (w : ℕ) (x : Worker) (m : MapState) (c : Counter
   pub held-by : (k : ℕ) → holderOf m k ≡ some w → (hasLocks (x .stage) ≡ true) × (has k (keys (x .writes)) ≡ true)
   pub later : σ .counters .number ≤ c .number
   pub numbers : c .number ≤ σ .settings .lastNumber
+  pub installs : c .installs + checkedCount (set (σ .workers) w x) ≤ c .number
   pub versions :
       c .version + versionsPerMerge (σ .settings) * (pendingCount (m .slots) + σ .settings .writeLimit * checkedCount (set (σ .workers) w x))
       ≤ versionsPerMerge (σ .settings) * σ .settings .writeLimit * c .number
@@ -74,6 +75,7 @@ moved-kept {σ} {w} {x} {m} {c} h g =
           (λ e t. g .held-by k (t ∙ ap some e))
           (λ d t. h .held-by v k (g .others-get v k d t));
       numbers = g .numbers;
+      installs = g .installs;
       versions = g .versions;
     }
   where
@@ -105,6 +107,20 @@ module _ (σ : State) (w : ℕ) (x : Worker) (i : w < length (σ .workers)) wher
   pub count-more : isChecked (workerOf σ w .stage) ≡ false → isChecked (x .stage) ≡ true
       → checkedCount (set (σ .workers) w x) ≡ suc (checkedCount (σ .workers))
   count-more t e = let c = rw (t, e) at counted in omega arith
+
+-- ---- installs
+
+-- no more workers are checked
+pub installs-less : (i c c' n : ℕ) → c' ≤ c → i + c ≤ n → i + c' ≤ n
+installs-less i c c' n h l = omega arith
+
+-- a validation
+pub installs-validate : (i c n : ℕ) → i + c ≤ n → i + suc c ≤ suc n
+installs-validate i c n h = omega arith
+
+-- an install
+pub installs-install : (i c c' n : ℕ) → suc c' ≡ c → i + c ≤ n → suc i + c' ≤ n
+installs-install i c c' n e h = omega arith
 
 -- ---- the potential
 

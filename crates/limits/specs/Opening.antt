@@ -20,7 +20,7 @@ use Rattle.spec.specs.Steps.{Worker, freeWorker, State, workerOf, isFree, isOpe
 use Rattle.laws.specs.VersionBounds.{versionsPerMerge}
 use Rattle.laws.specs.WorkerLaws.{hasLocks, free-no-locks, open-no-locks, no-locks-unchecked, open-busy}
 use Rattle.limits.specs.Invariant.{GoodWorker, Kept}
-use Rattle.limits.specs.Moving.{moved-kept, count-fewer, owed-less}
+use Rattle.limits.specs.Moving.{moved-kept, count-fewer, installs-less, owed-less}
 use Rattle.limits.specs.Granting.{AtStage, WriteFits}
 
 -- ---- workers that log or write
@@ -82,6 +82,7 @@ module _ {σ : State} (h : Kept σ) where
         held-by = λ k e. clash (h .held-by w k e .0) o;
         later = le-refl (σ .counters .number);
         numbers = h .numbers;
+        installs = installs-less (σ .counters .installs) _ _ _ (count-fewer σ w x (inside w i) (no-locks-unchecked (x .stage) n)) (h .installs);
         versions =
             owed-less (versionsPerMerge (σ .settings)) (σ .settings .writeLimit) _ _ _ _ _ _ (le-refl _)
             (count-fewer σ w x (inside w i) (no-locks-unchecked (x .stage) n)) (h .versions);

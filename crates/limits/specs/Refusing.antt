@@ -10,7 +10,7 @@ use Rattle.lists.specs.Rows.{any}
 use Rattle.spec.specs.declared.Refusal.{Refusal}
 use Rattle.spec.specs.declared.Refusal.the-variants.{NoWorker, WorkerFree, WorkerTaken, WrongStage, Backward, LogFull, WritesFull, ShortBuffer, Held, IndexletFull, MapFull, Changed, UnderLock, Phantom, Spent}
 use Rattle.spec.specs.Refusals.{numberOf, ends}
-use Rattle.spec.specs.Steps.{State, workerOf, Step, begin, read, scan, put, remove, lock, validate, install, abort, merge, stepWorker, isLocked, Cause, noWorker, workerFree, wrongStage, causes, refusal, effect, afterRefusal, dropped, next}
+use Rattle.spec.specs.Steps.{State, workerOf, Step, begin, read, scan, put, remove, lock, validate, install, abort, merge, mergeOldest, stepWorker, isLocked, Cause, noWorker, workerFree, wrongStage, causes, refusal, effect, afterRefusal, dropped, next}
 use Rattle.laws.specs.WorkerLaws.{not-false, ended-later, mild-cause}
 use Rattle.limits.specs.Granting.{AtStage}
 
@@ -69,6 +69,7 @@ ends-validation σ (validate w) r e t = record { worker = w; is = refl; locked =
 ends-validation σ (install w) r e t = never-ends σ (install w) r refl e t
 ends-validation σ (abort w) r e t = never-ends σ (abort w) r refl e t
 ends-validation σ (merge a) r e t = never-ends σ (merge a) r refl e t
+ends-validation σ mergeOldest r e t = never-ends σ mergeOldest r refl e t
 
 -- ---- the state after a step
 

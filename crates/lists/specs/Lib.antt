@@ -8,6 +8,7 @@ pub mod Options
 pub mod Ascending
 pub mod Members
 pub mod Memberships
+pub mod Filters
 pub mod Halving
 pub mod Places
 pub mod Tabulation

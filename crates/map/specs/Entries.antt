@@ -6,7 +6,7 @@ use mathlib.Core.List.{List}
 use lib.ListN.{length, getD, set}
 use Rattle.lists.specs.Tests.{pick, present}
 use Rattle.lists.specs.Rows.{look}
-use Rattle.spec.specs.Slots.{Content, isIdle, Slot, contentOf}
+use Rattle.spec.specs.Slots.{Content, isIdle, Slot}
 use Rattle.spec.specs.Maps.{MapState, withSlots}
 use Rattle.indexlet.specs.Words.{slotsOf}
 use Rattle.index.specs.Views.{recordsOf}
@@ -15,7 +15,7 @@ use Rattle.index.specs.LeafColumns.{LeafRows, outsideOf, pendingOf}
 use Rattle.phantomlet.specs.LeafWrites.{Renumbered}
 use Rattle.map.specs.declared.Sizes.{Sizes}
 use Rattle.map.specs.declared.entries.Change.{Change}
-use Rattle.map.specs.Views.{SlotRows, RecordRows, Lent, mapOf}
+use Rattle.map.specs.Views.{RecordRows, Lent, mapOf}
 use Rattle.map.specs.MapHeld.{perLeaf, Tables, MapHeld}
 
 -- The arrays hold the map m, v the last version given.
@@ -63,12 +63,12 @@ unfoldable pub outsideTerm : Bool → Content → ℕ
 outsideTerm lacks c = pick (isIdle c) 0 (pick lacks 1 0)
 
 -- The place of the address's leaf; what the address adds to the number of pending writes there by c, and what it took
--- till now; and of the entries outside of the index what comes and what goes, of which only the balance counts.
-pub record Terms (slots : SlotRows) (rows : RecordRows) (lows : List ℕ) (z : Sizes) (a : ℕ) (c : Content) (r : Change) : Type 0 where
+-- till now, by what was said of it before; and of the entries outside of the index what comes and what goes, of which only the balance counts.
+pub record Terms (old : Content) (rows : RecordRows) (lows : List ℕ) (z : Sizes) (a : ℕ) (c : Content) (r : Change) : Type 0 where
   pub place : AtLeaf lows (z .leaves) a (r .at)
   pub pend : r .pend ≡ pendingTerm c
-  pub unpend : r .unpend ≡ pendingTerm (contentOf (slotsOf slots) a)
+  pub unpend : r .unpend ≡ pendingTerm old
   pub join-most : r .join ≤ 1
   pub balance :
-      r .join + outsideTerm (not (present (look (recordsOf rows (z .records)) a))) (contentOf (slotsOf slots) a)
+      r .join + outsideTerm (not (present (look (recordsOf rows (z .records)) a))) old
       ≡ r .leave + outsideTerm (not (present (look (recordsOf rows (z .records)) a))) c

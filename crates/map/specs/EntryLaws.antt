@@ -193,7 +193,12 @@ module _ (xs : List ℕ) (i up down : ℕ) where
 abbrev pub sizesWith : Sizes → ℕ → ℕ → Sizes
 sizesWith z entries outside = record { records = z .records; leaves = z .leaves; entries = entries; outside = outside }
 
-module _ (l : Lent) (z : Sizes) (v : ℕ) (t : Tables l z v) (a : ℕ) (c : Content) (room : Room (slotsOf (l .slots)) a c) (r : Change) (q : Terms (l .slots) (l .rows) (l .lows) z a c r) where
+-- what was said before, under its other name
+pub terms-of : {rows : RecordRows} {lows : List ℕ} {z : Sizes} {a : ℕ} {c : Content} {r : Change} {old was : Content} → was ≡ old → Terms old rows lows z a c r
+    → Terms was rows lows z a c r
+terms-of {rows} {lows} {z} {a} {c} {r} e t = subst (λ (x : Content). Terms x rows lows z a c r) (sym e) t
+
+module _ (l : Lent) (z : Sizes) (v : ℕ) (t : Tables l z v) (a : ℕ) (c : Content) (room : Room (slotsOf (l .slots)) a c) (r : Change) (q : Terms (contentOf (slotsOf (l .slots)) a) (l .rows) (l .lows) z a c r) where
   own : same (versionAt (mapOf l z .leaves) a) (versionOf (mapOf l z) (r .at)) ≡ true
   own = same-yes {m = versionAt (mapOf l z .leaves) a} {n = versionOf (mapOf l z) (r .at)} (sym (place-version l z v t a (r .at) (q .place)))
 

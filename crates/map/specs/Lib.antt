@@ -12,3 +12,4 @@ pub mod MergeSettles
 pub mod MergeKeeps
 pub mod MergeKeys
 pub mod Merges
+pub mod OldestWalks

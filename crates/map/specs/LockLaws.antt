@@ -13,8 +13,8 @@ use Rattle.lists.specs.Tests.{pick, maybe, present, same}
 use Rattle.lists.specs.Rows.{Row, look, keys, any}
 use Rattle.lists.specs.RowLaws.{look-here}
 use Rattle.spec.specs.Records.{standard, Write}
-use Rattle.spec.specs.Slots.{slotCount, Pending, Content, idle, isIdle, Slot, entries, contentOf, enter}
-use Rattle.spec.specs.Maps.{MapState, heldByOther, waitingWith, addressesWith, lockKey, unlockKey, installRow, each, withSlots, lockAll, unlockAll, installAll}
+use Rattle.spec.specs.Slots.{slotCount, Pending, Content, isIdle, Slot, entries, contentOf, enter}
+use Rattle.spec.specs.Maps.{MapState, heldByOther, waitingWith, addressesWith, lockKey, unlockKey, waitingSince, installRow, each, withSlots, lockAll, unlockAll, installAll}
 use Rattle.laws.specs.SlotCounts.{Good}
 use Rattle.laws.specs.SlotLaws.{Room, stands}
 use Rattle.laws.specs.MapLaws.{Changes, LockRoom, Installable, Always, withHolder, withoutHolder, installedAs, idle-pending, has-entry, room-old, entry-count, locking, unlocking, installing}
@@ -72,7 +72,7 @@ said-nothing {l} {z} {v} t ss e =
 unfoldable pub holding : ℕ → Content → Content
 holding lock c = record { pending = c .pending; holder = holderIn lock }
 
-pub holding-words : (c : ContentWords) (lock : ℕ) → contentIn (record { kind = c .kind; value = c .value; commit = c .commit; lock = lock }) ≡ holding lock (contentIn c)
+pub holding-words : (c : ContentWords) (lock : ℕ) → contentIn (record { kind = c .kind; value = c .value; commit = c .commit; since = c .since; lock = lock }) ≡ holding lock (contentIn c)
 unfolding contentIn holding
 holding-words c lock = refl
 
@@ -150,10 +150,12 @@ module _ (ss : List Slot) (a b : ℕ) (old c : Content) (e : a ≡ b) (o : conte
       room-old g a c
       (λ t. ap isIdle (q ∙ holding-none old ∙ ap withoutHolder (sym o)) ∙ (unfold isIdle in rw (idle-pending (contentOf ss a) t)))
 
-pub install-said : (ss : List Slot) (n : ℕ) (x : Row Write) (r : Entry) (c : Content) → entryIn r ≡ x → c ≡ installedAs n (entryIn r) c → enter 4 ss (r .address) c ≡ installRow 4 n ss x
+pub install-said : (ss : List Slot) (n t : ℕ) (x : Row Write) (r : Entry) (old c : Content) → entryIn r ≡ x → contentOf ss (r .address) ≡ old
+    → c ≡ installedAs n t (entryIn r) old → enter 4 ss (r .address) c ≡ installRow 4 n t ss x
 unfolding installRow
-install-said ss n x r c e q =
-    entered-as ss (ap (λ (y : Row Write). y .key) e) (q ∙ ap (λ (y : Row Write). installedAs n y c) e)
+install-said ss n t x r old c e o q =
+    entered-as ss (ap (λ (y : Row Write). y .key) e)
+    (q ∙ ap (installedAs n t (entryIn r)) (sym o) ∙ ap (λ (y : Row Write). installedAs n t y (contentOf ss (y .key))) e)
 
 pub install-room : (ss : List Slot) (x : Row Write) (r : Entry) (c : Content) → Good 4 ss → entryIn r ≡ x → isIdle (contentOf ss (x .key)) ≡ false → Room ss (r .address) c
 install-room ss x r c g e b = stands (has-entry g (r .address) (ap (λ (y : Row Write). isIdle (contentOf ss (y .key))) e ∙ b))
@@ -174,18 +176,35 @@ kind-delete zero e = refl
 kind-delete (suc zero) e = absurd (e refl)
 kind-delete (suc (suc k)) e = refl
 
-pending-write : (k v n : ℕ) → words.pendingIn (pendingKind k) v n ≡ some (record { write = writeOf k v; commit = n })
+pending-write : (k v n t : ℕ) → words.pendingIn (pendingKind k) v n t ≡ some (record { write = writeOf k v; commit = n; since = t })
 unfolding pendingKind words.pendingIn
-pending-write zero v n = ap (λ (x : Write). some (record { write = x; commit = n })) (sym (deletion-kind 0 v (λ e. absurd (omega arith))))
-pending-write (suc zero) v n = ap (λ (x : Write). some (record { write = x; commit = n })) (sym (put-kind 1 v refl))
-pending-write (suc (suc k)) v n = ap (λ (x : Write). some (record { write = x; commit = n })) (sym (deletion-kind (suc (suc k)) v (λ e. absurd (omega arith))))
+pending-write zero v n t = ap (λ (x : Write). some (record { write = x; commit = n; since = t })) (sym (deletion-kind 0 v (λ e. absurd (omega arith))))
+pending-write (suc zero) v n t = ap (λ (x : Write). some (record { write = x; commit = n; since = t })) (sym (put-kind 1 v refl))
+pending-write (suc (suc k)) v n t = ap (λ (x : Write). some (record { write = x; commit = n; since = t })) (sym (deletion-kind (suc (suc k)) v (λ e. absurd (omega arith))))
 
-pub installs : (r : Entry) (n k : ℕ) → k ≡ pendingKind (r .kind)
-    → contentIn (record { kind = k; value = r .value; commit = n; lock = 0 }) ≡ installedAs n (entryIn r) idle
+-- the install since which an address waits, once install t has left a write
+module _ (c : ContentWords) (t : ℕ) where
+  pub since-now : c .kind ≡ 0 → t ≡ waitingSince t (contentIn c .pending)
+  unfolding contentIn words.pendingIn waitingSince
+  since-now e = sym (ap (λ (k : ℕ). maybe (words.pendingIn k (c .value) (c .commit) (c .since)) t (λ (q : Pending). q .since)) e)
+
+  pub since-before : (c .kind ≡ 0 → ⊥) → c .since ≡ waitingSince t (contentIn c .pending)
+  unfolding contentIn words.pendingIn waitingSince
+  since-before n = go (c .kind) n
+    where
+      go : (k : ℕ) → (k ≡ 0 → ⊥) → c .since ≡ maybe (words.pendingIn k (c .value) (c .commit) (c .since)) t (λ (q : Pending). q .since)
+      go zero n = absurd (n refl)
+      go (suc zero) n = refl
+      go (suc (suc k)) n = refl
+
+pub installs : (r : Entry) (n t : ℕ) (old : Content) (k u : ℕ) → k ≡ pendingKind (r .kind) → u ≡ waitingSince t (old .pending)
+    → contentIn (record { kind = k; value = r .value; commit = n; since = u; lock = 0 }) ≡ installedAs n t (entryIn r) old
 unfolding contentIn holderIn
-installs r n k e =
+installs r n t old k u e f =
     ap (λ (o : Option Pending). record { pending = o; holder = none })
-    (ap (λ (x : ℕ). words.pendingIn x (r .value) n) e ∙ pending-write (r .kind) (r .value) n)
+    (ap (λ (x : ℕ). words.pendingIn x (r .value) n u) e
+    ∙ ap (words.pendingIn (pendingKind (r .kind)) (r .value) n) f
+    ∙ pending-write (r .kind) (r .value) n (waitingSince t (old .pending)))
 
 -- ---- the whole write set
 
@@ -219,8 +238,8 @@ Locking w l z v ws i n goal = Going (lockKey 4 w) LockRoom l z v (restKeys ws i 
 abbrev pub Unlocking : ℕ → Lent → Sizes → ℕ → WriteRows → ℕ → ℕ → MapState → Type 0
 Unlocking w l z v ws i n goal = Going (unlockKey 4 w) (Always {X = ℕ}) l z v (restKeys ws i n) goal
 
-abbrev pub Installing : ℕ → Lent → Sizes → ℕ → WriteRows → ℕ → ℕ → MapState → Type 0
-Installing c l z v ws i n goal = Going (installRow 4 c) Installable l z v (rest ws i n) goal
+abbrev pub Installing : ℕ → ℕ → Lent → Sizes → ℕ → WriteRows → ℕ → ℕ → MapState → Type 0
+Installing c t l z v ws i n goal = Going (installRow 4 c t) Installable l z v (rest ws i n) goal
 
 few-slots : standard .waitingLimit < slotCount
 few-slots = omega arith
@@ -267,29 +286,30 @@ module _ (w : ℕ) (ws : WriteRows) (n v : ℕ) where
       → MapBecomes l' r v (unlockAll standard w (mapOf l z) (keys (writesOf ws n)))
   unlock-end i e h q = becomes (q .tables) (going-end (keys-none ws i n e) q) (unlock-bounded (h .bounded) w (keys (writesOf ws n)))
 
-  -- w is the commit number
+module _ (w t : ℕ) (ws : WriteRows) (n v : ℕ) where
+  -- w is the commit number, t the install
   pub install-start : (l : Lent) (z : Sizes) → MapHeld l z v → Installable (slotsOf (l .slots)) (writesOf ws n)
-      → Installing w l z v ws 0 n (installAll standard w (mapOf l z) (writesOf ws n))
+      → Installing w t l z v ws 0 n (installAll standard w t (mapOf l z) (writesOf ws n))
   unfolding installAll
-  install-start l z h t =
+  install-start l z h f =
       record {
         tables = h .tables;
-        run = ap (λ (rs : List (Row Write)). withSlots (mapOf l z) (each (installRow 4 w) (slotsOf (l .slots)) rs)) (rest-all ws n);
-        inv = subst (Installable (slotsOf (l .slots))) (sym (rest-all ws n)) t;
+        run = ap (λ (rs : List (Row Write)). withSlots (mapOf l z) (each (installRow 4 w t) (slotsOf (l .slots)) rs)) (rest-all ws n);
+        inv = subst (Installable (slotsOf (l .slots))) (sym (rest-all ws n)) f;
       }
 
-  pub install-busy : {l : Lent} {z : Sizes} {goal : MapState} (i : ℕ) → i < n → Installing w l z v ws i n goal
+  pub install-busy : {l : Lent} {z : Sizes} {goal : MapState} (i : ℕ) → i < n → Installing w t l z v ws i n goal
       → isIdle (contentOf (slotsOf (l .slots)) (writeAt ws i .key)) ≡ false
   install-busy i h q =
       q .inv .held (writeAt ws i .key)
       (ap (λ (rs : List (Row Write)). present (look rs (writeAt ws i .key))) (rest-cons ws i n h)
       ∙ ap present (look-here (writeAt ws i) (rest ws (i + 1) n) (writeAt ws i .key) refl))
 
-  pub install-on : {l l' : Lent} {z r : Sizes} {goal : MapState} (i : ℕ) → i < n → Installing w l z v ws i n goal
-      → ContentSet l l' z r v (installRow 4 w (slotsOf (l .slots)) (writeAt ws i)) → Installing w l' r v ws (i + 1) n goal
-  install-on i h q s = going-on (installing 4 w) (writeAt ws i) (rest ws i n) (rest ws (i + 1) n) (rest-cons ws i n h) q s
+  pub install-on : {l l' : Lent} {z r : Sizes} {goal : MapState} (i : ℕ) → i < n → Installing w t l z v ws i n goal
+      → ContentSet l l' z r v (installRow 4 w t (slotsOf (l .slots)) (writeAt ws i)) → Installing w t l' r v ws (i + 1) n goal
+  install-on i h q s = going-on (installing 4 w t) (writeAt ws i) (rest ws i n) (rest ws (i + 1) n) (rest-cons ws i n h) q s
 
   pub install-end : {l l' : Lent} {z r : Sizes} (i : ℕ) → n ≤ i → MapHeld l z v → Installable (slotsOf (l .slots)) (writesOf ws n)
-      → Installing w l' r v ws i n (installAll standard w (mapOf l z) (writesOf ws n))
-      → MapBecomes l' r v (installAll standard w (mapOf l z) (writesOf ws n))
-  install-end i e h t q = becomes (q .tables) (going-end (rest-none ws i n e) q) (install-bounded (h .bounded) w (writesOf ws n) t)
+      → Installing w t l' r v ws i n (installAll standard w t (mapOf l z) (writesOf ws n))
+      → MapBecomes l' r v (installAll standard w t (mapOf l z) (writesOf ws n))
+  install-end i e h f q = becomes (q .tables) (going-end (rest-none ws i n e) q) (install-bounded (h .bounded) w t (writesOf ws n) f)

@@ -46,7 +46,14 @@ parts rs ls ss = record { records = rs; leaves = ls; slots = ss }
 
 -- what a pending write of this kind leaves in the index
 unfoldable pub leaving : ℕ → ℕ → ℕ → Option Record
-leaving kind value commit = maybe (pendingIn kind value commit) none outcomeOf
+leaving kind value commit = maybe (pendingIn kind value commit 0) none outcomeOf
+
+-- whenever its waiting began
+leaving-since : (kind value commit t : ℕ) → maybe (pendingIn kind value commit t) none outcomeOf ≡ leaving kind value commit
+unfolding leaving pendingIn outcomeOf
+leaving-since zero value commit t = refl
+leaving-since (suc zero) value commit t = refl
+leaving-since (suc (suc k)) value commit t = refl
 
 pub leaving-put : (kind value commit : ℕ) → kind ≡ 1 → some (recordFrom value commit) ≡ leaving kind value commit
 unfolding leaving pendingIn outcomeOf outcome
@@ -58,11 +65,11 @@ leaving-drop zero value commit n = refl
 leaving-drop (suc zero) value commit n = absurd (n refl)
 leaving-drop (suc (suc k)) value commit n = refl
 
-kind-pending : (kind value commit : ℕ) → (kind ≡ 0 → ⊥) → (p : Pending) × (pendingIn kind value commit ≡ some p)
+kind-pending : (kind value commit t : ℕ) → (kind ≡ 0 → ⊥) → (p : Pending) × (pendingIn kind value commit t ≡ some p)
 unfolding pendingIn
-kind-pending zero value commit n = absurd (n refl)
-kind-pending (suc zero) value commit n = (_, refl)
-kind-pending (suc (suc k)) value commit n = (_, refl)
+kind-pending zero value commit t n = absurd (n refl)
+kind-pending (suc zero) value commit t n = (_, refl)
+kind-pending (suc (suc k)) value commit t n = (_, refl)
 
 pub lock-none : (c : ContentWords) → c .lock ≡ 0 → _≡_ {A = ℕ} 0 (pick (present (contentIn c .holder)) 1 0)
 unfolding contentIn holderIn
@@ -309,7 +316,7 @@ walk-past {p} {rows} {slots} {w} {j} r f reads h t least most gone =
 
 takes-none : (p : ℕ → Bool) (k : ℕ) (c : ContentWords) → c .kind ≡ 0 → takes p (row k (contentIn c)) ≡ false
 unfolding takes contentIn pendingIn
-takes-none p k c e = ap (λ (n : ℕ). both (present (pendingIn n (c .value) (c .commit))) (p k)) e
+takes-none p k c e = ap (λ (n : ℕ). both (present (pendingIn n (c .value) (c .commit) (c .since))) (p k)) e
 
 both-false : (b : Bool) → both b false ≡ false
 both-false true = refl
@@ -355,7 +362,7 @@ walk-lock {p} {rows} {slots} {w} {j} r x reads h k b =
     let most : pick (present (contentIn (r .content) .holder)) 1 0 ≤ 1 = pick-most (present (contentIn (r .content) .holder)) in
     walk-past r (w .left + x) reads h (takes-none p (r .key) (r .content) k) (omega arith) (omega arith)
     (λ z e q. clash
-    (unlocked (contentIn (r .content)) x (ap (λ (n : ℕ). present (pendingIn n (r .content .value) (r .content .commit))) k) b (omega arith))
+    (unlocked (contentIn (r .content)) x (ap (λ (n : ℕ). present (pendingIn n (r .content .value) (r .content .commit) (r .content .since))) k) b (omega arith))
     (stands-as slots j r reads e q .0))
 
 weigh-nothing : (q : Row Content → Bool) (k : ℕ) (c : Content) → q (row k c) ≡ false → weigh q (kept k c) ≡ 0
@@ -365,11 +372,11 @@ weigh-nothing q k c e =
 -- an entry with a pending write
 module _ {slots : SlotRows} {j : ℕ} (r : SlotWords) (held : indexlet.SlotsHeld slots) (reads : indexlet.IsSlot slots j r) (kind : r .content .kind ≡ 0 → ⊥) where
   said : Pending
-  said = kind-pending (r .content .kind) (r .content .value) (r .content .commit) kind .0
+  said = kind-pending (r .content .kind) (r .content .value) (r .content .commit) (r .content .since) kind .0
 
   pending-is : contentIn (r .content) .pending ≡ some said
   unfolding contentIn said
-  pending-is = kind-pending (r .content .kind) (r .content .value) (r .content .commit) kind .1
+  pending-is = kind-pending (r .content .kind) (r .content .value) (r .content .commit) (r .content .since) kind .1
 
   busy : isIdle (contentIn (r .content)) ≡ false
   unfolding isIdle
@@ -393,7 +400,8 @@ module _ {slots : SlotRows} {j : ℕ} (r : SlotWords) (held : indexlet.SlotsHeld
   merged-is rs rs' ls ss' e f =
       let cur : current (parts rs ls (slotsOf slots)) (r .key) ≡ leaving (r .content .kind) (r .content .value) (r .content .commit)
       = ap (λ (o : Option Pending). maybe o (look rs (r .key)) outcomeOf) (ap (λ (c : Content). c .pending) content-is ∙ pending-is)
-      ∙ sym (ap (λ (o : Option Pending). maybe o none outcomeOf) pending-is) in
+      ∙ sym (ap (λ (o : Option Pending). maybe o none outcomeOf) pending-is)
+      ∙ leaving-since (r .content .kind) (r .content .value) (r .content .commit) (r .content .since) in
       λ i. record {
         records = (e ∙ ap (λ (o : Option Record). assign (r .key) o rs) (sym cur)) i;
         leaves = ls;
@@ -499,6 +507,6 @@ module _ {slots : SlotRows} {j : ℕ} (r : SlotWords) (held : indexlet.SlotsHeld
             };
       }
 
-pub rest-content : (c : ContentWords) → contentIn (record { kind = 0; value = 0; commit = 0; lock = c .lock }) ≡ withoutPending (contentIn c)
+pub rest-content : (c : ContentWords) → contentIn (record { kind = 0; value = 0; commit = 0; since = 0; lock = c .lock }) ≡ withoutPending (contentIn c)
 unfolding contentIn pendingIn
 rest-content c = refl

@@ -59,6 +59,7 @@ pub record Merges (l : Lent) (z : Sizes) (k : Counters) (a : ℕ) (l' : Lent) (r
   pub map : mapOf l' (r .sizes) ≡ mergeAt standard (k .version) (mapOf l z) a .map
   pub version : r .counters .version ≡ mergeAt standard (k .version) (mapOf l z) a .version
   pub number : r .counters .number ≡ k .number
+  pub installs : r .counters .installs ≡ k .installs
   pub count : r .count ≡ length (merging (mapOf l z) a)
   pub held : MapHeld l' (r .sizes) (mergeAt standard (k .version) (mapOf l z) a .version)
   pub same-current : (j : ℕ) → current (mapOf l' (r .sizes)) j ≡ current (mapOf l z) j
@@ -162,6 +163,7 @@ module _ {l : Lent} {z : Sizes} (k : Counters) (h : MapHeld l z (k .version)) (a
         map = sym (ap (λ (x : model.Merged). x .map) m);
         version = sym (ap (λ (x : model.Merged). x .version) m);
         number = refl;
+        installs = refl;
         count = sym n;
         held = subst (λ (x : ℕ). MapHeld l z x) (sym (ap (λ (x : model.Merged). x .version) m)) h;
         same-current = λ j. refl;
@@ -571,6 +573,7 @@ module _ {l : Lent} {z : Sizes} (k : Counters) (h : MapHeld l z (k .version)) (a
               map = map-is;
               version = ap (λ (x : Counters). x .version) taken ∙ all-taken ∙ version-is;
               number = ap (λ (x : Counters). x .number) taken;
+              installs = ap (λ (x : Counters). x .installs) taken;
               count = took .count ∙ ap length (sym merging-is);
               held = record { tables = now-tables; bounded = now-bounded };
               same-current =

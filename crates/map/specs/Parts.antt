@@ -50,3 +50,7 @@ module _ {l : Lent} {z : Sizes} {v : ℕ} (t : Tables l z v) where
 -- the counters once the next commit number is given
 abbrev pub numbered : Counters → Counters
 numbered k = taking.numbered k
+
+-- and once an install is counted
+abbrev pub installCounted : Counters → Counters
+installCounted k = taking.installed k

@@ -9,11 +9,10 @@ use index::leaves::Leaf;
 use phantomlet::recount;
 use spec::Address;
 ghost use mathlib.Core.Path.{_≡_};
-ghost use Rattle.spec.specs.Slots.{enter};
+ghost use Rattle.spec.specs.Slots.{contentOf, enter};
 ghost use Rattle.spec.specs.Maps.{freshMap};
 ghost use Rattle.laws.specs.SlotLaws.{Room};
 ghost use Rattle.indexlet.specs.Words.{contentIn, slotsOf};
-ghost use Rattle.indexlet.specs.Promises as indexlet;
 ghost use Rattle.index.specs.Views as index;
 ghost use Rattle.index.specs.LeafPlaces.{Listed};
 ghost use Rattle.index.specs.LeafColumns.{lowsOf, outsideOf, pendingOf};
@@ -83,20 +82,17 @@ fn adjust(leaves: &mut Leaves, t: Change)
 
 // Where an entry neither comes nor goes, none joins or leaves those outside of the index, which is not searched then.
 fn terms(
-    slots: &Slots,
     rows: &Records,
     leaves: &Leaves,
     z: Sizes,
     a: Address,
+    old: indexlet::Content,
     c: indexlet::Content,
 ) -> Change
-    requires { ⌜ indexlet.SlotsHeld (now slots) ⌝ }
     requires { ⌜ index.RecordsSorted (now rows) (z .records) ⌝ }
     requires { ⌜ Listed (lowsOf (now leaves)) (z .leaves) ⌝ }
-    ensures { λ r. ⌜ Terms (now (slots .entry)) (now (rows .entry)) (lowsOf (now (leaves .entry))) z a (contentIn c) r ⌝ }
+    ensures { λ r. ⌜ Terms (contentIn old) (now (rows .entry)) (lowsOf (now (leaves .entry))) z a (contentIn c) r ⌝ }
 {
-    let found = indexlet::look_up(slots, a);
-    let old = found.content;
     let at = leaves::find_leaf(leaves, z.leaves, a);
     let pend = recount::waits(c);
     let unpend = recount::waits(old);
@@ -119,7 +115,8 @@ fn terms(
     }
 }
 
-// `c` is said of the address; the phantomlet's two numbers of its leaf change with it. Answers the sizes.
+// `c` is said of the address, where `old` was said; the phantomlet's two numbers of its leaf change with it. Answers the
+// sizes.
 pub fn set_content(
     leaves: &mut Leaves,
     slots: &mut Slots,
@@ -127,13 +124,15 @@ pub fn set_content(
     z: Sizes,
     k: Counters,
     a: Address,
+    old: indexlet::Content,
     c: indexlet::Content,
 ) -> Sizes
     requires { ⌜ Tables (lent (now rows) (now leaves) (now slots)) z (k .version) ⌝ }
+    requires { ⌜ contentOf (slotsOf (now slots)) a ≡ contentIn old ⌝ }
     requires { ⌜ Room (slotsOf (now slots)) a (contentIn c) ⌝ }
     ensures { λ r. ⌜ ContentSet (lent (now (rows .entry)) (now (leaves .entry)) (now (slots .entry))) (lent (now (rows .entry)) (now (leaves .exit)) (now (slots .exit))) z r (k .version) (enter 4 (slotsOf (now (slots .entry))) a (contentIn c)) ⌝ }
 {
-    let t = terms(slots, rows, leaves, z, a, c);
+    let t = terms(rows, leaves, z, a, old, c);
     adjust(leaves, t);
     let entries = indexlet::enter(slots, z.entries, a, c);
     Sizes {

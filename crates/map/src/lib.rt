@@ -8,6 +8,7 @@ pub mod entries;
 pub mod holders;
 pub mod locks;
 pub mod merge;
+pub mod oldest;
 
 // What the layers below keep the map in, for those who lend it.
 pub type Records = index::Records;

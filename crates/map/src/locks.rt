@@ -18,9 +18,9 @@ ghost use lib.ListN.{length};
 ghost use Rattle.lists.specs.Tests.{pick};
 ghost use Rattle.lists.specs.Rows.{any, keys, Rising};
 ghost use Rattle.spec.specs.Records.{standard};
-ghost use Rattle.spec.specs.Slots.{slotCount, idle, isIdle, entries, contentOf};
+ghost use Rattle.spec.specs.Slots.{slotCount, isIdle, entries, contentOf};
 ghost use Rattle.spec.specs.Slots as model;
-ghost use Rattle.spec.specs.Maps.{heldByOther, lockKey, unlockKey, installRow, lockAll, unlockAll, installAll};
+ghost use Rattle.spec.specs.Maps.{heldByOther, lockKey, unlockKey, waitingSince, installRow, lockAll, unlockAll, installAll};
 ghost use Rattle.laws.specs.MapLaws.{Installable, installedAs};
 ghost use Rattle.sets.specs.Writes.{entryIn, writesOf};
 ghost use Rattle.indexlet.specs.Words.{contentIn, slotsOf};
@@ -89,6 +89,7 @@ fn with_lock(c: indexlet::Content, lock: u64) -> indexlet::Content
         kind: c.kind,
         value: c.value,
         commit: c.commit,
+        since: c.since,
         lock,
     }
 }
@@ -114,7 +115,7 @@ fn lock_one(
     let found = indexlet::look_up(slots, a);
     let old = found.content;
     let c = with_lock(old, w + 1);
-    entries::set_content(leaves, slots, rows, z, k, a, c)
+    entries::set_content(leaves, slots, rows, z, k, a, old, c)
 }
 
 // Worker w's lock on the address in row i goes, if w has it.
@@ -139,7 +140,7 @@ fn unlock_one(
     let old = found.content;
     if by_own(old, w) {
         let c = with_lock(old, 0);
-        return entries::set_content(leaves, slots, rows, z, k, a, c);
+        return entries::set_content(leaves, slots, rows, z, k, a, old, c);
     }
     z
 }
@@ -154,19 +155,31 @@ fn pending_kind(kind: u64) -> u64
     2
 }
 
-// What an installed write says of its address: it is pending under the commit number, and no lock is left.
-fn installed(r: Entry, number: u64) -> indexlet::Content
-    ensures { λ c. ⌜ contentIn c ≡ installedAs number (entryIn r) idle ⌝ }
+// The install since which an address waits, once install t has left a write there: where one waits, its waiting goes on.
+fn waiting_since(t: u64, old: indexlet::Content) -> u64
+    ensures { λ r. ⌜ r ≡ waitingSince t (contentIn old .pending) ⌝ }
+{
+    if old.kind == 0 {
+        return t;
+    }
+    old.since
+}
+
+// What install t says of an address, where `old` was said: the write is pending under the commit number, and no lock is
+// left.
+fn installed(r: Entry, number: u64, t: u64, old: indexlet::Content) -> indexlet::Content
+    ensures { λ c. ⌜ contentIn c ≡ installedAs number t (entryIn r) (contentIn old) ⌝ }
 {
     indexlet::Content {
         kind: pending_kind(r.kind),
         value: r.value,
         commit: number,
+        since: waiting_since(t, old),
         lock: 0,
     }
 }
 
-// The write of row i is installed under the commit number.
+// The write of row i is installed under the commit number, by install t.
 fn install_one(
     leaves: &mut Leaves,
     slots: &mut Slots,
@@ -177,15 +190,19 @@ fn install_one(
     n: usize,
     i: usize,
     number: u64,
+    t: u64,
 ) -> Sizes
     requires { ⌜ Tables (lent (now rows) (now leaves) (now slots)) z (k .version) ⌝ }
     requires { ⌜ Writing (now ws) n ⌝ }
     requires { ⌜ (i < n) × (isIdle (contentOf (slotsOf (now slots)) (writeAt (now ws) i .key)) ≡ false) ⌝ }
-    ensures { λ r. ⌜ ContentSet (lent (now (rows .entry)) (now (leaves .entry)) (now (slots .entry))) (lent (now (rows .entry)) (now (leaves .exit)) (now (slots .exit))) z r (k .version) (installRow 4 number (slotsOf (now (slots .entry))) (writeAt (now (ws .entry)) i)) ⌝ }
+    ensures { λ r. ⌜ ContentSet (lent (now (rows .entry)) (now (leaves .entry)) (now (slots .entry))) (lent (now (rows .entry)) (now (leaves .exit)) (now (slots .exit))) z r (k .version) (installRow 4 number t (slotsOf (now (slots .entry))) (writeAt (now (ws .entry)) i)) ⌝ }
 {
     let row = writes::write_at(ws, i);
-    let c = installed(row, number);
-    entries::set_content(leaves, slots, rows, z, k, row.address, c)
+    let a = row.address;
+    let found = indexlet::look_up(slots, a);
+    let old = found.content;
+    let c = installed(row, number, t, old);
+    entries::set_content(leaves, slots, rows, z, k, a, old, c)
 }
 
 // Worker w locks the addresses of the write set, by rising address. The tests of refusals 9 to 11 come before.
@@ -238,7 +255,7 @@ pub fn unlock_all(
     sizes
 }
 
-// The writes of the write set are pending from now on, under the commit number, and its locks go.
+// The writes of the write set are pending from now on, under the commit number, left by install t, and its locks go.
 pub fn install_all(
     leaves: &mut Leaves,
     slots: &mut Slots,
@@ -248,16 +265,17 @@ pub fn install_all(
     k: Counters,
     n: usize,
     number: u64,
+    t: u64,
 ) -> Sizes
     requires { ⌜ MapHeld (lent (now rows) (now leaves) (now slots)) z (k .version) ⌝ }
     requires { ⌜ Writing (now ws) n ⌝ }
     requires { ⌜ Installable (slotsOf (now slots)) (writesOf (now ws) n) ⌝ }
-    ensures { λ r. ⌜ MapBecomes (lent (now (rows .entry)) (now (leaves .exit)) (now (slots .exit))) r (k .version) (installAll standard number (mapOf (lent (now (rows .entry)) (now (leaves .entry)) (now (slots .entry))) z) (writesOf (now (ws .entry)) n)) ⌝ }
+    ensures { λ r. ⌜ MapBecomes (lent (now (rows .entry)) (now (leaves .exit)) (now (slots .exit))) r (k .version) (installAll standard number t (mapOf (lent (now (rows .entry)) (now (leaves .entry)) (now (slots .entry))) z) (writesOf (now (ws .entry)) n)) ⌝ }
 {
     let mut sizes = z;
     let mut i = 0;
     while i < n {
-        sizes = install_one(leaves, slots, rows, ws, sizes, k, n, i, number);
+        sizes = install_one(leaves, slots, rows, ws, sizes, k, n, i, number, t);
         i += 1;
     }
     sizes

@@ -119,6 +119,7 @@ fn take_slot(
         kind: 0,
         value: 0,
         commit: 0,
+        since: 0,
         lock: c.lock,
     };
     let e = indexlet::enter(slots, w.entries, a, rest);

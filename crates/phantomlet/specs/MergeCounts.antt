@@ -336,13 +336,13 @@ numbers-small {rows} {lows} {slots} {n} {m} {outside} {pending} w c i h =
 
 pub waits-none : (c : ContentWords) → c .kind ≡ 0 → _≡_ {A = ℕ} 0 (pick (present (contentIn c .pending)) 1 0)
 unfolding contentIn pendingIn
-waits-none c e = sym (ap (λ (n : ℕ). pick {A = ℕ} (present (pendingIn n (c .value) (c .commit))) 1 0) e)
+waits-none c e = sym (ap (λ (n : ℕ). pick {A = ℕ} (present (pendingIn n (c .value) (c .commit) (c .since))) 1 0) e)
 
 pub waits-some : (c : ContentWords) → (c .kind ≡ 0 → ⊥) → _≡_ {A = ℕ} 1 (pick (present (contentIn c .pending)) 1 0)
 unfolding contentIn pendingIn
 waits-some c n = go (c .kind) n
   where
-    go : (k : ℕ) → (k ≡ 0 → ⊥) → _≡_ {A = ℕ} 1 (pick (present (pendingIn k (c .value) (c .commit))) 1 0)
+    go : (k : ℕ) → (k ≡ 0 → ⊥) → _≡_ {A = ℕ} 1 (pick (present (pendingIn k (c .value) (c .commit) (c .since))) 1 0)
     go zero n = absurd (n refl)
     go (suc zero) n = refl
     go (suc (suc k)) n = refl

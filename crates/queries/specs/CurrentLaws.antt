@@ -23,20 +23,20 @@ use Rattle.queries.specs.QueryViews.{Sees}
 use Rattle.map.specs.Views.{SlotRows, RecordRows}
 
 -- a pending write, if there is one, in the words of the indexlet
-pending-of : (c : ContentWords) → contentIn c .pending ≡ pendingIn (c .kind) (c .value) (c .commit)
+pending-of : (c : ContentWords) → contentIn c .pending ≡ pendingIn (c .kind) (c .value) (c .commit) (c .since)
 unfolding contentIn
 pending-of c = refl
 
 -- a write of kind k is seen as `current_record` reads it
-pending-seen : (k v n : ℕ) (o : Option Record) → (k ≡ 0 → ⊥)
-    → recordIn (record { there = eqb k 1; value = v; commit = n }) ≡ maybe (pendingIn k v n) o outcomeOf
+pending-seen : (k v n t : ℕ) (o : Option Record) → (k ≡ 0 → ⊥)
+    → recordIn (record { there = eqb k 1; value = v; commit = n }) ≡ maybe (pendingIn k v n t) o outcomeOf
 unfolding pendingIn outcomeOf outcome
-pending-seen zero v n o h = absurd (h refl)
-pending-seen (suc zero) v n o h = refl
-pending-seen (suc (suc k)) v n o h = rw (ne-eqb (suc (suc k)) 1 (λ q. omega arith))
+pending-seen zero v n t o h = absurd (h refl)
+pending-seen (suc zero) v n t o h = refl
+pending-seen (suc (suc k)) v n t o h = rw (ne-eqb (suc (suc k)) 1 (λ q. omega arith))
 
 module _ (rows : RecordRows) (n : ℕ) (slots : SlotRows) (a : ℕ) (c : ContentWords) (said : contentOf (slotsOf slots) a ≡ contentIn c) where
-  pending-here : contentOf (slotsOf slots) a .pending ≡ pendingIn (c .kind) (c .value) (c .commit)
+  pending-here : contentOf (slotsOf slots) a .pending ≡ pendingIn (c .kind) (c .value) (c .commit) (c .since)
   pending-here = ap (λ (x : Content). x .pending) said ∙ pending-of c
 
   in-index : (r : Current) → c .kind ≡ 0 → recordIn r ≡ look (recordsOf rows n) a → Sees rows n slots a r
@@ -46,7 +46,7 @@ module _ (rows : RecordRows) (n : ℕ) (slots : SlotRows) (a : ℕ) (c : Content
         record-is = λ ls.
             e ∙ sym
             (ap (λ (p : Option Pending). maybe p (look (recordsOf rows n) a) outcomeOf)
-            (pending-here ∙ ap (λ (x : ℕ). pendingIn x (c .value) (c .commit)) k));
+            (pending-here ∙ ap (λ (x : ℕ). pendingIn x (c .value) (c .commit) (c .since)) k));
       }
 
   -- nothing is pending: the record of the index
@@ -64,6 +64,6 @@ module _ (rows : RecordRows) (n : ℕ) (slots : SlotRows) (a : ℕ) (c : Content
   sees-pending k =
       record {
         record-is = λ ls.
-            pending-seen (c .kind) (c .value) (c .commit) (look (recordsOf rows n) a) k
+            pending-seen (c .kind) (c .value) (c .commit) (c .since) (look (recordsOf rows n) a) k
             ∙ sym (ap (λ (p : Option Pending). maybe p (look (recordsOf rows n) a) outcomeOf) pending-here);
       }

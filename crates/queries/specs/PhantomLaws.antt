@@ -48,19 +48,19 @@ module _ (rows : RecordRows) (lows : List ℕ) (slots : SlotRows) (n m i a : ℕ
   unfolding lockOnlyIn
   place-other p at d = rw (same-no {m = lowPlace a (take m lows)} {n = i} (λ e. d (at .is ∙ e)))
 
-  pending-kind : (c : ContentWords) → contentOf (slotsOf slots) a ≡ contentIn c → present (contentOf (slotsOf slots) a .pending) ≡ present (pendingIn (c .kind) (c .value) (c .commit))
+  pending-kind : (c : ContentWords) → contentOf (slotsOf slots) a ≡ contentIn c → present (contentOf (slotsOf slots) a .pending) ≡ present (pendingIn (c .kind) (c .value) (c .commit) (c .since))
   unfolding contentIn
   pending-kind c e = ap (λ (x : Content). present (x .pending)) e
 
-  pending-some : (k v u : ℕ) → (k ≡ 0 → ⊥) → present (pendingIn k v u) ≡ true
+  pending-some : (k v u t : ℕ) → (k ≡ 0 → ⊥) → present (pendingIn k v u t) ≡ true
   unfolding pendingIn
-  pending-some zero v u h = absurd (h refl)
-  pending-some (suc zero) v u h = refl
-  pending-some (suc (suc k)) v u h = refl
+  pending-some zero v u t h = absurd (h refl)
+  pending-some (suc zero) v u t h = refl
+  pending-some (suc (suc k)) v u t h = refl
 
-  pending-none : (k v u : ℕ) → k ≡ 0 → present (pendingIn k v u) ≡ false
+  pending-none : (k v u t : ℕ) → k ≡ 0 → present (pendingIn k v u t) ≡ false
   unfolding pendingIn
-  pending-none k v u e = ap (λ (x : ℕ). present (pendingIn x v u)) e
+  pending-none k v u t e = ap (λ (x : ℕ). present (pendingIn x v u t)) e
 
   -- what the test says, by its parts
   by-parts : (p q : Bool) → present (contentOf (slotsOf slots) a .pending) ≡ p → present (look (recordsOf rows n) a) ≡ q
@@ -83,7 +83,7 @@ module _ (rows : RecordRows) (lows : List ℕ) (slots : SlotRows) (n m i a : ℕ
   pub lock-only-pending : (c : ContentWords) → contentOf (slotsOf slots) a ≡ contentIn c → (c .kind ≡ 0 → ⊥) → _≡_ {A = ℕ} 0 (pick (lockOnlyIn rows lows slots n m i a) 1 0)
   lock-only-pending c e h =
       number false 0
-      (by-parts true _ (pending-kind c e ∙ pending-some (c .kind) (c .value) (c .commit) h) refl ∙ none-of (same (lowPlace a (take m lows)) i)) refl
+      (by-parts true _ (pending-kind c e ∙ pending-some (c .kind) (c .value) (c .commit) (c .since) h) refl ∙ none-of (same (lowPlace a (take m lows)) i)) refl
 
   pub lock-only-found : (f : Found) (v u : ℕ) → f ≡ At v u → foundOf f ≡ look (recordsOf rows n) a → _≡_ {A = ℕ} 0 (pick (lockOnlyIn rows lows slots n m i a) 1 0)
   lock-only-found f v u e g =
@@ -98,7 +98,7 @@ module _ (rows : RecordRows) (lows : List ℕ) (slots : SlotRows) (n m i a : ℕ
       → f ≡ Nothing → foundOf f ≡ look (recordsOf rows n) a → _≡_ {A = ℕ} 1 (pick (lockOnlyIn rows lows slots n m i a) 1 0)
   lock-only-yes p c f at q e k d g =
       number true 1
-      (by-parts false false (pending-kind c e ∙ pending-none (c .kind) (c .value) (c .commit) k) (ap present (sym g ∙ ap foundOf d))
+      (by-parts false false (pending-kind c e ∙ pending-none (c .kind) (c .value) (c .commit) (c .since) k) (ap present (sym g ∙ ap foundOf d))
       ∙ ap (λ (b : Bool). both b true) (same-yes {m = lowPlace a (take m lows)} {n = i} (sym (at .is) ∙ q))) refl
 
 -- ---- the write set's addresses

@@ -5,7 +5,7 @@ use mathlib.Core.Bool.{Bool, true, false}
 use mathlib.Core.List.{List}
 use lib.ListN.{length}
 use Rattle.lists.specs.Tests.{pick, both, same, less, atMost}
-use Rattle.lists.specs.TestLaws.{same-no, less-yes, less-no, atMost-yes, atMost-no, atMost-true}
+use Rattle.lists.specs.TestLaws.{same-yes, same-no, less-yes, less-no, atMost-yes, atMost-no, atMost-true}
 use Rattle.map.specs.Views.{Lent}
 use Rattle.transactions.specs.declared.Core.{Core}
 use Rattle.transactions.specs.Views.{Logs}
@@ -19,7 +19,7 @@ use Rattle.replay.specs.declared.codes.Code.{Code}
 use Rattle.replay.specs.declared.decodes.Decoded.{Decoded}
 use Rattle.replay.specs.declared.decodes.Decoded.the-variants.{Meant, Meaningless}
 use Rattle.replay.specs.declared.codes.Coded.{Coded}
-use Rattle.replay.specs.Codes.{decodedScan, decodedAccess, decoded, codedOf, noMeaning, PerformsFirst, CodedStep}
+use Rattle.replay.specs.Codes.{decodedScan, decodedAccess, decodedNumbered, decoded, codedOf, noMeaning, PerformsFirst, CodedStep}
 
 -- ---- what a code means, by the number of its kind
 
@@ -77,18 +77,27 @@ module _ (m n : ℕ) (k : Code) where
 
   -- ---- all steps
 
-  pub code-wide : 2 ^ 32 ≤ k .a → Meaningless ≡ decoded m n k
-  unfolding decoded
+  pub code-wide : 2 ^ 32 ≤ k .a → Meaningless ≡ decodedNumbered m n k
+  unfolding decodedNumbered
   code-wide h = rw (less-no h)
 
-  pub code-kind : (x : ℕ) → k .kind ≡ x → k .a < 2 ^ 32 → codeBy x m n k ≡ decoded m n k
-  unfolding decoded
+  pub code-kind : (x : ℕ) → k .kind ≡ x → k .a < 2 ^ 32 → codeBy x m n k ≡ decodedNumbered m n k
+  unfolding decodedNumbered
   code-kind x e h = rw (less-yes h) (ap (λ (y : ℕ). codeBy y m n k) (sym e))
 
   pub code-other : (k .kind ≡ 0 → ⊥) → (k .kind ≡ 5 → ⊥) → (k .kind ≡ 6 → ⊥) → (k .kind ≡ 7 → ⊥) → (k .kind ≡ 8 → ⊥) → (k .kind ≡ 9 → ⊥)
-      → k .a < 2 ^ 32 → decodedAccess m n k ≡ decoded m n k
-  unfolding decoded
+      → k .a < 2 ^ 32 → decodedAccess m n k ≡ decodedNumbered m n k
+  unfolding decodedNumbered
   code-other x y z u v w h = rw (less-yes h, same-no x, same-no y, same-no z, same-no u, same-no v, same-no w)
+
+  -- a fold of the oldest, or a step with numbers
+  pub code-oldest : k .kind ≡ 10 → Meant op.MergeOldest 0 0 ≡ decoded m n k
+  unfolding decoded
+  code-oldest e = rw (same-yes {m = k .kind} {n = 10} e)
+
+  pub code-numbered : {d : Decoded} → (k .kind ≡ 10 → ⊥) → d ≡ decodedNumbered m n k → d ≡ decoded m n k
+  unfolding decoded
+  code-numbered x e = e ∙ sym (ap (λ (b : Bool). pick b (Meant op.MergeOldest 0 0) (decodedNumbered m n k)) (same-no x))
 
 -- ---- replies
 
@@ -125,9 +134,9 @@ access-lends m n k =
     (pick-lends m n (same (k .kind) 3) _ _ (zero-le, zero-le) (pick-lends m n (same (k .kind) 4) _ _ (zero-le, zero-le) tt))))
     tt
 
-lends : (m n : ℕ) (k : Code) → Lends m n (decoded m n k)
-unfolding decoded
-lends m n k =
+numbered-lends : (m n : ℕ) (k : Code) → Lends m n (decodedNumbered m n k)
+unfolding decodedNumbered
+numbered-lends m n k =
     pick-lends m n (less (k .a) (2 ^ 32)) _ _
     (pick-lends m n (same (k .kind) 0) _ _ (zero-le, zero-le)
     (pick-lends m n (same (k .kind) 5) _ _ (zero-le, zero-le)
@@ -136,6 +145,10 @@ lends m n k =
     (pick-lends m n (same (k .kind) 8) _ _ (zero-le, zero-le)
     (pick-lends m n (same (k .kind) 9) _ _ (zero-le, zero-le) (access-lends m n k)))))))
     tt
+
+lends : (m n : ℕ) (k : Code) → Lends m n (decoded m n k)
+unfolding decoded
+lends m n k = pick-lends m n (same (k .kind) 10) _ _ (zero-le, zero-le) (numbered-lends m n k)
 
 pub meant-lends : (m n : ℕ) (k : Code) {d : Decoded} {o : Op} {p q : ℕ} → d ≡ decoded m n k → d ≡ Meant o p q → (p ≤ m) × (q ≤ n)
 meant-lends m n k e f = subst (Lends m n) (sym e ∙ f) (lends m n k)

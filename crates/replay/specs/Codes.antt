@@ -45,10 +45,9 @@ decodedAccess m n k =
     (pick (same (k .kind) 4) (Meant (op.Access (k .a) (access.Remove (k .b))) 0 0) Meaningless))))
     Meaningless
 
--- What a code means with lent buffers of m and n places: the operation, and how many places it wants. Begin, lock, validate,
--- install and abort have a seat, a fold an address. A seat or an address has 32 bits.
-unfoldable pub decoded : ℕ → ℕ → Code → Decoded
-decoded m n k =
+-- a step with a seat or an address, which has 32 bits: begin, lock, validate, install and abort have a seat, a fold an address
+unfoldable pub decodedNumbered : ℕ → ℕ → Code → Decoded
+decodedNumbered m n k =
     pick (less (k .a) (2 ^ 32))
     (pick (same (k .kind) 0) (Meant (op.Begin (k .a)) 0 0)
     (pick (same (k .kind) 5) (Meant (op.Ending (k .a) ending.Lock) 0 0)
@@ -57,6 +56,11 @@ decoded m n k =
     (pick (same (k .kind) 8) (Meant (op.Ending (k .a) ending.Abort) 0 0)
     (pick (same (k .kind) 9) (Meant (op.Merge (k .a)) 0 0) (decodedAccess m n k)))))))
     Meaningless
+
+-- What a code means with lent buffers of m and n places: the operation, and how many places it wants. A fold of the oldest
+-- has no number.
+unfoldable pub decoded : ℕ → ℕ → Code → Decoded
+decoded m n k = pick (same (k .kind) 10) (Meant op.MergeOldest 0 0) (decodedNumbered m n k)
 
 -- ---- answers
 

@@ -9,3 +9,4 @@ pub mod ShownLaws
 pub mod RunLaws
 pub mod LoopLaws
 pub mod Starred
+pub mod WaitingReplays

@@ -9,7 +9,7 @@ use Rattle.spec.specs.Records.{standard, Record}
 use Rattle.spec.specs.Leaves.{cuts}
 use Rattle.spec.specs.Slots.{homeSlot}
 use Rattle.spec.specs.Maps.{contents}
-use Rattle.spec.specs.Steps.{State, Step, begin, read, scan, put, remove, lock, validate, install, abort, merge, fresh, final, Event, stepsOf}
+use Rattle.spec.specs.Steps.{State, Step, begin, read, scan, put, remove, lock, validate, install, abort, merge, mergeOldest, fresh, final, Event, stepsOf}
 use Rattle.spec.specs.Computing.{model}
 use Rattle.spec.specs.Runs.{Run, home, leaves, script, starred, Holds}
 use Rattle.map.specs.Views.{Lent, mapOf}
@@ -17,7 +17,7 @@ use Rattle.transactions.specs.Views.{Logs, stateOf}
 use Rattle.calls.specs.CallLaws.{map-in}
 use Rattle.replay.specs.declared.runs.Stop.the-variants as stop
 use Rattle.replay.specs.declared.runs.Replayed.{Replayed}
-use Rattle.replay.specs.Codes.{decodedScan, decodedAccess, decoded, pairWords, wordsOf}
+use Rattle.replay.specs.Codes.{decodedScan, decodedAccess, decoded, decodedNumbered, pairWords, wordsOf}
 use Rattle.replay.specs.Replays.{Ran, ran, allWords, Replays}
 use Rattle.replay.specs.LoopLaws.{ran-model}
 
@@ -33,6 +33,7 @@ codeFor (validate w) = 6 ∷ w ∷ 0 ∷ 0 ∷ 0 ∷ 0 ∷ []
 codeFor (install w) = 7 ∷ w ∷ 0 ∷ 0 ∷ 0 ∷ 0 ∷ []
 codeFor (abort w) = 8 ∷ w ∷ 0 ∷ 0 ∷ 0 ∷ 0 ∷ []
 codeFor (merge a) = 9 ∷ a ∷ 0 ∷ 0 ∷ 0 ∷ 0 ∷ []
+codeFor mergeOldest = 10 ∷ 0 ∷ 0 ∷ 0 ∷ 0 ∷ 0 ∷ []
 
 abbrev pub codesFor : List Event → List ℕ
 codesFor [] = []
@@ -87,6 +88,6 @@ shows h rs e k ks vs out l g ks' vs' out' r a b c p =
     }
 
 pub starred-replay : AllHoldOf starred
-unfolding model ran decoded decodedAccess decodedScan wordsOf pairWords
+unfolding model ran decoded decodedNumbered decodedAccess decodedScan wordsOf pairWords
 starred-replay =
     (refl, (refl, (refl, (refl, (refl, (refl, (refl, (shows _ _ (refl, refl) (refl, refl), (shows _ _ (refl, refl) (refl, refl), (shows _ _ (refl, refl) (refl, refl), (shows _ _ (refl, refl) (refl, refl), (shows _ _ (refl, refl) (refl, refl), (shows _ _ (refl, refl) (refl, refl), (shows _ _ (refl, refl) (refl, refl), tt))))))))))))))

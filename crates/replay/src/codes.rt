@@ -21,7 +21,7 @@ pub const STEP_WORDS: usize = 6;
 pub type StepWords = [u64; STEP_WORDS];
 
 // A step: what it is, 0 to 9 in document 01's order (begin, read, scan, put, remove, lock, validate, install, abort, fold),
-// and its numbers in the order of a script line; then, of a scan, how many places of the address buffer and of the value
+// 10 a fold of the oldest, and its numbers in the order of a script line; then, of a scan, how many places of the address buffer and of the value
 // buffer it wants. A number that the step does not have is not looked at.
 pub struct Code {
     pub kind: u64,

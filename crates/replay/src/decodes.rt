@@ -6,7 +6,7 @@ use engine::steps::Op;
 use spec::WIDE;
 ghost use mathlib.Core.Path.{_≡_};
 ghost use Prim.Native.Nat.{_^_, _<_};
-ghost use Rattle.replay.specs.Codes.{decodedScan, decodedAccess, decoded};
+ghost use Rattle.replay.specs.Codes.{decodedScan, decodedAccess, decodedNumbered, decoded};
 
 // An operation, with how many places of the address buffer and of the value buffer it wants; or no meaning.
 pub enum Decoded {
@@ -56,9 +56,9 @@ fn decode_access(k: Code, m: usize, n: usize) -> Decoded
     }
 }
 
-// The step that a code means, if it means one with buffers of m and n places.
-pub fn decode(k: Code, m: usize, n: usize) -> Decoded
-    ensures { λ r. ⌜ r ≡ decoded m n k ⌝ }
+// A step whose first number is a seat or an address.
+fn decode_numbered(k: Code, m: usize, n: usize) -> Decoded
+    ensures { λ r. ⌜ r ≡ decodedNumbered m n k ⌝ }
 {
     if k.a >= WIDE {
         return Decoded::Meaningless;
@@ -74,4 +74,14 @@ pub fn decode(k: Code, m: usize, n: usize) -> Decoded
         9 => Decoded::Meant(Op::Merge(a), 0, 0),
         _ => decode_access(k, m, n),
     }
+}
+
+// The step that a code means, if it means one with buffers of m and n places. A fold of the oldest has no number.
+pub fn decode(k: Code, m: usize, n: usize) -> Decoded
+    ensures { λ r. ⌜ r ≡ decoded m n k ⌝ }
+{
+    if k.kind == 10 {
+        return Decoded::Meant(Op::MergeOldest, 0, 0);
+    }
+    decode_numbered(k, m, n)
 }

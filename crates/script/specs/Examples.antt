@@ -10,11 +10,11 @@ use mathlib.Core.Option.{none, some}
 use Rattle.lists.specs.Tests.{same, less, atMost, within}
 use Rattle.lists.specs.Rows.{row}
 use Rattle.spec.specs.Steps.{Answer, refused, done, found, listed, numbered, counted, Event}
-use Rattle.spec.specs.Runs.{fullRun, value, entryOf, event}
+use Rattle.spec.specs.Runs.{fullRun, oldestMerged, value, entryOf, event}
 use Rattle.spec.specs.declared.Refusal.the-variants.{NoWorker, Phantom}
 use Rattle.script.specs.declared.Line.{Line}
-use Rattle.script.specs.declared.Line.the-variants.{Begin, Read, Scan, Put, Remove, Lock, Validate, Install, Abort, Merge}
-use Rattle.script.specs.Grammar.{firstWord, moreWords, isDigit, extend, number, numbers, oneNumber, twoNumbers, threeNumbers, lineOf, lettered, meaning}
+use Rattle.script.specs.declared.Line.the-variants.{Begin, Read, Scan, Put, Remove, Lock, Validate, Install, Abort, Merge, MergeOldest}
+use Rattle.script.specs.Grammar.{firstWord, moreWords, isDigit, extend, number, numbers, noNumber, oneNumber, twoNumbers, threeNumbers, lineOf, lettered, meaning}
 use Rattle.script.specs.Output.{digitsWithin, decimal, field, pair, pairs, stepOf, answerText, answerLine, endLine}
 
 -- the bytes of a text; every character here is one byte
@@ -52,6 +52,10 @@ run =
     ∷ case "I 1" (Install 1) done "I 0\n"
     ∷ []
 
+-- request 101's line: a merge of the leaf that has waited longest, and one with nothing waiting
+abbrev pub oldest : List Case
+oldest = case "T" MergeOldest (counted 2) "T 0 2\n" ∷ case "T" MergeOldest (counted 0) "T 0 0\n" ∷ []
+
 -- more lines: the other letters, leading zeros, the widest numbers, and a read's two answers
 abbrev pub more : List Case
 more =
@@ -61,6 +65,9 @@ more =
     ∷ case "A 3" (Abort 3) done "A 0\n"
     ∷ case "P 4294967295 1 18446744073709551615" (Put 4294967295 1 18446744073709551615) done "P 0\n"
     ∷ []
+
+abbrev pub cases : List Case
+cases = run ++ oldest ++ more
 
 -- malformed lines
 abbrev pub malformed : List String
@@ -82,6 +89,10 @@ malformed =
     ∷ "B x"
     ∷ "R 0"
     ∷ "R 0 0 0"
+    ∷ "T "
+    ∷ "T 0"
+    ∷ "TT"
+    ∷ "t"
     ∷ "P 0 0 0 0"
     ∷ "B 4294967296"
     ∷ "R 0 4294967296"
@@ -97,17 +108,19 @@ eventOf c = event (stepOf 64 (c .line)) (c .answer)
 pub record Written : Type 0 where
   -- the run is the model's
   pub model : map eventOf run ≡ fullRun
-  pub said : map (λ (c : Case). meaning (bytes (c .reads))) (run ++ more) ≡ map (λ (c : Case). some (c .line)) (run ++ more)
-  pub wrote : map (λ (c : Case). answerLine (c .line) (c .answer)) (run ++ more) ≡ map (λ (c : Case). bytes (c .writes)) (run ++ more)
+  pub oldest-step : map eventOf oldest ≡ oldestMerged 2 ++ oldestMerged 0
+  pub said : map (λ (c : Case). meaning (bytes (c .reads))) cases ≡ map (λ (c : Case). some (c .line)) cases
+  pub wrote : map (λ (c : Case). answerLine (c .line) (c .answer)) cases ≡ map (λ (c : Case). bytes (c .writes)) cases
   pub wrong : map (λ (s : String). meaning (bytes s)) malformed ≡ map (λ (s : String). none) malformed
   pub end : endLine (entryOf 4096 32 1 ∷ []) ≡ bytes "E 1 4096 32\n"
   pub nothing : endLine [] ≡ bytes "E 0\n"
 
 pub written : Written
-unfolding same less atMost within firstWord moreWords isDigit extend number numbers oneNumber twoNumbers threeNumbers lineOf lettered meaning digitsWithin decimal field pair pairs answerText answerLine endLine
+unfolding same less atMost within firstWord moreWords isDigit extend number numbers noNumber oneNumber twoNumbers threeNumbers lineOf lettered meaning digitsWithin decimal field pair pairs answerText answerLine endLine
 written =
     record {
       model = refl;
+      oldest-step = refl;
       said = refl;
       wrote = refl;
       wrong = refl;

@@ -6,7 +6,7 @@ use mathlib.Core.List.{List, [], _∷_}
 use mathlib.Core.Option.{Option, none, some}
 use Rattle.lists.specs.Tests.{pick, both, maybe, same, less, within}
 use Rattle.script.specs.declared.Line.{Line}
-use Rattle.script.specs.declared.Line.the-variants.{Begin, Read, Scan, Put, Remove, Lock, Validate, Install, Abort, Merge}
+use Rattle.script.specs.declared.Line.the-variants.{Begin, Read, Scan, Put, Remove, Lock, Validate, Install, Abort, Merge, MergeOldest}
 
 -- ---- a line's words, which single spaces part
 
@@ -43,6 +43,10 @@ numbers (w ∷ ws) = maybe (number w) none (λ (n : ℕ). maybe (numbers ws) non
 
 -- ---- letters and their numbers
 
+-- T, request 101's line, has none
+unfoldable pub noNumber : ℕ → Option Line
+noNumber c = pick (same c 84) (some MergeOldest) none
+
 -- B, L, V, I, A seat; M address
 unfoldable pub oneNumber : ℕ → ℕ → Option Line
 oneNumber c a =
@@ -65,7 +69,7 @@ threeNumbers c a b d =
 
 -- a letter with its numbers; seat and address have 32 bits
 unfoldable pub lineOf : ℕ → List ℕ → Option Line
-lineOf c [] = none
+lineOf c [] = noNumber c
 lineOf c (a ∷ []) = pick (less a (2 ^ 32)) (oneNumber c a) none
 lineOf c (a ∷ b ∷ []) = pick (both (less a (2 ^ 32)) (less b (2 ^ 32))) (twoNumbers c a b) none
 lineOf c (a ∷ b ∷ d ∷ []) = pick (both (less a (2 ^ 32)) (less b (2 ^ 32))) (threeNumbers c a b d) none

@@ -188,7 +188,7 @@ unfolding meaning moreWords numbers firstWord lettered
 start-nothing = refl
 
 pub start-letter : (b : ℕ) (l : List ℕ) → (b ≡ 32 → ⊥) → meaning (b ∷ l) ≡ letterOn b l
-unfolding meaning letterOn lettered fieldsOn firstWord moreWords numbers lineOf
+unfolding meaning letterOn lettered fieldsOn firstWord moreWords numbers
 start-letter b [] h = rw (same-no h)
 start-letter b (x ∷ l) h =
     rw (same-no h)
@@ -212,9 +212,10 @@ pub letter-space : (c : ℕ) (l : List ℕ) → letterOn c (32 ∷ l) ≡ fields
 unfolding letterOn
 letter-space c l = rw (same-refl 32)
 
-pub letter-nothing : (c : ℕ) → letterOn c [] ≡ none
+-- the line's end
+pub letter-end : (c : ℕ) → letterOn c [] ≡ lineOf c []
 unfolding letterOn
-letter-nothing c = refl
+letter-end c = refl
 
 pub letter-other : (c b : ℕ) (l : List ℕ) → (b ≡ 32 → ⊥) → letterOn c (b ∷ l) ≡ none
 unfolding letterOn

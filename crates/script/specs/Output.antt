@@ -7,9 +7,9 @@ use Rattle.lists.specs.Tests.{pick, less}
 use Rattle.lists.specs.Rows.{Row}
 use Rattle.spec.specs.Refusals.{numberOf}
 use Rattle.spec.specs.Records.{Payload, Record}
-use Rattle.spec.specs.Steps.{Step, begin, read, scan, put, remove, lock, validate, install, abort, merge, Answer, refused, done, found, listed, numbered, counted}
+use Rattle.spec.specs.Steps.{Step, begin, read, scan, put, remove, lock, validate, install, abort, merge, mergeOldest, Answer, refused, done, found, listed, numbered, counted}
 use Rattle.script.specs.declared.Line.{Line}
-use Rattle.script.specs.declared.Line.the-variants.{Begin, Read, Scan, Put, Remove, Lock, Validate, Install, Abort, Merge}
+use Rattle.script.specs.declared.Line.the-variants.{Begin, Read, Scan, Put, Remove, Lock, Validate, Install, Abort, Merge, MergeOldest}
 
 -- ---- numbers
 
@@ -50,6 +50,7 @@ letterOf (Validate w) = 86
 letterOf (Install w) = 73
 letterOf (Abort w) = 65
 letterOf (Merge k) = 77
+letterOf MergeOldest = 84
 
 -- the step that a line asks for; a scan's two buffers have so many places
 abbrev pub stepOf : ℕ → Line → Step
@@ -63,6 +64,7 @@ stepOf places (Validate w) = validate w
 stepOf places (Install w) = install w
 stepOf places (Abort w) = abort w
 stepOf places (Merge k) = merge k
+stepOf places MergeOldest = mergeOldest
 
 -- the address of each row, and the value of its item
 unfoldable pub pairs : {A : Type 0} → (A → ℕ) → List (Row A) → List ℕ

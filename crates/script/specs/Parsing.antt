@@ -47,7 +47,7 @@ fieldsOn c ns d n l =
 
 -- a letter
 unfoldable pub letterOn : ℕ → List ℕ → Option Line
-letterOn c [] = none
+letterOn c [] = lineOf c []
 letterOn c (b ∷ l) = pick (same b 32) (fieldsOn c [] false 0 l) none
 
 -- any parser

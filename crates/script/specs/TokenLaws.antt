@@ -21,7 +21,7 @@ use Rattle.script.specs.declared.Parsed.{Parsed}
 use Rattle.script.specs.declared.Run.{Run}
 use Rattle.script.specs.Grammar.{isDigit, lineOf, meaning}
 use Rattle.script.specs.Parsing.{values, inNumber, fieldsOn, letterOn, started, continued}
-use Rattle.script.specs.GrammarLaws.{digit-from, fields-four, fields-digit, fields-other, fields-blank, fields-nothing, fields-end, fields-space, fields-wide, start-space, start-nothing, start-letter, letter-space, letter-nothing, letter-other}
+use Rattle.script.specs.GrammarLaws.{digit-from, fields-four, fields-digit, fields-other, fields-blank, fields-nothing, fields-end, fields-space, fields-wide, start-space, start-nothing, start-letter, letter-space, letter-end, letter-other}
 use Rattle.script.specs.Tokens.{Digits, Moves, Spells, Stops, Tells, ParsesPart, cut-byte, cut-join, cut-none, has-byte, moves-join, moves-none, tells-join, told}
 
 -- ---- a byte
@@ -36,6 +36,12 @@ bad p b h g = (
   refl,
 )
 
+-- the line feed: the line is complete
+feed-tells : (p : Parser) (o : Option Line) → continued p [] ≡ o → Tells p (told o) Start (10 ∷ [])
+unfolding Tells
+feed-tells p none e = (inl ([], record { unbroken = has-nil 10; fed = refl }, e), refl)
+feed-tells p (some x) e = ([], record { unbroken = has-nil 10; fed = refl }, e, refl)
+
 pub start-bad : (b : ℕ) → (b ≡ 32) ⊎ (b ≡ 10) → Tells Start event.Malformed Start (b ∷ [])
 unfolding continued
 start-bad b h =
@@ -46,9 +52,13 @@ pub start-good : (b : ℕ) → (b ≡ 32 → ⊥) → (b ≡ 10 → ⊥) → Tel
 unfolding Tells continued
 start-good b h g = record { unbroken = has-byte b g; begun = refl; means = λ rest. start-letter b rest h }
 
-pub letter-bad : (c b : ℕ) → (b ≡ 32 → ⊥) → Tells (Letter c) event.Malformed Start (b ∷ [])
+pub letter-bad : (c b : ℕ) → (b ≡ 32 → ⊥) → (b ≡ 10 → ⊥) → Tells (Letter c) event.Malformed Start (b ∷ [])
 unfolding continued
-letter-bad c b h = bad (Letter c) b (λ q. letter-nothing c) (λ rest q. letter-other c b rest h)
+letter-bad c b h g = bad (Letter c) b (λ q. absurd (g q)) (λ rest q. letter-other c b rest h)
+
+pub letter-feed : (c b : ℕ) (e : Event) → b ≡ 10 → e ≡ told (lineOf c []) → Tells (Letter c) e Start (b ∷ [])
+unfolding continued
+letter-feed c b e q t = rw (q, t) (feed-tells (Letter c) (lineOf c []) (letter-end c))
 
 pub letter-good : (c b : ℕ) → b ≡ 32 → Tells (Letter c) event.SliceEnd (First c false 0) (b ∷ [])
 unfolding Tells continued
@@ -146,11 +156,6 @@ pub field-fourth : (c a b n : ℕ) → Tells (inNumber c (Two a b) true n) event
 unfolding Tells continued inNumber
 field-fourth c a b n = (inr (has-byte 32 (λ q. omega arith), λ rest. fields-space c (a ∷ b ∷ []) n rest ∙ fields-four c a b n rest), refl)
 
-pub field-feed : (c : ℕ) (f : Fields) (n : ℕ) (o : Option Line) → lineOf c (values f ++ (n ∷ [])) ≡ o → Tells (inNumber c f true n) (told o) Start (10 ∷ [])
-unfolding Tells
-field-feed c f n none e = (inl ([], record { unbroken = has-nil 10; fed = refl }, within-continued c f true n [] ∙ fields-end c (values f) n ∙ e), refl)
-field-feed c f n (some x) e = ([], record { unbroken = has-nil 10; fed = refl }, within-continued c f true n [] ∙ fields-end c (values f) n ∙ e, refl)
-
 -- ---- the ends of a run of digits
 
 pub digits-stop : {s : List ℕ} {i j : ℕ} {d e : Bool} {n m : ℕ} → Spells s i d n j e m → Stops m (getD s j 0) → Digits s i d n (record { next = j; digit = e; value = m })
@@ -202,7 +207,7 @@ space-turn c f d n b r p q t = rw (p, q) t
 
 pub feed-turn : (c : ℕ) (f : Fields) (d : Bool) (n b : ℕ) (e : Event) → d ≡ true → b ≡ 10
     → e ≡ told (lineOf c (values f ++ (n ∷ []))) → Tells (inNumber c f d n) e Start (b ∷ [])
-feed-turn c f d n b e p q t = rw (p, q, t) (field-feed c f n (lineOf c (values f ++ (n ∷ []))) refl)
+feed-turn c f d n b e p q t = rw (p, q, t) (feed-tells (inNumber c f true n) (lineOf c (values f ++ (n ∷ []))) (within-continued c f true n [] ∙ fields-end c (values f) n))
 
 -- neither a space nor a line feed follows a digit
 pub refused : (b : ℕ) (d : Bool) → ((b ≡ 32 → ⊥) × (b ≡ 10 → ⊥)) ⊎ (d ≡ false) → (b ≡ 32 → d ≡ false) × (b ≡ 10 → d ≡ false)

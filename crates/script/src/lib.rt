@@ -25,6 +25,7 @@ pub enum Line {
     Install(u32),
     Abort(u32),
     Merge(u32),
+    MergeOldest,
 }
 
 // The numbers of a line before the current one.
@@ -124,6 +125,16 @@ pub fn at_line_start(p: Parser) -> bool
     }
 }
 
+// A line of no number.
+fn no_number(letter: u8) -> Event
+    ensures { λ r. ⌜ r ≡ told (lineOf letter []) ⌝ }
+{
+    match letter {
+        b'T' => Event::Line(Line::MergeOldest),
+        _ => Event::Malformed,
+    }
+}
+
 // A line of one number.
 fn one(letter: u8, a: u64) -> Event
     ensures { λ r. ⌜ r ≡ told (lineOf letter (a ∷ [])) ⌝ }
@@ -186,7 +197,7 @@ fn three(letter: u8, a: u64, b: u64, c: u64) -> Event
     }
 }
 
-// A line whose line feed was read.
+// A line of one number or more whose line feed was read.
 fn complete(letter: u8, before: Fields, value: u64) -> Event
     ensures { λ r. ⌜ r ≡ told (lineOf letter (values before ++ (value ∷ []))) ⌝ }
 {
@@ -381,7 +392,7 @@ fn start(s: &[u8], i: usize) -> Parsed
     }
 }
 
-// The byte after the letter, which must be a space.
+// The byte after the letter: a space, or the line feed of a line of no number.
 fn after_letter(s: &[u8], i: usize, letter: u8) -> Parsed
     requires { ⌜ i < length (now s) ⌝ }
     ensures { λ r. ⌜ ParsesPart (now (s .entry)) i (Parser.Letter letter) r ⌝ }
@@ -399,6 +410,13 @@ fn after_letter(s: &[u8], i: usize, letter: u8) -> Parsed
             event: Event::SliceEnd,
         };
     }
+    if b == LINE_FEED {
+        return Parsed {
+            parser: Parser::Start,
+            next: i + 1,
+            event: no_number(letter),
+        };
+    }
     Parsed {
         parser: Parser::Start,
         next: i + 1,
@@ -406,7 +424,7 @@ fn after_letter(s: &[u8], i: usize, letter: u8) -> Parsed
     }
 }
 
-// One turn: the letter, the space after it, or a number with the byte that ends it.
+// One turn: the letter, the byte after it, or a number with the byte that ends it.
 fn parse_part(s: &[u8], i: usize, p: Parser) -> Parsed
     requires { ⌜ i < length (now s) ⌝ }
     ensures { λ r. ⌜ ParsesPart (now (s .entry)) i p r ⌝ }

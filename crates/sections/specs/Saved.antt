@@ -1,5 +1,5 @@
 -- The core in rows of words: for each seat its stage (0 free, 1 open, 2 locked, 3 checked), its number and the counts of its
--- three sets; then the four sizes; then the two counters. A seat's number is the low 32 bits of its word, a count the low 8.
+-- three sets; then the four sizes; then the three counters. A seat's number is the low 32 bits of its word, a count the low 8.
 use Prim.Native.Nat.{ℕ, _+_, _%_, _^_}
 use mathlib.Core.Path.{_≡_}
 use mathlib.Core.List.{List, []}
@@ -42,7 +42,7 @@ abbrev pub savedSizes : List ℕ → Sizes
 savedSizes r = record { records = getD r 0 0; leaves = getD r 1 0; entries = getD r 2 0; outside = getD r 3 0 }
 
 abbrev pub savedCounters : List ℕ → Counters
-savedCounters r = record { number = getD r 0 0; version = getD r 1 0 }
+savedCounters r = record { number = getD r 0 0; version = getD r 1 0; installs = getD r 2 0 }
 
 unfoldable pub savedCore : List (List ℕ) → Core
 savedCore rs =

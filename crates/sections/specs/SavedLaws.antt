@@ -115,7 +115,7 @@ abbrev sizesRow : Sizes → List ℕ
 sizesRow z = z .records ∷ z .leaves ∷ z .entries ∷ z .outside ∷ 0 ∷ []
 
 abbrev countersRow : Counters → List ℕ
-countersRow k = k .number ∷ k .version ∷ 0 ∷ 0 ∷ 0 ∷ []
+countersRow k = k .number ∷ k .version ∷ k .installs ∷ 0 ∷ 0 ∷ []
 
 module _ (core : Core) (rs : List (List ℕ)) where
   abbrev withSizes : List (List ℕ)

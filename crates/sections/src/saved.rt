@@ -124,6 +124,7 @@ pub fn load(words: &Saved) -> Core
     let counters = Counters {
         number: row[0],
         version: row[1],
+        installs: row[2],
     };
     Core {
         workers,
@@ -179,7 +180,7 @@ pub fn store(words: &mut Saved, core: Core)
         0,
     ];
     rows[WORKERS] = sizes;
-    let counters = [k.number, k.version, 0, 0, 0];
+    let counters = [k.number, k.version, k.installs, 0, 0];
     rows[WORKERS + 1] = counters;
     *words = rows;
 }

@@ -16,7 +16,7 @@ use Rattle.spec.specs.Records.{standard, Payload}
 use Rattle.spec.specs.Leaves.{live}
 use Rattle.spec.specs.Slots.{Content, entries}
 use Rattle.spec.specs.Maps.{contents, hiddenIn}
-use Rattle.spec.specs.Steps.{State, fresh, workerOf, Step, begin, read, scan, put, remove, lock, validate, install, abort, merge, refused, found, listed, Cause, cause, causes, firstCause, granted, effect, afterRefusal, writeKeys, Event}
+use Rattle.spec.specs.Steps.{State, fresh, workerOf, Step, begin, read, scan, put, remove, lock, validate, install, abort, merge, mergeOldest, refused, found, listed, Cause, cause, causes, firstCause, granted, effect, afterRefusal, writeKeys, Event}
 use Rattle.spec.specs.Claim.{SerialRun}
 use Rattle.spec.specs.Computing.{claim}
 use Rattle.spec.specs.Runs.{value}
@@ -51,6 +51,7 @@ flags x (validate w) = x .flagged
 flags x (install w) = x .flagged
 flags x (abort w) = x .flagged
 flags x (merge a) = x .flagged
+flags x mergeOldest = x .flagged
 
 pub editedNext : Rule → Edit → Step → Edit
 editedNext rule x s =
@@ -118,6 +119,7 @@ phantomByFlag x (validate w) c =
 phantomByFlag x (install w) c = c
 phantomByFlag x (abort w) c = c
 phantomByFlag x (merge a) c = c
+phantomByFlag x mergeOldest c = c
 
 pub atLockOnly : Rule
 atLockOnly x s = mathlib.Core.List.map (phantomByFlag x s) (causes (x .state) s)

@@ -15,7 +15,7 @@ use Rattle.lists.specs.TestLaws.{cases, same-true, same-false}
 use Rattle.lists.specs.Rows.{Row, row, look, insert, Rising}
 use Rattle.lists.specs.RowLaws.{some-not-none, look-insert, look-assign, look-here, look-there, look-nil, rising-assign, rising-nil}
 use Rattle.spec.specs.Records.{Record, Write, written, deleted, outcome}
-use Rattle.spec.specs.Steps.{Step, begin, read, scan, put, remove, lock, validate, install, abort, merge, Event}
+use Rattle.spec.specs.Steps.{Step, begin, read, scan, put, remove, lock, validate, install, abort, merge, mergeOldest, Event}
 use Rattle.spec.specs.Sequential.{afterStep, Agrees, afterSteps, AllAgree}
 use Rattle.spec.specs.Claim.{Transaction, listAfter}
 
@@ -33,6 +33,7 @@ wrote ws (validate w) = ws
 wrote ws (install w) = ws
 wrote ws (abort w) = ws
 wrote ws (merge a) = ws
+wrote ws mergeOldest = ws
 
 unfoldable pub writesFrom : List (Row Write) → List Event → List (Row Write)
 writesFrom ws [] = ws
@@ -71,6 +72,7 @@ look-after n l l' ws (validate w) h k = h k
 look-after n l l' ws (install w) h k = h k
 look-after n l l' ws (abort w) h k = h k
 look-after n l l' ws (merge a) h k = h k
+look-after n l l' ws mergeOldest h k = h k
 
 look-afterFrom : (n : ℕ) (l l' : List (Row Record)) (ws : List (Row Write)) (es : List Event)
     → ((k : ℕ) → look l' k ≡ laid n ws k (look l k)) → (k : ℕ) → look (afterSteps n l' es) k ≡ laid n (writesFrom ws es) k (look l k)
@@ -98,6 +100,7 @@ rising-after n l (validate w) h = h
 rising-after n l (install w) h = h
 rising-after n l (abort w) h = h
 rising-after n l (merge a) h = h
+rising-after n l mergeOldest h = h
 
 pub rising-afterAll : (n : ℕ) (l : List (Row Record)) (es : List Event) → Rising l → Rising (afterSteps n l es)
 unfolding afterSteps

@@ -15,7 +15,7 @@ use Rattle.spec.specs.Records.{Record, Write, outcome, sameRecord}
 use Rattle.spec.specs.Leaves.{Leaf, versionAt, live}
 use Rattle.spec.specs.Slots.{Pending, Content, isIdle, contentOf, entries}
 use Rattle.spec.specs.Maps.{MapState, outcomeOf, current, heldByOther, hiding, hiddenIn, hides, withSlots, installAll, Merged, mergeAt}
-use Rattle.spec.specs.Steps.{Worker, freeWorker, State, workerOf, validate, numbered, Event, isFree, isLocked, isChecked, lockedByOther, changedSince, phantomIn, withWorker, withMap, withCounters, checkedAs, merged}
+use Rattle.spec.specs.Steps.{Worker, freeWorker, State, workerOf, validate, numbered, Event, isFree, isLocked, isChecked, lockedByOther, changedSince, phantomIn, withWorker, withMap, withCounters, installCounted, checkedAs, installedMap, merged}
 use Rattle.spec.specs.Sequential.{Agrees}
 use Rattle.spec.specs.Claim.{Transaction, Reading, runningNow, passed, extended, withNumber, numberIn, oneMoreGiven, validated, installedNow}
 use Rattle.laws.specs.SlotLaws.{content-member}
@@ -246,11 +246,11 @@ module _ {σ : State} {ρ : Reading} (h : Sound σ ρ) (w : ℕ) (s : isChecked 
       }
 
   m-installed : MapState
-  m-installed = installAll (σ .settings) (workerOf σ w .number) (σ .map) (workerOf σ w .writes)
+  m-installed = installedMap σ w
 
-  says-installed : (k : ℕ) → contentOf (m-installed .slots) k ≡ writtenBy (workerOf σ w .number) (look (workerOf σ w .writes) k) (contentOf (σ .map .slots) k)
+  says-installed : (k : ℕ) → contentOf (m-installed .slots) k ≡ writtenBy (workerOf σ w .number) (suc (σ .counters .installs)) (look (workerOf σ w .writes) k) (contentOf (σ .map .slots) k)
   unfolding m-installed
-  says-installed k = install-says (σ .settings) (workerOf σ w .number) (σ .map) (workerOf σ w .writes) (h .fine .slots) installable k
+  says-installed k = install-says (σ .settings) (workerOf σ w .number) (suc (σ .counters .installs)) (σ .map) (workerOf σ w .writes) (h .fine .slots) installable k
 
   records-installed : m-installed .records ≡ σ .map .records
   unfolding m-installed installAll withSlots
@@ -267,14 +267,14 @@ module _ {σ : State} {ρ : Reading} (h : Sound σ ρ) (w : ℕ) (s : isChecked 
       number = workerOf σ w .number
 
       start : current m-installed k
-          ≡ maybe (writtenBy number (look (workerOf σ w .writes) k) (contentOf (σ .map .slots) k) .pending) (look (σ .map .records) k) outcomeOf
+          ≡ maybe (writtenBy number (suc (σ .counters .installs)) (look (workerOf σ w .writes) k) (contentOf (σ .map .slots) k) .pending) (look (σ .map .records) k) outcomeOf
       start =
           unfold current in
           ap (λ (c : Content). maybe (c .pending) (look (m-installed .records) k) outcomeOf) (says-installed k)
-          ∙ ap (λ (rs : List (Row Record)). maybe (writtenBy number (look (workerOf σ w .writes) k) (contentOf (σ .map .slots) k) .pending) (look rs k) outcomeOf) records-installed
+          ∙ ap (λ (rs : List (Row Record)). maybe (writtenBy number (suc (σ .counters .installs)) (look (workerOf σ w .writes) k) (contentOf (σ .map .slots) k) .pending) (look rs k) outcomeOf) records-installed
 
       go : (o : Option Write)
-          → maybe (writtenBy number o (contentOf (σ .map .slots) k) .pending) (look (σ .map .records) k) outcomeOf ≡ maybe o (current (σ .map) k) (outcome number)
+          → maybe (writtenBy number (suc (σ .counters .installs)) o (contentOf (σ .map .slots) k) .pending) (look (σ .map .records) k) outcomeOf ≡ maybe o (current (σ .map) k) (outcome number)
       go none = unfold current in refl
       go (some e) = unfold outcomeOf in refl
 
@@ -282,18 +282,18 @@ module _ {σ : State} {ρ : Reading} (h : Sound σ ρ) (w : ℕ) (s : isChecked 
   holder-installed k v d e =
       ap (λ (c : Content). c .holder) (says-installed k) ∙ go (look (workerOf σ w .writes) k) refl
     where
-      go : (o : Option Write) → look (workerOf σ w .writes) k ≡ o → writtenBy (workerOf σ w .number) o (contentOf (σ .map .slots) k) .holder ≡ some v
+      go : (o : Option Write) → look (workerOf σ w .writes) k ≡ o → writtenBy (workerOf σ w .number) (suc (σ .counters .installs)) o (contentOf (σ .map .slots) k) .holder ≡ some v
       go none q = e
       go (some x) q = absurd (d (let a : some v ≡ some w = sym e ∙ holds-locks k (ap present q) in cc))
 
   σ-installed : State
-  σ-installed = withWorker (withMap σ m-installed) w freeWorker
+  σ-installed = installCounted (withWorker (withMap σ m-installed) w freeWorker)
 
   ρ-installed : Reading
   ρ-installed = installedNow ρ w (g-checked .t)
 
   installs : Installs (facts σ) (facts σ-installed) ρ ρ-installed w
-  unfolding σ-installed ρ-installed withWorker withMap installedNow
+  unfolding σ-installed ρ-installed installCounted withWorker withMap installedNow workerOf
   installs =
       record {
         given = refl;
@@ -327,20 +327,32 @@ module _ {σ : State} {ρ : Reading} (h : Sound σ ρ) (w : ℕ) (s : isChecked 
       let f : Fine σ = h .fine in
       record {
         settings = f .settings;
-        slots = install-good (σ .settings) (workerOf σ w .number) (σ .map) (workerOf σ w .writes) (f .slots) installable;
+        slots = install-good (σ .settings) (workerOf σ w .number) (suc (σ .counters .installs)) (σ .map) (workerOf σ w .writes) (f .slots) installable;
         records = subst Rising (sym records-installed) (f .records);
         leaves = subst (GoodLeaves (σ .counters .version)) (sym leaves-installed) (f .leaves);
         crew = f .crew;
         writes = f .writes;
       }
 
+  install-fine : {τ : State} → Fine τ → Fine (installCounted τ)
+  unfolding installCounted workerOf
+  install-fine f =
+      record {
+        settings = f .settings;
+        slots = f .slots;
+        records = f .records;
+        leaves = f .leaves;
+        crew = f .crew;
+        writes = f .writes;
+      }
+
   pub install-sound : Sound
-      (withWorker (withMap σ (installAll (σ .settings) (workerOf σ w .number) (σ .map) (workerOf σ w .writes))) w freeWorker)
+      (installCounted (withWorker (withMap σ (installedMap σ w)) w freeWorker))
       (maybe (look (ρ .running) w) (passed ρ) (installedNow ρ w))
   unfolding σ-installed m-installed ρ-installed
   install-sound =
       record {
-        fine = fine-worker (withMap σ m-installed) w freeWorker (rising-nil Write) fine-installed;
+        fine = install-fine (fine-worker (withMap σ m-installed) w freeWorker (rising-nil Write) fine-installed);
         invariant =
             subst (Invariant (facts σ-installed)) (sym (ap (λ (o : Option Transaction). maybe o (passed ρ) (installedNow ρ w)) (g-checked .running)))
             (install-step installs (h .invariant));

@@ -15,8 +15,8 @@ use Rattle.spec.specs.declared.Refusal.{Refusal}
 use Rattle.spec.specs.Refusals.{ends}
 use Rattle.spec.specs.Records.{Settings, standard, Payload}
 use Rattle.spec.specs.Slots.{slotCount, Content, idle, emptySlot, entries, contentOf}
-use Rattle.spec.specs.Maps.{freshMap, outcomeOf, current, contents, waitingWith}
-use Rattle.spec.specs.Steps.{Worker, State, fresh, workerOf, Step, begin, read, scan, put, remove, lock, validate, install, abort, merge, stepWorker, refused, isFree, isOpen, isLocked, isChecked, Cause, noWorker, workerFree, wrongStage, causes, firstCause, refusal, granted, effect, afterRefusal, answer, next, final, history}
+use Rattle.spec.specs.Maps.{freshMap, outcomeOf, current, contents, waitingWith, oldest}
+use Rattle.spec.specs.Steps.{Worker, State, fresh, workerOf, Step, begin, read, scan, put, remove, lock, validate, install, abort, merge, mergeOldest, stepWorker, refused, isFree, isOpen, isLocked, isChecked, Cause, noWorker, workerFree, wrongStage, causes, firstCause, refusal, granted, effect, afterRefusal, answer, next, final, history}
 use Rattle.spec.specs.Claim.{Reading, nothingRead, isGranted, passed, readGranted, advance, readOn, reading, listAfter, SerialRun}
 use Rattle.laws.specs.ContentLaws.{look-contents, rising-contents}
 use Rattle.laws.specs.WorkerLaws.{GoodSettings, standard-settings}
@@ -125,6 +125,7 @@ module _ {σ : State} {ρ : Reading} (h : Sound σ ρ) where
   granted-sound (install w) e = install-sound h w (installs-checked w e)
   granted-sound (abort w) e = dropped-sound w h
   granted-sound (merge a) e = merge-sound h a
+  granted-sound mergeOldest e = merge-sound h (oldest (σ .map))
 
   -- a refused step leaves everything, or ends its own transaction
   refused-sound : (s : Step) (r : Refusal) → Sound (afterRefusal σ s r) (passed ρ)

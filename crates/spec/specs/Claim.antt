@@ -13,7 +13,7 @@ use mathlib.Core.Option.{some}
 use Rattle.lists.specs.Tests.{pick, maybe}
 use Rattle.lists.specs.Rows.{Row, row, look, insert, delete, keys, Different}
 use Rattle.spec.specs.Records.{Record}
-use Rattle.spec.specs.Steps.{Step, begin, read, scan, put, remove, lock, validate, install, abort, merge, Answer, refused, done, found, listed, numbered, counted, Event}
+use Rattle.spec.specs.Steps.{Step, begin, read, scan, put, remove, lock, validate, install, abort, merge, mergeOldest, Answer, refused, done, found, listed, numbered, counted, Event}
 use Rattle.spec.specs.Sequential.{afterSteps, AllAgree}
 
 -- ---- the transactions of a history
@@ -119,6 +119,7 @@ readGranted ρ e (validate w) = validated ρ w e
 readGranted ρ e (install w) = maybe (look (ρ .running) w) (passed ρ) (installedNow ρ w)
 readGranted ρ e (abort w) = passed ρ
 readGranted ρ e (merge a) = passed ρ
+readGranted ρ e mergeOldest = passed ρ
 
 -- the reading with one event more
 unfoldable pub advance : Reading → Event → Reading

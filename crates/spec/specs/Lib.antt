@@ -4,6 +4,7 @@ pub mod Leaves
 pub mod Slots
 pub mod Maps
 pub mod Steps
+pub mod Waiting
 pub mod Sequential
 pub mod Claim
 pub mod Runs

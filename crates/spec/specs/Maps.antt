@@ -4,7 +4,7 @@ use Prim.Native.Nat.{ℕ, _+_}
 use mathlib.Core.Bool.{Bool, false, not}
 use mathlib.Core.List.{List, [], _∷_, _++_, map}
 use mathlib.Core.Option.{Option, none, some}
-use Rattle.lists.specs.Tests.{pick, both, either, maybe, present, same}
+use Rattle.lists.specs.Tests.{pick, both, either, maybe, present, same, less}
 use Rattle.lists.specs.Rows.{Row, row, look, assign, lay, between, keys, any, filter, distinct}
 use Rattle.spec.specs.Records.{Settings, Record, Write, outcome}
 use Rattle.spec.specs.Leaves.{Leaf, firstLeaf, versionAt, settle, versionsTaken}
@@ -85,10 +85,20 @@ unlockKey bytes w ss k =
     maybe (contentOf ss k .holder) ss
     (λ (h : ℕ). pick (same h w) (enter bytes ss k (record { pending = contentOf ss k .pending; holder = none })) ss)
 
--- a write is pending at its address under the commit number n, and the lock goes
-unfoldable pub installRow : ℕ → ℕ → List Slot → Row Write → List Slot
-installRow bytes n ss r =
-    enter bytes ss (r .key) (record { pending = some (record { write = r .item; commit = n }); holder = none })
+-- the install that began the waiting, once install t has left a write: where one waits already, its waiting goes on
+unfoldable pub waitingSince : ℕ → Option Pending → ℕ
+waitingSince t p = maybe p t (λ (q : Pending). q .since)
+
+-- what install t says of an address: the write is pending under the commit number n, and the lock goes
+abbrev pub writtenOver : ℕ → ℕ → Write → Content → Content
+writtenOver n t e c =
+    record {
+      pending = some (record { write = e; commit = n; since = waitingSince t (c .pending) });
+      holder = none;
+    }
+
+unfoldable pub installRow : ℕ → ℕ → ℕ → List Slot → Row Write → List Slot
+installRow bytes n t ss r = enter bytes ss (r .key) (writtenOver n t (r .item) (contentOf ss (r .key)))
 
 unfoldable pub each : {A B : Type 0} → (B → A → B) → B → List A → B
 each f b [] = b
@@ -104,8 +114,8 @@ lockAll s w m ks = withSlots m (each (lockKey (s .bytes) w) (m .slots) ks)
 unfoldable pub unlockAll : Settings → ℕ → MapState → List ℕ → MapState
 unlockAll s w m ks = withSlots m (each (unlockKey (s .bytes) w) (m .slots) ks)
 
-unfoldable pub installAll : Settings → ℕ → MapState → List (Row Write) → MapState
-installAll s n m ws = withSlots m (each (installRow (s .bytes) n) (m .slots) ws)
+unfoldable pub installAll : Settings → ℕ → ℕ → MapState → List (Row Write) → MapState
+installAll s n t m ws = withSlots m (each (installRow (s .bytes) n t) (m .slots) ws)
 
 -- ---- merge (document 01: fold)
 
@@ -151,3 +161,29 @@ mergeAll s v m a (e ∷ es) = settleMap s v (each (mergeEntry (s .bytes)) m (e �
 -- A merge at address a, v the last version given. With nothing pending in the leaf, nothing changes.
 unfoldable pub mergeAt : Settings → ℕ → MapState → ℕ → Merged
 mergeAt s v m a = mergeAll s v m a (merging m a)
+
+-- ---- the write that has waited longest (request 101)
+
+-- the addresses at which a write is pending, each with the install that began the waiting
+unfoldable pub ages : List (Row Content) → List (Row ℕ)
+ages [] = []
+ages (e ∷ es) = maybe (e .item .pending) (ages es) (λ (p : Pending). row (e .key) (p .since) ∷ ages es)
+
+-- a has waited longer than b: since an earlier install, or since the same one and at a lower address
+unfoldable pub older : Row ℕ → Row ℕ → Bool
+older a b = either (less (a .item) (b .item)) (both (same (a .item) (b .item)) (less (a .key) (b .key)))
+
+-- the oldest of a and those
+unfoldable pub oldestOf : Row ℕ → List (Row ℕ) → Row ℕ
+oldestOf a [] = a
+oldestOf a (b ∷ bs) = oldestOf (pick (older b a) b a) bs
+
+-- the address of the oldest; 0 where there is none
+unfoldable pub oldestKey : List (Row ℕ) → ℕ
+oldestKey [] = 0
+oldestKey (a ∷ bs) = oldestOf a bs .key
+
+-- the address of the pending write that has waited longest. Where nothing is pending it is 0: a merge there changes nothing,
+-- as one at any address.
+unfoldable pub oldest : MapState → ℕ
+oldest m = oldestKey (ages (entries (m .slots)))

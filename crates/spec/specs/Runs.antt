@@ -1,7 +1,7 @@
 -- The starred runs of document 01, "Runs to keep": one table, and one fact proved over it by computing.
 use Prim.Native.Nat.{ℕ}
 use mathlib.Core.Path.{_≡_, refl}
-use mathlib.Core.List.{List, [], _∷_, map}
+use mathlib.Core.List.{List, [], _∷_, _++_, map}
 use mathlib.Core.Option.{none, some}
 use Rattle.lists.specs.Rows.{Row, row}
 use Rattle.spec.specs.declared.Refusal.the-variants.{NoWorker, WorkerFree, Backward, ShortBuffer, Changed, UnderLock, Phantom}
@@ -9,7 +9,7 @@ use Rattle.spec.specs.Records.{standard, Payload, Record}
 use Rattle.spec.specs.Leaves.{cuts}
 use Rattle.spec.specs.Slots.{homeSlot}
 use Rattle.spec.specs.Maps.{contents}
-use Rattle.spec.specs.Steps.{fresh, Step, begin, read, scan, put, remove, lock, validate, install, abort, merge, Answer, refused, done, found, listed, numbered, counted, answer, Event, final, history, stepsOf}
+use Rattle.spec.specs.Steps.{fresh, Step, begin, read, scan, put, remove, lock, validate, install, abort, merge, mergeOldest, Answer, refused, done, found, listed, numbered, counted, answer, Event, final, history, stepsOf}
 use Rattle.spec.specs.Computing.{model}
 
 abbrev pub value : ℕ → Payload
@@ -157,6 +157,53 @@ ownWrites =
     ∷ event (install 0) (refused WorkerFree)
     ∷ []
 
+-- lists of events, one after the other
+abbrev pub inTurn : List (List Event) → List Event
+inTurn [] = []
+inTurn (h ∷ hs) = h ++ inTurn hs
+
+-- puts of worker w at these addresses
+abbrev pub putsAt : ℕ → List ℕ → List Event
+putsAt w [] = []
+putsAt w (k ∷ ks) = event (put w k (value k)) done ∷ putsAt w ks
+
+-- worker w puts at these addresses, and its transaction takes number n; it is installed
+abbrev pub checked : ℕ → ℕ → List ℕ → List Event
+checked w n ks = event (begin w) done ∷ putsAt w ks ++ (event (lock w) done ∷ event (validate w) (numbered n) ∷ [])
+
+abbrev pub installed : ℕ → ℕ → List ℕ → List Event
+installed w n ks = checked w n ks ++ (event (install w) done ∷ [])
+
+abbrev pub oldestMerged : ℕ → List Event
+oldestMerged n = event mergeOldest (counted n) ∷ []
+
+-- records of these addresses, with the address as value, written by the transaction numbered n
+abbrev pub writtenBy : ℕ → List ℕ → List (Row Record)
+writtenBy n [] = []
+writtenBy n (k ∷ ks) = entryOf k k n ∷ writtenBy n ks
+
+-- Request 101. Seventeen records make two leaves. Number 4 is installed before number 3, so its address 900 is older than 5,
+-- and a later write there leaves it so. The whole leaf of the oldest is merged. Of one install the lower address is older.
+abbrev pub oldestFirst : List Event
+oldestFirst =
+    inTurn
+    (oldestMerged 0
+    ∷ installed 0 1 (0 ∷ 10 ∷ 20 ∷ 30 ∷ 40 ∷ 50 ∷ 60 ∷ 70 ∷ [])
+    ∷ installed 0 2 (800 ∷ 810 ∷ 820 ∷ 830 ∷ 840 ∷ 850 ∷ 860 ∷ 870 ∷ 880 ∷ [])
+    ∷ oldestMerged 17
+    ∷ checked 0 3 (5 ∷ [])
+    ∷ installed 1 4 (900 ∷ [])
+    ∷ (event (install 0) done ∷ [])
+    ∷ installed 1 5 (6 ∷ [])
+    ∷ installed 1 6 (900 ∷ [])
+    ∷ oldestMerged 1
+    ∷ oldestMerged 2
+    ∷ installed 1 7 (7 ∷ 901 ∷ 902 ∷ [])
+    ∷ oldestMerged 1
+    ∷ oldestMerged 2
+    ∷ oldestMerged 0
+    ∷ [])
+
 -- Document 01's starred runs, in its order.
 abbrev pub starred : List Run
 starred =
@@ -182,11 +229,19 @@ starred =
     ∷ []
 
 abbrev pub further : List Run
-further = script sameValueAgain (entryOf 9 90 2 ∷ []) ∷ script ownWrites [] ∷ []
+further =
+    script sameValueAgain (entryOf 9 90 2 ∷ [])
+    ∷ script ownWrites []
+    ∷ script oldestFirst
+    (entryOf 0 0 1 ∷ entryOf 5 5 3 ∷ entryOf 6 6 5 ∷ entryOf 7 7 7
+    ∷ writtenBy 1 (10 ∷ 20 ∷ 30 ∷ 40 ∷ 50 ∷ 60 ∷ 70 ∷ [])
+    ++ (writtenBy 2 (800 ∷ 810 ∷ 820 ∷ 830 ∷ 840 ∷ 850 ∷ 860 ∷ 870 ∷ 880 ∷ [])
+    ++ (entryOf 900 900 6 ∷ entryOf 901 901 7 ∷ entryOf 902 902 7 ∷ [])))
+    ∷ []
 
 pub further-hold : AllHold further
 unfolding model
-further-hold = ((refl, refl), ((refl, refl), tt))
+further-hold = ((refl, refl), ((refl, refl), ((refl, refl), tt)))
 
 pub starred-hold : AllHold starred
 unfolding model

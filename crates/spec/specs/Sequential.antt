@@ -6,7 +6,7 @@ use mathlib.Core.Path.{_≡_}
 use mathlib.Core.List.{List, [], _∷_}
 use Rattle.lists.specs.Rows.{Row, look, assign, between, mapItems}
 use Rattle.spec.specs.Records.{Payload, Record, written, deleted, outcome, payloadOf}
-use Rattle.spec.specs.Steps.{Step, begin, read, scan, put, remove, lock, validate, install, abort, merge, Answer, found, listed, Event}
+use Rattle.spec.specs.Steps.{Step, begin, read, scan, put, remove, lock, validate, install, abort, merge, mergeOldest, Answer, found, listed, Event}
 
 -- the list after a step of the transaction numbered n
 unfoldable pub afterStep : ℕ → List (Row Record) → Step → List (Row Record)
@@ -20,6 +20,7 @@ afterStep n l (validate w) = l
 afterStep n l (install w) = l
 afterStep n l (abort w) = l
 afterStep n l (merge a) = l
+afterStep n l mergeOldest = l
 
 -- what the list answers to a scan: addresses and values from lo to hi, rising
 unfoldable pub listScan : List (Row Record) → ℕ → ℕ → List (Row Payload)
@@ -37,6 +38,7 @@ Agrees l (validate w) a = Unit {0}
 Agrees l (install w) a = Unit {0}
 Agrees l (abort w) a = Unit {0}
 Agrees l (merge a) b = Unit {0}
+Agrees l mergeOldest b = Unit {0}
 
 -- the list after all steps of the transaction numbered n
 unfoldable pub afterSteps : ℕ → List (Row Record) → List Event → List (Row Record)

@@ -37,10 +37,12 @@ homeSlot (suc n) a = homeFrom n a (tableEntry (byteOf a n))
 
 -- ---- slots
 
--- An installed edit that is not yet folded (document 01: waiting), with the commit number of its writer.
+-- An installed edit that is not yet folded (document 01: waiting), with the commit number of its writer, and the install
+-- that began the waiting at its address (request 101: age), the first being 1.
 pub record Pending : Type 0 where
   pub write : Write
   pub commit : ℕ
+  pub since : ℕ
 
 -- What the indexlet says of an address: the pending write, and the worker that holds its lock.
 pub record Content : Type 0 where

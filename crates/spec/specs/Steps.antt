@@ -1,4 +1,4 @@
--- Document 01, "Seats and steps" and "Refusals by number": workers, the ten steps, when each is refused, what a granted
+-- Document 01, "Seats and steps" and "Refusals by number": workers, the eleven steps, when each is refused, what a granted
 -- one answers and changes, and a run of steps.
 use Prim.Native.Nat.{ℕ, suc, _+_, min}
 use mathlib.Core.Bool.{Bool, true, false, not}
@@ -15,7 +15,7 @@ use Rattle.spec.specs.Refusals.{ends}
 use Rattle.spec.specs.Records.{Settings, Payload, Record, Write, written, deleted, ownView, payloadOf, sameRecord}
 use Rattle.spec.specs.Leaves.{live, meeting}
 use Rattle.spec.specs.Slots.{contentOf}
-use Rattle.spec.specs.Maps.{MapState, freshMap, current, indexedBetween, heldByOther, hides, waitingWith, addressesWith, merging, lockAll, unlockAll, installAll, Merged, mergeAt}
+use Rattle.spec.specs.Maps.{MapState, freshMap, current, indexedBetween, heldByOther, hides, waitingWith, addressesWith, merging, lockAll, unlockAll, installAll, Merged, mergeAt, oldest}
 
 -- ---- state
 
@@ -30,10 +30,12 @@ pub record Worker : Type 0 where
 abbrev pub freeWorker : Worker
 freeWorker = record { stage = Free; reads = []; versions = []; writes = []; number = 0 }
 
--- The last commit number and the last leaf version given (document 01: serial number and mark).
+-- The last commit number and the last leaf version given (document 01: serial number and mark), and how many installs there
+-- were (request 101).
 pub record Counters : Type 0 where
   pub number : ℕ
   pub version : ℕ
+  pub installs : ℕ
 
 pub record State : Type 0 where
   pub settings : Settings
@@ -46,7 +48,7 @@ abbrev pub fresh : Settings → State
 fresh s =
     record {
       settings = s;
-      counters = record { number = 0; version = 0 };
+      counters = record { number = 0; version = 0; installs = 0 };
       map = freshMap;
       workers = replicate (s .workers) freeWorker;
     }
@@ -56,7 +58,7 @@ workerOf σ w = getD (σ .workers) w freeWorker
 
 -- ---- steps and answers
 
--- Each names its worker first but merge. A scan has lo, hi and the places of its two buffers.
+-- Each names its worker first but the two merges. A scan has lo, hi and the places of its two buffers.
 pub data Step : Type 0 where
   begin : ℕ → Step
   read : ℕ → ℕ → Step
@@ -68,6 +70,7 @@ pub data Step : Type 0 where
   install : ℕ → Step
   abort : ℕ → Step
   merge : ℕ → Step
+  mergeOldest : Step  -- request 101: a merge at the address that has waited longest
 
 -- the worker that a step names
 unfoldable pub stepWorker : Step → Option ℕ
@@ -81,6 +84,7 @@ stepWorker (validate w) = some w
 stepWorker (install w) = some w
 stepWorker (abort w) = some w
 stepWorker (merge a) = none
+stepWorker mergeOldest = none
 
 pub data Answer : Type 0 where
   refused : Refusal → Answer
@@ -217,6 +221,7 @@ causes σ (validate w) =
 causes σ (install w) = noWorker σ w ∷ workerFree σ w ∷ wrongStage isChecked σ w ∷ []
 causes σ (abort w) = noWorker σ w ∷ workerFree σ w ∷ []
 causes σ (merge a) = []
+causes σ mergeOldest = []
 
 -- the first cause that holds
 unfoldable pub firstCause : List Cause → Option Refusal
@@ -228,6 +233,10 @@ refusal σ s = firstCause (causes σ s)
 
 -- ---- granted steps
 
+-- the answer to a merge at address a
+abbrev pub mergeCount : State → ℕ → Answer
+mergeCount σ a = counted (length (merging (σ .map) a))
+
 unfoldable pub granted : State → Step → Answer
 granted σ (begin w) = done
 granted σ (read w k) = found (maybe (ownWrite σ w k) (payloadOf (current (σ .map) k)) ownView)
@@ -238,7 +247,8 @@ granted σ (lock w) = done
 granted σ (validate w) = numbered (suc (σ .counters .number))
 granted σ (install w) = done
 granted σ (abort w) = done
-granted σ (merge a) = counted (length (merging (σ .map) a))
+granted σ (merge a) = mergeCount σ a
+granted σ mergeOldest = mergeCount σ (oldest (σ .map))
 
 unfoldable pub withWorker : State → ℕ → Worker → State
 withWorker σ w x =
@@ -251,7 +261,22 @@ unfoldable pub withCounters : State → ℕ → ℕ → State
 withCounters σ n v =
     record {
       settings = σ .settings;
-      counters = record { number = n; version = v };
+      counters = record { number = n; version = v; installs = σ .counters .installs };
+      map = σ .map;
+      workers = σ .workers;
+    }
+
+-- one install more is counted
+unfoldable pub installCounted : State → State
+installCounted σ =
+    record {
+      settings = σ .settings;
+      counters =
+          record {
+            number = σ .counters .number;
+            version = σ .counters .version;
+            installs = suc (σ .counters .installs);
+          };
       map = σ .map;
       workers = σ .workers;
     }
@@ -295,6 +320,15 @@ dropped σ w = withWorker (withMap σ (unlockAll (σ .settings) w (σ .map) (wri
 unfoldable pub merged : State → Merged → State
 merged σ r = withCounters (withMap σ (r .map)) (σ .counters .number) (r .version)
 
+-- the state after a merge at address a
+abbrev pub mergedAt : State → ℕ → State
+mergedAt σ a = merged σ (mergeAt (σ .settings) (σ .counters .version) (σ .map) a)
+
+-- the map once the transaction of w is installed
+abbrev pub installedMap : State → ℕ → MapState
+installedMap σ w =
+    installAll (σ .settings) (workerOf σ w .number) (suc (σ .counters .installs)) (σ .map) (workerOf σ w .writes)
+
 -- the state after a granted step
 unfoldable pub effect : State → Step → State
 effect σ (begin w) = withWorker σ w (atStage Open freeWorker)
@@ -307,11 +341,10 @@ effect σ (lock w) =
 effect σ (validate w) =
     withWorker (withCounters σ (suc (σ .counters .number)) (σ .counters .version)) w
     (checkedAs (suc (σ .counters .number)) (workerOf σ w))
-effect σ (install w) =
-    withWorker
-    (withMap σ (installAll (σ .settings) (workerOf σ w .number) (σ .map) (workerOf σ w .writes))) w freeWorker
+effect σ (install w) = installCounted (withWorker (withMap σ (installedMap σ w)) w freeWorker)
 effect σ (abort w) = dropped σ w
-effect σ (merge a) = merged σ (mergeAt (σ .settings) (σ .counters .version) (σ .map) a)
+effect σ (merge a) = mergedAt σ a
+effect σ mergeOldest = mergedAt σ (oldest (σ .map))
 
 -- ---- steps, granted or refused
 

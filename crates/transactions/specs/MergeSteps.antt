@@ -11,9 +11,9 @@ use lib.ListN.{getD}
 use Rattle.lists.specs.TestLaws.{cases}
 use Rattle.spec.specs.Records.{standard}
 use Rattle.spec.specs.Leaves.{versionAt, live}
-use Rattle.spec.specs.Maps.{MapState, mergeAt}
+use Rattle.spec.specs.Maps.{MapState, mergeAt, oldest}
 use Rattle.spec.specs.Steps as model
-use Rattle.spec.specs.Steps.{State, merge, counted, refusal, causes, firstCause, granted, effect, withMap, withCounters, merged}
+use Rattle.spec.specs.Steps.{State, merge, mergeOldest, counted, refusal, causes, firstCause, granted, effect, withMap, withCounters, merged}
 use Rattle.laws.specs.LeafVersions.{GoodLeaves, version-live, live-version}
 use Rattle.laws.specs.LeafCuts.{standard-cut}
 use Rattle.laws.specs.MergeLaws as laws
@@ -82,7 +82,7 @@ module _ {l l' : Lent} {g : Logs} {c : Core} {a : ℕ} {r : Merged} (h : Ready l
   merged-state =
       λ i. record {
         settings = standard;
-        counters = record { number = m .number i; version = m .version i };
+        counters = record { number = m .number i; version = m .version i; installs = m .installs i };
         map = m .map i;
         workers = Rattle.transactions.specs.Views.workersFrom g (c .workers) 0;
       }
@@ -133,3 +133,15 @@ module _ {l l' : Lent} {g : Logs} {c : Core} {a : ℕ} {r : Merged} (h : Ready l
     where
       answer-is : granted (stateOf l g c) (merge a) ≡ counted (r .count)
       answer-is = unfold granted stateOf in ap counted (sym (m .count))
+
+-- ---- a merge of the oldest is a merge at its address
+
+pub oldest-refines : {l l' : Lent} {g : Logs} {c c' : Core} (a n : ℕ) → a ≡ oldest (mapOf l (c .sizes)) → Refines l g c (merge a) l' g c' (counted n)
+    → Refines l g c mergeOldest l' g c' (counted n)
+unfolding stateOf model.next model.answer refusal causes firstCause effect granted
+oldest-refines {l} {l'} {g} {c} {c'} a n e h =
+    record {
+      ready = h .ready;
+      state = h .state ∙ ap (λ (k : ℕ). model.next (stateOf l g c) (merge k)) e;
+      says = h .says ∙ ap (λ (k : ℕ). model.answer (stateOf l g c) (merge k)) e;
+    }

@@ -42,7 +42,7 @@ module _ (l : Lent) (z : Sizes) (b : MapBecomes l z 0 freshMap) where
   fresh-state =
       λ i. record {
         settings = standard;
-        counters = record { number = 0; version = 0 };
+        counters = record { number = 0; version = 0; installs = 0 };
         map = b .map i;
         workers = free-workers noLogs (standard .workers) 0 i;
       }

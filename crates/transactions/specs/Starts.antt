@@ -27,4 +27,4 @@ abbrev pub noLogs : Logs
 noLogs = logs (zeros (standard .readLimit) readWords) (zeros (standard .leafSetLimit) leafSetWords) (zeros (standard .writeLimit) writeWords)
 
 abbrev pub startCore : Sizes → Core
-startCore z = record { workers = replicate (standard .workers) freed; sizes = z; counters = record { number = 0; version = 0 } }
+startCore z = record { workers = replicate (standard .workers) freed; sizes = z; counters = record { number = 0; version = 0; installs = 0 } }

@@ -79,7 +79,7 @@ state-with l g g' c w x o =
     (λ (ws : List model.Worker).
     record {
       settings = standard;
-      counters = record { number = c .counters .number; version = c .counters .version };
+      counters = record { number = c .counters .number; version = c .counters .version; installs = c .counters .installs };
       map = mapOf l (c .sizes);
       workers = ws;
     })

@@ -38,7 +38,7 @@ unfoldable pub stateOf : Lent → Logs → Core → State
 stateOf l g c =
     record {
       settings = standard;
-      counters = record { number = c .counters .number; version = c .counters .version };
+      counters = record { number = c .counters .number; version = c .counters .version; installs = c .counters .installs };
       map = mapOf l (c .sizes);
       workers = workersFrom g (c .workers) 0;
     }

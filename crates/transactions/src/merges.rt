@@ -1,9 +1,10 @@
-// Merge (document 01: fold): no worker takes part, and it is never refused.
+// Merges (document 01: fold), at an address or at the oldest pending write: no worker takes part, and they are never refused.
 use crate::Core;
 use map::Leaves;
 use map::Records;
 use map::Slots;
 use map::merge;
+use map::oldest;
 use sets::LeafSets;
 use sets::ReadSets;
 use sets::WriteSets;
@@ -50,4 +51,24 @@ pub fn merge_at(
         core,
         count: r.count,
     }
+}
+
+// The pending writes of the leaf of the write that has waited longest enter the index (request 101); none, where nothing is
+// pending.
+pub fn merge_oldest(
+    rows: &mut Records,
+    leaves: &mut Leaves,
+    slots: &mut Slots,
+    reads: &ReadSets,
+    leafsets: &LeafSets,
+    writes: &WriteSets,
+    c: Core,
+) -> MergeDone
+    requires { ⌜ Ready (lent (now rows) (now leaves) (now slots)) (logs (now reads) (now leafsets) (now writes)) c ⌝ }
+    ensures { λ r. ⌜ Refines (lent (now (rows .entry)) (now (leaves .entry)) (now (slots .entry)))
+        (logs (now (reads .entry)) (now (leafsets .entry)) (now (writes .entry))) c model.mergeOldest (lent (now (rows .exit)) (now (leaves .exit)) (now (slots .exit)))
+        (logs (now (reads .entry)) (now (leafsets .entry)) (now (writes .entry))) (r .core) (model.counted (r .count)) ⌝ }
+{
+    let a = oldest::oldest_waiting(slots);
+    merge_at(rows, leaves, slots, reads, leafsets, writes, c, a)
 }

@@ -53,6 +53,7 @@ pub fn fresh_state(
     let counters = Counters {
         number: 0,
         version: 0,
+        installs: 0,
     };
     Core {
         workers,

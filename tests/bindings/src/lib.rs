@@ -20,6 +20,7 @@ pub fn step_of(step: step::Step, addresses: usize, values: usize) -> Step {
         step::Step::Install { worker: seat } => Step::Install { seat },
         step::Step::Abort { worker: seat } => Step::Abort { seat },
         step::Step::Merge { address } => Step::Fold { address },
+        step::Step::MergeOldest => Step::FoldOldest,
     }
 }
 
@@ -80,6 +81,7 @@ pub fn by_method(map: &mut Sections, step: step::Step, buffers: &mut Buffers) ->
         step::Step::Install { worker } => map.install(worker).map(|()| Answer::Granted),
         step::Step::Abort { worker } => map.abort(worker).map(|()| Answer::Granted),
         step::Step::Merge { address } => map.fold(address).map(Answer::Merged),
+        step::Step::MergeOldest => map.fold_oldest().map(Answer::Merged),
     };
     answer.unwrap_or_else(refused)
 }

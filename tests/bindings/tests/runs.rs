@@ -31,6 +31,28 @@ fn waiting_addresses() -> Result<(), Refusal> {
     map.lock(0)
 }
 
+/// Two leaves, in which edits wait. The job with the lower serial number is
+/// installed later, so that its edit is the younger one.
+#[test]
+fn folds_of_the_oldest() -> Result<(), Refusal> {
+    let mut map = Sections::new();
+    assert_eq!(map.fold_oldest(), Ok(0));
+    enter(&mut map, 0, 0..16);
+    enter(&mut map, 0, 16..17);
+    assert_eq!(map.fold_oldest(), Ok(17));
+    for (seat, addresses) in [(1, 2..3), (2, 14..16)] {
+        map.begin(seat)?;
+        addresses.into_iter().try_for_each(|address| map.put(seat, address, 1))?;
+        map.lock(seat)?;
+        assert_eq!(map.validate(seat)?.get(), u64::from(seat) + 2);
+    }
+    map.install(2)?;
+    map.install(1)?;
+    enter(&mut map, 2, 14..15);
+    assert_eq!([map.fold_oldest(), map.fold_oldest(), map.fold_oldest()], [Ok(2), Ok(1), Ok(0)]);
+    Ok(())
+}
+
 #[test]
 fn edited_addresses() -> Result<(), Refusal> {
     let mut map = Sections::new();
@@ -111,8 +133,10 @@ fn clones_go_on_by_themselves() {
 fn an_empty_list() {
     let (map, answers) = Sections::replay(&[]);
     assert_eq!((map.iter().count(), answers.len()), (0, 0));
-    let (_, answers) = Sections::replay(&[Step::Abort { seat: 3 }, Step::Fold { address: 0 }]);
-    assert_eq!(answers, [Err(Refusal::SeatFree), Ok(Answer::Folded(0))]);
+    let steps = [Step::Abort { seat: 3 }, Step::Fold { address: 0 }, Step::FoldOldest];
+    let (_, answers) = Sections::replay(&steps);
+    let none = Ok(Answer::Folded(0));
+    assert_eq!(answers, [Err(Refusal::SeatFree), none.clone(), none]);
 }
 
 /// A map may go to another thread, and be looked at by several.

@@ -81,10 +81,8 @@ impl Generator {
     }
 
     pub fn merge_some(&mut self) {
-        let pending = self.pending();
-        if !pending.is_empty() {
-            let address = self.random.pick(&pending);
-            self.merge(address);
+        if let Some(step) = self.some_merge() {
+            self.play(step);
         }
     }
 

@@ -16,7 +16,7 @@ const fn kind(name: &'static str, damage: fn(&str, &mut Random) -> Vec<u8>) -> K
 
 const NO_LINE_FEED: &str = "no line feed";
 
-pub const KINDS: [Kind; 24] = [
+pub const KINDS: [Kind; 25] = [
     kind("empty line", |_, _| b"\n".to_vec()),
     kind("only a space", |_, _| b" \n".to_vec()),
     kind("carriage return", |line, _| format!("{line}\r\n").into()),
@@ -25,13 +25,14 @@ pub const KINDS: [Kind; 24] = [
     kind("no space", |line, random| respaced(line, "", random)),
     kind("trailing space", |line, _| format!("{line} \n").into()),
     kind("leading space", |line, _| format!(" {line}\n").into()),
-    kind("unknown letter", |line, random| relettered(line, b"CEFGHJKNOQTUWXYZ?#-", random)),
-    kind("small letter", |line, random| relettered(line, b"brspdlviam", random)),
+    kind("unknown letter", |line, random| relettered(line, b"CEFGHJKNOQUWXYZ?#-", random)),
+    kind("small letter", |line, random| relettered(line, b"brspdlviamt", random)),
     kind("strange byte", |line, random| relettered(line, &[0, 0x7f, 0x80, 0xff, b'\r'], random)),
     kind("no letter", |line, _| format!("{}\n", &line[2..]).into()),
     kind("missing field", missing_field),
     kind("extra field", |line, random| format!("{line} {}\n", random.below(9)).into()),
     kind("only a letter", |line, _| format!("{}\n", &line[..1]).into()),
+    kind("more than a letter", |_, random| more_than_a_letter(random)),
     kind("plus sign", |line, random| numbered(line, random, |number| format!("+{number}"))),
     kind("minus sign", |line, random| numbered(line, random, |number| format!("-{number}"))),
     kind("no digit", |line, random| numbered(line, random, |_| "x".into())),
@@ -58,9 +59,11 @@ pub fn damaged(seed: u64, steps: usize) -> Damaged {
     let whole = text(seed, steps.max(1), profile);
     let lines: Vec<&[u8]> = whole.split_inclusive(|&byte| byte == b'\n').collect();
     let at = if kind.name == NO_LINE_FEED { lines.len() - 1 } else { random.below(lines.len()) };
-    let line = std::str::from_utf8(lines[at]).expect("a script is plain text");
+    let line = std::str::from_utf8(lines[at]).expect("a script is plain text").trim_end();
+    // Most kinds of damage are to a number, so a line without any gives way to one that has it.
+    let line = if line.len() == 1 { "M 0" } else { line };
     let mut text = lines[..at].concat();
-    text.extend((kind.damage)(line.trim_end(), &mut random));
+    text.extend((kind.damage)(line, &mut random));
     text.extend(lines[at + 1..].concat());
     Damaged { kind: kind.name, line: at, text }
 }
@@ -79,6 +82,13 @@ fn relettered(line: &str, letters: &[u8], random: &mut Random) -> Vec<u8> {
     let mut bytes = format!("{line}\n").into_bytes();
     bytes[0] = random.pick(letters);
     bytes
+}
+
+/// The step that has no number, with something after its letter.
+fn more_than_a_letter(random: &mut Random) -> Vec<u8> {
+    let number = random.number();
+    let rest = [" ", " 0", "\r", "\t", "  ", "T", "0", " T", &format!(" {number}"), " 0 0"];
+    format!("T{}\n", random.pick(&rest)).into()
 }
 
 fn missing_field(line: &str, _: &mut Random) -> Vec<u8> {

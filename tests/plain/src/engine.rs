@@ -1,4 +1,4 @@
-//! Eight workers over one map: the ten steps and their refusals.
+//! Eight workers over one map: the steps and their refusals.
 
 use crate::map::{Commit, Leaf, Map, Pending, Stored, Write, INDEXLET_LIMIT};
 
@@ -80,6 +80,8 @@ pub struct Engine {
     map: Map,
     workers: [Worker; WORKERS],
     last_commit: Commit,
+    /// Installs so far, whatever their numbers.
+    installs: u32,
 }
 
 impl Engine {
@@ -261,8 +263,10 @@ impl Engine {
     pub fn install(&mut self, worker: u32) -> Result<(), Refusal> {
         let at = self.at_stage(worker, Stage::Checked)?;
         let worker = &mut self.workers[at];
+        self.installs += 1;
         for &(address, write) in &worker.write_set {
-            self.map.install(address, Pending { write, commit: worker.commit });
+            let pending = Pending { write, commit: worker.commit, since: self.installs };
+            self.map.install(address, pending);
         }
         worker.clear();
         Ok(())
@@ -286,6 +290,10 @@ impl Engine {
 
     pub fn merge(&mut self, address: u32) -> usize {
         self.map.merge(address)
+    }
+
+    pub fn merge_oldest(&mut self) -> usize {
+        self.map.merge_oldest()
     }
 }
 

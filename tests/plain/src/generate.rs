@@ -17,6 +17,8 @@ pub struct Generator {
     /// New addresses come from here.
     pub area: (u32, u32),
     pub growing: bool,
+    /// Of the merges at something pending, one in so many picks its own leaf.
+    oldest: usize,
     buffers: Buffers,
     script: Vec<Step>,
     queues: [VecDeque<Step>; WORKERS],
@@ -24,7 +26,7 @@ pub struct Generator {
 
 pub fn script(seed: u64, steps: usize, profile: &Profile) -> Vec<Step> {
     let steps = steps.max(profile.least);
-    let mut generator = Generator::new(seed);
+    let mut generator = Generator::new(seed, profile);
     while generator.script.len() < steps {
         (generator.round(profile))(&mut generator);
     }
@@ -81,11 +83,12 @@ impl Generator {
         }
     }
 
-    fn new(seed: u64) -> Self {
+    fn new(seed: u64, profile: &Profile) -> Self {
         let mut random = Random::new(seed);
         Generator {
             area: area(&mut random),
             growing: true,
+            oldest: profile.oldest,
             random,
             engine: Engine::default(),
             buffers: Buffers::default(),
@@ -100,7 +103,7 @@ impl Generator {
     }
 
     /// One step of one worker: the next of its queue, or the first of a new plan.
-    pub fn turn(&mut self, plan: Plan) {
+    pub fn go_on(&mut self, plan: Plan) {
         let worker = self.random.below(WORKERS);
         if self.queues[worker].is_empty() {
             if self.engine.worker(worker).stage != Stage::Free {
@@ -110,6 +113,17 @@ impl Generator {
             self.queues[worker].extend(steps);
         }
         self.advance(worker);
+    }
+
+    /// A merge that takes something in, if anything is pending.
+    pub fn some_merge(&mut self) -> Option<Step> {
+        let pending = self.pending();
+        if pending.is_empty() {
+            return None;
+        }
+        let address = self.random.pick(&pending);
+        let oldest = self.random.one_in(self.oldest);
+        Some(if oldest { Step::MergeOldest } else { Step::Merge { address } })
     }
 
     pub fn enqueue(&mut self, worker: u32, steps: Vec<Step>) {

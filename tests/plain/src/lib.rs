@@ -1,4 +1,4 @@
-//! A second model of the section map, written from document 01 alone: it
+//! A second model of the section map, written from the documents alone: it
 //! answers scripts, makes them, and checks the claim on its own histories.
 
 pub mod choose;

@@ -36,6 +36,8 @@ pub enum Write {
 pub struct Pending {
     pub write: Write,
     pub commit: Commit,
+    /// How many installs there were when the waiting began, with that one.
+    pub since: u32,
 }
 
 impl Pending {
@@ -178,9 +180,12 @@ impl Map {
         }
     }
 
-    /// The write waits, and its lock goes.
+    /// The write waits, and its lock goes. Where one waits already, the later one
+    /// keeps its place.
     pub fn install(&mut self, address: u32, pending: Pending) {
-        self.indexlet.insert(address, Entry { pending: Some(pending), lock: None });
+        let since = self.pending(address).map_or(pending.since, |earlier| earlier.since);
+        let pending = Some(Pending { since, ..pending });
+        self.indexlet.insert(address, Entry { pending, lock: None });
     }
 }
 
@@ -230,6 +235,17 @@ impl Map {
         self.rebuild(at, &merged);
         self.index.splice(from..from + length, merged);
         pending.len()
+    }
+
+    /// The merge that picks its own leaf: that of the write that has waited
+    /// longest. Of one install the lower address is older.
+    pub fn merge_oldest(&mut self) -> usize {
+        let entries = self.indexlet.iter();
+        let ages = entries.filter_map(|(&address, entry)| Some((entry.pending?.since, address)));
+        match ages.min() {
+            Some((_, address)) => self.merge(address),
+            None => 0,
+        }
     }
 
     /// Takes the pending writes from low to high out of the indexlet, rising.

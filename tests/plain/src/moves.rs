@@ -50,6 +50,10 @@ impl Generator {
         self.play(Step::Merge { address });
     }
 
+    pub fn merge_oldest(&mut self) -> Answer {
+        self.play(Step::MergeOldest)
+    }
+
     /// From lock to install, as far as it is granted.
     pub fn finish(&mut self, worker: u32) {
         self.lock(worker);

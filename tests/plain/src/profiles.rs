@@ -4,7 +4,7 @@ use crate::choose::leaf_around;
 use crate::generate::Generator;
 use crate::map::Write;
 use crate::moves::{transaction, write_of};
-use crate::rounds::{capacity, leaves, limits, spent};
+use crate::rounds::{capacity, leaves, limits, spent, turns};
 use crate::scenarios;
 use crate::step::Step;
 
@@ -16,23 +16,26 @@ pub struct Profile {
     pub least: usize,
     /// Whether some numbers have leading zeros.
     pub padded: bool,
+    /// Of the merges at something pending, one in so many picks its own leaf.
+    pub oldest: usize,
 }
 
 const fn profile(name: &'static str, round: fn(&mut Generator)) -> Profile {
-    Profile { name, round, least: 0, padded: false }
+    Profile { name, round, least: 0, padded: false, oldest: 4 }
 }
 
-pub const PROFILES: [Profile; 12] = [
-    profile("ordinary", |generator| generator.turn(ordinary)),
-    profile("contended", |generator| generator.turn(contended)),
-    profile("scans", |generator| generator.turn(scans)),
-    profile("removals", |generator| generator.turn(removals)),
-    profile("ends", |generator| generator.turn(ends)),
+pub const PROFILES: [Profile; 13] = [
+    profile("ordinary", |generator| generator.go_on(ordinary)),
+    profile("contended", |generator| generator.go_on(contended)),
+    profile("scans", |generator| generator.go_on(scans)),
+    profile("removals", |generator| generator.go_on(removals)),
+    profile("ends", |generator| generator.go_on(ends)),
     profile("races", scenarios::round),
     profile("leaves", leaves::leaves),
     profile("fill", capacity::fill),
     profile("waiting", capacity::waiting),
     profile("limits", limits::limits),
+    Profile { oldest: 1, ..profile("turns", turns::turns) },
     Profile { padded: true, ..profile("wild", wild) },
     Profile { least: 4_005_000, ..profile("spent", spent::spent) },
 ];
@@ -78,8 +81,10 @@ fn ordinary(generator: &mut Generator, worker: u32) -> Vec<Step> {
     }
     let mut steps = vec![Step::Merge { address: lo }, Step::Merge { address: hi }];
     steps.extend(or_abort(generator, transaction(worker, body), 6));
-    if generator.random.one_in(2) {
-        steps.push(Step::Merge { address: lo });
+    match generator.random.below(4) {
+        0 => steps.push(Step::Merge { address: lo }),
+        1 => steps.push(Step::MergeOldest),
+        _ => {}
     }
     steps
 }
@@ -110,9 +115,8 @@ fn mixed(
 /// Lets a merge of something pending go before some plans.
 fn and_merge(generator: &mut Generator, mut steps: Vec<Step>, one_in: usize) -> Vec<Step> {
     if generator.random.one_in(one_in) {
-        let pending = generator.pending();
-        if !pending.is_empty() {
-            steps.insert(0, Step::Merge { address: generator.random.pick(&pending) });
+        if let Some(step) = generator.some_merge() {
+            steps.insert(0, step);
         }
     }
     steps
@@ -201,7 +205,7 @@ pub fn wild(generator: &mut Generator) {
         _ => random.address(0, 40),
     };
     let (lo, hi) = (address(), address());
-    let step = match random.below(20) {
+    let step = match random.below(21) {
         0..=2 => Step::Begin { worker },
         3..=5 => Step::Read { worker, address: lo },
         6 => Step::Scan { worker, lo, hi },
@@ -212,7 +216,8 @@ pub fn wild(generator: &mut Generator) {
         14..=15 => Step::Validate { worker },
         16..=17 => Step::Install { worker },
         18 => Step::Abort { worker },
-        _ => Step::Merge { address: lo },
+        19 => Step::Merge { address: lo },
+        _ => Step::MergeOldest,
     };
     generator.play(step);
 }

@@ -62,7 +62,7 @@ fn read_or_scan(generator: &mut Generator, worker: u32, address: u32) {
     }
 }
 
-fn any_write(generator: &mut Generator) -> Write {
+pub fn any_write(generator: &mut Generator) -> Write {
     if generator.random.one_in(3) {
         Write::Delete
     } else {

@@ -40,6 +40,7 @@ impl<'a> Parser<'a> {
             b'I' => Step::Install { worker: self.number32()? },
             b'A' => Step::Abort { worker: self.number32()? },
             b'M' => Step::Merge { address: self.number32()? },
+            b'T' => Step::MergeOldest,
             _ => return None,
         };
         (self.byte()? == b'\n').then_some(step)
@@ -173,6 +174,7 @@ pub fn letter(step: Step) -> u8 {
         Step::Install { .. } => b'I',
         Step::Abort { .. } => b'A',
         Step::Merge { .. } => b'M',
+        Step::MergeOldest => b'T',
     }
 }
 

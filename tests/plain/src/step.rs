@@ -5,6 +5,7 @@ use crate::map::Commit;
 
 pub const PLACES: usize = 64;
 
+/// The last of them merges the leaf of the write that has waited longest.
 #[derive(Clone, Copy, PartialEq, Eq, Debug)]
 pub enum Step {
     Begin { worker: u32 },
@@ -17,6 +18,7 @@ pub enum Step {
     Install { worker: u32 },
     Abort { worker: u32 },
     Merge { address: u32 },
+    MergeOldest,
 }
 
 impl Step {
@@ -32,7 +34,7 @@ impl Step {
             | Step::Validate { worker }
             | Step::Install { worker }
             | Step::Abort { worker } => Some(worker),
-            Step::Merge { .. } => None,
+            Step::Merge { .. } | Step::MergeOldest => None,
         }
     }
 }
@@ -97,6 +99,7 @@ pub fn run(engine: &mut Engine, step: Step, buffers: &mut Buffers) -> Answer {
         Step::Install { worker } => engine.install(worker).map(|()| Answer::Granted),
         Step::Abort { worker } => engine.abort(worker).map(|()| Answer::Granted),
         Step::Merge { address } => Ok(Answer::Merged(engine.merge(address))),
+        Step::MergeOldest => Ok(Answer::Merged(engine.merge_oldest())),
     };
     answer.unwrap_or_else(Answer::from)
 }

@@ -16,7 +16,7 @@ fn event(line: &str) -> Event {
         Step::Read { .. } => Answer::Value(words[1].parse().ok()),
         Step::Scan { .. } => Answer::Found(numbers[1] as usize),
         Step::Validate { .. } => Answer::Commit(numbers[1] as u32),
-        Step::Merge { .. } => Answer::Merged(numbers[1] as usize),
+        Step::Merge { .. } | Step::MergeOldest => Answer::Merged(numbers[1] as usize),
         _ => Answer::Granted,
     };
     let pairs = numbers.get(2..).unwrap_or(&[]).chunks(2);

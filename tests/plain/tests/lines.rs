@@ -15,11 +15,12 @@ fn good_lines() {
     let text = format!("B {zeros}7\nP 7 4294967295 18446744073709551615\nR 7 {zeros}4294967295\n");
     assert_eq!(answers(text.as_bytes()), "B 0\nP 0\nR 0 18446744073709551615\nE 0\n");
     assert_eq!(answers(b"B 4294967295\nR 8 1\n"), "B 1\nR 1\nE 0\n");
+    assert_eq!(answers(b"T\nT\n"), "T 0 0\nT 0 0\nE 0\n");
 }
 
 #[test]
 fn malformed_lines() {
-    let lines: [&[u8]; 37] = [
+    let lines: [&[u8]; 46] = [
         b"\n",
         b" \n",
         b"\r\n",
@@ -54,6 +55,15 @@ fn malformed_lines() {
         b"M\n",
         b"M 0 0\n",
         b"M 4294967296\n",
+        b"T \n",
+        b"T 0\n",
+        b"T\r\n",
+        b"T\t\n",
+        b"T0\n",
+        b"TT\n",
+        b" T\n",
+        b"t\n",
+        b"T\x00\n",
         b"B 0\x00\n",
         b"\x00\n",
         b"B \xff\n",
@@ -66,7 +76,7 @@ fn malformed_lines() {
 
 #[test]
 fn last_line_without_its_line_feed() {
-    for line in ["B 2", "B ", "B", "M 5", "P 1 2 3", " ", "\r"] {
+    for line in ["B 2", "B ", "B", "M 5", "T", "T ", "P 1 2 3", " ", "\r"] {
         assert_eq!(answers(format!("B 1\n{line}").as_bytes()), "B 0\n?\n", "{line:?}");
         assert_eq!(answers(line.as_bytes()), "?\n", "{line:?}");
     }

@@ -158,7 +158,7 @@ fn same_value_is_a_change() {
 fn cuts(count: u32) -> Vec<usize> {
     let mut map = Map::default();
     for address in 1..=count {
-        map.install(10 * address, Pending { write: Write::Put(1), commit: 1 });
+        map.install(10 * address, Pending { write: Write::Put(1), commit: 1, since: 1 });
     }
     assert_eq!(map.merge(5), count as usize);
     assert_eq!(map.leaves()[0].low, 0);
@@ -182,7 +182,9 @@ fn leaf_cuts() {
 #[test]
 fn emptied_leaf_joins_its_left_neighbour() {
     let mut map = Map::default();
-    let write = |map: &mut Map, address, write| map.install(address, Pending { write, commit: 1 });
+    let write = |map: &mut Map, address, write| {
+        map.install(address, Pending { write, commit: 1, since: 1 })
+    };
     (1..=24).for_each(|address| write(&mut map, 10 * address, Write::Put(1)));
     map.merge(0);
     let lows = |map: &Map| map.leaves().iter().map(|leaf| leaf.low).collect::<Vec<_>>();

@@ -1,5 +1,6 @@
 //! Runs with their answers written down by hand: those of document 01 that are
-//! not starred, as far as a script can show them, and the edges of a script.
+//! not starred, as far as a script can show them, folds of the oldest, and the
+//! edges of a script.
 
 use super::Script;
 
@@ -22,12 +23,31 @@ impl Run {
     }
 
     /// A whole job of puts, with its serial number.
-    fn job(self, seat: u32, number: u32, addresses: impl Iterator<Item = u32>) -> Self {
+    fn job(self, seat: u32, number: u32, addresses: impl IntoIterator<Item = u32>) -> Self {
+        self.puts(seat, number, addresses).lines(&format!("I {seat} -> I 0"))
+    }
+
+    /// The same but for its install.
+    fn puts(self, seat: u32, number: u32, addresses: impl IntoIterator<Item = u32>) -> Self {
         let mut run = self.lines(&format!("B {seat} -> B 0"));
         for address in addresses {
             run = run.lines(&format!("P {seat} {address} {} -> P 0", value_at(address)));
         }
+        run.lines(&format!("L {seat} -> L 0\nV {seat} -> V 0 {number}"))
+    }
+
+    /// A whole job of removals.
+    fn removals(self, seat: u32, number: u32, addresses: impl IntoIterator<Item = u32>) -> Self {
+        let mut run = self.lines(&format!("B {seat} -> B 0"));
+        for address in addresses {
+            run = run.lines(&format!("D {seat} {address} -> D 0"));
+        }
         run.lines(&format!("L {seat} -> L 0\nV {seat} -> V 0 {number}\nI {seat} -> I 0"))
+    }
+
+    /// Folds of the oldest, with the counts that they answer.
+    fn oldest(self, counts: &[usize]) -> Self {
+        counts.iter().fold(self, |run, count| run.lines(&format!("T -> T 0 {count}")))
     }
 
     fn end(self, name: &str, records: impl Iterator<Item = (u32, u64)>) -> Script {
@@ -48,12 +68,17 @@ fn as_put(address: u32) -> (u32, u64) {
 
 pub fn all() -> Vec<Script> {
     let mut scripts = vec![full_indexlet(), full_write_set(), short_buffer(), zeros()];
+    scripts.extend([install_order(), age_of_an_address(), ages_in_one_install(), last_of_192()]);
     let edges = [
         ("empty input", "", "E 0\n"),
         ("a last line without its line feed", "B 0\nB 1", "B 0\n?\n"),
         ("one letter and nothing more", "B", "?\n"),
         ("an empty line", "B 0\n\nB 1\n", "B 0\n?\n"),
         ("a line after a malformed one", "B 0\nB x\nB 1\n", "B 0\n?\n"),
+        ("T and a space", "T\nT \nT\n", "T 0 0\n?\n"),
+        ("T and a number", "T\nT 0\nT\n", "T 0 0\n?\n"),
+        ("T and a carriage return", "T\nT\r\nT\n", "T 0 0\n?\n"),
+        ("T without its line feed", "T\nT", "T 0 0\n?\n"),
     ];
     scripts.extend(edges.map(|(name, text, answers)| Script::Text {
         name: name.into(),
@@ -131,4 +156,124 @@ fn zeros() -> Script {
         .lines(&format!("R 2 {zeros} -> R 0 -"))
         .lines("L 2 -> L 0\nV 2 -> V 0 1\nI 2 -> I 0")
         .end("200,000 leading zeros", [(u32::MAX, u64::MAX)].into_iter())
+}
+
+/// The records of `two_leaves`.
+fn seventeen() -> impl Iterator<Item = u32> {
+    (1..=17).map(|place| 10 * place)
+}
+
+/// 17 records in a leaf below 90 and one from there on. Two numbers are given.
+fn two_leaves() -> Run {
+    Run::default().job(0, 1, (1..=16).map(|place| 10 * place)).job(0, 2, [170]).oldest(&[17, 0])
+}
+
+/// The lower number is installed later, so its edit is the younger one.
+fn install_order() -> Script {
+    two_leaves()
+        .puts(0, 3, [20])
+        .puts(1, 4, [150, 160])
+        .lines("I 1 -> I 0\nI 0 -> I 0")
+        .oldest(&[2, 1, 0])
+        .puts(0, 5, [150, 160])
+        .puts(1, 6, [20])
+        .puts(2, 7, [30, 40])
+        .lines("I 2 -> I 0\nI 0 -> I 0\nI 1 -> I 0")
+        .oldest(&[3, 2, 0])
+        .end("folds by install order", seventeen().map(as_put))
+}
+
+/// A later edit at an address that waits keeps its age, a removal too; once
+/// folded, by whichever step, it starts anew. An abort installs nothing.
+fn age_of_an_address() -> Script {
+    two_leaves()
+        .job(0, 3, [20])
+        .job(1, 4, [150, 160])
+        .job(2, 5, [20])
+        .oldest(&[1, 2, 0])
+        .job(3, 6, [150, 160])
+        .job(4, 7, [20])
+        .oldest(&[2, 1])
+        .job(5, 8, [20])
+        .job(6, 9, [150, 160])
+        .lines("M 0 -> M 0 1")
+        .job(7, 10, [20])
+        .oldest(&[2, 1])
+        .removals(0, 11, [20])
+        .job(1, 12, [150, 160])
+        .removals(2, 13, [20])
+        .oldest(&[1, 2])
+        .puts(3, 14, [30])
+        .job(4, 15, [150, 160])
+        .lines("A 3 -> A 0")
+        .job(5, 16, [30])
+        .oldest(&[2, 1, 0])
+        .end("the age of an address", seventeen().filter(|&address| address != 20).map(as_put))
+}
+
+/// Of one install the lower address is older; each time the whole leaf is folded,
+/// what is locked there again stays locked.
+fn ages_in_one_install() -> Script {
+    two_leaves()
+        .job(0, 3, [160, 20, 150])
+        .oldest(&[1, 2, 0])
+        .job(1, 4, [30, 160])
+        .job(2, 5, [20, 40, 50])
+        .puts(3, 6, [160])
+        .oldest(&[4, 1, 0])
+        .lines("B 4 -> B 0\nP 4 160 1 -> P 0\nL 4 -> L 9\nI 3 -> I 0")
+        .oldest(&[1, 0])
+        .end("ages in one install", seventeen().map(as_put))
+}
+
+const THIN: u32 = 80;
+
+/// A map of 192 leaves and the number of its last job: THIN leaves of one record
+/// each, every eighth address, and 112 leaves that hold `filled`, eight or nine each.
+fn many_leaves() -> (Run, u32) {
+    let (mut run, mut number) = (Run::default(), 0);
+    for part in 0..=THIN {
+        number += 1;
+        run = run.job(0, number, 8 * part..8 * part + 8).oldest(&[8]);
+    }
+    for part in 0..=THIN {
+        number += 1;
+        run = run.removals(1, number, 8 * part + 1..8 * part + 8).oldest(&[7]);
+    }
+    for some in filled()[1..].chunks(16) {
+        number += 1;
+        run = run.job(2, number, some.iter().copied()).oldest(&[16]);
+    }
+    (run, number)
+}
+
+fn thin() -> impl Iterator<Item = u32> {
+    (0..THIN).map(|part| 8 * part)
+}
+
+fn filled() -> Vec<u32> {
+    [8 * THIN].into_iter().chain(8 * THIN + 8..8 * THIN + 8 + 896).collect()
+}
+
+/// 192 edits wait in 192 leaves, and whatever is folded waits again at once. The
+/// last of them, which no scan shows before, is folded by the 192nd turn.
+fn last_of_192() -> Script {
+    const LAST: u32 = 5000;
+    let (mut run, mut number) = many_leaves();
+    let mut waiting: Vec<u32> = thin().chain(filled().into_iter().step_by(8).take(111)).collect();
+    waiting.push(LAST);
+    for some in waiting.chunks(16) {
+        number += 1;
+        run = run.job(3, number, some.iter().copied());
+    }
+    for &address in &waiting[..191] {
+        number += 1;
+        run = run.oldest(&[1]).job(4, number, [address]);
+    }
+    run.lines(&format!("B 5 -> B 0\nS 5 {LAST} {LAST} -> S 0 0"))
+        .oldest(&[1])
+        .lines(&format!("S 5 {LAST} {LAST} -> S 0 1 {LAST} {}", value_at(LAST)))
+        .oldest(&[1; 191])
+        .oldest(&[0])
+        .end("the last of 192 waiting", thin().chain(filled()).chain([LAST]).map(as_put))
 }

@@ -7,6 +7,7 @@ pub mod capacity;
 pub mod leaves;
 pub mod limits;
 pub mod spent;
+pub mod turns;
 
 /// Locks these addresses with puts and removals, then aborts.
 fn try_lock(generator: &mut Generator, worker: u32, addresses: &[u32]) {

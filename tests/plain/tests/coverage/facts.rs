@@ -44,7 +44,13 @@ pub enum Facts {
         phantoms: BTreeSet<&'static str>,
         calm: BTreeSet<&'static str>,
     },
+    Install {
+        number: u32,
+        written: Vec<u32>,
+    },
     Merge {
+        /// What is to be said of the pick, if the merge picked its own leaf.
+        picked: Vec<&'static str>,
         at: usize,
         leaves: Vec<Leaf>,
         pending: Vec<(u32, Write, bool)>,
@@ -59,7 +65,12 @@ impl Meeting {
         let at = step.worker().map(|worker| worker as usize).filter(|&worker| worker < WORKERS);
         let stage = at.map(|at| engine.worker(at).stage);
         let facts = match (step, at, stage) {
-            (Step::Merge { address }, _, _) => merge_facts(engine.map(), address),
+            (Step::Merge { address }, _, _) => merge_facts(engine.map(), address, vec![]),
+            (Step::MergeOldest, _, _) => oldest_facts(observer),
+            (Step::Install { .. }, Some(at), Some(Stage::Checked)) => {
+                let written = engine.worker(at).write_set.iter().map(|&(address, _)| address);
+                Facts::Install { number: observer.numbers[at], written: written.collect() }
+            }
             (Step::Validate { .. }, Some(at), Some(Stage::Locked)) => validate_facts(observer, at),
             (_, Some(at), Some(Stage::Open)) => open_facts(engine.map(), engine.worker(at), step),
             _ => Facts::Plain,
@@ -175,7 +186,23 @@ fn validate_facts(observer: &Observer, at: usize) -> Facts {
     Facts::Validate { changes, held, phantoms, calm }
 }
 
-fn merge_facts(map: &Map, address: u32) -> Facts {
+fn oldest_facts(observer: &Observer) -> Facts {
+    let map = observer.engine.map();
+    let Some(oldest) = observer.ages.oldest() else {
+        return merge_facts(map, 0, vec!["oldest of none"]);
+    };
+    let at = map.leaf_at(oldest);
+    let mut picked = observer.ages.decisive((map.leaves()[at].low, map.high(at)));
+    if map.pending(oldest).is_some_and(|pending| pending.write == Write::Delete) {
+        picked.push("oldest is a removal");
+    }
+    if observer.ages.between((map.leaves()[at].low, map.high(at))).len() > 1 {
+        picked.push("oldest with others of its leaf");
+    }
+    merge_facts(map, oldest, picked)
+}
+
+fn merge_facts(map: &Map, address: u32, picked: Vec<&'static str>) -> Facts {
     let leaves = map.leaves().to_vec();
     let at = leaves.iter().rposition(|leaf| leaf.low <= address).expect("the first starts at 0");
     let range = (leaves[at].low, map.high(at));
@@ -186,5 +213,6 @@ fn merge_facts(map: &Map, address: u32) -> Facts {
         .clone()
         .filter_map(|(&at, entry)| entry.pending.map(|pending| (at, pending.write, indexed(at))));
     let locked = entries.filter_map(|(&at, entry)| entry.lock.map(|holder| (at, holder)));
-    Facts::Merge { at, leaves, pending: pending.collect(), locked: locked.collect(), range }
+    let (pending, locked) = (pending.collect(), locked.collect());
+    Facts::Merge { picked, at, leaves, pending, locked, range }
 }

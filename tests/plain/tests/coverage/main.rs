@@ -1,6 +1,7 @@
 //! The profiles together reach every refusal, limit, leaf action and end of the
 //! address range, and the claim holds on each of their scripts.
 
+mod ages;
 mod facts;
 mod names;
 mod observe;
@@ -11,7 +12,7 @@ use plain::step::{run, Buffers, Step};
 use plain::{claim, engine, generate, script};
 
 /// Letter and the refusals listed for it, but for 15.
-const REFUSALS: [(char, &[u8]); 10] = [
+const REFUSALS: [(char, &[u8]); 11] = [
     ('B', &[0, 1, 3]),
     ('R', &[0, 1, 2, 4, 6]),
     ('S', &[0, 1, 2, 4, 5, 6, 8]),
@@ -22,6 +23,7 @@ const REFUSALS: [(char, &[u8]); 10] = [
     ('I', &[0, 1, 2, 4]),
     ('A', &[0, 1, 2]),
     ('M', &[0]),
+    ('T', &[0]),
 ];
 
 /// Letter, answer and the stages at which it must have come up.
@@ -38,7 +40,7 @@ const STAGES: [(&str, &str); 10] = [
     ("A 2", "Free"),
 ];
 
-const MEETINGS: [&str; 70] = [
+const MEETINGS: [&str; 78] = [
     "read fills the read set",
     "read beyond the read set",
     "own read at a full read set",
@@ -97,6 +99,14 @@ const MEETINGS: [&str; 70] = [
     "record dropped under lock",
     "merge under lock",
     "removal of an absent address merged",
+    "oldest of none",
+    "oldest with others of its leaf",
+    "oldest is a removal",
+    "oldest by install",
+    "oldest by its first write",
+    "oldest since the last merge",
+    "oldest by address",
+    "oldest and not youngest",
     "R at the first address",
     "R at the last address",
     "S at the first address",
@@ -169,8 +179,22 @@ fn ordinary_grants_every_kind_often() {
             granted[script::letter(step) as usize] += 1;
         }
     }
-    for letter in b"BRSPDLVIAM" {
+    for letter in b"BRSPDLVIAMT" {
         assert!(granted[*letter as usize] >= 10_000, "{}", *letter as char);
+    }
+}
+
+/// Where every merge picks its own leaf, each reason to pick comes up often, and
+/// many leaves wait.
+#[test]
+fn turns_has_every_pick() {
+    let profile = find("turns", 0).unwrap();
+    let steps = generate::script(1, 45_000, profile);
+    assert!(!steps.iter().any(|step| matches!(step, Step::Merge { .. })));
+    let mut seen = Seen::new();
+    observe(&steps, &mut seen);
+    for name in MEETINGS.iter().filter(|name| name.starts_with("oldest")) {
+        assert!(seen.get(*name).is_some_and(|&times| times >= 20), "{name}: {seen:?}");
     }
 }
 

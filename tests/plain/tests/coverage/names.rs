@@ -44,6 +44,10 @@ impl Meeting {
             }
             Facts::Lock { .. } => self.lock_names(answer),
             Facts::Validate { .. } => self.validate_names(observer, answer),
+            Facts::Install { number, written } => {
+                observer.ages.install(*number, written);
+                Vec::new()
+            }
             Facts::Merge { .. } => self.merge_names(observer, answer),
         }
     }
@@ -125,14 +129,18 @@ impl Meeting {
     }
 
     fn merge_names(&self, observer: &mut Observer, answer: Answer) -> Vec<String> {
-        let Facts::Merge { at, leaves, pending, locked, range } = &self.facts else {
+        let Facts::Merge { picked, at, leaves, pending, locked, range } = &self.facts else {
             return vec![];
         };
         let map = observer.engine.map();
         assert_eq!(answer, Answer::Merged(pending.len()));
+        assert_eq!(observer.ages.between(*range).len(), pending.len());
+        observer.ages.merge(*range);
+        let mut names: Vec<String> = picked.iter().map(|name| name.to_string()).collect();
         if pending.is_empty() {
             assert_eq!(map.leaves(), leaves);
-            return vec!["merge of none".into()];
+            names.push("merge of none".into());
+            return names;
         }
         let records: Vec<u32> =
             map.indexed_between(range.0, range.1).iter().map(|record| record.address).collect();
@@ -142,7 +150,7 @@ impl Meeting {
         };
         let under_lock: Vec<_> = locked.iter().copied().filter(|&(to, _)| dropped(to)).collect();
         let count = records.len();
-        let names = chosen(&[
+        names.extend(chosen(&[
             (count == 0 && *at == 0, "first leaf emptied"),
             (count == 0 && *at == 1, "leaf joins the first"),
             (count == 0 && *at > 1, "leaf joins another"),
@@ -158,7 +166,7 @@ impl Meeting {
                 pending.iter().any(|&(_, write, was)| !was && write == Write::Delete),
                 "removal of an absent address merged",
             ),
-        ]);
+        ]));
         observer.dropped.extend(under_lock);
         names
     }

@@ -1,5 +1,6 @@
 //! An engine that runs along and counts what its steps meet, by name.
 
+use crate::ages::Ages;
 use crate::facts::{Facts, Meeting};
 use crate::names::check_entries;
 use plain::engine::{Engine, WORKERS};
@@ -13,7 +14,9 @@ pub struct Observer {
     buffers: Buffers,
     /// Records that a merge dropped while a worker held their lock.
     pub dropped: HashSet<(u32, usize)>,
-    numbers: [u32; WORKERS],
+    pub ages: Ages,
+    /// The latest commit number of each worker.
+    pub numbers: [u32; WORKERS],
     largest_installed: u32,
 }
 

@@ -4,7 +4,7 @@ use borrow.Author.Needs.{needs}
 use Rattle.spec.specs.Steps.{isChecked}
 use Rattle.transactions.specs.Admits.{Admitted}
 use Rattle.transactions.specs.CoreLaws.{ready-writable}
-use Rattle.commits.specs.Finishes.{install-refused, install-can, install-granted}
+use Rattle.commits.specs.Finishes.{install-refused, install-can, install-fits, install-granted}
 use Rattle.commits.proofs.installs.install.Statement.{statement}
 use Rattle.commits.proofs.installs.install.Tie as tie
 
@@ -22,7 +22,7 @@ install-transaction-requires c κs =
     let t = c .before .before in
     let k = t .before .before .before .before .pre in
     let e = subst (Admitted isChecked _ _) (t .enum-told .given .1) (t .before .before .checked .ensures) in
-    (k .stored .map, (e .inside, (ready-writable k .set _ (e .inside), install-can _ k _ e)))
+    (k .stored .map, (e .inside, (ready-writable k .set _ (e .inside), (install-can _ k _ e, install-fits k))))
 
 returns : tie.Need-returns
 returns c =

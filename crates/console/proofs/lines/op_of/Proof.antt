@@ -1,7 +1,7 @@
 -- `lines::op_of` meets its contract, line by line.
-use borrow.Author.Needs.{needs}
 use mathlib.Core.Path.{refl}
 use Rattle.console.specs.Replies.{asks}
+use borrow.Author.Needs.{needs}
 use Rattle.console.proofs.lines.op_of.Statement.{statement}
 use Rattle.console.proofs.lines.op_of.Tie as tie
 
@@ -35,6 +35,9 @@ enum-known-l-9 c = search needs
 enum-known-l-10 : tie.Need-enum-known-l-10
 enum-known-l-10 c = search needs
 
+enum-told : tie.Need-enum-told
+enum-told c = search needs
+
 returns : tie.Need-returns
 returns c = asks (c .before .l .given .1) refl
 
@@ -65,6 +68,9 @@ returns-9 c = asks (c .before .l9 .given .1) refl
 returns-10 : tie.Need-returns-10
 returns-10 c = asks (c .before .l10 .given .1) refl
 
+returns-11 : tie.Need-returns-11
+returns-11 c = asks (c .enum-told .given .1) refl
+
 pub op-of-spec : {M : Type 1} → statement M
 op-of-spec =
     tie.close
@@ -79,6 +85,7 @@ op-of-spec =
     enum-known-l-8
     enum-known-l-9
     enum-known-l-10
+    enum-told
     returns
     returns-2
     returns-3
@@ -88,4 +95,5 @@ op-of-spec =
     returns-7
     returns-8
     returns-9
-    returns-10)
+    returns-10
+    returns-11)

@@ -35,6 +35,15 @@ merge-at-requires c κs = search needs
 of-merge-requires : tie.Need-of-merge-requires
 of-merge-requires c κs = search needs
 
+enum-told : tie.Need-enum-told
+enum-told c = search needs
+
+merge-oldest-requires : tie.Need-merge-oldest-requires
+merge-oldest-requires c κs = search needs
+
+of-merge-requires-2 : tie.Need-of-merge-requires-2
+of-merge-requires-2 c κs = search needs
+
 returns : tie.Need-returns
 returns c = performs-quiet _ _ (quiet-plain _ (c .before .begin .result) (λ m n. refl) (c .before .before .before .op .given .1) (c .of-plain .ensures) (c .before .begin .ensures .refines-so _ _ (c .before .before .before .before .before .before .before .pre)))
 
@@ -53,6 +62,9 @@ returns-3 c = performs-quiet _ _ (quiet-as (c .before .before .before .before .b
 returns-4 : tie.Need-returns-4
 returns-4 c = performs-quiet _ _ (quiet-merge _ (c .before .merge-at .result) (λ m n. refl) (c .before .before .before .before .before .before .before .before .before .op4 .given .1) (c .of-merge .ensures) (c .before .merge-at .ensures))
 
+returns-5 : tie.Need-returns-5
+returns-5 c = performs-quiet _ _ (quiet-merge _ (c .before .merge-oldest .result) (λ m n. refl) (c .before .before .before .before .before .before .before .before .enum-told .given .1) (c .of-merge2 .ensures) (c .before .merge-oldest .ensures))
+
 pub perform-spec : {M : Type 1} → statement M
 perform-spec =
     tie.close
@@ -67,9 +79,13 @@ perform-spec =
     enum-known-op-4
     merge-at-requires
     of-merge-requires
+    enum-told
+    merge-oldest-requires
+    of-merge-requires-2
     returns
     same-length
     same-length-2
     returns-2
     returns-3
-    returns-4)
+    returns-4
+    returns-5)

@@ -1,16 +1,12 @@
 -- `map::entries::terms` meets its contract: what the callees answer, of what the indexlet says and of c.
 use mathlib.Core.Path.{ap, sym, _∙_}
 use mathlib.Core.Bool.{Bool}
-use Rattle.spec.specs.Slots.{isIdle}
 use Rattle.indexlet.specs.Words.{contentIn}
 use borrow.Author.Needs.{needs}
-use Rattle.map.specs.Entries.{pendingTerm, outsideTerm}
+use Rattle.map.specs.Entries.{outsideTerm}
 use Rattle.map.specs.EntryLaws.{same-truth, balance-still, balance-moved, term-most}
 use Rattle.map.proofs.entries.terms.Statement.{statement}
 use Rattle.map.proofs.entries.terms.Tie as tie
-
-look-up-requires : tie.Need-look-up-requires
-look-up-requires c κs = search needs
 
 find-leaf-requires : tie.Need-find-leaf-requires
 find-leaf-requires c κs = search needs
@@ -29,13 +25,12 @@ idle-requires-2 c κs = search needs
 
 returns : tie.Need-returns
 returns c =
-    let e = c .before .before .before .before .before .before .before .look-up .ensures .content in
     record {
       place = c .before .before .before .before .before .find-leaf .ensures;
       pend = c .before .before .before .before .waits .ensures;
-      unpend = c .before .before .before .waits2 .ensures ∙ ap pendingTerm (sym e);
+      unpend = c .before .before .before .waits2 .ensures;
       join-most = search needs;
-      balance = balance-still _ _ _ (ap isIdle e ∙ sym (c .before .before .idle .ensures) ∙ same-truth _ _ (c .if1 .taken) ∙ c .before .idle2 .ensures);
+      balance = balance-still _ _ _ (sym (c .before .before .idle .ensures) ∙ same-truth _ _ (c .if1 .taken) ∙ c .before .idle2 .ensures);
     }
 
 lacks-requires : tie.Need-lacks-requires
@@ -49,15 +44,14 @@ outside-term-requires-2 c κs = search needs
 
 returns-2 : tie.Need-returns-2
 returns-2 c =
-    let s = c .before .before .before .before .before .before .before .before .before .before .before in
-    let found = c .before .before .before .before .before .before .before .before .before .before .look-up in
+    let s = c .before .before .before .before .before .before .before .before .before in
     let n = c .before .before .lacks .ensures in
     let join = c .before .outside-term .ensures ∙ ap (λ (b : Bool). outsideTerm b (contentIn (s .args .c))) n in
-    let leave = c .outside-term2 .ensures ∙ ap (λ (b : Bool). outsideTerm b (contentIn (found .result .content))) n ∙ ap (outsideTerm _) (sym (found .ensures .content)) in
+    let leave = c .outside-term2 .ensures ∙ ap (λ (b : Bool). outsideTerm b (contentIn (s .args .old))) n in
     record {
       place = c .before .before .before .before .before .before .before .before .find-leaf .ensures;
       pend = c .before .before .before .before .before .before .before .waits .ensures;
-      unpend = c .before .before .before .before .before .before .waits2 .ensures ∙ ap pendingTerm (sym (found .ensures .content));
+      unpend = c .before .before .before .before .before .before .waits2 .ensures;
       join-most = term-most _ _ _ join;
       balance = balance-moved _ _ _ _ _ join leave;
     }
@@ -66,7 +60,6 @@ pub terms-spec : {M : Type 1} → statement M
 terms-spec =
     tie.close
     (tie.spec
-    look-up-requires
     find-leaf-requires
     waits-requires
     waits-requires-2

@@ -18,7 +18,7 @@ with-lock-requires : tie.Need-with-lock-requires
 with-lock-requires c κs = search needs
 
 set-content-requires : tie.Need-set-content-requires
-set-content-requires c κs = let s = c .before .before .before .before .before .before .before in (s .pre .0, fits (s .pre .1 .1 .2))
+set-content-requires c κs = let s = c .before .before .before .before .before .before .before in (s .pre .0, (c .before .before .before .before .look-up .ensures .content, fits (s .pre .1 .1 .2)))
 
 returns : tie.Need-returns
 returns c = let s = c .before .before .before .before .before .before .before .before in said-as (c .set-content .ensures) (lock-said _ _ _ _ _ (c .before .before .before .before .before .before .before .key-at .ensures) (c .before .before .before .before .before .look-up .ensures .content) (s .args .w) (c .before .before .before .with-lock .ensures))

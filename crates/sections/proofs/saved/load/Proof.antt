@@ -28,6 +28,9 @@ array-read-t15 c = search needs
 array-read-t18 : tie.Need-array-read-t18
 array-read-t18 c = search needs
 
+array-read-t21 : tie.Need-array-read-t21
+array-read-t21 c = search needs
+
 returns : tie.Need-returns
 returns c = core-read _ (c .before .before .before .workers-in .ensures) (c .before .sizes-in .ensures)
 
@@ -43,4 +46,5 @@ load-spec =
     element-copy-out-row
     array-read-t15
     array-read-t18
+    array-read-t21
     returns)

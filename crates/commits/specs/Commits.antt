@@ -53,13 +53,13 @@ new-map l l' g c z m e =
     })
     e
 
-pub state-both : (l l' : Lent) (g : Logs) (c : Core) (w : ℕ) (x : Worker) (z : Sizes) (m : MapState) → mapOf l' z ≡ m
+state-both : (l l' : Lent) (g : Logs) (c : Core) (w : ℕ) (x : Worker) (z : Sizes) (m : MapState) → mapOf l' z ≡ m
     → stateOf l' g (withBoth c w x z) ≡ withWorker (withMap (stateOf l g c) m) w (modelWorker g x w)
 state-both l l' g c w x z m e =
     state-with l' g g (record { workers = c .workers; sizes = z; counters = c .counters }) w x (same-logs g w)
     ∙ ap (λ (σ : State). withWorker σ w (modelWorker g x w)) (new-map l l' g c z m e)
 
-pub stored-both : (l l' : Lent) (g : Logs) (c : Core) (w : ℕ) (x : Worker) (z : Sizes) (m : MapState) → w < standard .workers
+stored-both : (l l' : Lent) (g : Logs) (c : Core) (w : ℕ) (x : Worker) (z : Sizes) (m : MapState) → w < standard .workers
     → MapBecomes l' z (c .counters .version) m → m .leaves ≡ mapOf l (c .sizes) .leaves → Within x → LeavesKept c w x
     → Stored l g c → Stored l' g (withBoth c w x z)
 stored-both l l' g c w x z m h b e q k t =

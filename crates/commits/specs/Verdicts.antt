@@ -49,15 +49,15 @@ use Rattle.commits.specs.Answers.{validateIn}
 -- ---- the tests, in their order
 
 module _ (a b c : Bool) where
-  pub first-changed : a ≡ true → some Changed ≡ firstOf a b c
+  first-changed : a ≡ true → some Changed ≡ firstOf a b c
   unfolding firstOf
   first-changed e = sym (cause-holds a Changed _ e)
 
-  pub first-locked : a ≡ false → b ≡ true → some UnderLock ≡ firstOf a b c
+  first-locked : a ≡ false → b ≡ true → some UnderLock ≡ firstOf a b c
   unfolding firstOf
   first-locked e f = sym (cause-fails a Changed _ e ∙ cause-holds b UnderLock _ f)
 
-  pub first-phantom : a ≡ false → b ≡ false → c ≡ true → some Phantom ≡ firstOf a b c
+  first-phantom : a ≡ false → b ≡ false → c ≡ true → some Phantom ≡ firstOf a b c
   unfolding firstOf
   first-phantom e f g = sym (cause-fails a Changed _ e ∙ cause-fails b UnderLock _ f ∙ cause-holds c Phantom [] g)
 

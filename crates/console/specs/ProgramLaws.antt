@@ -40,7 +40,7 @@ turned b h =
     (λ e. e)
     (cases (same b 10))
 
-pub clear-first : (a b : List ℕ) → has 10 (a ++ b) ≡ false → has 10 a ≡ false
+clear-first : (a b : List ℕ) → has 10 (a ++ b) ≡ false → has 10 a ≡ false
 clear-first a b h = ⊎-elim (λ e. clash (has-append 10 a b ∙ (rw e)) h) (λ e. e) (cases (has 10 a))
 
 pub clear-last : (a b : List ℕ) → has 10 (a ++ b) ≡ false → has 10 b ≡ false

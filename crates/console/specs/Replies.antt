@@ -81,7 +81,7 @@ rows-none : (ks vs : List ℕ) → rowsIn 0 ks vs ≡ []
 unfolding rowsIn tab tabFrom
 rows-none ks vs = refl
 
-pub rows-pairs : (n : ℕ) (ks vs : List ℕ) → n ≤ length ks → n ≤ length vs
+rows-pairs : (n : ℕ) (ks vs : List ℕ) → n ≤ length ks → n ≤ length vs
     → pairs (λ (p : Payload). p .value) (rowsIn n ks vs) ≡ pairsOf (take n ks) (take n vs)
 unfolding pairs pairsOf
 rows-pairs zero ks vs h g = ap (pairs (λ (p : Payload). p .value)) (rows-none ks vs)

@@ -82,7 +82,7 @@ pub record Quiet (l : Lent) (g : Logs) (c : Core) (o : Op) (l' : Lent) (g' : Log
       (ks vs : List ℕ) → Refines l g c (stepIn o (length ks) (length vs)) l' g' (r .core) (replyIn (r .reply) ks vs)
   pub places : placesIn (r .reply) ≡ 0
 
--- ---- the replies of the ten entries
+-- ---- the replies of the eleven entries
 
 abbrev pub plainReply : Plain → Reply
 plainReply plain.Granted = reply.Granted

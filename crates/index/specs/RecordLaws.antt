@@ -68,7 +68,7 @@ module _ (rows rows' : RecordRows) (all : length rows ≡ recordPlaces) (n p : �
 -- ---- what they are to the model
 
 module _ (rows : RecordRows) (n k p : ℕ) (held : RecordsSorted rows n) (at : AtPlace rows n k p) where
-  pub holds-assign : (rows' : RecordRows) (n' : ℕ) (o : Option Record) → n' ≤ recordPlaces → recordsOf rows' n' ≡ assign k o (recordsOf rows n)
+  holds-assign : (rows' : RecordRows) (n' : ℕ) (o : Option Record) → n' ≤ recordPlaces → recordsOf rows' n' ≡ assign k o (recordsOf rows n)
       → RecordsAre rows' n' (assign k o (recordsOf rows n))
   holds-assign rows' n' o h e =
       record { held = record { room = h; rising = subst (Rising {A = Record}) (sym e) (rising-assign k o (recordsOf rows n) (held .rising)) }; same = e }

@@ -19,16 +19,16 @@ unfoldable pub probed : List (Row Record) → ℕ → ℕ → ℕ → ℕ
 probed rs k base step =
     pick (both (atMost (base + step) (length rs)) (less (getD rs (base + step - 1) noRow .key) k)) (base + step) base
 
-pub probe-taken : (rs : List (Row Record)) (k base step : ℕ) → base + step ≤ length rs → getD rs (base + step - 1) noRow .key < k
+probe-taken : (rs : List (Row Record)) (k base step : ℕ) → base + step ≤ length rs → getD rs (base + step - 1) noRow .key < k
     → probed rs k base step ≡ base + step
 unfolding probed
 probe-taken rs k base step h l = rw (atMost-yes {m = base + step} {n = length rs} h, less-yes {m = getD rs (base + step - 1) noRow .key} {n = k} l)
 
-pub probe-short : (rs : List (Row Record)) (k base step : ℕ) → length rs < base + step → probed rs k base step ≡ base
+probe-short : (rs : List (Row Record)) (k base step : ℕ) → length rs < base + step → probed rs k base step ≡ base
 unfolding probed
 probe-short rs k base step h = rw (atMost-no {m = base + step} {n = length rs} h)
 
-pub probe-passed : (rs : List (Row Record)) (k base step : ℕ) → base + step ≤ length rs → k ≤ getD rs (base + step - 1) noRow .key
+probe-passed : (rs : List (Row Record)) (k base step : ℕ) → base + step ≤ length rs → k ≤ getD rs (base + step - 1) noRow .key
     → probed rs k base step ≡ base
 unfolding probed
 probe-passed rs k base step h l = rw (atMost-yes {m = base + step} {n = length rs} h, less-no {m = getD rs (base + step - 1) noRow .key} {n = k} l)

@@ -22,7 +22,7 @@ use Rattle.index.specs.LeafViews.{leaf, paired-append, paired-take, pair
 abbrev pub fresh : ℕ → ℕ → ℕ
 fresh v x = v + 1 + x
 
-pub fresh-paired : (v : ℕ) (lows : List ℕ) → freshLeaves v lows ≡ paired lows (tab (fresh v) (length lows))
+fresh-paired : (v : ℕ) (lows : List ℕ) → freshLeaves v lows ≡ paired lows (tab (fresh v) (length lows))
 unfolding freshLeaves paired
 fresh-paired v [] = refl
 fresh-paired v (l ∷ ls) =
@@ -81,7 +81,7 @@ module _ (v a p : ℕ) (L W ks : List ℕ) (e : length L ≡ length W) (h : p < 
   back = length-drop (suc p) L ∙ ap (λ (n : ℕ). n - suc p) e ∙ sym (length-drop (suc p) W)
 
   -- a leaf replaced by leaves with the lows N and fresh versions
-  pub settle-fresh : (N : List ℕ) → (p ≡ 0) ⊎ (1 ≤ length ks) → newLows standard (getD L p 0) ks ≡ N
+  settle-fresh : (N : List ℕ) → (p ≡ 0) ⊎ (1 ≤ length ks) → newLows standard (getD L p 0) ks ≡ N
       → paired (take p L ++ (N ++ drop (suc p) L)) (take p W ++ (tab (fresh v) (length N) ++ drop (suc p) W)) ≡ settle standard v (paired L W) a ks
   unfolding settle
   settle-fresh N c n =
@@ -103,7 +103,7 @@ module _ (v a p : ℕ) (L W ks : List ℕ) (e : length L ≡ length W) (h : p < 
       first (inr q) = inr q
 
   -- a leaf left with no address, joined to its left neighbour
-  pub settle-joined : 0 < p → length ks ≡ 0
+  settle-joined : 0 < p → length ks ≡ 0
       → paired (take p L ++ drop (suc p) L) (set (take p W) (p - 1) (v + 1) ++ drop (suc p) W) ≡ settle standard v (paired L W) a ks
   unfolding settle
   settle-joined i k =

@@ -19,7 +19,7 @@ pub length-rows : (rows : RecordRows) → length (rowsOf rows) ≡ recordPlaces
 unfolding rowsOf
 length-rows rows = length-tab (rowAt rows) recordPlaces
 
-pub row-read : (rows : RecordRows) (i : ℕ) → i < recordPlaces → getD (rowsOf rows) i noRow ≡ rowAt rows i
+row-read : (rows : RecordRows) (i : ℕ) → i < recordPlaces → getD (rowsOf rows) i noRow ≡ rowAt rows i
 unfolding rowsOf
 row-read rows i h = getD-tab (rowAt rows) recordPlaces i noRow h
 
@@ -47,7 +47,7 @@ pub length-records : (rows : RecordRows) (n : ℕ) → n ≤ recordPlaces → le
 unfolding recordsOf
 length-records rows n h = let l : length (rowsOf rows) ≡ recordPlaces = length-rows rows in length-take-le n (rowsOf rows) (omega arith)
 
-pub record-read : (rows : RecordRows) (n i : ℕ) → i < n → getD (recordsOf rows n) i noRow ≡ getD (rowsOf rows) i noRow
+record-read : (rows : RecordRows) (n i : ℕ) → i < n → getD (recordsOf rows n) i noRow ≡ getD (rowsOf rows) i noRow
 unfolding recordsOf
 record-read rows n i h = getD-take n (rowsOf rows) i noRow h
 

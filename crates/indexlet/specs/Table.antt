@@ -14,7 +14,7 @@ abbrev pub table : List ℕ
 table = tab tableEntry slotCount
 
 -- entry i is `tableEntry i`
-pub table-at : (i : ℕ) → i < slotCount → getD table i 0 ≡ tableEntry i
+table-at : (i : ℕ) → i < slotCount → getD table i 0 ≡ tableEntry i
 table-at i h = getD-tab tableEntry slotCount i 0 h
 
 pub table-less : (i : ℕ) → i < slotCount → getD table i 0 < slotCount
@@ -43,7 +43,7 @@ table-back i h = at-place (λ (i : ℕ). tableBack (tableEntry i)) (λ (i : ℕ)
 pub table-onto : (y : ℕ) → y < slotCount → tableEntry (tableBack y) ≡ y
 table-onto y h = at-place (λ (y : ℕ). tableEntry (tableBack y)) (λ (y : ℕ). y) back-and-there y h
 
-pub mix-less : (b h : ℕ) → b < slotCount → h < slotCount → bitXor b h < slotCount
+mix-less : (b h : ℕ) → b < slotCount → h < slotCount → bitXor b h < slotCount
 mix-less b h p q = xor-lt 8 b h p q
 
 -- ---- home slots
@@ -66,19 +66,19 @@ step1 a = getD table (bitXor (a / 256 % 256) (step2 a)) 0
 abbrev pub step0 : ℕ → ℕ
 step0 a = getD table (bitXor (a % 256) (step1 a)) 0
 
-pub step3-less : (a : ℕ) → a < 2 ^ 32 → step3 a < slotCount
+step3-less : (a : ℕ) → a < 2 ^ 32 → step3 a < slotCount
 step3-less a h = table-less (a / 16777216) (omega arith)
 
 pub mix2-less : (a : ℕ) → a < 2 ^ 32 → bitXor (a / 65536 % 256) (step3 a) < slotCount
 mix2-less a h = mix-less (a / 65536 % 256) (step3 a) (omega arith) (step3-less a h)
 
-pub step2-less : (a : ℕ) → a < 2 ^ 32 → step2 a < slotCount
+step2-less : (a : ℕ) → a < 2 ^ 32 → step2 a < slotCount
 step2-less a h = table-less (bitXor (a / 65536 % 256) (step3 a)) (mix2-less a h)
 
 pub mix1-less : (a : ℕ) → a < 2 ^ 32 → bitXor (a / 256 % 256) (step2 a) < slotCount
 mix1-less a h = mix-less (a / 256 % 256) (step2 a) (omega arith) (step2-less a h)
 
-pub step1-less : (a : ℕ) → a < 2 ^ 32 → step1 a < slotCount
+step1-less : (a : ℕ) → a < 2 ^ 32 → step1 a < slotCount
 step1-less a h = table-less (bitXor (a / 256 % 256) (step2 a)) (mix1-less a h)
 
 pub mix0-less : (a : ℕ) → a < 2 ^ 32 → bitXor (a % 256) (step1 a) < slotCount

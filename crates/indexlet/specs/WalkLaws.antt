@@ -42,13 +42,13 @@ pub record Going (f : ℕ → ℕ) (old : SlotRows) (h : ℕ) (ws : SlotRows) (d
   pub sized : Sized ws
   pub view : slotsOf ws ≡ countPassed f (slotsOf old) h d
 
-pub going-start : (f : ℕ → ℕ) (ws : SlotRows) (h : ℕ) → Sized ws → Going f ws h ws 0
+going-start : (f : ℕ → ℕ) (ws : SlotRows) (h : ℕ) → Sized ws → Going f ws h ws 0
 unfolding countPassed
 going-start f ws h z = record { sized = z; view = refl }
 
 module _ (f : ℕ → ℕ) (old : SlotRows) (h : ℕ) (ws : SlotRows) (d : ℕ) (g : Going f old h ws d) (hb : h < slotCount) (s : SlotWords) (e : s ≡ rowAt ws ((h + d) % slotCount)) where
   -- the row that is read is that of the slots at the start
-  pub going-ahead : d < slotCount → slotIn s ≡ slotAt (slotsOf old) (h + d)
+  going-ahead : d < slotCount → slotIn s ≡ slotAt (slotsOf old) (h + d)
   going-ahead db =
       examined-slot ws (h + d) s e
       ∙ ap (λ (l : List Slot). slotAt l (h + d)) (g .view)
@@ -84,7 +84,7 @@ module _ (f : ℕ → ℕ) (old : SlotRows) (h : ℕ) (ws : SlotRows) (d : ℕ) 
       new = record { key = s .key; content = s .content; overflow = n }
 
   -- the slot that is reached says something else
-  pub going-ends : (k : ℕ) (c : ContentWords) → k < 2 ^ 32 → (us : SlotRows)
+  going-ends : (k : ℕ) (c : ContentWords) → k < 2 ^ 32 → (us : SlotRows)
       → us ≡ store ws ((h + d) % slotCount) (record { key = k; content = c; overflow = s .overflow })
       → SlotsBecome us (withEntry (countPassed f (slotsOf old) h d) (h + d) (kept k (contentIn c)))
   unfolding withEntry setSlot slotIn

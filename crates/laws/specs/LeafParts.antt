@@ -38,7 +38,7 @@ unfolding LowsFrom
 lows-weaken [] h f = tt
 lows-weaken (l ∷ ls) h f = (le-trans h (f .0), f .1)
 
-pub lows-bound : {lo : ℕ} (xs : List Leaf) (m : Leaf) (ys : List Leaf) → LowsFrom lo (xs ++ (m ∷ ys)) → lo ≤ m .low
+lows-bound : {lo : ℕ} (xs : List Leaf) (m : Leaf) (ys : List Leaf) → LowsFrom lo (xs ++ (m ∷ ys)) → lo ≤ m .low
 unfolding LowsFrom
 lows-bound [] m ys f = f .0
 lows-bound {lo} (x ∷ xs) m ys f =

@@ -42,14 +42,14 @@ pub version-old : {v : ℕ} {ls : List Leaf} → GoodLeaves v ls → (k : ℕ) �
 version-old {ls} g k = g .old (versionAt ls k) (version-live g k)
 
 -- where a version stands
-pub record Standing (u : ℕ) (ls : List Leaf) : Type 0 where
+record Standing (u : ℕ) (ls : List Leaf) : Type 0 where
   pub before : List Leaf
   pub leaf : Leaf
   pub after : List Leaf
   pub parts : ls ≡ before ++ (leaf ∷ after)
   pub version : leaf .version ≡ u
 
-pub standing : (u : ℕ) (ls : List Leaf) → live ls u ≡ true → Standing u ls
+standing : (u : ℕ) (ls : List Leaf) → live ls u ≡ true → Standing u ls
 standing u [] e = clash e (live-nil u)
 standing u (l ∷ ls) e = ⊎-elim (λ q. record { before = []; leaf = l; after = ls; parts = refl; version = q }) (λ r. later (standing u ls r)) (live-cons l ls u e)
   where
@@ -138,7 +138,7 @@ mem-live : {l : Leaf} (ls : List Leaf) (u : ℕ) → l .version ≡ u → List·
 mem-live (m ∷ ms) u q (List·Memᴰ·head e) = live-head m ms u (sym (ap (λ (x : Leaf). x .version) e) ∙ q)
 mem-live (m ∷ ms) u q (List·Memᴰ·tail n) = live-later m ms u (mem-live ms u q n)
 
-pub meeting-live : {v : ℕ} {ls : List Leaf} → GoodLeaves v ls → (lo hi u : ℕ) → List·Memᴰ u (meeting ls lo hi) → live ls u ≡ true
+meeting-live : {v : ℕ} {ls : List Leaf} → GoodLeaves v ls → (lo hi u : ℕ) → List·Memᴰ u (meeting ls lo hi) → live ls u ≡ true
 unfolding meeting
 meeting-live {v} {ls} g lo hi u (List·Memᴰ·head e) = ap (live ls) e ∙ version-live g lo
 meeting-live {v} {ls} g lo hi u (List·Memᴰ·tail m) =

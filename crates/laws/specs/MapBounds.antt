@@ -78,17 +78,17 @@ fresh-bounded s =
 -- ---- counts of entries
 
 -- an address is waiting or locked
-abbrev pub Busy : List Slot → ℕ → Type 0
+abbrev Busy : List Slot → ℕ → Type 0
 Busy ss k = isIdle (contentOf ss k) ≡ false
 
 pub entry-busy : {bytes : ℕ} {ss : List Slot} → Good bytes ss → (k : ℕ) → has k (keys (entries ss)) ≡ not (isIdle (contentOf ss k))
 entry-busy {bytes} {ss} g k = has-keys (entries ss) k ∙ present-content g k
 
-pub has-busy : {bytes : ℕ} {ss : List Slot} → Good bytes ss → (k : ℕ) → has k (keys (entries ss)) ≡ true → Busy ss k
+has-busy : {bytes : ℕ} {ss : List Slot} → Good bytes ss → (k : ℕ) → has k (keys (entries ss)) ≡ true → Busy ss k
 has-busy {bytes} {ss} g k e =
     ⊎-elim (λ t. clash e (entry-busy g k ∙ ap not t)) (λ t. t) (cases (isIdle (contentOf ss k)))
 
-pub busy-has : {bytes : ℕ} {ss : List Slot} → Good bytes ss → (k : ℕ) → Busy ss k → has k (keys (entries ss)) ≡ true
+busy-has : {bytes : ℕ} {ss : List Slot} → Good bytes ss → (k : ℕ) → Busy ss k → has k (keys (entries ss)) ≡ true
 busy-has g k e = entry-busy g k ∙ ap not e
 
 -- addresses that all stand in a list are no more than it has different numbers
@@ -188,7 +188,7 @@ install-bounded {s} {v} {m} b n t ws i = fewer-bounded b _ (install-good s n t m
 -- ---- merge
 
 -- the map once the entries have entered the index, before the leaves settle
-abbrev pub mergedWith : Settings → MapState → List (Row Content) → MapState
+abbrev mergedWith : Settings → MapState → List (Row Content) → MapState
 mergedWith s m es = each (mergeEntry (s .bytes)) m es
 
 module _ {s : Settings} {v : ℕ} {m : MapState} (b : Bounded s v m) (es : List (Row Content)) where
@@ -236,7 +236,7 @@ module _ {s : Settings} {v : ℕ} {m : MapState} (b : Bounded s v m) (es : List 
       (b .addresses)
 
 -- the entries that merge have entries, each
-pub merging-entered : (m : MapState) (a k : ℕ) → has k (keys (merging m a)) ≡ true → has k (keys (entries (m .slots))) ≡ true
+merging-entered : (m : MapState) (a k : ℕ) → has k (keys (merging m a)) ≡ true → has k (keys (entries (m .slots))) ≡ true
 unfolding merging
 merging-entered m a k e =
     let r = mem-keys (filter (mergesAt (m .leaves) a) (entries (m .slots))) (has-member k (keys (filter (mergesAt (m .leaves) a) (entries (m .slots)))) e) in

@@ -51,7 +51,7 @@ room-old {ss = ss} g k c h =
 -- ---- one address after the other
 
 -- what a list of changes makes of the content of j
-abbrev pub updated : {X : Type 0} → (X → ℕ) → (X → Content → Content) → List X → ℕ → Content → Content
+abbrev updated : {X : Type 0} → (X → ℕ) → (X → Content → Content) → List X → ℕ → Content → Content
 updated key g [] j c = c
 updated key g (x ∷ xs) j c = pick (same (key x) j) (g x c) (updated key g xs j c)
 
@@ -69,12 +69,12 @@ pub record Changes (bytes : ℕ) (X : Type 0) (f : List Slot → X → List Slot
       → (j : ℕ) (c : Content) → key x ≡ j → updated key g xs j (g x c) ≡ g x c
 
 module _ {bytes : ℕ} {X : Type 0} {f : List Slot → X → List Slot} {key : X → ℕ} {g : X → Content → Content} {Inv : List Slot → List X → Type 0} (h : Changes bytes X f key g Inv) where
-  pub each-good : (ss : List Slot) (xs : List X) → Good bytes ss → Inv ss xs → Good bytes (each f ss xs)
+  each-good : (ss : List Slot) (xs : List X) → Good bytes ss → Inv ss xs → Good bytes (each f ss xs)
   unfolding each
   each-good ss [] a i = a
   each-good ss (x ∷ xs) a i = each-good (f ss x) xs (h .good ss x xs a i) (h .rest ss x xs a i)
 
-  pub each-says : (ss : List Slot) (xs : List X) → Good bytes ss → Inv ss xs
+  each-says : (ss : List Slot) (xs : List X) → Good bytes ss → Inv ss xs
       → (j : ℕ) → contentOf (each f ss xs) j ≡ updated key g xs j (contentOf ss j)
   unfolding each
   each-says ss [] a i j = refl
@@ -96,7 +96,7 @@ abbrev pub LockRoom : List Slot → List ℕ → Type 0
 LockRoom ss ks = distinct (keys (entries ss) ++ ks) < slotCount
 
 -- a change at k gives no other address an entry
-pub entries-after : {bytes : ℕ} {ss : List Slot} → Good bytes ss → (k : ℕ) (c : Content) → Room ss k c
+entries-after : {bytes : ℕ} {ss : List Slot} → Good bytes ss → (k : ℕ) (c : Content) → Room ss k c
     → (j : ℕ) → has j (keys (entries (enter bytes ss k c))) ≡ true → (has j (keys (entries ss)) ≡ true) ⊎ (k ≡ j)
 entries-after {bytes} {ss} a k c r j e =
     ⊎-elim
@@ -145,7 +145,7 @@ lock-rest {bytes} {ss} a k ks c r l =
 lock-room : {bytes : ℕ} {ss : List Slot} → Good bytes ss → (k : ℕ) (ks : List ℕ) (c : Content) → LockRoom ss (k ∷ ks) → Room ss k c
 lock-room a k ks c l = fits (lt-of-le-of-lt (entry-count a (k ∷ ks)) l)
 
-pub updated-keys : (g : Content → Content) (ks : List ℕ) (j : ℕ) (c : Content)
+updated-keys : (g : Content → Content) (ks : List ℕ) (j : ℕ) (c : Content)
     → updated ident (λ (k : ℕ). g) ks j c ≡ pick (has j ks) (g c) c
 updated-keys g [] j c = sym (ap (λ (b : Bool). pick b (g c) c) (has-nil j))
 updated-keys g (k ∷ ks) j c =
@@ -298,7 +298,7 @@ abbrev pub writtenBy : ℕ → ℕ → Option Write → Content → Content
 writtenBy n t o c = maybe o c (λ (e : Write). writtenOver n t e c)
 
 -- the first write of an address stands: a write set has one
-pub updated-rows : (n t : ℕ) (ws : List (Row Write)) (j : ℕ) (c : Content) → updated rowKey (installedAs n t) ws j c ≡ writtenBy n t (look ws j) c
+updated-rows : (n t : ℕ) (ws : List (Row Write)) (j : ℕ) (c : Content) → updated rowKey (installedAs n t) ws j c ≡ writtenBy n t (look ws j) c
 updated-rows n t [] j c = unfold look in refl
 updated-rows n t (r ∷ ws) j c =
     ⊎-elim

@@ -35,11 +35,11 @@ module _ (bytes : ℕ) (m : MapState) (e : Row Content) (a : Good bytes (m .slot
       room-old a (e .key) (withoutPending (contentOf (m .slots) (e .key)))
       (λ i. unfold isIdle in rw (idle-holder (contentOf (m .slots) (e .key)) i))
 
-  pub merge-entry-good : Good bytes (mergeEntry bytes m e .slots)
+  merge-entry-good : Good bytes (mergeEntry bytes m e .slots)
   unfolding mergeEntry
   merge-entry-good = enter-good a room
 
-  pub merge-entry-says : (j : ℕ)
+  merge-entry-says : (j : ℕ)
       → contentOf (mergeEntry bytes m e .slots) j ≡ pick (same (e .key) j) (withoutPending (contentOf (m .slots) j)) (contentOf (m .slots) j)
   unfolding mergeEntry
   merge-entry-says j =
@@ -49,7 +49,7 @@ module _ (bytes : ℕ) (m : MapState) (e : Row Content) (a : Good bytes (m .slot
       (λ t. (rw t) ∙ sym (ap (λ (b : Bool). pick b (withoutPending (contentOf (m .slots) j)) (contentOf (m .slots) j)) t))
       (cases (same (e .key) j))
 
-  pub merge-entry-look : (j : ℕ) → look (mergeEntry bytes m e .records) j ≡ pick (same (e .key) j) (current m j) (look (m .records) j)
+  merge-entry-look : (j : ℕ) → look (mergeEntry bytes m e .records) j ≡ pick (same (e .key) j) (current m j) (look (m .records) j)
   unfolding mergeEntry
   merge-entry-look j =
       look-assign (e .key) (current m (e .key)) (m .records) j
@@ -58,16 +58,16 @@ module _ (bytes : ℕ) (m : MapState) (e : Row Content) (a : Good bytes (m .slot
       (λ t. (rw t) ∙ sym (ap (λ (b : Bool). pick b (current m j) (look (m .records) j)) t))
       (cases (same (e .key) j))
 
-  pub merge-entry-rising : Rising (m .records) → Rising (mergeEntry bytes m e .records)
+  merge-entry-rising : Rising (m .records) → Rising (mergeEntry bytes m e .records)
   unfolding mergeEntry
   merge-entry-rising f = rising-assign (e .key) (current m (e .key)) (m .records) f
 
-  pub merge-entry-holder : (j : ℕ) → contentOf (mergeEntry bytes m e .slots) j .holder ≡ contentOf (m .slots) j .holder
+  merge-entry-holder : (j : ℕ) → contentOf (mergeEntry bytes m e .slots) j .holder ≡ contentOf (m .slots) j .holder
   merge-entry-holder j =
       ap (λ (c : Content). c .holder) (merge-entry-says j)
       ∙ ⊎-elim (λ t. rw t) (λ t. rw t) (cases (same (e .key) j))
 
-  pub merge-entry-current : (j : ℕ) → current (mergeEntry bytes m e) j ≡ current m j
+  merge-entry-current : (j : ℕ) → current (mergeEntry bytes m e) j ≡ current m j
   merge-entry-current j =
       unfold current in
       ap (λ (p : Option Pending). maybe p (look (mergeEntry bytes m e .records) j) outcomeOf) (ap (λ (c : Content). c .pending) (merge-entry-says j))

@@ -37,7 +37,7 @@ older-true a b e =
     (λ t. inr (same-true (a .item) (b .item) (t .0), less-true (a .key) (b .key) (t .1)))
     (either-cases (less (a .item) (b .item)) (same (a .item) (b .item)) (less (a .key) (b .key)) e)
 
-pub older-yes : (a b : Row ℕ) → Before a b → older a b ≡ true
+older-yes : (a b : Row ℕ) → Before a b → older a b ≡ true
 unfolding older
 older-yes a b h =
     ⊎-elim

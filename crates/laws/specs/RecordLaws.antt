@@ -15,11 +15,11 @@ pub both-right : (a b : Bool) → both a b ≡ true → b ≡ true
 both-right true b e = e
 both-right false b e = clash e refl
 
-pub samePayload-true : (p q : Payload) → samePayload p q ≡ true → p ≡ q
+samePayload-true : (p q : Payload) → samePayload p q ≡ true → p ≡ q
 unfolding samePayload
 samePayload-true p q e = ap (λ (n : ℕ). record { value = n }) (same-true (p .value) (q .value) e)
 
-pub samePayload-refl : (p : Payload) → samePayload p p ≡ true
+samePayload-refl : (p : Payload) → samePayload p p ≡ true
 unfolding samePayload
 samePayload-refl p = same-refl (p .value)
 

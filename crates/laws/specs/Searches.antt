@@ -32,7 +32,7 @@ pub search-on : (k : ℕ) (s : Slot) (d : ℕ) (next : Searched) → holds k s �
 unfolding searchAt
 search-on k s d next t q = rw (t, same-no {m = s .overflow} {n = 0} q)
 
-pub search-step : (ss : List Slot) (k h n d : ℕ) → searchFrom ss k h (suc n) d ≡ searchAt k (slotAt ss (h + d)) d (searchFrom ss k h n (suc d))
+search-step : (ss : List Slot) (k h n d : ℕ) → searchFrom ss k h (suc n) d ≡ searchAt k (slotAt ss (h + d)) d (searchFrom ss k h n (suc d))
 unfolding searchFrom
 search-step ss k h n d = refl
 

@@ -78,7 +78,7 @@ pub record Settled (v n : ℕ) (ls ms : List Leaf) (own : ℕ) (ks : List ℕ) :
   pub holding : (u : ℕ) → v < u → live (tail ms) u ≡ true → Holding ls ms own ks u
 
 -- a leaf replaced by those that its addresses make
-pub fresh-swap : (s : Settings) (v : ℕ) (pre : List Leaf) (own : Leaf) (post : List Leaf) (ks : List ℕ) → GoodCut s
+fresh-swap : (s : Settings) (v : ℕ) (pre : List Leaf) (own : Leaf) (post : List Leaf) (ks : List ℕ) → GoodCut s
     → Ascends (own .low) ks → ((k : ℕ) → List·Memᴰ k ks → Above k post) → LowsFrom (suc (own .low)) post
     → Swap v (versionsTaken s ks) (pre ++ (own ∷ post)) (pre ++ (freshLeaves v (newLows s (own .low) ks) ++ post))
 unfolding newLows freshLeaves
@@ -101,7 +101,7 @@ fresh-swap s v pre own post ks c f a g =
     }
 
 -- a leaf joined to its left neighbour, which gets a fresh version
-pub join-swap : (v n : ℕ) (pre : List Leaf) (left own : Leaf) (post : List Leaf) → 1 ≤ n → LowsFrom 0 (pre ++ (left ∷ (own ∷ post)))
+join-swap : (v n : ℕ) (pre : List Leaf) (left own : Leaf) (post : List Leaf) → 1 ≤ n → LowsFrom 0 (pre ++ (left ∷ (own ∷ post)))
     → Swap v n (pre ++ (left ∷ (own ∷ post))) (pre ++ (record { low = left .low; version = suc v } ∷ post))
 unfolding LowsFrom Apart
 join-swap v n pre left own post i f =
@@ -127,13 +127,13 @@ join-swap v n pre left own post i f =
     rest = lows-right 0 pre left (own ∷ post) f .1
 
 -- the last of l ∷ ls, which is widened
-pub record Last (v : ℕ) (l : Leaf) (ls : List Leaf) : Type 0 where
+record Last (v : ℕ) (l : Leaf) (ls : List Leaf) : Type 0 where
   pub before : List Leaf
   pub last : Leaf
   pub parts : l ∷ ls ≡ before ++ (last ∷ [])
   pub wide : widened v l ls ≡ before ++ (record { low = last .low; version = suc v } ∷ [])
 
-pub lastOf : (v : ℕ) (l : Leaf) (ls : List Leaf) → Last v l ls
+lastOf : (v : ℕ) (l : Leaf) (ls : List Leaf) → Last v l ls
 unfolding widened
 lastOf v l [] = record { before = []; last = l; parts = refl; wide = refl }
 lastOf v l (m ∷ ms) =
@@ -270,7 +270,7 @@ settled-settled s v (l ∷ ls) own post [] c g f h =
     (join-settled s v (r .last) own post (r .before) (subst (GoodLeaves v) was g)))
 
 -- an address with the version of a leaf lies in it
-pub in-leaf-bounds : (v : ℕ) (pre : List Leaf) (own : Leaf) (post : List Leaf) (k : ℕ) → GoodLeaves v (pre ++ (own ∷ post))
+in-leaf-bounds : (v : ℕ) (pre : List Leaf) (own : Leaf) (post : List Leaf) (k : ℕ) → GoodLeaves v (pre ++ (own ∷ post))
     → versionAt (pre ++ (own ∷ post)) k ≡ own .version → (own .low ≤ k) × Above k post
 in-leaf-bounds v pre own post k g e =
     gone-side v pre own [] post g k (live-head own [] (versionAt (pre ++ (own ∷ post)) k) (sym e))

@@ -40,7 +40,7 @@ changed-tally {ss} {ts} {p} {old} {new} r g =
     omega arith
 
 module _ (f : ℕ → ℕ) (ss : List Slot) (h d : ℕ) (full : length ss ≡ slotCount) (hb : h < slotCount) (db : d < slotCount) (e : Option (Row Content)) where
-  pub moved-changed : Changed ss (withEntry (countPassed f ss h d) (h + d) e) ((h + d) % slotCount) (entryAt ss ((h + d) % slotCount)) e
+  moved-changed : Changed ss (withEntry (countPassed f ss h d) (h + d) e) ((h + d) % slotCount) (entryAt ss ((h + d) % slotCount)) e
   unfolding withEntry setSlot slotAt
   moved-changed =
       record {
@@ -67,7 +67,7 @@ module _ (f : ℕ → ℕ) (ss : List Slot) (h d : ℕ) (full : length ss ≡ sl
           ap (λ (s : Slot). s .entry) (at-countPassed f ss h d i full hb (let z : d < slotCount = db in omega arith) q)
           ∙ ⊎-elim (λ t. rw t) (λ t. rw t) (cases (less (gap h i) d))
 
-  pub moved-count : (i : ℕ) → i < slotCount
+  moved-count : (i : ℕ) → i < slotCount
       → getD (withEntry (countPassed f ss h d) (h + d) e) i emptySlot .overflow
       ≡ pick (less (gap h i) d) (f (getD ss i emptySlot .overflow)) (getD ss i emptySlot .overflow)
   unfolding withEntry setSlot slotAt

@@ -25,7 +25,7 @@ pub use Rattle.laws.specs.Entering.{Room, goes, stands, fits, enter-idle
 
 -- ---- what the indexlet says of an address
 
-pub idle-content : (c : Content) → isIdle c ≡ true → c ≡ idle
+idle-content : (c : Content) → isIdle c ≡ true → c ≡ idle
 unfolding isIdle
 idle-content c t = go (c .pending) (c .holder) t
   where
@@ -35,7 +35,7 @@ idle-content c t = go (c .pending) (c .holder) t
     go none (some w) t = clash {b = false} t refl
     go (some x) h t = clash {b = false} t refl
 
-pub idle-idle : isIdle idle ≡ true
+idle-idle : isIdle idle ≡ true
 unfolding isIdle
 idle-idle = refl
 
@@ -235,7 +235,7 @@ sum-entries f (s ∷ ss) =
     (options (s .entry))
 
 -- a sum over the entries changes by what the entry of k counted for and counts for now
-pub sum-enter : {bytes : ℕ} {ss : List Slot} {k : ℕ} {c : Content} → Good bytes ss → Room ss k c → (f : Row Content → ℕ)
+sum-enter : {bytes : ℕ} {ss : List Slot} {k : ℕ} {c : Content} → Good bytes ss → Room ss k c → (f : Row Content → ℕ)
     → total (λ (i : ℕ). f) (entries (enter bytes ss k c)) + weigh f k (contentOf ss k) ≡ total (λ (i : ℕ). f) (entries ss) + weigh f k c
 unfolding Entering
 sum-enter {bytes} {ss} {k} {c} good room f = ⊎-elim changed unchanged (entering good room)

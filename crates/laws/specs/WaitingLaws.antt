@@ -31,17 +31,17 @@ use Rattle.laws.specs.OldestLaws.{AtLeastAsOld, old-refl, oldest-one, ol
 abbrev sinceOf : Option Pending → Option ℕ
 sinceOf o = maybe o none (λ (p : Pending). some (p .since))
 
-pub waits-by : (m m' : MapState) (k : ℕ) → contentOf (m' .slots) k .pending ≡ contentOf (m .slots) k .pending → waitsSince m' k ≡ waitsSince m k
+waits-by : (m m' : MapState) (k : ℕ) → contentOf (m' .slots) k .pending ≡ contentOf (m .slots) k .pending → waitsSince m' k ≡ waitsSince m k
 unfolding waitsSince
 waits-by m m' k e = ap sinceOf e
 
 -- The pending write of an address that waits since install t.
-pub record Waiter (m : MapState) (k t : ℕ) : Type 0 where
+record Waiter (m : MapState) (k t : ℕ) : Type 0 where
   pub pending : Pending
   pub waits : contentOf (m .slots) k .pending ≡ some pending
   pub since : pending .since ≡ t
 
-pub waiter : (m : MapState) (k t : ℕ) → waitsSince m k ≡ some t → Waiter m k t
+waiter : (m : MapState) (k t : ℕ) → waitsSince m k ≡ some t → Waiter m k t
 unfolding waitsSince
 waiter m k t e = go (contentOf (m .slots) k .pending) refl e
   where
@@ -49,7 +49,7 @@ waiter m k t e = go (contentOf (m .slots) k .pending) refl e
     go none q e = both-options e refl
     go (some p) q e = record { pending = p; waits = q; since = some-same e }
 
-pub waits-from : (m : MapState) (k : ℕ) (p : Pending) → contentOf (m .slots) k .pending ≡ some p → waitsSince m k ≡ some (p .since)
+waits-from : (m : MapState) (k : ℕ) (p : Pending) → contentOf (m .slots) k .pending ≡ some p → waitsSince m k ≡ some (p .since)
 unfolding waitsSince
 waits-from m k p e = ap sinceOf e
 
@@ -73,7 +73,7 @@ module _ {bytes : ℕ} (m : MapState) (g : Good bytes (m .slots)) where
       (ap (λ (k : ℕ). contentOf (m .slots) k .pending) (sym (a .own)) ∙ ap (λ (c : Content). c .pending) (member-content g (a .member)) ∙ a .waits)
       ∙ ap some (a .since)
 
-  pub waits-entry : (k t : ℕ) → waitsSince m k ≡ some t → has k (keys (entries (m .slots))) ≡ true
+  waits-entry : (k t : ℕ) → waitsSince m k ≡ some t → has k (keys (entries (m .slots))) ≡ true
   waits-entry k t e =
       has-keys (entries (m .slots)) k ∙ present-content g k ∙ ap (λ (b : Bool). not b) (waits-busy k t e)
 

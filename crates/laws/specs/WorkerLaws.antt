@@ -54,14 +54,14 @@ worker-fresh s w = go (s .workers) w
 unfoldable pub hasLocks : Stage → Bool
 hasLocks st = either (isLocked st) (isChecked st)
 
-pub free-stage : (st : Stage) → isFree st ≡ true → st ≡ Free
+free-stage : (st : Stage) → isFree st ≡ true → st ≡ Free
 unfolding isFree
 free-stage Free e = refl
 free-stage Open e = clash e refl
 free-stage Locked e = clash e refl
 free-stage Checked e = clash e refl
 
-pub open-stage : (st : Stage) → isOpen st ≡ true → st ≡ Open
+open-stage : (st : Stage) → isOpen st ≡ true → st ≡ Open
 unfolding isOpen
 open-stage Free e = clash e refl
 open-stage Open e = refl
@@ -75,7 +75,7 @@ locked-stage Open e = clash e refl
 locked-stage Locked e = refl
 locked-stage Checked e = clash e refl
 
-pub checked-stage : (st : Stage) → isChecked st ≡ true → st ≡ Checked
+checked-stage : (st : Stage) → isChecked st ≡ true → st ≡ Checked
 unfolding isChecked
 checked-stage Free e = clash e refl
 checked-stage Open e = clash e refl
@@ -120,7 +120,7 @@ not-false true e = refl
 not-false false e = sym e
 
 -- the first cause holds, or a later one is answered
-pub cause-first : (c : Cause) (cs : List Cause) (o : Option Refusal) → firstCause (c ∷ cs) ≡ o
+cause-first : (c : Cause) (cs : List Cause) (o : Option Refusal) → firstCause (c ∷ cs) ≡ o
     → ((c .holds ≡ true) × (some (c .refusal) ≡ o)) ⊎ ((c .holds ≡ false) × (firstCause cs ≡ o))
 unfolding firstCause
 cause-first c cs o e =

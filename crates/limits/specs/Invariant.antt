@@ -44,7 +44,7 @@ unfoldable pub checkedCount : List Worker → ℕ
 checkedCount xs = total (λ (i : ℕ) (x : Worker). pick (isChecked (x .stage)) 1 0) xs
 
 -- pending writes, and those that the checked workers may still install
-abbrev pub owed : State → ℕ
+abbrev owed : State → ℕ
 owed σ = pendingCount (σ .map .slots) + σ .settings .writeLimit * checkedCount (σ .workers)
 
 pub record Kept (σ : State) : Type 0 where
@@ -65,7 +65,7 @@ pub record Kept (σ : State) : Type 0 where
 
 -- ---- what follows
 
-pub version-limit : {σ : State} → Kept σ
+version-limit : {σ : State} → Kept σ
     → σ .counters .version ≤ versionsPerMerge (σ .settings) * σ .settings .writeLimit * σ .settings .lastNumber
 version-limit {σ} h =
     let a : σ .counters .version + versionsPerMerge (σ .settings) * owed σ ≤ versionsPerMerge (σ .settings) * σ .settings .writeLimit * σ .counters .number

@@ -114,7 +114,7 @@ pub record WithinLimits (σ : State) : Type 0 where
 at-most : (i c n : ℕ) → i + c ≤ n → i ≤ n
 at-most i c n h = omega arith
 
-pub standard-limits : {σ : State} → Kept σ → σ .settings ≡ standard → WithinLimits σ
+standard-limits : {σ : State} → Kept σ → σ .settings ≡ standard → WithinLimits σ
 standard-limits {σ} h e =
     record {
       records = subst (λ (s : Settings). length (σ .map .records) ≤ s .mapLimit) e (record-count (h .map));

@@ -49,12 +49,12 @@ mem-drop (y ∷ ys) (suc n) m = List·Memᴰ·tail (mem-drop ys n m)
 
 -- ---- rows
 
-pub keys-ascend : {A : Type 0} (lo : ℕ) (rs : List (Row A)) → From lo rs → Ascends lo (keys rs)
+keys-ascend : {A : Type 0} (lo : ℕ) (rs : List (Row A)) → From lo rs → Ascends lo (keys rs)
 unfolding Ascends From keys
 keys-ascend lo [] f = tt
 keys-ascend lo (r ∷ rs) f = (f .0, keys-ascend (suc (r .key)) rs (f .1))
 
-pub from-filter : {A : Type 0} (p : Row A → Bool) (rs : List (Row A)) (lo : ℕ) → From lo rs → From lo (filter p rs)
+from-filter : {A : Type 0} (p : Row A → Bool) (rs : List (Row A)) (lo : ℕ) → From lo rs → From lo (filter p rs)
 unfolding From filter
 from-filter p [] lo f = tt
 from-filter p (r ∷ rs) lo f =

@@ -13,12 +13,12 @@ module _ {A B : Type 0} (f : A → B) where
   mapped-set (y ∷ ys) zero x = refl
   mapped-set (y ∷ ys) (suc i) x = ap (λ (zs : List B). f y ∷ zs) (mapped-set ys i x)
 
-  pub mapped-take : (n : ℕ) (xs : List A) → map f (take n xs) ≡ take n (map f xs)
+  mapped-take : (n : ℕ) (xs : List A) → map f (take n xs) ≡ take n (map f xs)
   mapped-take zero xs = refl
   mapped-take (suc n) [] = refl
   mapped-take (suc n) (x ∷ xs) = ap (λ (zs : List B). f x ∷ zs) (mapped-take n xs)
 
-  pub mapped-drop : (n : ℕ) (xs : List A) → map f (drop n xs) ≡ drop n (map f xs)
+  mapped-drop : (n : ℕ) (xs : List A) → map f (drop n xs) ≡ drop n (map f xs)
   mapped-drop zero xs = refl
   mapped-drop (suc n) [] = refl
   mapped-drop (suc n) (x ∷ xs) = mapped-drop n xs

@@ -51,7 +51,7 @@ has-parts k xs ys e =
 
 -- ---- counts
 
-pub distinct-length : (xs : List ℕ) → distinct xs ≤ length xs
+distinct-length : (xs : List ℕ) → distinct xs ≤ length xs
 unfolding distinct
 distinct-length [] = zero-le
 distinct-length (x ∷ xs) =

@@ -112,7 +112,7 @@ from-insert k a (r ∷ rs) {lo} h f =
     (cases (same k (r .key)))))
     (cases (less k (r .key)))
 
-pub from-delete : {A : Type 0} (k : ℕ) (rs : List (Row A)) (lo : ℕ) → From lo rs → From lo (delete k rs)
+from-delete : {A : Type 0} (k : ℕ) (rs : List (Row A)) (lo : ℕ) → From lo rs → From lo (delete k rs)
 unfolding From delete
 from-delete k [] lo f = tt
 from-delete k (r ∷ rs) lo f =
@@ -139,7 +139,7 @@ pub rising-nil : (A : Type 0) → Rising {A = A} []
 unfolding Rising From
 rising-nil A = tt
 
-pub from-between : {A : Type 0} (lo hi : ℕ) (rs : List (Row A)) (b : ℕ) → From b rs → From b (between lo hi rs)
+from-between : {A : Type 0} (lo hi : ℕ) (rs : List (Row A)) (b : ℕ) → From b rs → From b (between lo hi rs)
 unfolding From between
 from-between lo hi [] b f = tt
 from-between lo hi (r ∷ rs) b f =
@@ -175,7 +175,7 @@ first-key r rs s ss f h =
     (λ e. less-false (r .key) (s .key) e)
     (cases (less (r .key) (s .key)))
 
-pub rows-equal-from : {A : Type 0} (lo : ℕ) (xs ys : List (Row A)) → From lo xs → From lo ys
+rows-equal-from : {A : Type 0} (lo : ℕ) (xs ys : List (Row A)) → From lo xs → From lo ys
     → ((k : ℕ) → look xs k ≡ look ys k) → xs ≡ ys
 unfolding From
 rows-equal-from lo [] [] f g h = refl

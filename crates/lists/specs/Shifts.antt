@@ -82,19 +82,19 @@ module _ {A : Type 0} where
     getD-over-left k d h =
         List·getD-append (take at xs) (ys ++ drop (at + length ys) xs) d k (rw front h) ∙ getD-take at xs k d h
 
-    pub take-over : take (at + length ys) (over xs at ys) ≡ take at xs ++ ys
+    take-over : take (at + length ys) (over xs at ys) ≡ take at xs ++ ys
     unfolding over
     take-over =
         ap (λ (zs : List A). take (at + length ys) zs) (sym (append-assoc (take at xs) ys (drop (at + length ys) xs)))
         ∙ take-at (take at xs ++ ys) (drop (at + length ys) xs) (at + length ys) (length-append (take at xs) ys ∙ ap (λ (n : ℕ). n + length ys) front)
 
-    pub drop-over : drop (at + length ys) (over xs at ys) ≡ drop (at + length ys) xs
+    drop-over : drop (at + length ys) (over xs at ys) ≡ drop (at + length ys) xs
     unfolding over
     drop-over =
         ap (λ (zs : List A). drop (at + length ys) zs) (sym (append-assoc (take at xs) ys (drop (at + length ys) xs)))
         ∙ drop-at (take at xs ++ ys) (drop (at + length ys) xs) (at + length ys) (length-append (take at xs) ys ∙ ap (λ (n : ℕ). n + length ys) front)
 
-    pub take-over-left : (k : ℕ) → k ≤ at → take k (over xs at ys) ≡ take k xs
+    take-over-left : (k : ℕ) → k ≤ at → take k (over xs at ys) ≡ take k xs
     unfolding over
     take-over-left k h = take-append-le k (take at xs) (ys ++ drop (at + length ys) xs) (rw front h) ∙ take-take k at xs h
 
@@ -119,12 +119,12 @@ module _ {A : Type 0} where
   unfolding over
   open-over xs at ys = refl
 
-  pub drop-over-at : (xs : List A) (at : ℕ) (ys : List A) → at ≤ length xs → drop at (over xs at ys) ≡ ys ++ drop (at + length ys) xs
+  drop-over-at : (xs : List A) (at : ℕ) (ys : List A) → at ≤ length xs → drop at (over xs at ys) ≡ ys ++ drop (at + length ys) xs
   unfolding over
   drop-over-at xs at ys h = drop-at (take at xs) (ys ++ drop (at + length ys) xs) at (length-take-le at xs h)
 
   -- two parts next to each other
-  pub over-over : (xs : List A) (at : ℕ) (ys zs : List A) (b : ℕ) → b ≡ at + length ys → b + length zs ≤ length xs → over (over xs b zs) at ys ≡ over xs at (ys ++ zs)
+  over-over : (xs : List A) (at : ℕ) (ys zs : List A) (b : ℕ) → b ≡ at + length ys → b + length zs ≤ length xs → over (over xs b zs) at ys ≡ over xs at (ys ++ zs)
   over-over xs at ys zs b e h =
       let l : length (ys ++ zs) ≡ length ys + length zs = length-append ys zs in
       let m : b + length zs ≡ at + length (ys ++ zs) = omega arith in
@@ -136,7 +136,7 @@ module _ {A : Type 0} where
       ∙ ap (λ (k : ℕ). take at xs ++ ((ys ++ zs) ++ drop k xs)) m
       ∙ sym (open-over xs at (ys ++ zs))
 
-  pub over-nil : (xs : List A) (at : ℕ) → over xs at [] ≡ xs
+  over-nil : (xs : List A) (at : ℕ) → over xs at [] ≡ xs
   unfolding over
   over-nil xs at = ap (λ (n : ℕ). take at xs ++ drop n xs) (add-zero at) ∙ lib.ListN.take-append-drop at xs
 
@@ -151,7 +151,7 @@ module _ {A : Type 0} where
       ∙ ap (λ (n : ℕ). take at xs ++ (y ∷ (ys ++ drop n xs))) e
 
   -- one more after them
-  pub over-snoc : (xs : List A) (at : ℕ) (ys : List A) (y : A) → at + length ys < length xs
+  over-snoc : (xs : List A) (at : ℕ) (ys : List A) (y : A) → at + length ys < length xs
       → set (over xs at ys) (at + length ys) y ≡ over xs at (ys ++ (y ∷ []))
   unfolding over
   over-snoc xs at ys y h =
@@ -191,12 +191,12 @@ module _ {A : Type 0} where
         let e : length (take n (drop from xs)) ≡ n = length-part xs from n h in
         getD-over-in xs to (take n (drop from xs)) (omega arith) y d (omega arith) ∙ getD-take n (drop from xs) y d l ∙ getD-drop from xs y d
 
-  pub moved-none : (xs : List A) (from to : ℕ) → moved xs from to 0 ≡ xs
+  moved-none : (xs : List A) (from to : ℕ) → moved xs from to 0 ≡ xs
   unfolding moved
   moved-none xs from to = over-nil xs to
 
   -- from the last element on, to higher places: with the elements after the first i moved, the i-th goes next
-  pub moved-up : (xs : List A) (from to n i : ℕ) (d : A) → from ≤ to → to + n ≤ length xs → i < n
+  moved-up : (xs : List A) (from to n i : ℕ) (d : A) → from ≤ to → to + n ≤ length xs → i < n
       → set (moved xs (from + suc i) (to + suc i) (n - suc i)) (to + i) (getD (moved xs (from + suc i) (to + suc i) (n - suc i)) (from + i) d)
       ≡ moved xs (from + i) (to + i) (n - i)
   unfolding moved
@@ -216,7 +216,7 @@ module _ {A : Type 0} where
       ∙ ap (λ (k : ℕ). take k (drop (from + i) xs)) (sym m))
 
   -- from the first element on, to lower places
-  pub moved-down : (xs : List A) (from to i : ℕ) (d : A) → to ≤ from → from + i < length xs
+  moved-down : (xs : List A) (from to i : ℕ) (d : A) → to ≤ from → from + i < length xs
       → set (moved xs from to i) (to + i) (getD (moved xs from to i) (from + i) d) ≡ moved xs from to (suc i)
   unfolding moved
   moved-down xs from to i d h j =

@@ -90,7 +90,7 @@ module _ {A : Type 0} where
       omega arith
 
   -- lists whose terms are the same have the same sum
-  pub total-same : (f g : ℕ → A → ℕ) (xs ys : List A) (d : A) → length ys ≡ length xs
+  total-same : (f g : ℕ → A → ℕ) (xs ys : List A) (d : A) → length ys ≡ length xs
       → ((j : ℕ) → j < length xs → f j (getD ys j d) ≡ g j (getD xs j d)) → total f ys ≡ total g xs
   unfolding total
   total-same f g [] [] d l h = refl

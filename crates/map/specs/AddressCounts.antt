@@ -76,7 +76,7 @@ module _ (xs ys : List ℕ) (p : ℕ → Bool) (dx : Different xs) (dy : Differe
       different-append xs (filter p ys) dx (different-filter p ys dy)
       (λ k t. not-true (λ u. clash (filter-has p k ys u .1) (lacks k ∙ ap not t)))
 
-  pub joined-count : distinct (xs ++ ys) ≡ length xs + length (filter p ys)
+  joined-count : distinct (xs ++ ys) ≡ length xs + length (filter p ys)
   joined-count =
       same-distinct (xs ++ ys) (xs ++ filter p ys) inside outside
       ∙ different-count (xs ++ filter p ys) fresh-parts
@@ -139,7 +139,7 @@ module _ (xs ys ks : List ℕ) (p q : ℕ → Bool) (dx : Different xs) (dy : Di
       (⊎-elim (λ w. has-left k ys ks (filter-has p k ys w .0)) (λ w. has-right k ys ks (filter-has q k ks w .0)) (has-parts k (filter p ys) (filter q ks) u)))
       (has-parts k xs (filter p ys ++ filter q ks) t)
 
-  pub three-count : distinct (xs ++ (ys ++ ks)) ≡ length xs + (length (filter p ys) + length (filter q ks))
+  three-count : distinct (xs ++ (ys ++ ks)) ≡ length xs + (length (filter p ys) + length (filter q ks))
   unfolding news
   three-count =
       same-distinct (xs ++ (ys ++ ks)) (xs ++ news) inside outside
@@ -162,14 +162,14 @@ unfolding filter
 filter-no p x xs t = rw t
 
 -- an element adds one, or none
-pub filter-count : (p : ℕ → Bool) (x : ℕ) (xs : List ℕ) → length (filter p (x ∷ xs)) ≡ pick (p x) 1 0 + length (filter p xs)
+filter-count : (p : ℕ → Bool) (x : ℕ) (xs : List ℕ) → length (filter p (x ∷ xs)) ≡ pick (p x) 1 0 + length (filter p xs)
 filter-count p x xs =
     ⊎-elim
     (λ t. ap length (filter-yes p x xs t) ∙ (rw t (omega arith)))
     (λ t. ap length (filter-no p x xs t) ∙ (rw t (omega arith)))
     (cases (p x))
 
-pub filter-most : (p : ℕ → Bool) (xs : List ℕ) → length (filter p xs) ≤ length xs
+filter-most : (p : ℕ → Bool) (xs : List ℕ) → length (filter p xs) ≤ length xs
 unfolding filter
 filter-most p [] = zero-le
 filter-most p (x ∷ xs) = ⊎-elim (λ t. rw t (suc-le-suc (filter-most p xs))) (λ t. rw t (le-step (filter-most p xs))) (cases (p x))
@@ -191,7 +191,7 @@ unfolding keys
 keys-first e es = refl
 
 -- the addresses with an entry that the index lacks, counted
-pub outside-length : (m : MapState) (ss : List Slot) → length (filter (lacking (m .records)) (keys (entries ss))) ≡ howMany (outsideAny m) ss
+outside-length : (m : MapState) (ss : List Slot) → length (filter (lacking (m .records)) (keys (entries ss))) ≡ howMany (outsideAny m) ss
 outside-length m [] = unfold howMany tally total entries keys filter in refl
 outside-length m (s ∷ ss) = ⊎-elim (idle (outside-length m ss)) (busy (outside-length m ss)) (options (s .entry))
   where

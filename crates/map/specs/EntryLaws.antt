@@ -64,7 +64,7 @@ live-at (l ∷ ls) zero h = live-head l ls (l .version) refl
 live-at (l ∷ ls) (suc j) h = live-later l ls (getD ls j firstLeaf .version) (live-at ls j (le-of-suc-le-suc h))
 
 -- two places have two versions
-pub places-apart : (ls : List Leaf) (i j : ℕ) → Apart ls → i < length ls → j < length ls
+places-apart : (ls : List Leaf) (i j : ℕ) → Apart ls → i < length ls → j < length ls
     → getD ls i firstLeaf .version ≡ getD ls j firstLeaf .version → i ≡ j
 unfolding Apart
 places-apart [] i j f h g e = absurd (not-suc-le-zero h)
@@ -81,7 +81,7 @@ module _ (l : Lent) (z : Sizes) (v : ℕ) (t : Tables l z v) where
   versions-few = length-take-le (z .leaves) (l .versions) (let e = t .versions-size in let r = t .lows .room in omega arith)
 
   -- there are as many leaves as the sizes say
-  pub leaf-number : length (mapOf l z .leaves) ≡ z .leaves
+  leaf-number : length (mapOf l z .leaves) ≡ z .leaves
   unfolding leavesOf
   leaf-number = paired-length (take (z .leaves) (l .lows)) (take (z .leaves) (l .versions)) (lows-few ∙ sym versions-few) ∙ lows-few
 
@@ -90,7 +90,7 @@ module _ (l : Lent) (z : Sizes) (v : ℕ) (t : Tables l z v) where
   leaf-lows = paired-lows (take (z .leaves) (l .lows)) (take (z .leaves) (l .versions)) (lows-few ∙ sym versions-few)
 
   -- the leaf at the place that a search finds has the version of the address
-  pub place-version : (a i : ℕ) → AtLeaf (l .lows) (z .leaves) a i → versionOf (mapOf l z) i ≡ versionAt (mapOf l z .leaves) a
+  place-version : (a i : ℕ) → AtLeaf (l .lows) (z .leaves) a i → versionOf (mapOf l z) i ≡ versionAt (mapOf l z .leaves) a
   unfolding versionAt
   place-version a i at =
       ap (λ (x : Leaf). x .version)
@@ -98,7 +98,7 @@ module _ (l : Lent) (z : Sizes) (v : ℕ) (t : Tables l z v) where
       (parted a (mapOf l z .leaves) i (let e = leaf-number in let s = t .lows .some in omega arith) (at .is ∙ ap (lowPlace a) (sym leaf-lows))))
 
   -- and no other leaf has it
-  pub other-version : (a i j : ℕ) → AtLeaf (l .lows) (z .leaves) a i → j < length (mapOf l z .leaves) → (j ≡ i → ⊥)
+  other-version : (a i j : ℕ) → AtLeaf (l .lows) (z .leaves) a i → j < length (mapOf l z .leaves) → (j ≡ i → ⊥)
       → same (versionAt (mapOf l z .leaves) a) (versionOf (mapOf l z) j) ≡ false
   other-version a i j at h n =
       same-no {m = versionAt (mapOf l z .leaves) a} {n = versionOf (mapOf l z) j}
@@ -161,7 +161,7 @@ term-most b c join e =
 -- ---- an array of counts
 
 module _ (xs : List ℕ) (i up down : ℕ) where
-  pub adjusted-size : length (adjusted xs i up down) ≡ length xs
+  adjusted-size : length (adjusted xs i up down) ≡ length xs
   unfolding adjusted
   adjusted-size = length-set xs i (getD xs i 0 + up - down)
 

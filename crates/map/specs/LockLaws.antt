@@ -50,14 +50,14 @@ module _ {A : Type 0} {f : List Slot → A → List Slot} {key : A → ℕ} {g :
         inv = subst (λ (ss : List Slot). Inv ss ys) (sym (s .view)) (h .rest (slotsOf (l .slots)) x ys (q .tables .words .good) (subst (Inv (slotsOf (l .slots))) e (q .inv)));
       }
 
-pub going-end : {A : Type 0} {f : List Slot → A → List Slot} {Inv : List Slot → List A → Type 0} {l : Lent} {z : Sizes} {v : ℕ} {goal : MapState} {xs : List A}
+going-end : {A : Type 0} {f : List Slot → A → List Slot} {Inv : List Slot → List A → Type 0} {l : Lent} {z : Sizes} {v : ℕ} {goal : MapState} {xs : List A}
     → xs ≡ [] → Going f Inv l z v xs goal → mapOf l z ≡ goal
 unfolding withSlots each
 going-end {A} {f} {Inv} {l} {z} {v} {goal} {xs} e q =
     sym (ap (λ (zs : List A). withSlots (mapOf l z) (each f (slotsOf (l .slots)) zs)) e) ∙ q .run
 
 -- the arrays hold a map that is within the limits
-pub becomes : {l : Lent} {z : Sizes} {v : ℕ} {m : MapState} → Tables l z v → mapOf l z ≡ m → Bounded standard v m → MapBecomes l z v m
+becomes : {l : Lent} {z : Sizes} {v : ℕ} {m : MapState} → Tables l z v → mapOf l z ≡ m → Bounded standard v m → MapBecomes l z v m
 becomes {l} {z} {v} {m} t e b = record { map = e; held = record { tables = t; bounded = subst (Bounded standard v) (sym e) b } }
 
 -- nothing is said
@@ -97,7 +97,7 @@ module _ (c : ContentWords) (w : ℕ) where
   unfolding heldByOther contentIn holderIn
   free-other e = sym (ap (λ (x : ℕ). maybe (holderIn x) false (λ (h : ℕ). not (same h w))) e)
 
-  pub taken-holder : (c .lock ≡ 0 → ⊥) → contentIn c .holder ≡ some (c .lock - 1)
+  taken-holder : (c .lock ≡ 0 → ⊥) → contentIn c .holder ≡ some (c .lock - 1)
   unfolding contentIn holderIn
   taken-holder n = let e : c .lock ≡ suc (c .lock - 1) = omega arith in ap holderIn e
 

@@ -151,7 +151,7 @@ module _ {bytes : ℕ} {ss : List Slot} {e : Row Content} (j : ℕ) (c : Content
       (λ r. absurd (let a : 1 ≤ count (keyed (e .key)) ss = stands-here in let b : count (keyed (e .key)) ss ≡ 0 = r .1 in let q : ⊥ = omega arith in q))
       (entering good room)
 
-  pub enter-others : Room ss (e .key) c → (i : ℕ) → i < length ss → (i ≡ j → ⊥) → entryAt (enter bytes ss (e .key) c) i ≡ entryAt ss i
+  enter-others : Room ss (e .key) c → (i : ℕ) → i < length ss → (i ≡ j → ⊥) → entryAt (enter bytes ss (e .key) c) i ≡ entryAt ss i
   unfolding Entering
   enter-others room i l n =
       ⊎-elim
@@ -382,7 +382,7 @@ module _ {slots : SlotRows} {j : ℕ} (r : SlotWords) (held : indexlet.SlotsHeld
   unfolding isIdle
   busy = ap (λ (o : Option Pending). both (not (present o)) (not (present (contentIn (r .content) .holder)))) pending-is
 
-  pub entry-is : entryAt (slotsOf slots) j ≡ some (row (r .key) (contentIn (r .content)))
+  entry-is : entryAt (slotsOf slots) j ≡ some (row (r .key) (contentIn (r .content)))
   entry-is = entry-in slots j r (reads .slot) ∙ ap (λ (b : Bool). pick b none (some (row (r .key) (contentIn (r .content))))) busy
 
   content-is : contentOf (slotsOf slots) (r .key) ≡ contentIn (r .content)

@@ -44,12 +44,12 @@ inLeaf lows m t i e = both (placed lows m i (e .key)) (t e)
 
 -- ---- counts from a slot on
 
-pub many-drop : (p : Row Content → Bool) (ss : List Slot) (j : ℕ) → j < length ss → howMany p (drop j ss) ≡ weigh p (entryAt ss j) + howMany p (drop (suc j) ss)
+many-drop : (p : Row Content → Bool) (ss : List Slot) (j : ℕ) → j < length ss → howMany p (drop j ss) ≡ weigh p (entryAt ss j) + howMany p (drop (suc j) ss)
 unfolding howMany
 many-drop p ss j h =
     ap (count (weigh p)) (drop-cons ss j emptySlot h) ∙ count-cons (weigh p) (getD ss j emptySlot) (drop (suc j) ss)
 
-pub many-past : (p : Row Content → Bool) (ss : List Slot) (j : ℕ) → length ss ≤ j → howMany p (drop j ss) ≡ 0
+many-past : (p : Row Content → Bool) (ss : List Slot) (j : ℕ) → length ss ≤ j → howMany p (drop j ss) ≡ 0
 unfolding howMany tally total
 many-past p ss j h = ap (count (weigh p)) (drop-of-length-le ss h)
 
@@ -94,7 +94,7 @@ pub record Range (lows : List ℕ) (m : ℕ) (r : Reach) : Type 0 where
 unfoldable pub reached : Reach → ℕ → Bool
 reached r k = both (atMost (r .low) k) (less k (r .high))
 
-pub reached-yes : (r : Reach) (k : ℕ) → reached r k ≡ true → (r .low ≤ k) × (k < r .high)
+reached-yes : (r : Reach) (k : ℕ) → reached r k ≡ true → (r .low ≤ k) × (k < r .high)
 unfolding reached
 reached-yes r k e =
     ⊎-elim

@@ -22,7 +22,7 @@ use Rattle.index.specs.LeafPlaces.{lowPlace, place-inside, leaf-below, leaf-abo
 use Rattle.phantomlet.specs.LeafTests.{placed}
 
 -- elements that pass a test and stand in a row
-pub filter-run : {A : Type 0} (p : A → Bool) (xs : List A) (i j : ℕ) (d : A) → i ≤ j → j ≤ length xs
+filter-run : {A : Type 0} (p : A → Bool) (xs : List A) (i j : ℕ) (d : A) → i ≤ j → j ≤ length xs
     → ((y : ℕ) → y < i → p (getD xs y d) ≡ false)
     → ((y : ℕ) → i ≤ y → y < j → p (getD xs y d) ≡ true)
     → ((y : ℕ) → j ≤ y → y < length xs → p (getD xs y d) ≡ false)

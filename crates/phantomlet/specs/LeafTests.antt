@@ -55,7 +55,7 @@ covers-some (l ∷ ls) c = omega arith
 
 module _ {v : ℕ} {ls : List Leaf} (g : GoodLeaves v ls) where
   -- the version of an address is that of the leaf at its place
-  pub version-place : (k : ℕ) → versionAt ls k ≡ getD ls (lowPlace k (map (λ (l : Leaf). l .low) ls)) firstLeaf .version
+  version-place : (k : ℕ) → versionAt ls k ≡ getD ls (lowPlace k (map (λ (l : Leaf). l .low) ls)) firstLeaf .version
   unfolding versionAt
   version-place k =
       ap (λ (l : Leaf). l .version)
@@ -122,7 +122,7 @@ pub many-same : (p q : Row Content → Bool) (ss : List Slot) → ((e : Row Cont
 many-same p q ss h = ap (λ (f : Row Content → Bool). howMany f ss) (fun-ext h)
 
 -- how many entries pass a test
-pub many-entries : (p : Row Content → Bool) (ss : List Slot) → howMany p ss ≡ length (filter p (entries ss))
+many-entries : (p : Row Content → Bool) (ss : List Slot) → howMany p ss ≡ length (filter p (entries ss))
 unfolding howMany weigh filter
 many-entries p [] = unfold tally Rattle.lists.specs.Sums.total entries in refl
 many-entries p (s ∷ ss) =

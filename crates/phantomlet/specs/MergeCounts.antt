@@ -117,7 +117,7 @@ ranging {rows} {ls} {ls'} {slots} {n} {m} {i} {old} {left} {from} {to} c f t p =
       some = omega arith;
     }
 
-pub tally-end : {rows : RecordRows} {lows : List ℕ} {slots : SlotRows} {n m : ℕ} {r : Reach} {outside pending : List ℕ} {j : ℕ} → Tallying rows lows slots n m r outside pending j → slotCount ≤ j
+tally-end : {rows : RecordRows} {lows : List ℕ} {slots : SlotRows} {n m : ℕ} {r : Reach} {outside pending : List ℕ} {j : ℕ} → Tallying rows lows slots n m r outside pending j → slotCount ≤ j
     → Numbers rows lows slots n m outside pending
 tally-end {rows} {lows} {slots} {n} {m} {r} {outside} {pending} {j} g h =
     let f : length (slotsOf slots) ≡ slotCount = g .words .good .size in
@@ -166,10 +166,10 @@ module _ {rows : RecordRows} {lows : List ℕ} {slots : SlotRows} {n m : ℕ} {z
         ∙ weigh-leaf lows m q i (row (r .key) (contentIn (r .content)))
         ∙ ap (λ (b : Bool). pick b (weigh q (some (row (r .key) (contentIn (r .content))))) 0) (same-no {m = lowPlace (r .key) (take m lows)} {n = i} (f i a b)))
 
-    pub tally-below : isIdle (contentIn (r .content)) ≡ false → r .key < z .low → Tallying rows lows slots n m z outside pending (j + 1)
+    tally-below : isIdle (contentIn (r .content)) ≡ false → r .key < z .low → Tallying rows lows slots n m z outside pending (j + 1)
     tally-below t l = let w : lowPlace (r .key) (take m lows) < z .from = g .range .below (r .key) l in out-of (λ i a b e. let q : ⊥ = omega arith in q) t
 
-    pub tally-above : isIdle (contentIn (r .content)) ≡ false → z .high ≤ r .key → Tallying rows lows slots n m z outside pending (j + 1)
+    tally-above : isIdle (contentIn (r .content)) ≡ false → z .high ≤ r .key → Tallying rows lows slots n m z outside pending (j + 1)
     tally-above t l = let w : z .to ≤ lowPlace (r .key) (take m lows) = g .range .above (r .key) l (reads .narrow) in out-of (λ i a b e. let q : ⊥ = omega arith in q) t
 
     -- an address in none of these leaves, with an entry or without
@@ -180,7 +180,7 @@ module _ {rows : RecordRows} {lows : List ℕ} {slots : SlotRows} {n m : ℕ} {z
         (cases (isIdle (contentIn (r .content))))
 
     -- an entry in one of them
-    pub tally-some : (at x w : ℕ) (outside' pending' : List ℕ) → isIdle (contentIn (r .content)) ≡ false → z .low ≤ r .key → r .key < z .high → AtLeaf lows m (r .key) at
+    tally-some : (at x w : ℕ) (outside' pending' : List ℕ) → isIdle (contentIn (r .content)) ≡ false → z .low ≤ r .key → r .key < z .high → AtLeaf lows m (r .key) at
         → x ≡ pick (not (present (look (recordsOf rows n) (r .key)))) 1 0 → w ≡ pick (present (contentIn (r .content) .pending)) 1 0
         → outside' ≡ set outside at (getD outside at 0 + x) → pending' ≡ set pending at (getD pending at 0 + w)
         → Tallying rows lows slots n m z outside' pending' (j + 1)

@@ -63,7 +63,7 @@ module _ {A : Type 0} where
       (cases (less (r .key) k))
 
   -- the first row from k on
-  pub first-some : (k lo : ℕ) (rs : List (Row A)) (j : ℕ) (x : A) → From lo rs → k ≤ j → look rs j ≡ some x
+  first-some : (k lo : ℕ) (rs : List (Row A)) (j : ℕ) (x : A) → From lo rs → k ≤ j → look rs j ≡ some x
       → ((i : ℕ) → k ≤ i → i < j → look rs i ≡ none) → firstFrom k rs ≡ some (row j x)
   unfolding From
   first-some k lo [] j x f g e h = both-options e (look-nil j)
@@ -103,12 +103,12 @@ module _ {A : Type 0} where
   from-low k lo [] f h = unfold rowsFrom in refl
   from-low k lo (r ∷ rs) f h = from-here k r rs (le-trans h (f .0))
 
-  pub from-all : (rs : List (Row A)) → Rising rs → rowsFrom 0 rs ≡ rs
+  from-all : (rs : List (Row A)) → Rising rs → rowsFrom 0 rs ≡ rs
   unfolding Rising
   from-all rs f = from-low 0 0 rs f zero-le
 
   -- the first of the rows, and the rows after it
-  pub from-next : (k lo : ℕ) (rs : List (Row A)) (r : Row A) → From lo rs → firstFrom k rs ≡ some r
+  from-next : (k lo : ℕ) (rs : List (Row A)) (r : Row A) → From lo rs → firstFrom k rs ≡ some r
       → (length (rowsFrom k rs) ≡ suc (length (rowsFrom (suc (r .key)) rs))) × (k ≤ r .key)
   unfolding From
   from-next k lo [] r f e = both-options e (unfold firstFrom in refl)
@@ -136,7 +136,7 @@ module _ {A : Type 0} where
             omega arith,
           )
 
-  pub from-none : (k : ℕ) (rs : List (Row A)) → firstFrom k rs ≡ none → length (rowsFrom k rs) ≡ 0
+  from-none : (k : ℕ) (rs : List (Row A)) → firstFrom k rs ≡ none → length (rowsFrom k rs) ≡ 0
   from-none k [] e = unfold rowsFrom in refl
   from-none k (r ∷ rs) e =
       ⊎-elim
@@ -146,7 +146,7 @@ module _ {A : Type 0} where
       (cases (less (r .key) k))
 
   -- the key at a place, and the keys before it
-  pub place-key : (k : ℕ) (rs : List (Row A)) (d : Row A) → place k rs < length rs → k ≤ getD rs (place k rs) d .key
+  place-key : (k : ℕ) (rs : List (Row A)) (d : Row A) → place k rs < length rs → k ≤ getD rs (place k rs) d .key
   unfolding place
   place-key k [] d h = absurd (not-suc-le-zero h)
   place-key k (r ∷ rs) d h =
@@ -155,7 +155,7 @@ module _ {A : Type 0} where
       (λ t. rw t (less-false (r .key) k t))
       (cases (less (r .key) k))
 
-  pub place-clear : (k lo : ℕ) (rs : List (Row A)) (d : Row A) (j : ℕ) → From lo rs → k ≤ j
+  place-clear : (k lo : ℕ) (rs : List (Row A)) (d : Row A) (j : ℕ) → From lo rs → k ≤ j
       → (place k rs < length rs → j < getD rs (place k rs) d .key) → look rs j ≡ none
   unfolding From place
   place-clear k lo [] d j f g h = look-nil j
@@ -169,7 +169,7 @@ module _ {A : Type 0} where
       (cases (less (r .key) k))
 
   -- keys below a bound
-  pub look-bound : (b : ℕ) (rs : List (Row A)) (d : Row A) (j : ℕ) → ((i : ℕ) → i < length rs → getD rs i d .key < b) → b ≤ j → look rs j ≡ none
+  look-bound : (b : ℕ) (rs : List (Row A)) (d : Row A) (j : ℕ) → ((i : ℕ) → i < length rs → getD rs i d .key < b) → b ≤ j → look rs j ≡ none
   look-bound b [] d j h g = look-nil j
   look-bound b (r ∷ rs) d j h g =
       let l : r .key < b = h 0 (suc-le-suc zero-le) in

@@ -174,7 +174,7 @@ module _ (lows versions : List ℕ) (m : ℕ) (room : m ≤ leafPlaces) (all : l
   alike : length (take m lows) ≡ length (take m versions)
   alike = length-take-le m lows (rw all room) ∙ sym (length-take-le m versions (rw all' room))
 
-  pub lows-read : leafLows (leavesOf lows versions m) ≡ take m lows
+  lows-read : leafLows (leavesOf lows versions m) ≡ take m lows
   unfolding leavesOf
   lows-read = paired-lows (take m lows) (take m versions) alike
 

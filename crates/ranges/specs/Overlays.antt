@@ -35,7 +35,7 @@ module _ {A : Type 0} where
   insert-low k a lo [] h f = refl
   insert-low k a lo (r ∷ rs) h f = let l : lo ≤ r .key = f .0 in rw (less-yes {m = k} {n = r .key} (omega arith))
 
-  pub assign-low : (k : ℕ) (o : Option A) (lo : ℕ) (rs : List (Row A)) → k < lo → From lo rs → assign k o rs ≡ shown (row k o) rs
+  assign-low : (k : ℕ) (o : Option A) (lo : ℕ) (rs : List (Row A)) → k < lo → From lo rs → assign k o rs ≡ shown (row k o) rs
   unfolding assign shown
   assign-low k none lo rs h f = delete-low k lo rs h f
   assign-low k (some a) lo rs h f = insert-low k a lo rs h f
@@ -59,7 +59,7 @@ module _ {A : Type 0} where
 
   -- ---- rows
 
-  pub from-lay : (lo : ℕ) (es : List (Row (Option A))) (rs : List (Row A)) → From lo es → From lo rs → From lo (lay es rs)
+  from-lay : (lo : ℕ) (es : List (Row (Option A))) (rs : List (Row A)) → From lo es → From lo rs → From lo (lay es rs)
   unfolding lay From
   from-lay lo [] rs f g = g
   from-lay lo (e ∷ es) rs f g =

@@ -77,7 +77,7 @@ ran-model m n σ room (k ∷ a ∷ b ∷ c ∷ d ∷ e ∷ ws) =
     go (Meant o p q) ih = on (less room (longestAnswer p q)) o p q (ih (stepIn o p q))
 
 -- demand 3 of a run
-pub ran-serial : (m n room : ℕ) (ws : List ℕ) → SerialRun (ran m n (fresh standard) room ws .events) (contents (ran m n (fresh standard) room ws .state .map))
+ran-serial : (m n room : ℕ) (ws : List ℕ) → SerialRun (ran m n (fresh standard) room ws .events) (contents (ran m n (fresh standard) room ws .state .map))
 ran-serial m n room ws =
     let r = ran m n (fresh standard) room ws in
     let h : Models (fresh standard) r = ran-model m n (fresh standard) room ws in

@@ -76,7 +76,7 @@ putting-end {ks} {vs} {l} {m} {at} {j} i n p h k =
 -- ---- a reply
 
 -- its words are its three and its records'
-pub reply-words : (p : Reply) (ks vs : List ℕ) → wordsOf (replyIn p ks vs) ≡ headWords (codedOf p) ++ rowWords p ks vs
+reply-words : (p : Reply) (ks vs : List ℕ) → wordsOf (replyIn p ks vs) ≡ headWords (codedOf p) ++ rowWords p ks vs
 unfolding wordsOf
 reply-words reply.Granted ks vs = refl
 reply-words (reply.Value v) ks vs = refl

@@ -10,10 +10,11 @@ use Rattle.lists.specs.Tests.{pick, both, maybe, same, less, within, atMost}
 use Rattle.lists.specs.TestLaws.{cases, clash, same-no, same-refl, less-no, atMost-yes, atMost-no, atMost-true}
 use lib.Seq.{append-snoc}
 use Rattle.script.specs.declared.Line.{Line}
+use Rattle.script.specs.declared.Line.the-variants.{MergeOldest}
 use Rattle.script.specs.declared.Fields.{Fields}
 use Rattle.script.specs.declared.Fields.the-variants.{None, One, Two}
-use Rattle.script.specs.Grammar.{firstWord, moreWords, isDigit, extend, number, numbers, threeNumbers, lineOf, lettered, meaning}
-use Rattle.script.specs.Parsing.{values, numberOn, fieldsOn, letterOn}
+use Rattle.script.specs.Grammar.{firstWord, moreWords, isDigit, extend, number, numbers, noNumber, oneNumber, twoNumbers, threeNumbers, lineOf, lettered, meaning}
+use Rattle.script.specs.Parsing.{values, numberOn, fieldsOn, letterOn, aloneOn}
 
 -- ---- bytes
 
@@ -187,35 +188,79 @@ pub start-nothing : meaning [] ≡ none
 unfolding meaning moreWords numbers firstWord lettered
 start-nothing = refl
 
-pub start-letter : (b : ℕ) (l : List ℕ) → (b ≡ 32 → ⊥) → meaning (b ∷ l) ≡ letterOn b l
-unfolding meaning letterOn lettered fieldsOn firstWord moreWords numbers
-start-letter b [] h = rw (same-no h)
-start-letter b (x ∷ l) h =
+-- a letter and one more byte: a space begins the numbers, any other one spoils the line
+letter-byte : (c b : ℕ) (l : List ℕ) → (c ≡ 32 → ⊥) → meaning (c ∷ b ∷ l) ≡ pick (same b 32) (fieldsOn c [] false 0 l) none
+unfolding meaning lettered fieldsOn firstWord moreWords numbers
+letter-byte c b l h =
     rw (same-no h)
     (⊎-elim
     (λ e. rw e (rw (← number-on (firstWord l)) (go (number (firstWord l)) (numbers (moreWords l)))))
     (λ e. rw e (long (numbers (moreWords l))))
-    (cases (same x 32)))
+    (cases (same b 32)))
   where
     go : (o : Option ℕ) (q : Option (List ℕ))
-        → maybe (maybe o none (λ (m : ℕ). maybe q none (λ (ms : List ℕ). some (m ∷ ms)))) none (λ (ms : List ℕ). lineOf b ms)
-        ≡ maybe o none (λ (m : ℕ). maybe q none (λ (ms : List ℕ). lineOf b ([] ++ (m ∷ ms))))
+        → maybe (maybe o none (λ (m : ℕ). maybe q none (λ (ms : List ℕ). some (m ∷ ms)))) none (λ (ms : List ℕ). lineOf c ms)
+        ≡ maybe o none (λ (m : ℕ). maybe q none (λ (ms : List ℕ). lineOf c ([] ++ (m ∷ ms))))
     go none q = refl
     go (some m) none = refl
     go (some m) (some ms) = refl
 
-    long : (q : Option (List ℕ)) → maybe q none (λ (ns : List ℕ). lettered (b ∷ x ∷ firstWord l) ns) ≡ none
+    long : (q : Option (List ℕ)) → maybe q none (λ (ns : List ℕ). lettered (c ∷ b ∷ firstWord l) ns) ≡ none
     long none = refl
     long (some ns) = refl
+
+letter-alone : (c : ℕ) → (c ≡ 32 → ⊥) → meaning (c ∷ []) ≡ lineOf c []
+unfolding meaning lettered firstWord moreWords numbers
+letter-alone c h = rw (same-no h)
+
+-- a letter that is no line by itself
+pub start-letter : (c : ℕ) (l : List ℕ) → (c ≡ 32 → ⊥) → lineOf c [] ≡ none → meaning (c ∷ l) ≡ letterOn c l
+unfolding letterOn
+start-letter c [] h e = letter-alone c h ∙ e
+start-letter c (b ∷ l) h e = letter-byte c b l h
+
+-- a letter that is a line by itself, and no line with numbers
+start-alone : (c : ℕ) (x : Line) (l : List ℕ) → (c ≡ 32 → ⊥) → lineOf c [] ≡ some x → ((m : ℕ) (ms : List ℕ) → lineOf c (m ∷ ms) ≡ none)
+    → meaning (c ∷ l) ≡ aloneOn x l
+unfolding aloneOn fieldsOn
+start-alone c x [] h e g = letter-alone c h ∙ e
+start-alone c x (b ∷ l) h e g =
+    letter-byte c b l h
+    ∙ ap (λ (o : Option Line). pick (same b 32) o none) (nothing (numberOn false 0 (firstWord l)) (numbers (moreWords l)))
+    ∙ pick-same (same b 32) none
+  where
+    nothing : (o : Option ℕ) (q : Option (List ℕ)) → maybe o none (λ (m : ℕ). maybe q none (λ (ms : List ℕ). lineOf c ([] ++ (m ∷ ms)))) ≡ none
+    nothing none q = refl
+    nothing (some m) none = refl
+    nothing (some m) (some ms) = g m ms
+
+oldest-alone : lineOf 84 [] ≡ some MergeOldest
+unfolding lineOf noNumber same
+oldest-alone = refl
+
+oldest-numbers : (m : ℕ) (ms : List ℕ) → lineOf 84 (m ∷ ms) ≡ none
+unfolding lineOf oneNumber twoNumbers threeNumbers same
+oldest-numbers a [] = pick-same (less a (2 ^ 32)) none
+oldest-numbers a (b ∷ []) = pick-same (both (less a (2 ^ 32)) (less b (2 ^ 32))) none
+oldest-numbers a (b ∷ d ∷ []) = pick-same (both (less a (2 ^ 32)) (less b (2 ^ 32))) none
+oldest-numbers a (b ∷ d ∷ e ∷ ms) = refl
+
+-- T
+pub oldest-letter : (l : List ℕ) → meaning (84 ∷ l) ≡ aloneOn MergeOldest l
+oldest-letter l = start-alone 84 MergeOldest l (λ q. omega arith) oldest-alone oldest-numbers
+
+-- no other letter is a line by itself
+pub other-alone : (c : ℕ) → (c ≡ 84 → ⊥) → lineOf c [] ≡ none
+unfolding lineOf noNumber
+other-alone c t = rw (same-no t)
 
 pub letter-space : (c : ℕ) (l : List ℕ) → letterOn c (32 ∷ l) ≡ fieldsOn c [] false 0 l
 unfolding letterOn
 letter-space c l = rw (same-refl 32)
 
--- the line's end
-pub letter-end : (c : ℕ) → letterOn c [] ≡ lineOf c []
+pub letter-nothing : (c : ℕ) → letterOn c [] ≡ none
 unfolding letterOn
-letter-end c = refl
+letter-nothing c = refl
 
 pub letter-other : (c b : ℕ) (l : List ℕ) → (b ≡ 32 → ⊥) → letterOn c (b ∷ l) ≡ none
 unfolding letterOn

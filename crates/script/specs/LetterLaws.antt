@@ -9,19 +9,9 @@ use Rattle.lists.specs.TestLaws.{same-no, less-yes, less-no}
 use Rattle.script.specs.declared.Line.{Line}
 use Rattle.script.specs.declared.Fields.{Fields}
 use Rattle.script.specs.declared.Event.the-variants as event
-use Rattle.script.specs.Grammar.{noNumber, oneNumber, twoNumbers, threeNumbers, lineOf}
+use Rattle.script.specs.Grammar.{oneNumber, twoNumbers, threeNumbers, lineOf}
 use Rattle.script.specs.Parsing.{values}
 use Rattle.script.specs.Tokens.{told}
-
--- ---- no number
-
-pub none-letter : (c k : ℕ) → c ≡ k → told (noNumber k) ≡ told (lineOf c [])
-unfolding lineOf
-none-letter c k e = ap (λ (x : ℕ). told (noNumber x)) (sym e)
-
-pub none-other : (c : ℕ) → (c ≡ 84 → ⊥) → event.Malformed ≡ told (lineOf c [])
-unfolding lineOf noNumber
-none-other c t = rw (same-no t)
 
 -- ---- one number
 

@@ -104,7 +104,7 @@ last-within (suc f) n h =
     (cases (less n 10))
 
 -- a number is its last digits, as many as it has
-pub decimal-last : (n : ℕ) → decimal n ≡ lastDigits (length (decimal n)) n
+decimal-last : (n : ℕ) → decimal n ≡ lastDigits (length (decimal n)) n
 decimal-last n = last-within n n (le-refl n)
 
 decimal-most : (k n : ℕ) → n < 10 ^ suc k → length (decimal n) ≤ suc k
@@ -132,7 +132,7 @@ set-sets l i j (a ∷ w) d h =
     ∙ ap (λ (x : List ℕ). sets x (suc i) w) (set-comm l i j a d (λ e. omega arith))
 
 -- a store before a text is a text one longer
-pub set-before : (l : List ℕ) (j : ℕ) (w : List ℕ) (d : ℕ) → set (sets l (suc j) w) j d ≡ sets l j (d ∷ w)
+set-before : (l : List ℕ) (j : ℕ) (w : List ℕ) (d : ℕ) → set (sets l (suc j) w) j d ≡ sets l j (d ∷ w)
 set-before l j w d = set-sets l (suc j) j w d (le-refl (suc j))
 
 -- ---- writing a number from its last digit to its first

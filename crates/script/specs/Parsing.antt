@@ -10,10 +10,11 @@ use lib.ListN.{length, drop}
 use Rattle.lists.specs.Tests.{pick, maybe, same}
 use Rattle.lists.specs.Rows.{has}
 use Rattle.script.specs.declared.Line.{Line}
+use Rattle.script.specs.declared.Line.the-variants.{MergeOldest}
 use Rattle.script.specs.declared.Fields.{Fields}
 use Rattle.script.specs.declared.Fields.the-variants.{None, One, Two}
 use Rattle.script.specs.declared.Parser.{Parser}
-use Rattle.script.specs.declared.Parser.the-variants.{Start, Letter, First, Second, Third}
+use Rattle.script.specs.declared.Parser.the-variants.{Start, Letter, Oldest, First, Second, Third}
 use Rattle.script.specs.declared.Event.{Event}
 use Rattle.script.specs.declared.Event.the-variants as event
 use Rattle.script.specs.declared.Parsed.{Parsed}
@@ -45,15 +46,21 @@ fieldsOn c ns d n l =
     maybe (numberOn d n (firstWord l)) none
     (λ (m : ℕ). maybe (numbers (moreWords l)) none (λ (ms : List ℕ). lineOf c (ns ++ (m ∷ ms))))
 
--- a letter
+-- a letter that has numbers
 unfoldable pub letterOn : ℕ → List ℕ → Option Line
-letterOn c [] = lineOf c []
+letterOn c [] = none
 letterOn c (b ∷ l) = pick (same b 32) (fieldsOn c [] false 0 l) none
+
+-- a letter that has none, and is the line x
+unfoldable pub aloneOn : Line → List ℕ → Option Line
+aloneOn x [] = some x
+aloneOn x (b ∷ l) = none
 
 -- any parser
 unfoldable pub continued : Parser → List ℕ → Option Line
 continued Start l = meaning l
 continued (Letter c) l = letterOn c l
+continued Oldest l = aloneOn MergeOldest l
 continued (First c d n) l = fieldsOn c [] d n l
 continued (Second c d a n) l = fieldsOn c (a ∷ []) d n l
 continued (Third c d a b n) l = fieldsOn c (a ∷ b ∷ []) d n l
@@ -64,6 +71,7 @@ continued (Third c d a b n) l = fieldsOn c (a ∷ b ∷ []) d n l
 abbrev pub started : Parser → Bool
 started Start = false
 started (Letter c) = true
+started Oldest = true
 started (First c d n) = true
 started (Second c d a n) = true
 started (Third c d a b n) = true

@@ -11,17 +11,18 @@ use Rattle.lists.specs.Tests.{either, same}
 use Rattle.lists.specs.TestLaws.{cases, same-true, same-false}
 use Rattle.lists.specs.Counting.{has-nil}
 use Rattle.script.specs.declared.Line.{Line}
+use Rattle.script.specs.declared.Line.the-variants.{MergeOldest}
 use Rattle.script.specs.declared.Fields.{Fields}
 use Rattle.script.specs.declared.Fields.the-variants.{None, One, Two}
 use Rattle.script.specs.declared.Parser.{Parser}
-use Rattle.script.specs.declared.Parser.the-variants.{Start, Letter, First, Second, Third}
+use Rattle.script.specs.declared.Parser.the-variants.{Start, Letter, Oldest, First, Second, Third}
 use Rattle.script.specs.declared.Event.{Event}
 use Rattle.script.specs.declared.Event.the-variants as event
 use Rattle.script.specs.declared.Parsed.{Parsed}
 use Rattle.script.specs.declared.Run.{Run}
 use Rattle.script.specs.Grammar.{isDigit, lineOf, meaning}
-use Rattle.script.specs.Parsing.{values, inNumber, fieldsOn, letterOn, started, continued}
-use Rattle.script.specs.GrammarLaws.{digit-from, fields-four, fields-digit, fields-other, fields-blank, fields-nothing, fields-end, fields-space, fields-wide, start-space, start-nothing, start-letter, letter-space, letter-end, letter-other}
+use Rattle.script.specs.Parsing.{values, inNumber, fieldsOn, letterOn, aloneOn, started, continued}
+use Rattle.script.specs.GrammarLaws.{digit-from, fields-four, fields-digit, fields-other, fields-blank, fields-nothing, fields-end, fields-space, fields-wide, start-space, start-nothing, start-letter, oldest-letter, other-alone, letter-space, letter-nothing, letter-other}
 use Rattle.script.specs.Tokens.{Digits, Moves, Spells, Stops, Tells, ParsesPart, cut-byte, cut-join, cut-none, has-byte, moves-join, moves-none, tells-join, told}
 
 -- ---- a byte
@@ -48,17 +49,22 @@ start-bad b h =
     bad Start b (λ q. start-nothing)
     (λ rest q. ⊎-elim (λ e. ap (λ (x : ℕ). meaning (x ∷ rest)) e ∙ start-space rest) (λ e. absurd (q e)) h)
 
-pub start-good : (b : ℕ) → (b ≡ 32 → ⊥) → (b ≡ 10 → ⊥) → Tells Start event.SliceEnd (Letter b) (b ∷ [])
+pub start-good : (b : ℕ) → (b ≡ 32 → ⊥) → (b ≡ 10 → ⊥) → (b ≡ 84 → ⊥) → Tells Start event.SliceEnd (Letter b) (b ∷ [])
 unfolding Tells continued
-start-good b h g = record { unbroken = has-byte b g; begun = refl; means = λ rest. start-letter b rest h }
+start-good b h g t = record { unbroken = has-byte b g; begun = refl; means = λ rest. start-letter b rest h (other-alone b t) }
 
-pub letter-bad : (c b : ℕ) → (b ≡ 32 → ⊥) → (b ≡ 10 → ⊥) → Tells (Letter c) event.Malformed Start (b ∷ [])
-unfolding continued
-letter-bad c b h g = bad (Letter c) b (λ q. absurd (g q)) (λ rest q. letter-other c b rest h)
+pub start-oldest : (b : ℕ) → b ≡ 84 → Tells Start event.SliceEnd Oldest (b ∷ [])
+unfolding Tells continued
+start-oldest b e =
+    record {
+      unbroken = has-byte b (λ q. omega arith);
+      begun = refl;
+      means = λ rest. ap (λ (x : ℕ). meaning (x ∷ rest)) e ∙ oldest-letter rest;
+    }
 
-pub letter-feed : (c b : ℕ) (e : Event) → b ≡ 10 → e ≡ told (lineOf c []) → Tells (Letter c) e Start (b ∷ [])
+pub letter-bad : (c b : ℕ) → (b ≡ 32 → ⊥) → Tells (Letter c) event.Malformed Start (b ∷ [])
 unfolding continued
-letter-feed c b e q t = rw (q, t) (feed-tells (Letter c) (lineOf c []) (letter-end c))
+letter-bad c b h = bad (Letter c) b (λ q. letter-nothing c) (λ rest q. letter-other c b rest h)
 
 pub letter-good : (c b : ℕ) → b ≡ 32 → Tells (Letter c) event.SliceEnd (First c false 0) (b ∷ [])
 unfolding Tells continued
@@ -68,6 +74,14 @@ letter-good c b h =
       begun = refl;
       means = λ rest. ap (λ (x : ℕ). letterOn c (x ∷ rest)) h ∙ letter-space c rest;
     }
+
+pub oldest-bad : (b : ℕ) → (b ≡ 10 → ⊥) → Tells Oldest event.Malformed Start (b ∷ [])
+unfolding continued aloneOn
+oldest-bad b h = bad Oldest b (λ q. absurd (h q)) (λ rest q. refl)
+
+pub oldest-feed : (b : ℕ) → b ≡ 10 → Tells Oldest (event.Line MergeOldest) Start (b ∷ [])
+unfolding continued aloneOn
+oldest-feed b e = rw e (feed-tells Oldest (some MergeOldest) refl)
 
 -- ---- a number
 
@@ -145,14 +159,14 @@ field-bad c f d n b h g t =
 -- ---- the end of a number
 
 -- one more number before the current one
-pub field-space : (c : ℕ) (f g : Fields) (n : ℕ) → values g ≡ values f ++ (n ∷ []) → Tells (inNumber c f true n) event.SliceEnd (inNumber c g false 0) (32 ∷ [])
+field-space : (c : ℕ) (f g : Fields) (n : ℕ) → values g ≡ values f ++ (n ∷ []) → Tells (inNumber c f true n) event.SliceEnd (inNumber c g false 0) (32 ∷ [])
 unfolding Tells
 field-space c f g n e =
     within-moves c f g true false n 0 32 (λ q. omega arith)
     (λ rest. fields-space c (values f) n rest ∙ ap (λ (x : List ℕ). fieldsOn c x false 0 rest) (sym e))
 
 -- a fourth number
-pub field-fourth : (c a b n : ℕ) → Tells (inNumber c (Two a b) true n) event.Malformed Start (32 ∷ [])
+field-fourth : (c a b n : ℕ) → Tells (inNumber c (Two a b) true n) event.Malformed Start (32 ∷ [])
 unfolding Tells continued inNumber
 field-fourth c a b n = (inr (has-byte 32 (λ q. omega arith), λ rest. fields-space c (a ∷ b ∷ []) n rest ∙ fields-four c a b n rest), refl)
 

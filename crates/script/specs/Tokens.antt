@@ -120,13 +120,13 @@ tells-join event.Malformed {p} {q} r {a} b m t = (
 )
 tells-join event.SliceEnd r b m t = moves-join m t
 
-pub goes-turns : {s : List ℕ} {i j : ℕ} {p q : Parser} {r : Parsed} → Advances s i p j q → ParsesPart s j q r → ParsesPart s i p r
+goes-turns : {s : List ℕ} {i j : ℕ} {p q : Parser} {r : Parsed} → Advances s i p j q → ParsesPart s j q r → ParsesPart s i p r
 goes-turns {r = r} g t =
     record { taken = g .taken ++ t .taken; cut = cut-join (g .cut) (t .cut); tells = tells-join (r .event) (r .parser) (t .taken) (g .moves) (t .tells) }
 
 -- ---- from the parser to the bytes of the line
 
-pub after-moves : {seen : List ℕ} {p : Parser} → After seen p → Moves Start p seen
+after-moves : {seen : List ℕ} {p : Parser} → After seen p → Moves Start p seen
 unfolding continued
 after-moves a = record { unbroken = a .unbroken; begun = a .begun; means = a .means }
 
@@ -136,7 +136,7 @@ tells-says (event.Line x) q bs t = t
 tells-says event.Malformed q bs t = t
 tells-says event.SliceEnd q bs t = record { unbroken = t .unbroken; begun = t .begun; means = t .means }
 
-pub turns-reads : {seen s : List ℕ} {i : ℕ} {p : Parser} {r : Parsed} → After seen p → ParsesPart s i p r → (r .event ≡ event.SliceEnd → drop (r .next) s ≡ []) → Parses seen s i r
+turns-reads : {seen s : List ℕ} {i : ℕ} {p : Parser} {r : Parsed} → After seen p → ParsesPart s i p r → (r .event ≡ event.SliceEnd → drop (r .next) s ≡ []) → Parses seen s i r
 turns-reads {seen} {r = r} a t w =
     record {
       taken = t .taken;

@@ -35,13 +35,15 @@ enum Fields {
     Two(u64, u64),
 }
 
-// What is kept of the current line: nothing is read; or the letter; or also a space, the numbers before the current one,
-// and of that whether it has a digit yet, and its value so far. It is copied at every turn, and so is its padding; seven
-// bytes of that go as two moves that overlap, which the next read of them waits for. Hence the small fields come first,
-// and there is no enum within.
+// What is kept of the current line: nothing is read; or the letter; or `T`, which has no number; or a letter, a space, the
+// numbers before the current one, and of that whether it has a digit yet, and its value so far. It is copied at every turn,
+// and so is its padding; seven bytes of that go as two moves that overlap, which the next read of them waits for. Hence the
+// small fields come first, and there is no enum within. A letter without numbers has a variant of its own: were its line
+// told in `after_letter`, every short line would take more instructions.
 pub enum Parser {
     Start,
     Letter(u8),
+    Oldest,
     First {
         letter: u8,
         digit: bool,
@@ -104,6 +106,7 @@ pub fn at_line_start(p: Parser) -> bool
     match p {
         Parser::Start => true,
         Parser::Letter(_) => false,
+        Parser::Oldest => false,
         Parser::First {
             letter: _,
             digit: _,
@@ -122,16 +125,6 @@ pub fn at_line_start(p: Parser) -> bool
             b: _,
             value: _,
         } => false,
-    }
-}
-
-// A line of no number.
-fn no_number(letter: u8) -> Event
-    ensures { λ r. ⌜ r ≡ told (lineOf letter []) ⌝ }
-{
-    match letter {
-        b'T' => Event::Line(Line::MergeOldest),
-        _ => Event::Malformed,
     }
 }
 
@@ -197,7 +190,7 @@ fn three(letter: u8, a: u64, b: u64, c: u64) -> Event
     }
 }
 
-// A line of one number or more whose line feed was read.
+// A line of numbers whose line feed was read.
 fn complete(letter: u8, before: Fields, value: u64) -> Event
     ensures { λ r. ⌜ r ≡ told (lineOf letter (values before ++ (value ∷ []))) ⌝ }
 {
@@ -364,7 +357,8 @@ fn field(s: &[u8], i: usize, letter: u8, before: Fields, digit: bool, value: u64
     }
 }
 
-// The first byte of a line. Any byte but a space or a line feed may be the letter: the line's end tells.
+// The first byte of a line. Any byte but a space, a line feed or `T` may be the letter of a line of numbers: the line's end
+// tells.
 fn start(s: &[u8], i: usize) -> Parsed
     requires { ⌜ i < length (now s) ⌝ }
     ensures { λ r. ⌜ ParsesPart (now (s .entry)) i Parser.Start r ⌝ }
@@ -385,6 +379,13 @@ fn start(s: &[u8], i: usize) -> Parsed
             event: Event::Malformed,
         };
     }
+    if b == b'T' {
+        return Parsed {
+            parser: Parser::Oldest,
+            next: i + 1,
+            event: Event::SliceEnd,
+        };
+    }
     Parsed {
         parser: Parser::Letter(b),
         next: i + 1,
@@ -392,7 +393,7 @@ fn start(s: &[u8], i: usize) -> Parsed
     }
 }
 
-// The byte after the letter: a space, or the line feed of a line of no number.
+// The byte after the letter, which must be a space.
 fn after_letter(s: &[u8], i: usize, letter: u8) -> Parsed
     requires { ⌜ i < length (now s) ⌝ }
     ensures { λ r. ⌜ ParsesPart (now (s .entry)) i (Parser.Letter letter) r ⌝ }
@@ -410,17 +411,31 @@ fn after_letter(s: &[u8], i: usize, letter: u8) -> Parsed
             event: Event::SliceEnd,
         };
     }
-    if b == LINE_FEED {
+    Parsed {
+        parser: Parser::Start,
+        next: i + 1,
+        event: Event::Malformed,
+    }
+}
+
+// The byte after `T`, which must be the line feed.
+fn after_oldest(s: &[u8], i: usize) -> Parsed
+    requires { ⌜ i < length (now s) ⌝ }
+    ensures { λ r. ⌜ ParsesPart (now (s .entry)) i Parser.Oldest r ⌝ }
+    ensures { λ r. ⌜ i < r .next ⌝ }
+{
+    let b = s[i];
+    if b != LINE_FEED {
         return Parsed {
             parser: Parser::Start,
             next: i + 1,
-            event: no_number(letter),
+            event: Event::Malformed,
         };
     }
     Parsed {
         parser: Parser::Start,
         next: i + 1,
-        event: Event::Malformed,
+        event: Event::Line(Line::MergeOldest),
     }
 }
 
@@ -433,6 +448,7 @@ fn parse_part(s: &[u8], i: usize, p: Parser) -> Parsed
     match p {
         Parser::Start => start(s, i),
         Parser::Letter(c) => after_letter(s, i, c),
+        Parser::Oldest => after_oldest(s, i),
         Parser::First {
             letter,
             digit,

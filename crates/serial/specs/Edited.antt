@@ -38,7 +38,7 @@ abbrev pub Rule : Type 0
 Rule = Edit → Step → List Cause
 
 -- the keys of a write set are flagged when the lock is granted, if the index lacks them then
-pub flags : Edit → Step → List ℕ
+flags : Edit → Step → List ℕ
 flags x (begin w) = x .flagged
 flags x (read w k) = x .flagged
 flags x (scan w lo hi m n) = x .flagged
@@ -53,16 +53,16 @@ flags x (abort w) = x .flagged
 flags x (merge a) = x .flagged
 flags x mergeOldest = x .flagged
 
-pub editedNext : Rule → Edit → Step → Edit
+editedNext : Rule → Edit → Step → Edit
 editedNext rule x s =
     maybe (firstCause (rule x s)) (record { state = effect (x .state) s; flagged = flags x s })
     (λ (r : Refusal). record { state = afterRefusal (x .state) s r; flagged = x .flagged })
 
-pub editedFinal : Rule → Edit → List Step → Edit
+editedFinal : Rule → Edit → List Step → Edit
 editedFinal rule x [] = x
 editedFinal rule x (s ∷ ss) = editedFinal rule (editedNext rule x s) ss
 
-pub editedHistory : Rule → Edit → List Step → List Event
+editedHistory : Rule → Edit → List Step → List Event
 editedHistory rule x [] = []
 editedHistory rule x (s ∷ ss) =
     record { step = s; answer = maybe (firstCause (rule x s)) (granted (x .state) s) refused } ∷ editedHistory rule (editedNext rule x s) ss
@@ -102,12 +102,12 @@ no-phantom-breaks s =
 -- ---- hidden keys worked out at lock only
 
 -- a key is hidden only if it was flagged when it was locked
-pub flaggedPhantom : Edit → ℕ → ℕ → Bool
+flaggedPhantom : Edit → ℕ → ℕ → Bool
 flaggedPhantom x w v =
     either (not (live (x .state .map .leaves) v))
     (any (λ (e : Row Content). both (has (e .key) (x .flagged)) (hiddenIn (x .state .map) w v e)) (entries (x .state .map .slots)))
 
-pub phantomByFlag : Edit → Step → Cause → Cause
+phantomByFlag : Edit → Step → Cause → Cause
 phantomByFlag x (begin w) c = c
 phantomByFlag x (read w k) c = c
 phantomByFlag x (scan w lo hi m n) c = c

@@ -88,7 +88,7 @@ unfolding eventWrites
 look-afterAll n l es k =
     look-afterFrom n l l [] es (λ j. sym (ap (λ (x : Option Write). maybe x (look l j) (outcome n)) (look-nil j))) k
 
-pub rising-after : (n : ℕ) (l : List (Row Record)) (s : Step) → Rising l → Rising (afterStep n l s)
+rising-after : (n : ℕ) (l : List (Row Record)) (s : Step) → Rising l → Rising (afterStep n l s)
 unfolding afterStep
 rising-after n l (begin w) h = h
 rising-after n l (read w j) h = h

@@ -17,11 +17,11 @@ use Rattle.serial.specs.Feeding.{eventWrites, laid, look-afterAll, risin
 use Rattle.serial.specs.Invariant.{Observation, Matches, Explains}
 
 -- what a list says after the transaction's own writes were laid over another
-abbrev pub Over : ℕ → List (Row Write) → List (Row Record) → List (Row Record) → Type 0
+abbrev Over : ℕ → List (Row Write) → List (Row Record) → List (Row Record) → Type 0
 Over n ws l l' = (k : ℕ) → look l' k ≡ laid n ws k (look l k)
 
 -- one event more, explained by these observations
-pub explain : (os os' : List Observation) (es : List Event) (s : Step) (a : Answer) → Explains os es
+explain : (os os' : List Observation) (es : List Event) (s : Step) (a : Answer) → Explains os es
     → ((l : List (Row Record)) → Matches os' l → Matches os l)
     → ((n : ℕ) (l l' : List (Row Record)) → Rising l' → Over n (eventWrites es) l l' → Matches os' l → Agrees l' s a)
     → Explains os' (es ++ (record { step = s; answer = a } ∷ []))
@@ -116,7 +116,7 @@ module _ {indexed : ℕ → Bool} {current : ℕ → Option Record} {lo hi : ℕ
       (cases (indexed k))
   same-inside n k (some e) o q = sym (own-outcome n e) ∙ payload-map (outcome n e)
 
-  pub look-scan : (n : ℕ) (ws : List (Row Write)) (l l' : List (Row Record)) → Over n ws l l'
+  look-scan : (n : ℕ) (ws : List (Row Write)) (l l' : List (Row Record)) → Over n ws l l'
       → ((k : ℕ) → lo ≤ k → k ≤ hi → look l k ≡ pick (indexed k) (current k) none)
       → (k : ℕ) → look (shown ws lo hi rows) k ≡ look (listScan l' lo hi) k
   unfolding listScan

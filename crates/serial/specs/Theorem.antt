@@ -137,7 +137,7 @@ module _ {σ : State} {ρ : Reading} (h : Sound σ ρ) where
       go (some w) = dropped-sound w h
 
   -- every step keeps the invariant
-  pub step-sound : (s : Step) → Sound (next σ s) (advance ρ (record { step = s; answer = answer σ s }))
+  step-sound : (s : Step) → Sound (next σ s) (advance ρ (record { step = s; answer = answer σ s }))
   unfolding next answer
   step-sound s = go (refusal σ s) refl
     where
@@ -148,7 +148,7 @@ module _ {σ : State} {ρ : Reading} (h : Sound σ ρ) where
 
 -- ---- runs
 
-pub run-sound : (σ : State) (ρ : Reading) (ss : List Step) → Sound σ ρ → Sound (final σ ss) (readOn ρ (history σ ss))
+run-sound : (σ : State) (ρ : Reading) (ss : List Step) → Sound σ ρ → Sound (final σ ss) (readOn ρ (history σ ss))
 unfolding final history readOn
 run-sound σ ρ [] h = h
 run-sound σ ρ (s ∷ ss) h =
@@ -166,7 +166,7 @@ current-fresh k =
     ∙ ap (λ (o : Option Content). maybe (Option·getD o idle .pending) (look (freshMap .records) k) outcomeOf) (look-nil k)
     ∙ look-nil k
 
-pub fresh-sound : (s : Settings) → GoodSettings s → Sound (fresh s) nothingRead
+fresh-sound : (s : Settings) → GoodSettings s → Sound (fresh s) nothingRead
 fresh-sound s g =
     record {
       fine = fine-fresh s g;

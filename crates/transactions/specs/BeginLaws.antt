@@ -29,7 +29,7 @@ begin-refused c w r b = record { refines-so = λ l g k. refines-refused k (b .re
 -- ---- granted
 
 -- a worker that has just begun, whatever its rows hold
-pub begun-in : (g : Logs) (w : ℕ) → modelWorker g begun w ≡ atStage Open freeWorker
+begun-in : (g : Logs) (w : ℕ) → modelWorker g begun w ≡ atStage Open freeWorker
 begun-in g w = begin-in (g .reads) (g .leaves) (g .writes) w
 
 begun-within : Within begun

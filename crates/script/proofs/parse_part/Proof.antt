@@ -17,6 +17,12 @@ enum-known-p c = search needs
 after-letter-requires : tie.Need-after-letter-requires
 after-letter-requires c κs = search needs
 
+enum-told-2 : tie.Need-enum-told-2
+enum-told-2 c = search needs
+
+after-oldest-requires : tie.Need-after-oldest-requires
+after-oldest-requires c κs = search needs
+
 enum-known-p-2 : tie.Need-enum-known-p-2
 enum-known-p-2 c = search needs
 
@@ -42,16 +48,19 @@ returns-2 : tie.Need-returns-2
 returns-2 c = (turns-as (c .before .before .p .given .1) (c .after-letter .ensures .0), c .after-letter .ensures .1)
 
 returns-3 : tie.Need-returns-3
-unfolding inNumber
-returns-3 c = (turns-as (c .before .before .p2 .given .1) (c .field .ensures .0), c .field .ensures .1)
+returns-3 c = (turns-as (c .before .enum-told2 .given .1) (c .after-oldest .ensures .0), c .after-oldest .ensures .1)
 
 returns-4 : tie.Need-returns-4
 unfolding inNumber
-returns-4 c = (turns-as (c .before .before .p3 .given .1) (c .field2 .ensures .0), c .field2 .ensures .1)
+returns-4 c = (turns-as (c .before .before .p2 .given .1) (c .field .ensures .0), c .field .ensures .1)
 
 returns-5 : tie.Need-returns-5
 unfolding inNumber
-returns-5 c = (turns-as (c .before .before .p4 .given .1) (c .field3 .ensures .0), c .field3 .ensures .1)
+returns-5 c = (turns-as (c .before .before .p3 .given .1) (c .field2 .ensures .0), c .field2 .ensures .1)
+
+returns-6 : tie.Need-returns-6
+unfolding inNumber
+returns-6 c = (turns-as (c .before .before .p4 .given .1) (c .field3 .ensures .0), c .field3 .ensures .1)
 
 pub parse-part-spec : {M : Type 1} → statement M
 parse-part-spec =
@@ -61,6 +70,8 @@ parse-part-spec =
     start-requires
     enum-known-p
     after-letter-requires
+    enum-told-2
+    after-oldest-requires
     enum-known-p-2
     field-requires
     enum-known-p-3
@@ -71,4 +82,5 @@ parse-part-spec =
     returns-2
     returns-3
     returns-4
-    returns-5)
+    returns-5
+    returns-6)

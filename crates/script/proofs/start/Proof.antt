@@ -1,8 +1,8 @@
--- `script::start` meets its contract: the first byte is the letter, or the line is malformed.
+-- `script::start` meets its contract: the first byte is the letter, T or another one, or the line is malformed.
 use native.Mathlib.Omega.{arith}
 use mathlib.Core.Logic.{inl, inr}
 use borrow.Author.Needs.{needs}
-use Rattle.script.specs.TokenLaws.{turn-byte, start-bad, start-good}
+use Rattle.script.specs.TokenLaws.{turn-byte, start-bad, start-oldest, start-good}
 use Rattle.script.proofs.start.Statement.{statement}
 use Rattle.script.proofs.start.Tie as tie
 
@@ -25,8 +25,15 @@ add-t14 : tie.Need-add-t14
 add-t14 c = search needs
 
 returns-3 : tie.Need-returns-3
-returns-3 c = (turn-byte _ _ _ (c .before .before .before .pre) (start-good _ (c .before .if1 .left) (c .if2 .left)), omega arith)
+returns-3 c = (turn-byte _ _ _ (c .before .before .before .before .pre) (start-oldest _ (c .if3 .taken)), omega arith)
+
+add-t17 : tie.Need-add-t17
+add-t17 c = search needs
+
+returns-4 : tie.Need-returns-4
+returns-4 c =
+    (turn-byte _ _ _ (c .before .before .before .before .pre) (start-good _ (c .before .before .if1 .left) (c .before .if2 .left) (c .if3 .left)), omega arith)
 
 pub start-spec : {M : Type 1} → statement M
 start-spec =
-    tie.close (tie.spec shared-slice-read-b add-t8 returns add-t11 returns-2 add-t14 returns-3)
+    tie.close (tie.spec shared-slice-read-b add-t8 returns add-t11 returns-2 add-t14 returns-3 add-t17 returns-4)

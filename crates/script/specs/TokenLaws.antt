@@ -23,7 +23,7 @@ use Rattle.script.specs.declared.Run.{Run}
 use Rattle.script.specs.Grammar.{isDigit, lineOf, meaning}
 use Rattle.script.specs.Parsing.{values, inNumber, fieldsOn, letterOn, aloneOn, started, continued}
 use Rattle.script.specs.GrammarLaws.{digit-from, fields-four, fields-digit, fields-other, fields-blank, fields-nothing, fields-end, fields-space, fields-wide, start-space, start-nothing, start-letter, oldest-letter, other-alone, letter-space, letter-nothing, letter-other}
-use Rattle.script.specs.Tokens.{Digits, Moves, Spells, Stops, Tells, ParsesPart, cut-byte, cut-join, cut-none, has-byte, moves-join, moves-none, tells-join, told}
+use Rattle.script.specs.Tokens.{Digits, Moves, Spells, Stops, Tells, ParsesPart, cut-byte, cut-join, cut-none, goes-turns, has-byte, moves-join, moves-none, tells-join, told}
 
 -- ---- a byte
 
@@ -194,6 +194,19 @@ space-two c f a b n e = rw e (field-fourth c a b n)
 -- a turn of one byte
 pub turn-byte : (p : Parser) {s : List ℕ} {i : ℕ} (q : Parser) (e : Event) → i < length s → Tells p e q (getD s i 0 ∷ []) → ParsesPart s i p (record { parser = q; next = i + 1; event = e })
 turn-byte p {s} {i} q e h t = record { taken = getD s i 0 ∷ []; cut = cut-byte s i h; tells = t }
+
+-- a letter and the space after it, and then as within its first number
+pub letter-turn : {s : List ℕ} {i : ℕ} {r : Parsed} → i + 1 + 1 < length s → (getD s i 0 ≡ 32 → ⊥) → (getD s i 0 ≡ 10 → ⊥) → (getD s i 0 ≡ 84 → ⊥)
+    → getD s (i + 1) 0 ≡ 32 → ParsesPart s (i + 1 + 1) (inNumber (getD s i 0) None false 0) r → ParsesPart s i Start r
+unfolding Tells inNumber
+letter-turn {s} {i} h p q t e x =
+    goes-turns
+    (record {
+      taken = (getD s i 0 ∷ []) ++ (getD s (i + 1) 0 ∷ []);
+      cut = cut-join (cut-byte s i (omega arith)) (cut-byte s (i + 1) (omega arith));
+      moves = moves-join (start-good (getD s i 0) p q t) (letter-good (getD s i 0) (getD s (i + 1) 0) e);
+    })
+    x
 
 -- a number at the slice's end
 pub field-ended : (c : ℕ) (f : Fields) {d : Bool} {n : ℕ} {s : List ℕ} {i : ℕ} {r : Run} {p : Parser} → Digits s i d n r

@@ -120,7 +120,7 @@ tells-join event.Malformed {p} {q} r {a} b m t = (
 )
 tells-join event.SliceEnd r b m t = moves-join m t
 
-goes-turns : {s : List ℕ} {i j : ℕ} {p q : Parser} {r : Parsed} → Advances s i p j q → ParsesPart s j q r → ParsesPart s i p r
+pub goes-turns : {s : List ℕ} {i j : ℕ} {p q : Parser} {r : Parsed} → Advances s i p j q → ParsesPart s j q r → ParsesPart s i p r
 goes-turns {r = r} g t =
     record { taken = g .taken ++ t .taken; cut = cut-join (g .cut) (t .cut); tells = tells-join (r .event) (r .parser) (t .taken) (g .moves) (t .tells) }
 

@@ -1,4 +1,4 @@
-/* A morning with the section map: two jobs, a phantom, a fold. Build it with
+/* A morning with the section map: two jobs, a phantom, a fold, a guard. Build it with
  *
  *     cc -std=c11 -I bindings/c bindings/c/example.c target/staticlib/libsections.a
  *
@@ -8,7 +8,7 @@
 #include <inttypes.h>
 #include <stdio.h>
 
-/* A map is 96 KB: static memory suits it. */
+/* A map is 106 KB: static memory suits it. */
 static struct sections map;
 
 static void say(const char *step, enum sections_refusal refusal)
@@ -95,8 +95,19 @@ int main(void)
     /* A list of steps in one call, from a fresh map: three words for each answer. */
     struct sections_code list[] = {sections_code_begin(0), sections_code_put(0, 4096, 32), sections_code_begin(0)};
     uint64_t answers[9];
-    struct sections_ran ran = sections_run(&trial, list, 3, NULL, answers, 9);
+    struct sections_ran ran = sections_run(&trial, list, 3, NULL, answers, 9, false);
     printf("list: %zu of 3 steps taken\n", ran.taken);
     say("the last", (enum sections_refusal)answers[6]);
+
+    /* In a guarded map no two sections overlap. The job has to look first; refused, it is still open and can move a section. */
+    sections_init_guarded(&trial);
+    sections_begin(&trial, 0);
+    sections_scan(&trial, 0, 0, 16383, &buffers);
+    sections_put(&trial, 0, 4096, 8192);
+    sections_put(&trial, 0, 12287, 1024);
+    say("guarded lock", sections_lock(&trial, 0));
+    sections_remove(&trial, 0, 12287);
+    sections_put(&trial, 0, 12288, 1024);
+    say("guarded lock", sections_lock(&trial, 0));
     return ran.stop != SECTIONS_COMPLETE;
 }

@@ -4,8 +4,12 @@
  * SECTIONS_GRANTED or a refusal, and what was granted. `example.c` beside this file shows them at work. Link
  * target/staticlib/libsections.a, which `rt staticlib sections` proves and writes.
  *
- * Every answer is as document 01 has it, so long as the caller keeps this:
- * - A map is used after sections_init or sections_run, and only these functions write it.
+ * A guarded map (request 102) is made by sections_init_guarded, or by sections_run with `guarded`, and stays one. Its values are
+ * lengths in bytes, and whatever steps it is given, no two present sections ever overlap. A job scans before it locks: each put
+ * needs a scan that sees all sections that could reach into it. Lock refuses by 16, 17 or 18 what would break the promise.
+ *
+ * Every answer is as document 01 and request 102 have it, so long as the caller keeps this:
+ * - A map is used after sections_init, sections_init_guarded or sections_run, and only these functions write it.
  * - One call at a time for a map. Different maps may be used at the same time.
  * - A map may be copied whole between calls, by assignment, memcpy or a file: it has no pointers. The copy goes on by itself.
  * - Buffers lie outside the map and do not overlap. A buffer or a list of 0 places may be NULL.
@@ -23,13 +27,14 @@
 
 /* ---- A map. */
 
-/* Document 01's limits. */
+/* Document 01's limits, and request 102's. */
 #define SECTIONS_SEATS 8
 #define SECTIONS_MAP_LIMIT 1024  /* records */
 #define SECTIONS_SLOT_COUNT 256  /* of the indexlet */
 #define SECTIONS_READ_LIMIT 64   /* record entries of a job's log */
 #define SECTIONS_MARK_LIMIT 32   /* marks of a job's log */
 #define SECTIONS_WRITE_LIMIT 16  /* edited addresses of a job */
+#define SECTIONS_LONGEST 65536   /* bytes of a section in a guarded map */
 
 /* The most records that a granted scan can show: those that it logs, and the job's own edits. */
 #define SECTIONS_SCAN_LIMIT (SECTIONS_READ_LIMIT + SECTIONS_WRITE_LIMIT)
@@ -40,7 +45,7 @@
 #define SECTIONS_LEAVES ((SECTIONS_MAP_LIMIT + 1) * 4)
 #define SECTIONS_SLOTS (SECTIONS_SLOT_COUNT * 7)
 #define SECTIONS_READS (SECTIONS_SEATS * SECTIONS_READ_LIMIT * 4)
-#define SECTIONS_MARKS (SECTIONS_SEATS * SECTIONS_MARK_LIMIT * 2)
+#define SECTIONS_MARKS (SECTIONS_SEATS * SECTIONS_MARK_LIMIT * 7)
 #define SECTIONS_WRITES (SECTIONS_SEATS * SECTIONS_WRITE_LIMIT * 3)
 
 struct sections {
@@ -55,7 +60,8 @@ struct sections {
 
 /* ---- Answers. */
 
-/* Document 01's table. 12, 13 and 14 end the job; the others change nothing. */
+/* Document 01's table, and what request 102 adds. 12, 13 and 14 end the job; the others change nothing. Of several causes the
+ * lowest number is answered, but by lock the first of 1, 2, 4, 16, 17, 18, 9, 10, 11. */
 enum sections_refusal {
     SECTIONS_GRANTED = 0,
     SECTIONS_NO_SEAT = 1,
@@ -73,6 +79,10 @@ enum sections_refusal {
     SECTIONS_UNDER_LOCK = 13,
     SECTIONS_PHANTOM = 14,
     SECTIONS_SPENT = 15,
+    /* Of lock in a guarded map, if it holds of any put of the job. */
+    SECTIONS_UNFIT = 16,     /* its length is outside 1 to SECTIONS_LONGEST, or its end is past the highest address */
+    SECTIONS_UNCOVERED = 17, /* no scan of the job covers from 65,535 addresses before the section, or 0, to its last byte */
+    SECTIONS_OVERLAP = 18,   /* another section shares a byte, as the latest such scan found it, with the job's edits laid over */
     /* Of a coded step alone: there is no such kind, a seat or an address is above 32 bits, or a scan has more places than lent. */
     SECTIONS_MEANINGLESS = 99
 };
@@ -97,6 +107,9 @@ static inline const char *sections_word(enum sections_refusal refusal)
     case SECTIONS_UNDER_LOCK: return "under lock";
     case SECTIONS_PHANTOM: return "phantom";
     case SECTIONS_SPENT: return "spent";
+    case SECTIONS_UNFIT: return "unfit";
+    case SECTIONS_UNCOVERED: return "uncovered";
+    case SECTIONS_OVERLAP: return "overlap";
     case SECTIONS_MEANINGLESS: return "no meaning";
     }
     return "unknown";
@@ -240,7 +253,7 @@ extern "C" {
 #endif
 
 void sections_fresh(uint64_t core[], uint64_t records[], uint64_t leaves[], uint64_t slots[], uint64_t reads[],
-                    uint64_t marks[], uint64_t writes[]);
+                    uint64_t marks[], uint64_t writes[], bool guarded);
 
 void sections_step(uint64_t answer[], uint32_t *addresses, size_t address_places, uint64_t *values, size_t value_places,
                    uint64_t core[], uint64_t records[], uint64_t leaves[], uint64_t slots[], uint64_t reads[],
@@ -249,7 +262,7 @@ void sections_step(uint64_t answer[], uint32_t *addresses, size_t address_places
 uint64_t sections_replay(uint64_t counts[], uint64_t *out, size_t out_places, uint32_t *addresses, size_t address_places,
                          uint64_t *values, size_t value_places, uint64_t core[], uint64_t records[], uint64_t leaves[],
                          uint64_t slots[], uint64_t reads[], uint64_t marks[], uint64_t writes[], const uint64_t *steps,
-                         size_t step_words);
+                         size_t step_words, bool guarded);
 
 bool sections_next(uint64_t found[], const uint64_t core[], const uint64_t records[], const uint64_t leaves[],
                    const uint64_t slots[], const uint64_t reads[], const uint64_t marks[], const uint64_t writes[],
@@ -264,10 +277,16 @@ bool sections_next(uint64_t found[], const uint64_t core[], const uint64_t recor
 
 /* ---- Steps. */
 
-/* Makes it a fresh map, whatever it held. */
+/* Makes it a fresh map, whatever it held. Values may be any numbers, and sections may overlap. */
 static inline void sections_init(struct sections *map)
 {
-    sections_fresh(SECTIONS_ARRAYS(map));
+    sections_fresh(SECTIONS_ARRAYS(map), false);
+}
+
+/* Makes it a fresh guarded map, whatever it held. */
+static inline void sections_init_guarded(struct sections *map)
+{
+    sections_fresh(SECTIONS_ARRAYS(map), true);
 }
 
 struct sections_answer {
@@ -403,12 +422,12 @@ static inline bool sections_after(const struct sections *map, struct sections_re
     return sections_from(map, (uint64_t)record->address + 1, record);
 }
 
-/* Makes it a fresh map and runs a list of steps on it. For each step the words of its answer go to `answers`, and after those
- * of a scan its addresses and values in pairs. A step is taken if `answers` has room for 3 words, or for a scan's 3 and 2 for
- * each place of its shorter buffer. */
+/* Makes it a fresh map, guarded or not, and runs a list of steps on it. For each step the words of its answer go to `answers`,
+ * and after those of a scan its addresses and values in pairs. A step is taken if `answers` has room for 3 words, or for a
+ * scan's 3 and 2 for each place of its shorter buffer. */
 static inline struct sections_ran sections_run(struct sections *map, const struct sections_code *steps, size_t count,
                                                const struct sections_buffers *buffers, uint64_t *answers,
-                                               size_t answer_places)
+                                               size_t answer_places, bool guarded)
 {
     uint32_t address = 0;
     uint64_t value = 0, counts[2];
@@ -416,7 +435,7 @@ static inline struct sections_ran sections_run(struct sections *map, const struc
     struct sections_buffers lent = sections_lent(buffers, &address, &value);
     uint64_t stop = sections_replay(counts, answer_places ? answers : &value, answer_places, lent.addresses,
                                     lent.address_places, lent.values, lent.value_places, SECTIONS_ARRAYS(map),
-                                    count ? steps->words : none.words, count * SECTIONS_CODE_WORDS);
+                                    count ? steps->words : none.words, count * SECTIONS_CODE_WORDS, guarded);
     struct sections_ran ran = {(enum sections_stop)stop, (size_t)counts[0], (size_t)counts[1]};
     return ran;
 }

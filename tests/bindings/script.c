@@ -1,4 +1,5 @@
-/* Answers a script as mapscript does, by the functions of sections.h. Its lines must be well formed: only a T stands alone. */
+/* Answers a script as mapscript does, by the functions of sections.h. Its lines must be well formed: only a T stands alone, and
+ * a G as the first line. */
 #include "sections.h"
 
 #include <inttypes.h>
@@ -77,10 +78,23 @@ static void answer(char letter, uint32_t first)
     }
 }
 
+/* Makes the map, a guarded one by a line G, and answers the letter of the first step. */
+static int start(void)
+{
+    int letter = getchar();
+    if (letter != 'G') {
+        sections_init(&map);
+        return letter;
+    }
+    sections_init_guarded(&map);
+    getchar();
+    printf("G 0\n");
+    return getchar();
+}
+
 int main(void)
 {
-    sections_init(&map);
-    for (int letter = getchar(); letter != EOF; letter = getchar()) {
+    for (int letter = start(); letter != EOF; letter = getchar()) {
         printf("%c ", letter);
         if (getchar() == '\n')
             fold(sections_fold_oldest(&map));

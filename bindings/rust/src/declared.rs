@@ -10,13 +10,16 @@ pub const READ_LIMIT: usize = 64;
 const MARK_LIMIT: usize = 32;
 pub const WRITE_LIMIT: usize = 16;
 
+/// Request 102's: the bytes of the longest section of a guarded map.
+pub const LONGEST: u64 = 65_536;
+
 /// How many words a row of each array has.
 const CORE_WORDS: usize = 5;
 const RECORD_WORDS: usize = 3;
 const LEAF_WORDS: usize = 4;
 const SLOT_WORDS: usize = 7;
 const READ_WORDS: usize = 4;
-const MARK_WORDS: usize = 2;
+const MARK_WORDS: usize = 7;
 const WRITE_WORDS: usize = 3;
 
 pub type Core = [[u64; CORE_WORDS]; SEATS + 2];
@@ -59,6 +62,7 @@ extern "C" {
         reads: &mut Reads,
         marks: &mut Marks,
         writes: &mut Writes,
+        guarded: bool,
     );
 
     fn sections_step(
@@ -94,6 +98,7 @@ extern "C" {
         writes: &mut Writes,
         steps: *const u64,
         step_words: usize,
+        guarded: bool,
     ) -> u64;
 
     fn sections_next(
@@ -122,7 +127,7 @@ fn blank() -> Box<Map> {
     })
 }
 
-pub fn fresh() -> Box<Map> {
+pub fn fresh(guarded: bool) -> Box<Map> {
     let mut map = blank();
     let x = &mut *map;
     // SAFETY: the types are those of the library, which asks nothing of what they hold.
@@ -135,6 +140,7 @@ pub fn fresh() -> Box<Map> {
             &mut x.reads,
             &mut x.marks,
             &mut x.writes,
+            guarded,
         );
     }
     map
@@ -179,6 +185,7 @@ pub fn replay(
     addresses: &mut [u32],
     values: &mut [u64],
     out: &mut [u64],
+    guarded: bool,
 ) -> (Box<Map>, Ran) {
     let mut map = blank();
     let x = &mut *map;
@@ -202,6 +209,7 @@ pub fn replay(
             &mut x.writes,
             steps.as_ptr(),
             steps.len(),
+            guarded,
         )
     };
     let [taken, written] = counts;
@@ -235,7 +243,7 @@ mod tests {
 
     #[test]
     fn steps_with_no_meaning() {
-        let map = &mut *fresh();
+        let map = &mut *fresh(false);
         let codes: [Code; 8] = [
             [11, 0, 0, 0, 0, 0],
             [0, WIDE, 0, 0, 0, 0],
@@ -258,7 +266,7 @@ mod tests {
 
     fn run(steps: &[Code], room: usize) -> (u64, u64, u64, Vec<u64>) {
         let mut out = vec![70; room];
-        let (_, ran) = replay(&steps.concat(), &mut [0; 2], &mut [0; 3], &mut out);
+        let (_, ran) = replay(&steps.concat(), &mut [0; 2], &mut [0; 3], &mut out, false);
         (ran.taken, ran.written, ran.stop, out)
     }
 
@@ -277,13 +285,30 @@ mod tests {
         assert_eq!(run(&[steps[0], [2, 0, 0, 9, 3, 3]], 50).2, 1);
         assert_eq!(run(&[steps[0], [2, 0, 0, 9, 2, 4]], 50).2, 1);
         assert_eq!(run(&[[11, 0, 0, 0, 0, 0]], 10), (0, 0, 1, vec![70; 10]));
-        let (_, ran) = replay(&steps.concat()[..17], &mut [0; 2], &mut [0; 3], &mut [0; 50]);
+        let cut = &steps.concat()[..17];
+        let (_, ran) = replay(cut, &mut [0; 2], &mut [0; 3], &mut [0; 50], false);
         assert_eq!(ran, Ran { taken: 2, written: 6, stop: 1 });
+    }
+
+    /// The last argument decides, of a fresh map and of a list, after which the map
+    /// stays what it was.
+    #[test]
+    fn guarded_or_not() {
+        const BEGIN: Code = [0; 6];
+        const NO_BYTES: Code = [3, 0, 5, 0, 0, 0];
+        const LOCK: Code = [5, 0, 0, 0, 0, 0];
+        for (guarded, expected) in [(false, 0), (true, 16)] {
+            let map = &mut *fresh(guarded);
+            assert_eq!([BEGIN, NO_BYTES, LOCK].map(|code| number(map, code)), [0, 0, expected]);
+            let list = [BEGIN, NO_BYTES].concat();
+            let (mut map, _) = replay(&list, &mut [], &mut [], &mut [0; 6], guarded);
+            assert_eq!(number(&mut map, LOCK), expected);
+        }
     }
 
     #[test]
     fn from_any_address() {
-        let map = &*fresh();
+        let map = &*fresh(false);
         [0, 1, WIDE, u64::MAX].into_iter().for_each(|from| assert_eq!(next(map, from), None));
     }
 }

@@ -1,4 +1,4 @@
-//! Document 01's table of refusals.
+//! Document 01's table of refusals, and those that request 102 adds to it.
 
 use std::error::Error;
 use std::fmt;
@@ -6,7 +6,9 @@ use std::fmt;
 /// The enum, its table, and the number and the word of each: a line for each.
 macro_rules! refusals {
     ($($number:literal $name:ident $word:literal $cause:literal)*) => {
-        /// Why a step was refused: the lowest-numbered cause that held.
+        /// Why a step was refused: the lowest-numbered cause that held, but for
+        /// [`lock`](crate::Sections::lock), which has an order of its own. 16 to 18
+        /// are those of [guarded](crate::Sections::guarded) maps.
         ///
         /// ```
         /// use sections::{Refusal, Sections};
@@ -24,7 +26,7 @@ macro_rules! refusals {
             /// All of them, by number.
             pub const ALL: &'static [Refusal] = &[$(Refusal::$name),*];
 
-            /// Document 01's word for it.
+            /// Document 01's word for it, or this crate's for those of request 102.
             pub fn word(self) -> &'static str {
                 match self { $(Refusal::$name => $word),* }
             }
@@ -48,15 +50,18 @@ refusals! {
     13 UnderLock "under lock" "Validate: another seat has locked a logged address. The job is ended."
     14 Phantom "phantom" "Validate: a logged leaf has changed, or hides a key. The job is ended."
     15 Spent "spent" "Validate: all 1,000,000 serial numbers are given."
+    16 Unfit "unfit" "Lock: a length outside 1 to 65,536, or an end past the highest address."
+    17 Uncovered "uncovered" "Lock: no scan from 65,535 addresses before a put to its last byte."
+    18 Overlap "overlap" "Lock: another section shares a byte with a put."
 }
 
 impl Refusal {
-    /// Document 01's number.
+    /// Document 01's number, or request 102's.
     pub fn number(self) -> u64 {
         self as u64
     }
 
-    /// The refusal with that number of document 01.
+    /// The refusal with that number.
     ///
     /// ```
     /// use sections::Refusal;

@@ -24,19 +24,45 @@ impl Sections {
     /// assert_eq!(answers[3], Err(Refusal::ShortBuffer));
     /// ```
     pub fn replay(steps: &[Step]) -> (Self, Vec<Result<Answer, Refusal>>) {
-        let codes: Vec<u64> = steps.iter().flat_map(|step| step.code()).collect();
-        let most = |f: fn((usize, usize)) -> usize| {
-            steps.iter().map(|step| f(step.places())).max().unwrap_or(0)
-        };
-        let (mut addresses, mut values) = (vec![0; most(|p| p.0)], vec![0; most(|p| p.1)]);
-        let room = steps.iter().map(|step| HEAD + PAIR * step.places().0.min(step.places().1));
-        let mut words = vec![0; room.sum()];
-        let (map, ran) = declared::replay(&codes, &mut addresses, &mut values, &mut words);
-        assert_eq!(ran.taken, steps.len() as u64, "each step has a meaning and room");
-        let mut rest = &words[..ran.written as usize];
-        let answers = steps.iter().map(|&step| answer(step, &mut rest)).collect();
-        (Sections { map }, answers)
+        run(steps, false)
     }
+
+    /// The same on a fresh guarded map ([`Sections::guarded`]).
+    ///
+    /// ```
+    /// use sections::{Answer, Refusal, Sections, Step};
+    /// let steps = [
+    ///     Step::Begin { seat: 0 },
+    ///     Step::Scan { seat: 0, lo: 0, hi: 9999, addresses: 1, values: 1 },
+    ///     Step::Put { seat: 0, address: 4096, value: 32 },
+    ///     Step::Put { seat: 0, address: 4127, value: 100 },
+    ///     Step::Lock { seat: 0 },
+    ///     Step::Remove { seat: 0, address: 4096 },
+    ///     Step::Lock { seat: 0 },
+    /// ];
+    /// let (_, answers) = Sections::replay_guarded(&steps);
+    /// assert_eq!(answers[4], Err(Refusal::Overlap));
+    /// assert_eq!(answers[6], Ok(Answer::Granted));
+    /// ```
+    pub fn replay_guarded(steps: &[Step]) -> (Self, Vec<Result<Answer, Refusal>>) {
+        run(steps, true)
+    }
+}
+
+/// The map after the list, and the answers.
+fn run(steps: &[Step], guarded: bool) -> (Sections, Vec<Result<Answer, Refusal>>) {
+    let codes: Vec<u64> = steps.iter().flat_map(|step| step.code()).collect();
+    let most = |f: fn((usize, usize)) -> usize| {
+        steps.iter().map(|step| f(step.places())).max().unwrap_or(0)
+    };
+    let (mut addresses, mut values) = (vec![0; most(|p| p.0)], vec![0; most(|p| p.1)]);
+    let room = steps.iter().map(|step| HEAD + PAIR * step.places().0.min(step.places().1));
+    let mut words = vec![0; room.sum()];
+    let (map, ran) = declared::replay(&codes, &mut addresses, &mut values, &mut words, guarded);
+    assert_eq!(ran.taken, steps.len() as u64, "each step has a meaning and room");
+    let mut rest = &words[..ran.written as usize];
+    let answers = steps.iter().map(|&step| answer(step, &mut rest)).collect();
+    (Sections { map }, answers)
 }
 
 /// Takes one answer off the words.

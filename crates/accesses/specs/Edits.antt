@@ -157,7 +157,7 @@ edit-granted {ws} {us} {c} {o} {w} {a} {kind} {value} {x} {b} {n} t q f p s =
           = subst (λ (o : Answer). Yields σ (editing w a e) o (effect σ (editing w a e))) (granted-editing σ w a e) g in
           refines k d
           (state-with l (logs rs ls ws) (logs rs ls (set ws w us)) c w (withWrites x n)
-          (record { reads = λ v m d. refl; leaves = λ v m d. refl; writes = λ v m d. other-set (λ (s : WriteRows). writesOf s m) ws w us v d })
+          (record { reads = λ v m d. refl; leaves = λ v m d. refl; scans = λ v m d. refl; writes = λ v m d. other-set (λ (s : WriteRows). writesOf s m) ws w us v d })
           ∙ ap (withWorker σ w)
           (write-in rs ls ws w x us n a kind value (k .stored .writes) (t .inside) p ∙ ap (writing a e) (sym (worker-is isOpen l (logs rs ls ws) c w x k t)))
           ∙ sym (effect-editing σ w a e))

@@ -154,13 +154,14 @@ read-full {rs} {rows} {slots} {c} {w} {a} {x} t h =
 
 -- ---- the worker's own write
 
-logged-none : (x : model.Worker) → logged [] [] x ≡ x
+logged-none : (x : model.Worker) → logged [] [] [] x ≡ x
 unfolding logged
 logged-none x =
     λ i. record {
       stage = x .stage;
       reads = append-nil (x .reads) i;
       versions = append-nil (x .versions) i;
+      scans = append-nil (x .scans) i;
       writes = x .writes;
       number = x .number;
     }
@@ -168,7 +169,7 @@ logged-none x =
 worker-back : (σ : State) (w : ℕ) → withWorker σ w (workerOf σ w) ≡ σ
 unfolding withWorker workerOf
 worker-back σ w =
-    ap (λ (xs : List model.Worker). record { settings = σ .settings; counters = σ .counters; map = σ .map; workers = xs })
+    ap (λ (xs : List model.Worker). record { settings = σ .settings; guarded = σ .guarded; counters = σ .counters; map = σ .map; workers = xs })
     (set-getD (σ .workers) w freeWorker)
 
 -- the answer and the state, by the worker's write at the address
@@ -178,14 +179,14 @@ unfolding granted
 granted-is σ w a o q = ap (λ (p : Option Write). found (maybe p (payloadOf (current (σ .map) a)) ownView)) q
 
 effect-is : (σ : State) (w a : ℕ) (o : Option Write) → ownWrite σ w a ≡ o
-    → effect σ (read w a) ≡ withWorker σ w (logged (maybe o (row a (current (σ .map) a) ∷ []) (λ (e : Write). [])) [] (workerOf σ w))
+    → effect σ (read w a) ≡ withWorker σ w (logged (maybe o (row a (current (σ .map) a) ∷ []) (λ (e : Write). [])) [] [] (workerOf σ w))
 unfolding effect readRows
 effect-is σ w a o q =
-    ap (λ (p : Option Write). withWorker σ w (logged (maybe p (row a (current (σ .map) a) ∷ []) (λ (e : Write). [])) [] (workerOf σ w))) q
+    ap (λ (p : Option Write). withWorker σ w (logged (maybe p (row a (current (σ .map) a) ∷ []) (λ (e : Write). [])) [] [] (workerOf σ w))) q
 
 yields-read : (σ : State) (w a : ℕ) (o : Option Write) → ownWrite σ w a ≡ o → refusal σ (read w a) ≡ none
     → Yields σ (read w a) (found (maybe o (payloadOf (current (σ .map) a)) ownView))
-    (withWorker σ w (logged (maybe o (row a (current (σ .map) a) ∷ []) (λ (e : Write). [])) [] (workerOf σ w)))
+    (withWorker σ w (logged (maybe o (row a (current (σ .map) a) ∷ []) (λ (e : Write). [])) [] [] (workerOf σ w)))
 yields-read σ w a o q n =
     let k : Yields σ (read w a) (granted σ (read w a)) (effect σ (read w a)) = yields-granted σ (read w a) n in
     record { answers = k .answers ∙ granted-is σ w a o q; leaves = k .leaves ∙ effect-is σ w a o q }
@@ -249,11 +250,11 @@ read-logged {rs} {rows} {slots} {us} {c} {o} {w} {a} {x} {r} {v} t h p m s =
             (sym (s ∙ ap (λ (z : Option Record). found (payloadOf z)) seen))
             (refines k (yields-read σ w a none (own-is l g c w x k t a ∙ q) room)
             (state-with l g (logs (set rs w us) ls ws) c w (withReads x (r .count))
-            (record { reads = λ u m d. other-set (λ (z : ReadRows). readsOf z m) rs w us u d; leaves = λ u m d. refl; writes = λ u m d. refl })
+            (record { reads = λ u m d. other-set (λ (z : ReadRows). readsOf z m) rs w us u d; leaves = λ u m d. refl; scans = λ u m d. refl; writes = λ u m d. refl })
             ∙ ap (withWorker σ w)
             (read-in rs ls ws w x us (r .count) a (r .seen) (k .stored .reads) (t .inside) (p .logs)
-            ∙ ap (λ (o : Option Record). logged (row a o ∷ []) [] (workerIn x rs ls ws w)) seen
-            ∙ ap (logged (row a (current (σ .map) a) ∷ []) []) (sym (worker-is isOpen l g c w x k t))))
+            ∙ ap (λ (o : Option Record). logged (row a o ∷ []) [] [] (workerIn x rs ls ws w)) seen
+            ∙ ap (logged (row a (current (σ .map) a) ∷ []) [] []) (sym (worker-is isOpen l g c w x k t))))
             (stored-worker l rs ls ws (set rs w us) ws c w (withReads x (r .count)) (t .inside) (k .stored)
             (each-set w us (k .stored .reads) (p .logs .held)) (k .stored .writes)
             (record { reads = omega arith; leaves = b .leaves; writes = b .writes })

@@ -37,7 +37,7 @@ scans-declined {r} lo hi ks vs k e d =
 
 -- granted
 pub scans-granted : {l : Lent} {g : Logs} {c : Core} {w : ℕ} {x : Worker} {o : Core} {t : Task} {ks' vs' : List ℕ} {rs : ReadRows} {ls : LeafSetRows} {y : Worker} (lo hi : ℕ) (ks vs : List ℕ)
-    → Ready l g c → Entered isOpen (c .workers) w x → PassedIn l g c w x lo hi (length ks) (length vs) t → CarriedIn l g c w x t ks vs ks' vs' rs ls y → o ≡ coreWith c w y
+    → Ready l g c → Entered isOpen (c .workers) w x → PassedIn l g c w x lo hi (length ks) (length vs) t → CarriedIn l g c w x t lo hi ks vs ks' vs' rs ls y → o ≡ coreWith c w y
     → Scans l g c w lo hi ks vs (logging g w rs ls) ks' vs' (record { core = o; answer = Count (t .count) })
 scans-granted {l} {g} {c} {w} {t = t} {ks'} {vs'} {rs} {ls} {y} lo hi ks vs k e p d q =
     record {

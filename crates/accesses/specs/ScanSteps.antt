@@ -1,9 +1,10 @@
 -- A scan of the model that is granted, from what it left in the arrays.
-use Prim.Native.Nat.{ℕ, suc, _+_, _-_, _<_, _≤_}
+use Prim.Native.Nat.{ℕ, suc, _+_, _-_, _<_, _≤_, zero-le, suc-le-suc}
+use native.Mathlib.Nat.{le-refl}
 use native.Mathlib.Omega.{arith}
 use mathlib.Core.Path.{_≡_, refl, sym, ap, _∙_, subst}
 use mathlib.Core.Logic.{⊎-elim}
-use mathlib.Core.List.{List, [], _∷_, _++_}
+use mathlib.Core.List.{List, [], _∷_, _++_, List·Memᴰ, List·Memᴰ·not-nil}
 use mathlib.Core.Option.{Option}
 use lib.ListN.{length, take, drop, getD, set, List·getD-append}
 use lib.Seq.{split-at, getD-append-add}
@@ -12,26 +13,30 @@ use Rattle.lists.specs.TestLaws.{cases, less-true, less-false}
 use Rattle.lists.specs.Rows.{Row}
 use Rattle.spec.specs.Records.{standard, Payload, Record}
 use Rattle.spec.specs.Leaves.{Leaf, firstLeaf, leafOf, versionAt, live}
-use Rattle.spec.specs.Steps.{listed, workerOf, scan, isOpen, scanReads, scanVersions, granted, effect, withWorker, logged}
+use Rattle.spec.specs.Guards.{Scan}
+use Rattle.spec.specs.Steps as model
+use Rattle.spec.specs.Steps.{listed, workerOf, scan, isOpen, scanReads, scanVersions, remembered, granted, effect, withWorker, logged}
 use Rattle.laws.specs.LeafParts.{LowsFrom}
-use Rattle.laws.specs.LeafVersions.{GoodLeaves, leaf-of-low}
+use Rattle.laws.specs.LeafVersions.{GoodLeaves, leaf-of-low, meeting-covers}
 use Rattle.sets.specs.declared.workers.Worker.{Worker}
 use Rattle.sets.specs.Workers.{workerIn}
 use Rattle.sets.specs.Sets.{firstRows}
-use Rattle.sets.specs.Reads.{ReadRows, readsOf, readsIn}
-use Rattle.sets.specs.Leaves.{LeafSetRows, versionsOf, lowsOf, versionsIn}
+use Rattle.sets.specs.Reads.{ReadRows, readIn, readsOf, readsIn}
+use Rattle.sets.specs.Leaves.{LeafSetRows, versionsOf, lowsOf, versionsIn, scannedIn, marksOf, joined, scansOf, scansIn}
 use Rattle.sets.specs.Leaves as leaves
 use Rattle.sets.specs.Writes.{writesIn}
+use Rattle.sets.specs.LeafLaws.{joined-append}
 use Rattle.sets.specs.SetLaws.{each-set, own-set, other-set, length-rows}
 use Rattle.map.specs.Views.{leavesIn, Lent}
 use Rattle.queries.specs.declared.Range.{Range}
 use Rattle.queries.specs.QueryViews.{versionIn}
 use Rattle.queries.specs.ScanLaws.{length-leaves}
 use Rattle.ranges.specs.declared.plans.Task.{Task}
-use Rattle.ranges.specs.Parts.{getD-walk}
+use Rattle.ranges.specs.Parts.{length-walk, getD-walk}
 use Rattle.ranges.specs.Buffers.{rowsIn}
-use Rattle.ranges.specs.Scanning.{span, across, lowIn}
-use Rattle.ranges.specs.Plans.{Carried}
+use Rattle.ranges.specs.Scanning.{span, across, seenIn, lowIn, marked}
+use Rattle.ranges.specs.LogLaws.{scan-remembered}
+use Rattle.ranges.specs.Plans.{scanMade, Carried}
 use Rattle.transactions.specs.declared.Core.{Core}
 use Rattle.transactions.specs.Answering.{yields-granted}
 use Rattle.transactions.specs.Admits.{Entered}
@@ -83,10 +88,14 @@ lows-appended ls rs us n r p good inside count a b old i h v =
 
 -- ---- the scan
 
+some-there : {A : Type 0} {x : A} {xs : List A} → List·Memᴰ x xs → 1 ≤ length xs
+some-there {xs = []} m = absurd (List·Memᴰ·not-nil m)
+some-there {xs = y ∷ ys} m = suc-le-suc zero-le
+
 -- what the scan of worker w left of its sets
-abbrev pub CarriedIn : Lent → Logs → Core → ℕ → Worker → Task → List ℕ → List ℕ → List ℕ → List ℕ → ReadRows → LeafSetRows → Worker → Type 0
-CarriedIn l g c w x t ks vs ks' vs' rs ls y =
-    Carried (l .rows) (l .lows) (l .versions) (l .slots) (getD (g .writes) w []) (c .sizes) x t
+abbrev pub CarriedIn : Lent → Logs → Core → ℕ → Worker → Task → ℕ → ℕ → List ℕ → List ℕ → List ℕ → List ℕ → ReadRows → LeafSetRows → Worker → Type 0
+CarriedIn l g c w x t lo hi ks vs ks' vs' rs ls y =
+    Carried (l .rows) (l .lows) (l .versions) (l .slots) (getD (g .writes) w []) (c .sizes) x t lo hi
     ks vs (getD (g .reads) w []) (getD (g .leaves) w []) ks' vs' rs ls y
 
 -- the arrays with these sets of worker w
@@ -95,22 +104,23 @@ logging g w rs ls = logs (set (g .reads) w rs) (set (g .leaves) w ls) (g .writes
 
 module _ {l : Lent} {g : Logs} {c : Core} {w : ℕ} {x : Worker} (k : Ready l g c) (e : Entered isOpen (c .workers) w x)
     (lo hi : ℕ) (t : Task) (ks vs ks' vs' : List ℕ) (rs : ReadRows) (ls : LeafSetRows) (y : Worker)
-    (p : PassedIn l g c w x lo hi (length ks) (length vs) t) (d : CarriedIn l g c w x t ks vs ks' vs' rs ls y) where
+    (p : PassedIn l g c w x lo hi (length ks) (length vs) t) (d : CarriedIn l g c w x t lo hi ks vs ks' vs' rs ls y) where
   others : OthersSame g (logging g w rs ls) w
   others =
       record {
         reads = λ v n q. other-set (λ (s : ReadRows). readsOf s n) (g .reads) w rs v q;
         leaves = λ v n q. other-set (λ (s : LeafSetRows). versionsOf s n) (g .leaves) w ls v q;
+        scans = λ v n q. other-set (λ (s : LeafSetRows). scansOf s n) (g .leaves) w ls v q;
         writes = λ v n q. refl;
       }
 
   -- the worker, with what the scan passed
-  logged-is : modelWorker (logging g w rs ls) y w ≡ logged (scanReads (stateOf l g c) lo hi) (scanVersions (stateOf l g c) lo hi) (workerOf (stateOf l g c) w)
+  logged-is : modelWorker (logging g w rs ls) y w ≡ logged (scanReads (stateOf l g c) lo hi) (scanVersions (stateOf l g c) lo hi) (remembered (stateOf l g c) w lo hi ∷ []) (workerOf (stateOf l g c) w)
   unfolding workerIn logged
   logged-is =
       ap (λ (a : Worker). modelWorker (logging g w rs ls) a w) (d .worker)
-      ∙ (λ i. record { stage = x .stage; reads = read i; versions = logged-leaves i; writes = writesIn (g .writes) w (x .writes); number = x .number })
-      ∙ ap (logged (scanReads (stateOf l g c) lo hi) (scanVersions (stateOf l g c) lo hi)) (sym (worker-is isOpen l g c w x k e))
+      ∙ (λ i. record { stage = x .stage; reads = read i; versions = logged-leaves i; scans = logged-scan i; writes = writesIn (g .writes) w (x .writes); number = x .number })
+      ∙ ap (logged (scanReads (stateOf l g c) lo hi) (scanVersions (stateOf l g c) lo hi) (remembered (stateOf l g c) w lo hi ∷ [])) (sym (worker-is isOpen l g c w x k e))
     where
       read : readsIn (set (g .reads) w rs) w (y .reads) ≡ readsIn (g .reads) w (x .reads) ++ scanReads (stateOf l g c) lo hi
       read =
@@ -123,6 +133,40 @@ module _ {l : Lent} {g : Logs} {c : Core} {w : ℕ} {x : Worker} (k : Ready l g 
           own-set (λ (s : LeafSetRows). versionsOf s (y .leaves)) (g .leaves) w ls (k .stored .leaves) (e .inside)
           ∙ d .logs-leaves .versions-are (c .sizes .leaves) (p .measured .met .within) (k .stored .map .tables .lows .room)
           ∙ ap (λ (ns : List ℕ). versionsIn (g .leaves) w (x .leaves) ++ ns) (scan-versions k e lo hi (t .met) (p .measured .met))
+
+      some-version : 1 ≤ length (scanVersions (stateOf l g c) lo hi)
+      some-version = unfold scanVersions stateOf in some-there (meeting-covers (k .stored .map .bounded .leaves) lo lo hi (le-refl lo) (p .measured .forward))
+
+      -- it met a leaf: that of lo
+      met-one : t .met .from < t .met .to
+      met-one =
+          let s : length (across (versionIn (leavesIn (l .lows) (l .versions) (c .sizes .leaves))) (t .met)) ≡ span (t .met)
+          = length-walk (versionIn (leavesIn (l .lows) (l .versions) (c .sizes .leaves))) (t .met .from) (span (t .met)) in
+          let q : 1 ≤ length (across (versionIn (leavesIn (l .lows) (l .versions) (c .sizes .leaves))) (t .met))
+          = subst (λ (ns : List ℕ). 1 ≤ length ns) (sym (scan-versions k e lo hi (t .met) (p .measured .met))) some-version in
+          omega arith
+
+      logged-before : x .reads ≡ length (workerOf (stateOf l g c) w .reads)
+      logged-before =
+          sym
+          (ap (λ (y : model.Worker). length (y .reads)) (worker-is isOpen l g c w x k e)
+          ∙ (unfold workerIn in length-rows readIn (getD (g .reads) w []) (x .reads)))
+
+      logged-now : span (t .index) ≡ length (scanReads (stateOf l g c) lo hi)
+      logged-now =
+          sym (length-walk (seenIn (l .rows) (c .sizes .records) (l .slots)) (t .index .from) (span (t .index)))
+          ∙ ap length (scan-reads k e lo hi (t .index) (p .measured .index))
+
+      same-scan : scannedIn (scanMade x t lo hi) ≡ remembered (stateOf l g c) w lo hi
+      same-scan = unfold remembered in λ i. record { lo = lo; hi = hi; from = logged-before i; count = logged-now i }
+
+      logged-scan : scansIn (set (g .leaves) w ls) w (y .leaves) ≡ scansIn (g .leaves) w (x .leaves) ++ (remembered (stateOf l g c) w lo hi ∷ [])
+      logged-scan =
+          own-set (λ (s : LeafSetRows). scansOf s (y .leaves)) (g .leaves) w ls (k .stored .leaves) (e .inside)
+          ∙ ap joined (d .logs-leaves .marks-are)
+          ∙ joined-append (marksOf (getD (g .leaves) w []) (x .leaves)) (across (marked (t .met .from) (scanMade x t lo hi)) (t .met))
+          ∙ ap (λ (cs : List Scan). scansIn (g .leaves) w (x .leaves) ++ cs) (scan-remembered (scanMade x t lo hi) (t .met) met-one)
+          ∙ ap (λ (s : Scan). scansIn (g .leaves) w (x .leaves) ++ (s ∷ [])) same-scan
 
   state-is : stateOf l (logging g w rs ls) (coreWith c w y) ≡ effect (stateOf l g c) (scan w lo hi (length ks) (length vs))
   unfolding effect

@@ -19,5 +19,6 @@ pub fn with_worker(c: Core, w: usize, x: Worker) -> Core
         workers,
         sizes,
         counters,
+        guarded: c.guarded,
     }
 }

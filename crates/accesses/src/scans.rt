@@ -31,7 +31,8 @@ pub struct ScanDone {
 }
 
 // Worker w reads the records from lo to hi into the buffers: its own writes, and for all else the present records of the
-// index's addresses. What it passed is logged. A refused scan writes nothing.
+// index's addresses. What it passed is logged, and the scan is remembered. A
+// refused scan writes nothing.
 pub fn scan(
     addresses: &mut [u32],
     values: &mut [u64],
@@ -80,6 +81,8 @@ pub fn scan(
                         sizes,
                         x,
                         t,
+                        lo,
+                        hi,
                     );
                     let core = cores::with_worker(c, v, y);
                     ScanDone {

@@ -1,5 +1,6 @@
 -- Any calls from a fresh map are a serial run.
 use mathlib.Core.Path.{_≡_, refl, sym, ap, _∙_, subst}
+use mathlib.Core.Bool.{Bool}
 use mathlib.Core.List.{List, _∷_}
 use lib.ListN.{length}
 use Rattle.spec.specs.Records.{standard}
@@ -43,15 +44,15 @@ unfolding stateOf
 map-in l g c = refl
 
 -- Demand 3 of any calls.
-pub calls-serial : {l l' : Lent} {g g' : Logs} {c c' : Core} {h : List Event} → Fresh l g c → Calls l g c h l' g' c' → SerialCalls h l' g' c'
-calls-serial {l} {l'} {g} {g'} {c} {c'} {h} f q =
-    let state : stateOf l' g' c' ≡ final (fresh standard) (stepsOf h) = calls-state q ∙ ap (λ (σ : State). final σ (stepsOf h)) (f .state) in
-    let answers : h ≡ history (fresh standard) (stepsOf h) = calls-answers q ∙ ap (λ (σ : State). history σ (stepsOf h)) (f .state) in
+pub calls-serial : {l l' : Lent} {g g' : Logs} {c c' : Core} {h : List Event} {b : Bool} → Fresh l g b c → Calls l g c h l' g' c' → SerialCalls b h l' g' c'
+calls-serial {l} {l'} {g} {g'} {c} {c'} {h} {b} f q =
+    let state : stateOf l' g' c' ≡ final (fresh standard b) (stepsOf h) = calls-state q ∙ ap (λ (σ : State). final σ (stepsOf h)) (f .state) in
+    let answers : h ≡ history (fresh standard b) (stepsOf h) = calls-answers q ∙ ap (λ (σ : State). history σ (stepsOf h)) (f .state) in
     record {
       serial =
           subst (λ (es : List Event). SerialRun es (contents (mapOf l' (c' .sizes)))) (sym answers)
-          (subst (λ (m : MapState). SerialRun (history (fresh standard) (stepsOf h)) (contents m))
-          (ap (λ (σ : State). σ .map) (sym state) ∙ map-in l' g' c') (theorem (stepsOf h)));
+          (subst (λ (m : MapState). SerialRun (history (fresh standard b) (stepsOf h)) (contents m))
+          (ap (λ (σ : State). σ .map) (sym state) ∙ map-in l' g' c') (theorem b (stepsOf h)));
       answers = answers;
       state = state;
       ready = calls-ready (f .ready) q;

@@ -40,13 +40,14 @@ writing o = record { held = o .held; few = o .room }
 -- ---- a new map and a new worker
 
 new-map : (l l' : Lent) (g : Logs) (c : Core) (z : Sizes) (m : MapState) → mapOf l' z ≡ m
-    → stateOf l' g (record { workers = c .workers; sizes = z; counters = c .counters }) ≡ withMap (stateOf l g c) m
+    → stateOf l' g (record { workers = c .workers; sizes = z; counters = c .counters; guarded = c .guarded }) ≡ withMap (stateOf l g c) m
 unfolding stateOf withMap
 new-map l l' g c z m e =
     ap
     (λ (x : MapState).
     record {
       settings = standard;
+      guarded = c .guarded;
       counters = record { number = c .counters .number; version = c .counters .version; installs = c .counters .installs };
       map = x;
       workers = workersFrom g (c .workers) 0;
@@ -56,7 +57,7 @@ new-map l l' g c z m e =
 state-both : (l l' : Lent) (g : Logs) (c : Core) (w : ℕ) (x : Worker) (z : Sizes) (m : MapState) → mapOf l' z ≡ m
     → stateOf l' g (withBoth c w x z) ≡ withWorker (withMap (stateOf l g c) m) w (modelWorker g x w)
 state-both l l' g c w x z m e =
-    state-with l' g g (record { workers = c .workers; sizes = z; counters = c .counters }) w x (same-logs g w)
+    state-with l' g g (record { workers = c .workers; sizes = z; counters = c .counters; guarded = c .guarded }) w x (same-logs g w)
     ∙ ap (λ (σ : State). withWorker σ w (modelWorker g x w)) (new-map l l' g c z m e)
 
 stored-both : (l l' : Lent) (g : Logs) (c : Core) (w : ℕ) (x : Worker) (z : Sizes) (m : MapState) → w < standard .workers
@@ -129,7 +130,7 @@ install-leaves n t m rs = refl
 
 -- the core with one install more
 abbrev countedCore : Core → Core
-countedCore c = record { workers = c .workers; sizes = c .sizes; counters = installCounted (c .counters) }
+countedCore c = record { workers = c .workers; sizes = c .sizes; counters = installCounted (c .counters); guarded = c .guarded }
 
 one-more : (n : ℕ) → n + 1 ≡ suc n
 one-more n = omega arith
@@ -141,6 +142,7 @@ counted-state l g c =
     (λ (n : ℕ).
     record {
       settings = standard;
+      guarded = c .guarded;
       counters = record { number = c .counters .number; version = c .counters .version; installs = n };
       map = mapOf l (c .sizes);
       workers = workersFrom g (c .workers) 0;
@@ -176,10 +178,10 @@ installedState w σ = withWorker (withMap σ (installedMap σ w)) w freeWorker
 pub installs : (l l' : Lent) (ws : List WriteRows) (c : Core) (w : ℕ) (y : Worker) (z : Sizes) (k : Counters) → w < standard .workers → y ≡ freed
     → k ≡ installCounted (c .counters)
     → MapBecomes l' z (c .counters .version) (installAll standard (workerAt c w .number) (k .installs) (mapOf l (c .sizes)) (writesIn ws w (workerAt c w .writes)))
-    → Reaches (λ (σ : State). effect σ (install w)) l ws c l' (record { workers = set (c .workers) w y; sizes = z; counters = k })
+    → Reaches (λ (σ : State). effect σ (install w)) l ws c l' (record { workers = set (c .workers) w y; sizes = z; counters = k; guarded = c .guarded })
 unfolding effect
 installs l l' ws c w y z k h q e b =
-    subst (λ (x : Counters). Reaches (λ (σ : State). effect σ (install w)) l ws c l' (record { workers = set (c .workers) w y; sizes = z; counters = x })) (sym e)
+    subst (λ (x : Counters). Reaches (λ (σ : State). effect σ (install w)) l ws c l' (record { workers = set (c .workers) w y; sizes = z; counters = x; guarded = c .guarded })) (sym e)
     (counts
     (subst (λ (u : Worker). Reaches (installedState w) l ws c l' (withBoth c w u z)) (sym q)
     (reached (installedState w) l l' ws c w freed z _ h b

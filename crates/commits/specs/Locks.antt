@@ -1,4 +1,5 @@
--- Lock, as it goes: refused by 1, 2, 4, 9, 10 or 11, or the addresses of the write set are locked.
+-- Lock, as it goes: refused by 1, 2, 4, in a guarded map by 16, 17 or 18, by 9, 10 or 11, or the addresses of the write set are
+-- locked.
 use Prim.Native.Nat.{ℕ, _+_, _^_, _<_, _≤_}
 use native.Mathlib.Omega.{arith}
 use mathlib.Core.Path.{_≡_, refl, sym, ap, _∙_, subst}
@@ -7,30 +8,36 @@ use mathlib.Core.Bool.{Bool, true, false}
 use mathlib.Core.List.{List, [], _∷_}
 use mathlib.Core.Option.{Option, none, some}
 use lib.ListN.{getD}
-use Rattle.lists.specs.Tests.{maybe, present, less}
+use Rattle.lists.specs.Tests.{pick, both, maybe, present, less}
 use Rattle.lists.specs.TestLaws.{clash, less-yes, less-no, less-false}
-use Rattle.lists.specs.Rows.{keys, any}
+use Rattle.lists.specs.Rows.{Row, keys, any}
 use Rattle.spec.specs.declared.Refusal.{Refusal}
-use Rattle.spec.specs.declared.Refusal.the-variants.{Held, IndexletFull, MapFull}
+use Rattle.spec.specs.declared.Refusal.the-variants.{Held, IndexletFull, MapFull, Unfit, Uncovered, Overlap}
 use Rattle.spec.specs.declared.Stage.the-variants.{Locked}
-use Rattle.spec.specs.Records.{standard}
+use Rattle.spec.specs.Records.{standard, Record, Write}
+use Rattle.spec.specs.Guards.{Scan, unfit, uncovered, overlapped, anyPut}
 use Rattle.spec.specs.Refusals.{ends}
 use Rattle.spec.specs.Leaves.{Leaf}
 use Rattle.spec.specs.Slots.{Slot, contentOf}
 use Rattle.spec.specs.Maps.{MapState, heldByOther, waitingWith, addressesWith, withSlots, lockAll}
-use Rattle.spec.specs.Steps.{State, workerOf, lock, isOpen, lockedByOther, writeKeys, Cause, cause, noWorker, workerFree, wrongStage, causes, firstCause, refusal, granted, effect, withWorker, withMap, atStage}
+use Rattle.spec.specs.Steps as model
+use Rattle.spec.specs.Steps.{State, workerOf, lock, isOpen, lockedByOther, writeKeys, guard, unfitPut, uncoveredPut, overlappedPut, Cause, cause, noWorker, workerFree, wrongStage, causes, firstCause, refusal, granted, effect, withWorker, withMap, atStage}
 use Rattle.laws.specs.WorkerLaws.{cause-passed}
 use Rattle.sets.specs.declared.workers.Worker.{Worker}
 use Rattle.sets.specs.Workers.{workerIn, atLock}
 use Rattle.sets.specs.WorkerLaws.{lock-in}
-use Rattle.sets.specs.Reads.{ReadRows}
-use Rattle.sets.specs.Leaves.{LeafSetRows}
+use Rattle.sets.specs.Reads.{ReadRows, readsIn}
+use Rattle.sets.specs.Leaves.{LeafSetRows, scansIn}
 use Rattle.sets.specs.Writes.{WriteRows, writesOf, writesIn}
 use Rattle.map.specs.declared.Sizes.{Sizes}
 use Rattle.map.specs.Views.{slotsIn, recordsIn, SlotRows, RecordRows, Lent, mapOf}
 use Rattle.map.specs.Entries.{MapBecomes}
 use Rattle.map.specs.LockLaws.{Lockable}
 use Rattle.map.specs.AddressCounts.{Waits, Addressed}
+use Rattle.guards.specs.declared.Judged.{Judged}
+use Rattle.guards.specs.declared.Judged.the-variants.{Passed}
+use Rattle.guards.specs.declared.Judged.the-variants as guarded
+use Rattle.guards.specs.Judging.{judgedIn, guardCauses, Guardable}
 use Rattle.transactions.specs.declared.Core.{Core}
 use Rattle.transactions.specs.declared.begins.Plain.{Plain}
 use Rattle.transactions.specs.declared.begins.Plain.the-variants.{Granted, Refused}
@@ -40,6 +47,7 @@ use Rattle.transactions.specs.Views.{Logs, logs, stateOf, withBoth}
 use Rattle.transactions.specs.ViewLaws.{worker-at}
 use Rattle.transactions.specs.Ready.{workerAt, Stored, Ready, Refines}
 use Rattle.transactions.specs.ReadyLaws.{refines, refines-refused}
+use Rattle.transactions.specs.CoreLaws.{worker-is, within, ready-writable, worker-writable}
 use Rattle.transactions.specs.Begins.{plainIn}
 use Rattle.commits.specs.Commits.{Reaches, reached, worker-inside, keys-are}
 use Rattle.commits.specs.Finishes.{mild}
@@ -172,46 +180,142 @@ pub locks-granted : (l l' : Lent) (ws : List WriteRows) (c : Core) (w : ℕ) (y 
 locks-granted l l' ws c w y z Granted h t p q b = record { tests = same-tests l ws c w Granted t; reaches = locks l l' ws c w y z h q b }
 locks-granted l l' ws c w y z (Refused r) h t p q b = clash refl p
 
+-- ---- the guard
+
+-- refusals 16, 17 and 18 of a worker with these sets, in a guarded map
+unfoldable pub guardTests : Bool → List (Row (Option Record)) → List Scan → List (Row Write) → Option Refusal
+guardTests guarded reads cs ws = pick guarded (firstCause (guardCauses reads cs ws)) none
+
+pub guard-unguarded : (g : Bool) (reads : List (Row (Option Record))) (cs : List Scan) (ws : List (Row Write)) → g ≡ false → none ≡ guardTests g reads cs ws
+unfolding guardTests
+guard-unguarded g reads cs ws e = rw e
+
+pub guard-judged : (g : Bool) (reads : List (Row (Option Record))) (cs : List Scan) (ws : List (Row Write)) (o : Option Refusal) → g ≡ true
+    → o ≡ firstCause (guardCauses reads cs ws) → o ≡ guardTests g reads cs ws
+unfolding guardTests
+guard-judged g reads cs ws o e q = q ∙ (rw e)
+
+-- the same, of a worker of the model
+guardedBy : Bool → model.Worker → Option Refusal
+guardedBy g x =
+    firstCause
+    (cause (both g (anyPut (unfit standard) (x .writes))) Unfit
+    ∷ cause (both g (anyPut (uncovered standard (x .scans)) (x .writes))) Uncovered
+    ∷ cause (both g (anyPut (overlapped standard (x .reads) (x .scans) (x .writes)) (x .writes))) Overlap
+    ∷ [])
+
+guarded-tests : (g : Bool) (x : model.Worker) → guardedBy g x ≡ guardTests g (x .reads) (x .scans) (x .writes)
+unfolding guardedBy guardTests firstCause
+guarded-tests true x = refl
+guarded-tests false x = refl
+
 -- ---- the step
 
+-- three causes, and those after them
+three-first : (a b c : Cause) (cs : List Cause) → firstCause (a ∷ b ∷ c ∷ cs) ≡ maybe (firstCause (a ∷ b ∷ c ∷ [])) (firstCause cs) some
+unfolding firstCause
+three-first a b c cs = go (a .holds) (b .holds) (c .holds)
+  where
+    go : (x y z : Bool)
+        → pick x (some (a .refusal)) (pick y (some (b .refusal)) (pick z (some (c .refusal)) (firstCause cs)))
+        ≡ maybe (pick x (some (a .refusal)) (pick y (some (b .refusal)) (pick z (some (c .refusal)) none))) (firstCause cs) some
+    go true y z = refl
+    go false true z = refl
+    go false false true = refl
+    go false false false = refl
+
 lock-first : (l : Lent) (g : Logs) (c : Core) (w : ℕ)
-    → refusal (stateOf l g c) (lock w) ≡ maybe (front isOpen (stateOf l g c) w) (lockTests (mapOf l (c .sizes)) (writeKeys (stateOf l g c) w) w) some
-unfolding refusal causes lockTests lockedByOther stateOf
-lock-first l g c w = front-first isOpen (stateOf l g c) w _
+    → refusal (stateOf l g c) (lock w)
+    ≡ maybe (front isOpen (stateOf l g c) w)
+    (maybe (guardedBy (c .guarded) (workerOf (stateOf l g c) w)) (lockTests (mapOf l (c .sizes)) (writeKeys (stateOf l g c) w) w) some) some
+unfolding refusal causes lockTests lockedByOther stateOf guardedBy unfitPut uncoveredPut overlappedPut guard
+lock-first l g c w =
+    front-first isOpen (stateOf l g c) w _
+    ∙ ap (λ (o : Option Refusal). maybe (front isOpen (stateOf l g c) w) o some) (three-first _ _ _ _)
 
 lock-mild : (σ : State) (w : ℕ) → any (λ (c : Cause). ends (c .refusal)) (causes σ (lock w)) ≡ false
 unfolding causes noWorker workerFree wrongStage any
 lock-mild σ w = refl
 
 module _ {l : Lent} {rs : List ReadRows} {ls : List LeafSetRows} {ws : List WriteRows} {c : Core} (w : ℕ) (k : Ready l (logs rs ls ws) c) where
-  -- the causes after the first three
+  -- the causes after the guard's, and with them
+  lock-tests : Option Refusal
+  lock-tests = lockTests (mapOf l (c .sizes)) (writeKeys (stateOf l (logs rs ls ws) c) w) w
+
   rest-tests : Option Refusal
-  rest-tests = lockTests (mapOf l (c .sizes)) (writeKeys (stateOf l (logs rs ls ws) c) w) w
+  rest-tests = maybe (guardedBy (c .guarded) (workerOf (stateOf l (logs rs ls ws) c) w)) lock-tests some
+
+  refuses : (r : Refusal) → refusal (stateOf l (logs rs ls ws) c) (lock w) ≡ some r
+      → Refines l (logs rs ls ws) c (lock w) l (logs rs ls ws) c (plainIn (Refused r))
+  refuses r e = refines-refused k e (mild (stateOf l (logs rs ls ws) c) (lock w) r (lock-mild (stateOf l (logs rs ls ws) c) w) e)
 
   pub lock-refused : (r : Refusal) → Turned isOpen (c .workers) w r → Refines l (logs rs ls ws) c (lock w) l (logs rs ls ws) c (plainIn (Refused r))
-  unfolding rest-tests
+  unfolding rest-tests lock-tests
   lock-refused r t =
-      let e : refusal (stateOf l (logs rs ls ws) c) (lock w) ≡ some r
-      = lock-first l (logs rs ls ws) c w ∙ ap (λ (o : Option Refusal). maybe o rest-tests some) (t .front-is l (logs rs ls ws) c refl) in
-      refines-refused k e (mild (stateOf l (logs rs ls ws) c) (lock w) r (lock-mild (stateOf l (logs rs ls ws) c) w) e)
+      refuses r
+      (lock-first l (logs rs ls ws) c w ∙ ap (λ (o : Option Refusal). maybe o rest-tests some) (t .front-is l (logs rs ls ws) c refl))
 
-  tests-are : (x : Worker) → Entered isOpen (c .workers) w x
-      → refusal (stateOf l (logs rs ls ws) c) (lock w) ≡ lockTests (mapOf l (c .sizes)) (keys (writesIn ws w (workerAt c w .writes))) w
-  unfolding rest-tests
-  tests-are x t =
-      lock-first l (logs rs ls ws) c w
-      ∙ ap (λ (o : Option Refusal). maybe o rest-tests some) (t .front-is l (logs rs ls ws) c refl)
-      ∙ ap (λ (ks : List ℕ). lockTests (mapOf l (c .sizes)) ks w)
-      (keys-are l (logs rs ls ws) c w (worker-inside (k .stored) w (t .inside)))
+  module _ (x : Worker) (t : Entered isOpen (c .workers) w x) where
+    -- the worker's rows are what the guard asks
+    pub guardable : Guardable (getD rs w []) (getD ls w []) (getD ws w []) x
+    guardable =
+        let b = within isOpen l (logs rs ls ws) c w x k t in
+        record {
+          reads-held = k .stored .reads .at w (t .inside);
+          leaves-held = k .stored .leaves .at w (t .inside);
+          set = worker-writable (ready-writable k) t;
+          reads = b .reads;
+          leaves = b .leaves;
+        }
 
-  pub lock-refines : {l' : Lent} {c' : Core} (x : Worker) → Entered isOpen (c .workers) w x → (a : Plain) → LocksOpen l ws c w l' c' a
-      → Refines l (logs rs ls ws) c (lock w) l' (logs rs ls ws) c' (plainIn a)
-  unfolding granted
-  lock-refines x t Granted q =
-      refines k (yields-granted (stateOf l (logs rs ls ws) c) (lock w) (tests-are x t ∙ q .tests))
-      (q .reaches .state rs ls (k .stored)) (q .reaches .stored rs ls (k .stored))
-  lock-refines x t (Refused r) q =
-      let e : refusal (stateOf l (logs rs ls ws) c) (lock w) ≡ some r = tests-are x t ∙ q .tests in
-      refines k
-      (yields-refused (stateOf l (logs rs ls ws) c) (lock w) r e (mild (stateOf l (logs rs ls ws) c) (lock w) r (lock-mild (stateOf l (logs rs ls ws) c) w) e))
-      (q .reaches .state rs ls (k .stored)) (q .reaches .stored rs ls (k .stored))
+    -- what the guard says of them
+    told : Option Refusal
+    told = guardTests (c .guarded) (readsIn rs w (x .reads)) (scansIn ls w (x .leaves)) (writesIn ws w (x .writes))
+
+    guard-is : guardedBy (c .guarded) (workerOf (stateOf l (logs rs ls ws) c) w) ≡ told
+    unfolding told workerIn
+    guard-is =
+        guarded-tests (c .guarded) (workerOf (stateOf l (logs rs ls ws) c) w)
+        ∙ ap (λ (y : model.Worker). guardTests (c .guarded) (y .reads) (y .scans) (y .writes)) (worker-is isOpen l (logs rs ls ws) c w x k t)
+
+    first-is : refusal (stateOf l (logs rs ls ws) c) (lock w) ≡ maybe told lock-tests some
+    unfolding rest-tests lock-tests
+    first-is =
+        lock-first l (logs rs ls ws) c w
+        ∙ ap (λ (o : Option Refusal). maybe o rest-tests some) (t .front-is l (logs rs ls ws) c refl)
+        ∙ ap (λ (o : Option Refusal). maybe o lock-tests some) guard-is
+
+    -- the guard refuses
+    pub lock-barred : (r : Refusal) (o : Judged) → o ≡ guarded.Refused r
+        → judgedIn o ≡ guardTests (c .guarded) (readsIn rs w (x .reads)) (scansIn ls w (x .leaves)) (writesIn ws w (x .writes))
+        → Refines l (logs rs ls ws) c (lock w) l (logs rs ls ws) c (plainIn (Refused r))
+    unfolding told
+    lock-barred r o e q = refuses r (first-is ∙ ap (λ (o : Option Refusal). maybe o lock-tests some) (sym q ∙ ap judgedIn e))
+
+    -- or it passes
+    tests-are : told ≡ none
+        → refusal (stateOf l (logs rs ls ws) c) (lock w) ≡ lockTests (mapOf l (c .sizes)) (keys (writesIn ws w (workerAt c w .writes))) w
+    unfolding lock-tests
+    tests-are n =
+        first-is
+        ∙ ap (λ (o : Option Refusal). maybe o lock-tests some) n
+        ∙ ap (λ (ks : List ℕ). lockTests (mapOf l (c .sizes)) ks w)
+        (keys-are l (logs rs ls ws) c w (worker-inside (k .stored) w (t .inside)))
+
+    passes : {l' : Lent} {c' : Core} → told ≡ none → (a : Plain) → LocksOpen l ws c w l' c' a
+        → Refines l (logs rs ls ws) c (lock w) l' (logs rs ls ws) c' (plainIn a)
+    unfolding granted
+    passes n Granted q =
+        refines k (yields-granted (stateOf l (logs rs ls ws) c) (lock w) (tests-are n ∙ q .tests))
+        (q .reaches .state rs ls (k .stored)) (q .reaches .stored rs ls (k .stored))
+    passes n (Refused r) q =
+        let e : refusal (stateOf l (logs rs ls ws) c) (lock w) ≡ some r = tests-are n ∙ q .tests in
+        refines k
+        (yields-refused (stateOf l (logs rs ls ws) c) (lock w) r e (mild (stateOf l (logs rs ls ws) c) (lock w) r (lock-mild (stateOf l (logs rs ls ws) c) w) e))
+        (q .reaches .state rs ls (k .stored)) (q .reaches .stored rs ls (k .stored))
+
+    pub lock-refines : {l' : Lent} {c' : Core} (o : Judged) → o ≡ Passed
+        → judgedIn o ≡ guardTests (c .guarded) (readsIn rs w (x .reads)) (scansIn ls w (x .leaves)) (writesIn ws w (x .writes))
+        → (a : Plain) → LocksOpen l ws c w l' c' a → Refines l (logs rs ls ws) c (lock w) l' (logs rs ls ws) c' (plainIn a)
+    unfolding told
+    lock-refines o e q a h = passes (sym q ∙ ap judgedIn e) a h

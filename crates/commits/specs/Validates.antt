@@ -83,7 +83,7 @@ verdictIn (verdict.Refused r) = some r
 
 -- the core after worker w, now y, took commit number n
 abbrev pub withNumber : Core → ℕ → Worker → ℕ → Core
-withNumber c w y n = record { workers = set (c .workers) w y; sizes = c .sizes; counters = record { number = n; version = c .counters .version; installs = c .counters .installs } }
+withNumber c w y n = record { workers = set (c .workers) w y; sizes = c .sizes; counters = record { number = n; version = c .counters .version; installs = c .counters .installs }; guarded = c .guarded }
 
 -- what a validation answers if a commit number is left, and if none is
 abbrev takes : Core → ℕ → Worker → Bool → ValidateDone
@@ -188,7 +188,7 @@ module _ (c : Core) (w : ℕ) (x : Worker) where
   -- the number is taken from the counters
   pub number-taken : (k : Counters) (n : ℕ) (y : Worker) → c .counters .number < standard .lastNumber
       → (n ≡ map-parts.numbered (c .counters) .number) × (k ≡ map-parts.numbered (c .counters)) → y ≡ atCheck x n
-      → record { core = record { workers = set (c .workers) w y; sizes = c .sizes; counters = k }; answer = Number n } ≡ numbering c w x
+      → record { core = record { workers = set (c .workers) w y; sizes = c .sizes; counters = k; guarded = c .guarded }; answer = Number n } ≡ numbering c w x
   number-taken k n y h (p, q) e =
-      (λ i. record { core = record { workers = set (c .workers) w ((e ∙ ap (atCheck x) p) i); sizes = c .sizes; counters = q i }; answer = Number (p i) })
+      (λ i. record { core = record { workers = set (c .workers) w ((e ∙ ap (atCheck x) p) i); sizes = c .sizes; counters = q i; guarded = c .guarded }; answer = Number (p i) })
       ∙ number-left h

@@ -258,7 +258,7 @@ module _ {l : Lent} {rs : List ReadRows} {ls : List LeafSetRows} {ws : List Writ
 
     -- the core with the counters of a granted validation
     abbrev counted : ℕ → Core
-    counted n = record { workers = c .workers; sizes = c .sizes; counters = record { number = n; version = c .counters .version; installs = c .counters .installs } }
+    counted n = record { workers = c .workers; sizes = c .sizes; counters = record { number = n; version = c .counters .version; installs = c .counters .installs }; guarded = c .guarded }
 
     counted-state : (n : ℕ) → stateOf l (logs rs ls ws) (counted n) ≡ withCounters now n (c .counters .version)
     unfolding stateOf withCounters

@@ -50,5 +50,6 @@ pub fn drop_transaction(
         workers,
         sizes: z,
         counters,
+        guarded: c.guarded,
     }
 }

@@ -63,6 +63,7 @@ fn install_transaction(
         workers,
         sizes: z,
         counters: counted,
+        guarded: c.guarded,
     }
 }
 

@@ -1,4 +1,5 @@
-// Lock: the addresses of a write set, all or none, and the tests before it.
+// Lock: the addresses of a write set, all or none, and the tests before it; in a guarded map first those of its puts.
+use guards::Judged;
 use map::Leaves;
 use map::Records;
 use map::Sizes;
@@ -7,6 +8,7 @@ use sets::LeafSets;
 use sets::ReadSets;
 use sets::WriteSet;
 use sets::WriteSets;
+use sets::workers::Worker;
 use spec::MAP_LIMIT;
 use spec::Refusal;
 use spec::WAITING_LIMIT;
@@ -23,14 +25,17 @@ ghost use Rattle.lists.specs.Tests.{present};
 ghost use Rattle.spec.specs.Records.{standard};
 ghost use Rattle.spec.specs.Slots.{entries};
 ghost use Rattle.spec.specs.Steps as model;
-ghost use Rattle.sets.specs.Writes.{WriteSetOrdered};
+ghost use Rattle.sets.specs.Reads.{readsIn};
+ghost use Rattle.sets.specs.Leaves.{scansIn};
+ghost use Rattle.sets.specs.Writes.{writesIn, WriteSetOrdered};
+ghost use Rattle.guards.specs.Judging.{judgedIn, Guardable};
 ghost use Rattle.map.specs.Views.{lent, slotsIn};
 ghost use Rattle.map.specs.MapHeld as map;
 ghost use Rattle.map.specs.AddressCounts.{Counted};
 ghost use Rattle.transactions.specs.Views.{logs};
 ghost use Rattle.transactions.specs.Ready.{workerAt, Ready, Refines};
 ghost use Rattle.transactions.specs.Begins.{plainIn};
-ghost use Rattle.commits.specs.Locks.{refusalIn, Tested, LocksOpen};
+ghost use Rattle.commits.specs.Locks.{refusalIn, guardTests, Tested, LocksOpen};
 
 // The tests of a write set before its addresses are locked: refusals 9, 10 and 11.
 fn lock_tests(rows: &Records, slots: &Slots, ws: &WriteSet, z: Sizes, n: usize, w: u64) -> Plain
@@ -105,11 +110,31 @@ fn lock_open(
         workers,
         sizes: z,
         counters,
+        guarded: c.guarded,
     };
     Done {
         core,
         answer: tested,
     }
+}
+
+// The guard's tests of worker w's puts, refusals 16, 17 and 18 (request 102). An unguarded map has none.
+fn guard(
+    reads: &ReadSets,
+    leafsets: &LeafSets,
+    writes: &WriteSets,
+    guarded: bool,
+    w: usize,
+    x: Worker,
+) -> Judged
+    requires { ⌜ w < standard .workers ⌝ }
+    requires { ⌜ Guardable (getD (now reads) w []) (getD (now leafsets) w []) (getD (now writes) w []) x ⌝ }
+    ensures { λ r. ⌜ judgedIn r ≡ guardTests guarded (readsIn (now (reads .entry)) w (x .reads)) (scansIn (now (leafsets .entry)) w (x .leaves)) (writesIn (now (writes .entry)) w (x .writes)) ⌝ }
+{
+    if guarded {
+        return guards::judge(&reads[w], &leafsets[w], &writes[w], x);
+    }
+    Judged::Passed
 }
 
 // Worker w locks the addresses of its write set.
@@ -134,6 +159,15 @@ pub fn lock(
             core: c,
             answer: Plain::Refused(r),
         },
-        Admit::Allowed(_) => lock_open(leaves, slots, rows, writes, c, w as usize),
+        Admit::Allowed(x) => {
+            let v = w as usize;
+            match guard(reads, leafsets, writes, c.guarded, v, x) {
+                Judged::Refused(r) => Done {
+                    core: c,
+                    answer: Plain::Refused(r),
+                },
+                Judged::Passed => lock_open(leaves, slots, rows, writes, c, v),
+            }
+        }
     }
 }

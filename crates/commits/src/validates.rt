@@ -199,6 +199,7 @@ fn take_number(c: Core, w: usize, x: Worker) -> ValidateDone
         workers,
         sizes,
         counters,
+        guarded: c.guarded,
     };
     ValidateDone {
         core,

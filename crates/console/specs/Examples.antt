@@ -9,7 +9,7 @@ use Rattle.lists.specs.Tests.{same, less, atMost, within}
 use Rattle.spec.specs.Computing.{model}
 use Rattle.script.specs.Grammar.{firstWord, moreWords, isDigit, extend, number, numbers, noNumber, oneNumber, twoNumbers, threeNumbers, lineOf, lettered, meaning}
 use Rattle.script.specs.Output.{digitsWithin, decimal, field, pair, pairs, answerText, answerLine, endLine}
-use Rattle.console.specs.Program.{writtenFrom, output}
+use Rattle.console.specs.Program.{writtenFrom, startsGuarded, output}
 
 -- the bytes of a text; every character here is one byte
 abbrev bytes : String → List ℕ
@@ -23,11 +23,34 @@ pub record Answered : Type 0 where
   pub nothing : output [] ≡ bytes "E 0\n"
   -- a merge of the oldest has no number
   pub oldest : output (bytes "B 0\nP 0 9 1\nL 0\nV 0\nI 0\nT\nT\n") ≡ bytes "B 0\nP 0\nL 0\nV 0 1\nI 0\nT 0 1\nT 0 0\nE 1 9 1\n"
+  -- on a guarded map a put without a scan is not locked
+  pub guarded :
+      output (bytes "G\nB 0\nP 0 4096 32\nL 0\nS 0 0 4127\nL 0\nV 0\nI 0\n")
+      ≡ bytes "G 0\nB 0\nP 0\nL 17\nS 0 1 4096 32\nL 0\nV 0 1\nI 0\nE 1 4096 32\n"
+  pub guarded-alone : output (bytes "G\n") ≡ bytes "G 0\nE 0\n"
+  -- G is the whole first line, or malformed
+  pub guarded-late : output (bytes "B 0\nG\n") ≡ bytes "B 0\n?\n"
+  pub guarded-twice : output (bytes "G\nG\n") ≡ bytes "G 0\n?\n"
+  pub guarded-numbered : output (bytes "G 0\n") ≡ bytes "?\n"
+  pub guarded-unended : output (bytes "G") ≡ bytes "?\n"
   -- after a malformed line nothing more is read
   pub malformed : output (bytes "B 0\nB\nB 1\n") ≡ bytes "B 0\n?\n"
   -- a line without its line feed takes no effect
   pub unended : output (bytes "B 0\nB 1") ≡ bytes "B 0\n?\n"
 
 pub answered : Answered
-unfolding model same less atMost within firstWord moreWords isDigit extend number numbers noNumber oneNumber twoNumbers threeNumbers lineOf lettered meaning digitsWithin decimal field pair pairs answerText answerLine endLine writtenFrom
-answered = record { full-run = refl; nothing = refl; oldest = refl; malformed = refl; unended = refl }
+unfolding model same less atMost within firstWord moreWords isDigit extend number numbers noNumber oneNumber twoNumbers threeNumbers lineOf lettered meaning digitsWithin decimal field pair pairs answerText answerLine endLine writtenFrom startsGuarded output
+answered =
+    record {
+      full-run = refl;
+      nothing = refl;
+      oldest = refl;
+      guarded = refl;
+      guarded-alone = refl;
+      guarded-late = refl;
+      guarded-twice = refl;
+      guarded-numbered = refl;
+      guarded-unended = refl;
+      malformed = refl;
+      unended = refl;
+    }

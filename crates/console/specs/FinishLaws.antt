@@ -3,10 +3,10 @@ use Prim.Native.Nat.{ℕ, _≤_}
 use native.Mathlib.Omega.{arith}
 use mathlib.Core.Path.{_≡_, refl, sym, ap, _∙_, subst}
 use mathlib.Core.Bool.{Bool, true, false, not}
-use mathlib.Core.List.{List, [], _∷_, _++_}
+use mathlib.Core.List.{List, [], _∷_, _++_, append-nil}
 use lib.ListN.{length}
 use Rattle.lists.specs.Tests.{pick}
-use Rattle.lists.specs.Rows.{Row}
+use Rattle.lists.specs.Rows.{Row, has}
 use Rattle.lists.specs.Texts.{Wrote}
 use Rattle.lists.specs.TextLaws.{wrote-join}
 use Rattle.spec.specs.Records.{standard, Record}
@@ -18,8 +18,10 @@ use Rattle.transactions.specs.declared.Core.{Core}
 use Rattle.script.specs.Parsing.{filled, After}
 use Rattle.script.specs.Output.{field, endLine, malformedLine}
 use Rattle.console.specs.declared.session.Session.{Session}
-use Rattle.console.specs.Program.{writtenFrom}
-use Rattle.console.specs.Sessions.{due}
+use Rattle.console.specs.Program.{writtenFrom, startsGuarded}
+use Rattle.console.specs.ProgramLaws.{starts-clear}
+use Rattle.console.specs.Sessions.{Started, dueFor, due}
+use Rattle.console.specs.DueLaws.{due-unguarded}
 use Rattle.console.specs.Closings.{allRecords, pairsFor, PairsPut, contents-count}
 use Rattle.console.specs.Finishes.{Finishes}
 
@@ -42,24 +44,25 @@ module _ (l : Lent) (g : Logs) (x : Session) (old : List ℕ) where
   finish-stopped e h =
       record {
         wrote = λ seen a.
-            subst (λ (b : Bool). Wrote old (x .at) (pick b [] (writtenFrom (stateOf l g (x .core)) seen [])) old (x .at)) (sym e)
+            subst (λ (b : Bool). Wrote old (x .at) (pick b [] (dueFor (stateOf l g (x .core)) (x .first) seen [])) old (x .at)) (sym e)
             (record { written = refl; within = omega arith; place = omega arith });
       }
 
-  -- what is due at the end of the input
-  due-last : (seen : List ℕ) (b : Bool) → x .stopped ≡ false → filled seen ≡ b
-      → due (stateOf l g (x .core)) seen (x .stopped) [] 0 [] ≡ pick b malformedLine (endLine (contents (stateOf l g (x .core) .map)))
+  -- what is due at the end of the input: no line without its line feed is G
+  due-last : (seen : List ℕ) (b : Bool) → Started l g x → has 10 seen ≡ false → x .stopped ≡ false → filled seen ≡ b
+      → due (stateOf l g (x .core)) (x .first) seen (x .stopped) [] 0 [] ≡ pick b malformedLine (endLine (contents (stateOf l g (x .core) .map)))
   unfolding due writtenFrom
-  due-last seen b e f =
-      ap (λ (s : Bool). pick s [] (pick (filled seen) malformedLine (endLine (contents (stateOf l g (x .core) .map))))) e
+  due-last seen b k u e f =
+      ap (λ (s : Bool). pick s [] (dueFor (stateOf l g (x .core)) (x .first) seen [])) e
+      ∙ due-unguarded (stateOf l g (x .core)) (x .first) (k .opening) seen [] u (ap startsGuarded (append-nil seen) ∙ starts-clear seen u)
       ∙ ap (λ (s : Bool). pick s malformedLine (endLine (contents (stateOf l g (x .core) .map)))) f
 
-  module _ (new : List ℕ) (next : ℕ) (b : Bool) (e : x .stopped ≡ false) (h : (seen : List ℕ) → After seen (x .parser) → b ≡ not (filled seen)) where
+  module _ (new : List ℕ) (next : ℕ) (b : Bool) (k : Started l g x) (e : x .stopped ≡ false) (h : (seen : List ℕ) → After seen (x .parser) → b ≡ not (filled seen)) where
     pub finish-inside : b ≡ false → Wrote old (x .at) malformedLine new next → Finishes l g x old new next
     finish-inside f w =
         record {
           wrote = λ seen a.
-              subst (λ (t : List ℕ). Wrote old (x .at) t new next) (sym (due-last seen true e (some-line (filled seen) (sym (h seen a) ∙ f)))) w;
+              subst (λ (t : List ℕ). Wrote old (x .at) t new next) (sym (due-last seen true k (a .unbroken) e (some-line (filled seen) (sym (h seen a) ∙ f)))) w;
         }
       where
         some-line : (s : Bool) → not s ≡ false → s ≡ true
@@ -71,7 +74,7 @@ module _ (l : Lent) (g : Logs) (x : Session) (old : List ℕ) where
     finish-whole f w =
         record {
           wrote = λ seen a.
-              subst (λ (t : List ℕ). Wrote old (x .at) t new next) (sym (due-last seen false e (no-line (filled seen) (sym (h seen a) ∙ f)))) w;
+              subst (λ (t : List ℕ). Wrote old (x .at) t new next) (sym (due-last seen false k (a .unbroken) e (no-line (filled seen) (sym (h seen a) ∙ f)))) w;
         }
       where
         no-line : (s : Bool) → not s ≡ true → s ≡ false

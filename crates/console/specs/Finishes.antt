@@ -15,4 +15,4 @@ longestEnd = 23 + 42 * standard .mapLimit
 
 -- all that is still due was written, when no more input comes
 pub record Finishes (l : Lent) (g : Logs) (x : Session) (old new : List ℕ) (next : ℕ) : Type 0 where
-  pub wrote : (seen : List ℕ) → After seen (x .parser) → Wrote old (x .at) (due (stateOf l g (x .core)) seen (x .stopped) [] 0 []) new next
+  pub wrote : (seen : List ℕ) → After seen (x .parser) → Wrote old (x .at) (due (stateOf l g (x .core)) (x .first) seen (x .stopped) [] 0 []) new next

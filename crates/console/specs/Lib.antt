@@ -2,6 +2,7 @@ pub mod Program
 pub mod ProgramLaws
 pub mod Replies
 pub mod Sessions
+pub mod DueLaws
 pub mod SessionLaws
 pub mod Places
 pub mod RunLineLaws

@@ -1,16 +1,19 @@
 -- Document 01, "The script program": what the program writes, as a function of the bytes that it reads.
 -- A line feed ends a line. Each line is a step, and its answer is written. At the first malformed line, or a last line
--- without its line feed, `?` is written and nothing more; else, at the end of the input, the present records.
+-- without its line feed, `?` is written and nothing more; else, at the end of the input, the present records. Request 102: a
+-- first line G asks for a guarded map.
 use Prim.Native.Nat.{ℕ, _+_, _*_}
+use mathlib.Core.Bool.{Bool, true, false}
 use mathlib.Core.List.{List, [], _∷_, _++_}
-use Rattle.lists.specs.Tests.{pick, maybe, same}
+use lib.ListN.{drop}
+use Rattle.lists.specs.Tests.{pick, both, maybe, same}
 use Rattle.spec.specs.Records.{standard}
 use Rattle.spec.specs.Maps.{contents}
 use Rattle.spec.specs.Steps.{State, fresh, answer, next}
 use Rattle.script.specs.declared.Line.{Line}
 use Rattle.script.specs.Grammar.{meaning}
 use Rattle.script.specs.Parsing.{filled}
-use Rattle.script.specs.Output.{stepOf, answerLine, endLine, malformedLine}
+use Rattle.script.specs.Output.{stepOf, answerLine, endLine, guardedAnswer, malformedLine}
 
 -- the places of a scan's two buffers
 abbrev pub places : ℕ
@@ -26,9 +29,19 @@ writtenFrom σ line (b ∷ bs) =
     (λ (l : Line). answerLine l (answer σ (stepOf places l)) ++ writtenFrom (next σ (stepOf places l)) [] bs))
     (writtenFrom σ (line ++ (b ∷ [])) bs)
 
--- what the program writes for an input
-abbrev pub output : List ℕ → List ℕ
-output input = writtenFrom (fresh standard) [] input
+-- the first line is G
+unfoldable pub startsGuarded : List ℕ → Bool
+startsGuarded [] = false
+startsGuarded (b ∷ []) = false
+startsGuarded (b ∷ c ∷ bs) = both (same b 71) (same c 10)
+
+-- What the program writes for an input. A first line G is answered, and the lines behind it are run on a guarded map; any
+-- other G is a malformed line.
+unfoldable pub output : List ℕ → List ℕ
+output input =
+    pick (startsGuarded input)
+    (guardedAnswer ++ writtenFrom (fresh standard true) [] (drop 2 input))
+    (writtenFrom (fresh standard false) [] input)
 
 -- the longest line: a letter, two numbers, a scan's pairs and a line feed
 abbrev pub longestLine : ℕ

@@ -6,17 +6,19 @@ use mathlib.Core.Logic.{⊎-elim}
 use mathlib.Core.Bool.{Bool, true, false}
 use mathlib.Core.List.{List, [], _∷_, _++_, append-assoc, append-nil}
 use mathlib.Core.Option.{Option, none, some}
-use Rattle.lists.specs.Tests.{pick, maybe, same, less, atMost, within}
+use Rattle.lists.specs.Tests.{pick, both, maybe, same, less, atMost, within}
 use Rattle.lists.specs.TestLaws.{cases, clash, same-true, same-refl}
 use Rattle.lists.specs.Rows.{has}
 use Rattle.lists.specs.Counting.{has-cons, has-append}
-use Rattle.spec.specs.Steps.{State, answer, next}
+use Rattle.spec.specs.Records.{standard}
+use Rattle.spec.specs.Steps.{State, fresh, answer, next}
 use Rattle.script.specs.declared.Line.{Line}
 use Rattle.script.specs.declared.Line.the-variants.{Begin}
-use Rattle.script.specs.Grammar.{firstWord, moreWords, isDigit, extend, number, numbers, oneNumber, lineOf, lettered, meaning}
-use Rattle.script.specs.Parsing.{filled, Whole}
-use Rattle.script.specs.Output.{stepOf, answerLine, malformedLine}
-use Rattle.console.specs.Program.{places, writtenFrom}
+use Rattle.script.specs.Grammar.{firstWord, moreWords, isDigit, extend, number, numbers, oneNumber, lineOf, lettered, meaning, isGuard}
+use Rattle.script.specs.GrammarLaws.{guard-letter}
+use Rattle.script.specs.Parsing.{filled, Whole, SaysNothing}
+use Rattle.script.specs.Output.{stepOf, answerLine, guardedAnswer, malformedLine}
+use Rattle.console.specs.Program.{places, writtenFrom, startsGuarded, output}
 
 -- what is written for a line and what follows it
 abbrev pub told : State → Option Line → List ℕ → List ℕ
@@ -110,3 +112,63 @@ from-spoiled σ seen taken rest h n =
         let e : _≡_ {A = Option Line} none (some (Begin 0)) = sym (k (66 ∷ 32 ∷ 48 ∷ [])) ∙ begins in
         let z : _≡_ {A = ℕ} 0 1 = cc in absurd (omega arith)
     some-line (b ∷ l) k = refl
+
+-- ---- the first line of the input
+
+-- a line that says a step is not G
+pub step-no-guard : (l : List ℕ) (u : Line) → meaning l ≡ some u → isGuard l ≡ false
+unfolding isGuard
+step-no-guard [] u e = refl
+step-no-guard (b ∷ []) u e =
+    ⊎-elim
+    (λ t. let q : _≡_ {A = Option Line} none (some u) = sym (ap (λ (x : ℕ). meaning (x ∷ [])) (same-true b 71 t) ∙ guard-letter []) ∙ e in
+    let z : _≡_ {A = ℕ} 0 1 = cc in absurd (omega arith))
+    (λ f. f)
+    (cases (same b 71))
+step-no-guard (b ∷ c ∷ l) u e = refl
+
+second-false : (x y : Bool) → y ≡ false → both x y ≡ false
+second-false true y e = e
+second-false false y e = refl
+
+second-true : (x y : Bool) → y ≡ true → both x y ≡ x
+second-true true y e = e
+second-true false y e = refl
+
+-- the second byte is no line feed
+starts-other : (b c : ℕ) (bs : List ℕ) → same 10 c ≡ false → startsGuarded (b ∷ c ∷ bs) ≡ false
+unfolding startsGuarded
+starts-other b c bs h = second-false (same b 71) (same c 10) (turned c h)
+
+-- a whole line tells
+pub starts-whole : (l rest : List ℕ) → has 10 l ≡ false → startsGuarded (l ++ (10 ∷ rest)) ≡ isGuard l
+unfolding startsGuarded isGuard
+starts-whole [] [] h = refl
+starts-whole [] (c ∷ rest) h = unfold same in refl
+starts-whole (b ∷ []) rest h = second-true (same b 71) (same 10 10) (same-refl 10)
+starts-whole (b ∷ c ∷ l) rest h = starts-other b c (l ++ (10 ∷ rest)) (apart c l (apart b (c ∷ l) h .1) .0)
+
+-- without a line feed there is none
+pub starts-clear : (l : List ℕ) → has 10 l ≡ false → startsGuarded l ≡ false
+unfolding startsGuarded
+starts-clear [] h = refl
+starts-clear (b ∷ []) h = refl
+starts-clear (b ∷ c ∷ l) h = starts-other b c l (apart c l (apart b (c ∷ l) h .1) .0)
+
+-- the line can say nothing
+pub starts-spoiled : (bs rest : List ℕ) → has 10 bs ≡ false → ((r : List ℕ) → SaysNothing (bs ++ r)) → startsGuarded (bs ++ rest) ≡ false
+unfolding startsGuarded isGuard
+starts-spoiled [] rest h n = clash (same-refl 71) (n (71 ∷ []) .1)
+starts-spoiled (b ∷ []) [] h n = refl
+starts-spoiled (b ∷ []) (c ∷ rest) h n = ap (λ (x : Bool). both x (same c 10)) (n [] .1)
+starts-spoiled (b ∷ c ∷ bs) rest h n = starts-other b c (bs ++ rest) (apart c bs (apart b (c ∷ bs) h .1) .0)
+
+-- what is written then
+pub output-unguarded : (line bs : List ℕ) → has 10 line ≡ false → startsGuarded (line ++ bs) ≡ false
+    → output (line ++ bs) ≡ writtenFrom (fresh standard false) line bs
+unfolding output
+output-unguarded line bs h e = rw e (from-clear (fresh standard false) [] line bs h)
+
+pub output-guarded : (rest : List ℕ) → output (71 ∷ 10 ∷ rest) ≡ guardedAnswer ++ writtenFrom (fresh standard true) [] rest
+unfolding output startsGuarded
+output-guarded rest = rw (same-refl 71, same-refl 10)

@@ -5,16 +5,17 @@ use mathlib.Core.Path.{_≡_, refl, sym, ap, _∙_, subst}
 use mathlib.Core.Logic.{⊎-elim}
 use mathlib.Core.Bool.{Bool, true, false}
 use mathlib.Core.List.{List, [], _∷_, _++_, append-assoc, append-nil}
-use mathlib.Core.Option.{Option}
 use lib.ListN.{length, drop, length-drop}
 use Rattle.lists.specs.Tests.{pick}
-use Rattle.lists.specs.TestLaws.{clash, same-refl}
+use Rattle.lists.specs.TestLaws.{cases, clash, same-refl}
 use Rattle.lists.specs.Rows.{has}
-use Rattle.lists.specs.Counting.{has-nil, has-cons, has-append}
+use Rattle.lists.specs.Counting.{has-cons, has-append}
 use Rattle.lists.specs.Texts.{Wrote}
 use Rattle.lists.specs.TextLaws.{wrote-length}
-use Rattle.spec.specs.Steps.{State, answer, next}
+use Rattle.spec.specs.Records.{standard}
+use Rattle.spec.specs.Steps.{State, fresh, answer, next}
 use Rattle.map.specs.Views.{Lent}
+use Rattle.transactions.specs.declared.Core.{Core}
 use Rattle.transactions.specs.Views.{Logs, stateOf}
 use Rattle.transactions.specs.Ready.{Ready}
 use Rattle.engine.specs.declared.steps.Op.{Op}
@@ -26,18 +27,26 @@ use Rattle.script.specs.declared.Parser.the-variants.{Start}
 use Rattle.script.specs.declared.Event.{Event}
 use Rattle.script.specs.declared.Event.the-variants as event
 use Rattle.script.specs.declared.Parsed.{Parsed}
-use Rattle.script.specs.Parsing.{continued, After, Whole, Says, Parses}
-use Rattle.script.specs.Output.{letterOf, stepOf, answerText, answerLine, malformedLine}
+use Rattle.script.specs.Grammar.{guardLine}
+use Rattle.script.specs.Parsing.{After, Whole, Says, Parses}
+use Rattle.script.specs.Tokens.{after-fresh}
+use Rattle.script.specs.Output.{letterOf, stepOf, answerText, answerLine, guardedAnswer, malformedLine}
 use Rattle.console.specs.declared.session.Session.{Session}
 use Rattle.console.specs.Program.{places, writtenFrom}
-use Rattle.console.specs.ProgramLaws.{told, clear-last, from-clear, from-whole, from-spoiled}
+use Rattle.console.specs.ProgramLaws.{clear-last}
 use Rattle.console.specs.Replies.{Asks, replyText, Replies}
-use Rattle.console.specs.Sessions.{Started, due, RunsLine}
+use Rattle.transactions.specs.Starts.{guardedCore}
+use Rattle.console.specs.Sessions.{Started, dueFor, due, RunsLine, EndsMalformed, BeginsGuarded, RunsGuard}
+use Rattle.console.specs.DueLaws.{due-clear, due-line, due-malformed, due-spoiled, due-guarded, due-misplaced}
 use Rattle.console.specs.Places.{step-is}
 
 fresh-line : {p : Parser} → p ≡ Start → After [] p
-unfolding continued
-fresh-line e = subst (After []) (sym e) (record { unbroken = has-nil 10; begun = refl; means = λ rest. refl })
+fresh-line e = subst (After []) (sym e) after-fresh
+
+-- a session at the start of a line, some line having been read through
+line-started : {l : Lent} {g : Logs} {c : Core} {p : Parser} {n at : ℕ} {s : Bool} → p ≡ Start
+    → Started l g (record { core = c; parser = p; next = n; at = at; stopped = s; first = false })
+line-started e = record { seen = []; after = fresh-line e; opening = λ q. clash q refl }
 
 -- bytes after those seen are read
 taken-some : (seen taken l : List ℕ) → has 10 seen ≡ false → Whole l (seen ++ taken) → 0 < length taken
@@ -48,16 +57,16 @@ taken-some seen [] l h w =
 taken-some seen (b ∷ taken) l h w = omega arith
 
 module _ (l : Lent) (g : Logs) (x : Session) (input old : List ℕ) (t : Parsed) (f : x .stopped ≡ false) (n : x .next < length input)
-    (k : Started (x .parser)) (p : (seen : List ℕ) → After seen (x .parser) → Parses seen input (x .next) t) where
+    (k : Started l g x) (p : (seen : List ℕ) → After seen (x .parser) → Parses seen input (x .next) t) where
   -- what is due, in terms of the bytes taken
   due-is : (seen : List ℕ) (a : After seen (x .parser)) (future : List ℕ)
-      → due (stateOf l g (x .core)) seen (x .stopped) input (x .next) future
-      ≡ writtenFrom (stateOf l g (x .core)) seen (p seen a .taken ++ (drop (t .next) input ++ future))
+      → due (stateOf l g (x .core)) (x .first) seen (x .stopped) input (x .next) future
+      ≡ dueFor (stateOf l g (x .core)) (x .first) seen (p seen a .taken ++ (drop (t .next) input ++ future))
   unfolding due
   due-is seen a future =
-      ap (λ (b : Bool). pick b [] (writtenFrom (stateOf l g (x .core)) seen (drop (x .next) input ++ future))) f
-      ∙ ap (λ (z : List ℕ). writtenFrom (stateOf l g (x .core)) seen (z ++ future)) (p seen a .cut .rest)
-      ∙ ap (writtenFrom (stateOf l g (x .core)) seen) (append-assoc (p seen a .taken) (drop (t .next) input) future)
+      ap (λ (b : Bool). pick b [] (dueFor (stateOf l g (x .core)) (x .first) seen (drop (x .next) input ++ future))) f
+      ∙ ap (λ (z : List ℕ). dueFor (stateOf l g (x .core)) (x .first) seen (z ++ future)) (p seen a .cut .rest)
+      ∙ ap (dueFor (stateOf l g (x .core)) (x .first) seen) (append-assoc (p seen a .taken) (drop (t .next) input) future)
 
   says-as : (e : Event) → t .event ≡ e → (seen : List ℕ) (a : After seen (x .parser)) → Says e (t .parser) (seen ++ p seen a .taken)
   says-as e q seen a = subst (λ (z : Event). Says z (t .parser) (seen ++ p seen a .taken)) q (p seen a .says)
@@ -67,14 +76,19 @@ module _ (l : Lent) (g : Logs) (x : Session) (input old : List ℕ) (t : Parsed)
 
   -- the end of the input
   pub turn-ended : Ready l g (x .core) → x .at ≤ length old → t .event ≡ event.SliceEnd
-      → RunsLine l g x input old l g (record { core = x .core; parser = t .parser; next = t .next; at = x .at; stopped = false }) old
+      → RunsLine l g x input old l g (record { core = x .core; parser = t .parser; next = t .next; at = x .at; stopped = false; first = x .first }) old
   unfolding Says due
   turn-ended r h e =
       record {
         feeds =
             record {
               ready = r;
-              started = record { seen = k .seen ++ p (k .seen) (k .after) .taken; after = says-as event.SliceEnd e (k .seen) (k .after) };
+              started =
+                  record {
+                    seen = k .seen ++ p (k .seen) (k .after) .taken;
+                    after = says-as event.SliceEnd e (k .seen) (k .after);
+                    opening = k .opening;
+                  };
               size = refl;
               room = h;
               continues = λ seen a.
@@ -85,7 +99,7 @@ module _ (l : Lent) (g : Logs) (x : Session) (input old : List ℕ) (t : Parsed)
                     after = says-as event.SliceEnd e seen a;
                     rest = λ future.
                         due-is seen a future
-                        ∙ from-clear (stateOf l g (x .core)) seen (p seen a .taken) (drop (t .next) input ++ future)
+                        ∙ due-clear (stateOf l g (x .core)) (x .first) seen (p seen a .taken) (drop (t .next) input ++ future)
                         (clear-last seen (p seen a .taken) (says-as event.SliceEnd e seen a .unbroken));
                   };
             };
@@ -96,54 +110,114 @@ module _ (l : Lent) (g : Logs) (x : Session) (input old : List ℕ) (t : Parsed)
             omega arith;
       }
 
-  -- a malformed line
-  told-none : (seen : List ℕ) (a : After seen (x .parser)) → t .event ≡ event.Malformed → (rest : List ℕ)
-      → writtenFrom (stateOf l g (x .core)) seen (p seen a .taken ++ rest) ≡ malformedLine
-  unfolding Says
-  told-none seen a e rest =
-      ⊎-elim
-      (λ w. from-whole (stateOf l g (x .core)) seen (p seen a .taken) (w .0) rest (a .unbroken) (w .1) ∙ ap (λ (o : Option Line). told (stateOf l g (x .core)) o rest) (w .2))
-      (λ w. from-spoiled (stateOf l g (x .core)) seen (p seen a .taken) rest (w .0) (w .1))
-      (says-as event.Malformed e seen a .0)
-
-  pub turn-malformed : {new : List ℕ} {at : ℕ} → Ready l g (x .core) → t .event ≡ event.Malformed → Wrote old (x .at) malformedLine new at
-      → RunsLine l g x input old l g (record { core = x .core; parser = t .parser; next = t .next; at = at; stopped = true }) new
-  unfolding Says due
-  turn-malformed {new} {at} r e w =
-      record {
+  -- `?` is due
+  ends-malformed : {new : List ℕ} {y : Session} → Ready l g (x .core) → EndsMalformed x (t .parser) (t .next) old new y → t .parser ≡ Start
+      → ((seen : List ℕ) (a : After seen (x .parser)) (rest : List ℕ) → dueFor (stateOf l g (x .core)) (x .first) seen (p seen a .taken ++ rest) ≡ malformedLine)
+      → RunsLine l g x input old l g y new
+  unfolding due
+  ends-malformed {new} {y} r m e d =
+      subst (λ (z : Session). RunsLine l g x input old l g z new) (sym (m .after))
+      (record {
         feeds =
             record {
               ready = r;
-              started = record { seen = []; after = fresh-line (says-as event.Malformed e (k .seen) (k .after) .1) };
+              started = line-started e;
               size = wrote-length w;
-              room = let a = w .within in let b = w .place in let d : length new ≡ length old = wrote-length w in omega arith;
+              room = let a = w .within in let b = w .place in let z : length new ≡ length old = wrote-length w in omega arith;
               continues = λ seen a.
                   record {
                     text = malformedLine;
                     wrote = w;
                     line = [];
-                    after = fresh-line (says-as event.Malformed e seen a .1);
-                    rest = λ future. due-is seen a future ∙ told-none seen a e (drop (t .next) input ++ future) ∙ sym (append-nil malformedLine);
+                    after = fresh-line e;
+                    rest = λ future. due-is seen a future ∙ d seen a (drop (t .next) input ++ future) ∙ sym (append-nil malformedLine);
                   };
             };
         fewer =
             let c = p (k .seen) (k .after) .cut .place in
             let z = still in
             omega arith;
-      }
+      })
+    where
+      w : Wrote old (x .at) malformedLine new (y .at)
+      w = m .wrote
+
+  -- a malformed line
+  pub turn-malformed : {new : List ℕ} {y : Session} → Ready l g (x .core) → t .event ≡ event.Malformed
+      → EndsMalformed x (t .parser) (t .next) old new y → RunsLine l g x input old l g y new
+  unfolding Says
+  turn-malformed r e m = ends-malformed r m (says-as event.Malformed e (k .seen) (k .after) .1) nothing
+    where
+      nothing : (seen : List ℕ) (a : After seen (x .parser)) (rest : List ℕ)
+          → dueFor (stateOf l g (x .core)) (x .first) seen (p seen a .taken ++ rest) ≡ malformedLine
+      nothing seen a rest =
+          ⊎-elim
+          (λ z. due-malformed (stateOf l g (x .core)) (x .first) (k .opening) seen (p seen a .taken) (a .unbroken) (z .0) rest (z .1) (z .2))
+          (λ z. due-spoiled (stateOf l g (x .core)) (x .first) (k .opening) seen (p seen a .taken) (a .unbroken) rest (z .0) (z .1))
+          (says-as event.Malformed e seen a .0)
+
+  -- the first line is G
+  turn-opening : {new : List ℕ} {y : Session} → Ready l g (guardedCore (x .core)) → stateOf l g (guardedCore (x .core)) ≡ fresh standard true
+      → x .first ≡ true → t .event ≡ event.Guard → BeginsGuarded x (t .parser) (t .next) old new y → RunsLine l g x input old l g y new
+  unfolding Says due dueFor
+  turn-opening {new} {y} r q b e m =
+      subst (λ (z : Session). RunsLine l g x input old l g z new) (sym (m .after))
+      (record {
+        feeds =
+            record {
+              ready = r;
+              started = line-started (says-as event.Guard e (k .seen) (k .after) .1);
+              size = wrote-length w;
+              room = let a = w .within in let c = w .place in let z : length new ≡ length old = wrote-length w in omega arith;
+              continues = λ seen a.
+                  record {
+                    text = guardedAnswer;
+                    wrote = w;
+                    line = [];
+                    after = fresh-line (says-as event.Guard e seen a .1);
+                    rest = λ future.
+                        due-is seen a future
+                        ∙ due-guarded (stateOf l g (x .core)) (x .first) seen (p seen a .taken) (drop (t .next) input ++ future) b (says-as event.Guard e seen a .0)
+                        ∙ ap (λ (σ : State). guardedAnswer ++ writtenFrom σ [] (drop (t .next) input ++ future)) (sym q);
+                  };
+            };
+        fewer =
+            let c = p (k .seen) (k .after) in
+            let d = c .cut .place in
+            let v : 0 < length (c .taken) = taken-some (k .seen) (c .taken) guardLine (k .after .unbroken) (says-as event.Guard e (k .seen) (k .after) .0) in
+            let z = still in
+            omega arith;
+      })
+    where
+      w : Wrote old (x .at) guardedAnswer new (y .at)
+      w = m .wrote
+
+  -- a line G, the first or another one
+  pub turn-guard : {new : List ℕ} {y : Session} → Ready l g (x .core)
+      → (x .first ≡ true → Ready l g (guardedCore (x .core)) × (stateOf l g (guardedCore (x .core)) ≡ fresh standard true))
+      → t .event ≡ event.Guard → RunsGuard x (t .parser) (t .next) old new y → RunsLine l g x input old l g y new
+  unfolding Says
+  turn-guard r o e m =
+      ⊎-elim
+      (λ b. turn-opening (o b .0) (o b .1) b e (m .begins b))
+      (λ b.
+      ends-malformed r (m .ends b) (says-as event.Guard e (k .seen) (k .after) .1)
+      (λ seen a rest.
+      due-misplaced (stateOf l g (x .core)) (x .first) seen (p seen a .taken) rest b (a .unbroken) (says-as event.Guard e seen a .0)))
+      (cases (x .first))
 
   -- a line
   pub turn-line : {u : Line} {o : Op} {ks vs ks' vs' : List ℕ} {l' : Lent} {g' : Logs} {d : Performed} {c : ℕ} {new : List ℕ} {at : ℕ}
       → t .event ≡ event.Line u → Asks u o → length ks ≡ places → length vs ≡ places → Performs l g (x .core) o ks vs l' g' ks' vs' d
       → c ≡ letterOf u → Replies c (d .reply) ks' vs' old (x .at) new at
-      → RunsLine l g x input old l' g' (record { core = d .core; parser = t .parser; next = t .next; at = at; stopped = false }) new
-  unfolding Says due
+      → RunsLine l g x input old l' g' (record { core = d .core; parser = t .parser; next = t .next; at = at; stopped = false; first = false }) new
+  unfolding Says due dueFor
   turn-line {u} {o} {ks} {vs} {ks'} {vs'} {l'} {g'} {d} {c} {new} {at} e a b b' q j w =
       record {
         feeds =
             record {
               ready = q .refines .ready;
-              started = record { seen = []; after = fresh-line (says-as (event.Line u) e (k .seen) (k .after) .3) };
+              started = line-started (says-as (event.Line u) e (k .seen) (k .after) .3);
               size = wrote-length (w .wrote);
               room = let y = w .wrote .within in let z = w .wrote .place in let v : length new ≡ length old = wrote-length (w .wrote) in omega arith;
               continues = λ seen s.
@@ -176,9 +250,8 @@ module _ (l : Lent) (g : Logs) (x : Session) (input old : List ℕ) (t : Parsed)
       state-is = ap (next σ) (sym (step-is ks vs a b b')) ∙ sym (q .refines .state)
 
       line-told : (seen : List ℕ) (s : After seen (x .parser)) (rest : List ℕ)
-          → writtenFrom σ seen (p seen s .taken ++ rest) ≡ replyText c (d .reply) ks' vs' ++ writtenFrom (stateOf l' g' (d .core)) [] rest
+          → dueFor σ (x .first) seen (p seen s .taken ++ rest) ≡ replyText c (d .reply) ks' vs' ++ writtenFrom (stateOf l' g' (d .core)) [] rest
       line-told seen s rest =
           let m = says-as (event.Line u) e seen s in
-          from-whole σ seen (p seen s .taken) (m .0) rest (s .unbroken) (m .1)
-          ∙ ap (λ (y : Option Line). told σ y rest) (m .2)
+          due-line σ (x .first) (k .opening) seen (p seen s .taken) (s .unbroken) u (m .0) rest (m .1) (m .2)
           ∙ (λ i. text-is i ++ writtenFrom (state-is i) [] rest)

@@ -4,6 +4,7 @@ use Prim.Native.Nat.{ℕ}
 use mathlib.Core.Path.{_≡_}
 use mathlib.Core.List.{List, [], _∷_, _++_}
 use mathlib.Core.Option.{Option, none, some}
+use lib.ListN.{drop}
 use Rattle.lists.specs.Tests.{pick, maybe, same}
 use Rattle.lists.specs.Rows.{Row}
 use Rattle.spec.specs.declared.Refusal.{Refusal}
@@ -13,8 +14,8 @@ use Rattle.spec.specs.Claim.{SerialRun}
 use Rattle.script.specs.declared.Line.{Line}
 use Rattle.script.specs.Grammar.{meaning}
 use Rattle.script.specs.Parsing.{filled}
-use Rattle.script.specs.Output.{stepOf, answerLine, endLine}
-use Rattle.console.specs.Program.{places}
+use Rattle.script.specs.Output.{stepOf, answerLine, endLine, guardedAnswer}
+use Rattle.console.specs.Program.{places, startsGuarded}
 
 -- ---- the input
 
@@ -27,10 +28,15 @@ linesFrom line (b ∷ bs) =
     (maybe (meaning line) none (λ (l : Line). maybe (linesFrom [] bs) none (λ (ls : List Line). some (l ∷ ls))))
     (linesFrom (line ++ (b ∷ [])) bs)
 
+-- of a whole input, without a first line G
 abbrev pub linesOf : List ℕ → Option (List Line)
-linesOf input = linesFrom [] input
+linesOf input = linesFrom [] (pick (startsGuarded input) (drop 2 input) input)
 
 -- ---- the output
+
+-- what stands before all answers of steps: that to a first line G
+abbrev pub opening : List ℕ → List ℕ
+opening input = pick (startsGuarded input) guardedAnswer []
 
 -- what a step can be answered: any refusal, or what it tells when it is granted
 pub data Answers : Step → Answer → Type 0 where

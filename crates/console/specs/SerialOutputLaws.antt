@@ -5,6 +5,7 @@ use mathlib.Core.Path.{_≡_, refl, subst}
 use mathlib.Core.Bool.{Bool, true, false}
 use mathlib.Core.List.{List, [], _∷_, _++_}
 use mathlib.Core.Option.{Option, none, some}
+use lib.ListN.{drop}
 use Rattle.lists.specs.Tests.{pick, maybe, same}
 use Rattle.spec.specs.declared.Refusal.{Refusal}
 use Rattle.spec.specs.Records.{standard}
@@ -14,10 +15,10 @@ use Rattle.serial.specs.Theorem.{theorem}
 use Rattle.script.specs.declared.Line.{Line}
 use Rattle.script.specs.Grammar.{meaning}
 use Rattle.script.specs.Parsing.{filled}
-use Rattle.script.specs.Output.{stepOf, answerLine, endLine, malformedLine}
-use Rattle.console.specs.Program.{places, writtenFrom, output}
+use Rattle.script.specs.Output.{stepOf, answerLine, endLine, guardedAnswer, malformedLine}
+use Rattle.console.specs.Program.{places, writtenFrom, startsGuarded, output}
 use Rattle.console.specs.TranscriptLaws.{one-history}
-use Rattle.console.specs.SerialOutput.{linesFrom, linesOf, Answers, not-granted, begun, value, records, written, removed, locked, number, installed, aborted, count, oldest-count, Transcript, end-line, answer-line, SerialOutput}
+use Rattle.console.specs.SerialOutput.{linesFrom, linesOf, opening, Answers, not-granted, begun, value, records, written, removed, locked, number, installed, aborted, count, oldest-count, Transcript, end-line, answer-line, SerialOutput}
 
 -- ---- what the model answers is an answer to the step
 
@@ -91,14 +92,26 @@ transcribes σ line (b ∷ bs) ls e =
     go true (some l) (some ms) q f g = transcribes-line σ l ms ls (writtenFrom (next σ (stepOf places l)) [] bs) q (f l ms refl)
     go false o p q f g = g q
 
--- Demand 3 of the program's output.
-pub output-serial : (input : List ℕ) (ls : List Line) → linesOf input ≡ some ls → SerialOutput ls (output input)
-output-serial input ls e =
-    let t : Transcribes (fresh standard) ls (output input) = transcribes (fresh standard) [] input ls e in
+written-serial : (g : Bool) (bs : List ℕ) (ls : List Line) → linesFrom [] bs ≡ some ls → SerialOutput ls (writtenFrom (fresh standard g) [] bs)
+written-serial g bs ls e =
+    let t : Transcribes (fresh standard g) ls (writtenFrom (fresh standard g) [] bs) = transcribes (fresh standard g) [] bs ls e in
     record {
-      events = history (fresh standard) (stepsIn ls);
-      contents = contents (final (fresh standard) (stepsIn ls) .map);
+      events = history (fresh standard g) (stepsIn ls);
+      contents = contents (final (fresh standard g) (stepsIn ls) .map);
       transcript = t;
       only = λ h rs q. one-history q t;
-      serial = theorem (stepsIn ls);
+      serial = theorem g (stepsIn ls);
     }
+
+-- Demand 3 of the program's output: behind the answer to a first line G, it is that of a serial run.
+pub output-serial : (input : List ℕ) (ls : List Line) → linesOf input ≡ some ls
+    → (text : List ℕ) × (output input ≡ opening input ++ text) × SerialOutput ls text
+unfolding output
+output-serial input ls e = go (startsGuarded input) e
+  where
+    go : (g : Bool) → linesFrom [] (pick g (drop 2 input) input) ≡ some ls
+        → (text : List ℕ)
+        × (pick g (guardedAnswer ++ writtenFrom (fresh standard true) [] (drop 2 input)) (writtenFrom (fresh standard false) [] input) ≡ pick g guardedAnswer [] ++ text)
+        × SerialOutput ls text
+    go true q = (writtenFrom (fresh standard true) [] (drop 2 input), refl, written-serial true (drop 2 input) ls q)
+    go false q = (writtenFrom (fresh standard false) [] input, refl, written-serial false input ls q)

@@ -1,18 +1,24 @@
 -- When a session goes on.
 use Prim.Native.Nat.{ℕ, _+_, _<_, _≤_}
 use mathlib.Core.Path.{_≡_, refl, sym, ap, _∙_}
+use mathlib.Core.Logic.{⊎-elim}
 use mathlib.Core.Bool.{Bool, true, false, not}
 use Rattle.lists.specs.Tests.{both, less, atMost}
-use Rattle.lists.specs.TestLaws.{clash, less-yes, less-no, less-true, atMost-yes, atMost-no, atMost-true}
+use Rattle.lists.specs.TestLaws.{cases, clash, less-yes, less-no, less-true, atMost-yes, atMost-no, atMost-true}
 use Rattle.console.specs.Program.{longestLine}
-use Rattle.console.specs.Sessions.{canGoOn, Continues, Feeds, Started, due}
+use Rattle.transactions.specs.Starts.{guardedCore}
+use Rattle.console.specs.Sessions.{canGoOn, Continues, Feeds, Started, due, EndsMalformed, BeginsGuarded, RunsGuard}
 use native.Mathlib.Omega.{arith}
 use mathlib.Core.List.{List, [], _++_, append-assoc}
 use lib.ListN.{length}
-use Rattle.lists.specs.TextLaws.{wrote-join}
+use Rattle.lists.specs.Texts.{Wrote}
+use Rattle.lists.specs.TextLaws.{wrote-join, wrote-length}
 use Rattle.map.specs.Views.{Lent}
+use Rattle.transactions.specs.declared.Core.{Core}
 use Rattle.transactions.specs.Views.{Logs, stateOf}
 use Rattle.transactions.specs.Ready.{Ready}
+use Rattle.script.specs.declared.Parser.{Parser}
+use Rattle.script.specs.Output.{guardedAnswer}
 use Rattle.console.specs.declared.session.Session.{Session}
 
 second-no : (s b d : Bool) → b ≡ false → false ≡ both (not s) (both b d)
@@ -55,7 +61,7 @@ module _ (s : Bool) (n z a r : ℕ) where
 -- ---- laws
 
 pub feeds-none : {l : Lent} {g : Logs} {x : Session} (input : List ℕ) {old : List ℕ}
-    → Ready l g (x .core) → Started (x .parser) → x .at ≤ length old → Feeds l g x input old l g x old
+    → Ready l g (x .core) → Started l g x → x .at ≤ length old → Feeds l g x input old l g x old
 feeds-none input r s h =
     record {
       ready = r;
@@ -94,5 +100,23 @@ feeds-join {l} {l'} {l''} {g} {g'} {g''} {x} {y} {z} {input} {old} {mid} {new} a
           rest = λ future.
               p .rest future
               ∙ ap (λ (t : List ℕ). p .text ++ t) (q .rest future)
-              ∙ sym (append-assoc (p .text) (q .text) (due (stateOf l'' g'' (z .core)) (q .line) (z .stopped) input (z .next) future));
+              ∙ sym (append-assoc (p .text) (q .text) (due (stateOf l'' g'' (z .core)) (z .first) (q .line) (z .stopped) input (z .next) future));
         }
+
+-- ---- the line G
+
+module _ {x y : Session} {p : Parser} {n : ℕ} {old new : List ℕ} where
+  pub guard-first : x .first ≡ true → BeginsGuarded x p n old new y → RunsGuard x p n old new y
+  guard-first e b = record { begins = λ q. b; ends = λ q. clash e q }
+
+  pub guard-misplaced : x .first ≡ false → EndsMalformed x p n old new y → RunsGuard x p n old new y
+  guard-misplaced e b = record { begins = λ q. clash q e; ends = λ q. b }
+
+pub guard-length : {x y : Session} {p : Parser} {n : ℕ} {old new : List ℕ} → RunsGuard x p n old new y → length new ≡ length old
+guard-length {x} r =
+    ⊎-elim (λ e. wrote-length (r .begins e .wrote)) (λ e. wrote-length (r .ends e .wrote)) (cases (x .first))
+
+pub begins-guarded : {x : Session} {p : Parser} {n : ℕ} {old new : List ℕ} {c : Core} {at : ℕ} → c ≡ guardedCore (x .core) → Wrote old (x .at) guardedAnswer new at
+    → BeginsGuarded x p n old new (record { core = c; parser = p; next = n; at = at; stopped = false; first = false })
+begins-guarded {p = p} {n} {at = at} e w =
+    record { wrote = w; after = ap (λ (k : Core). record { core = k; parser = p; next = n; at = at; stopped = false; first = false }) e }

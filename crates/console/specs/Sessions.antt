@@ -2,30 +2,40 @@
 -- running it on: what was written and what is still due are what was due.
 use Prim.Native.Nat.{ℕ, _+_, _-_, _<_, _≤_}
 use mathlib.Core.Path.{_≡_}
-use mathlib.Core.Bool.{Bool, false, not}
+use mathlib.Core.Bool.{Bool, true, false, not}
 use mathlib.Core.List.{List, [], _++_}
 use lib.ListN.{length, drop}
 use Rattle.lists.specs.Tests.{pick, both, less, atMost}
 use Rattle.lists.specs.Texts.{Wrote}
-use Rattle.spec.specs.Steps.{State}
+use Rattle.spec.specs.Records.{standard}
+use Rattle.spec.specs.Steps.{State, fresh}
 use Rattle.map.specs.Views.{Lent}
+use Rattle.transactions.specs.declared.Core.{Core}
 use Rattle.transactions.specs.Views.{Logs, stateOf}
 use Rattle.transactions.specs.Ready.{Ready}
-use Rattle.transactions.specs.Starts.{Fresh}
+use Rattle.transactions.specs.Starts.{Fresh, guardedCore}
 use Rattle.script.specs.declared.Parser.{Parser}
 use Rattle.script.specs.Parsing.{After}
+use Rattle.script.specs.Output.{guardedAnswer, malformedLine}
 use Rattle.console.specs.declared.session.Session.{Session}
 use Rattle.console.specs.Program.{writtenFrom, longestLine, output}
 
--- the parser has read some bytes of a line
-pub record Started (p : Parser) : Type 0 where
+-- The parser has read some bytes of a line. As long as no line has been read through, the map is fresh, and not guarded.
+pub record Started (l : Lent) (g : Logs) (x : Session) : Type 0 where
   pub seen : List ℕ
-  pub after : After seen p
+  pub after : After seen (x .parser)
+  pub opening : x .first ≡ true → stateOf l g (x .core) ≡ fresh standard false
 
--- What is still to be written, when the bytes `line` of the current line are read, the input from a place on comes next,
--- and then whatever follows the input. After a malformed line, nothing.
-unfoldable pub due : State → List ℕ → Bool → List ℕ → ℕ → List ℕ → List ℕ
-due σ line stopped input next future = pick stopped [] (writtenFrom σ line (drop next input ++ future))
+-- What is written for the bytes that come, when the bytes `line` of the current line are read. The first line may still turn
+-- out to be G.
+unfoldable pub dueFor : State → Bool → List ℕ → List ℕ → List ℕ
+dueFor σ true line rest = output (line ++ rest)
+dueFor σ false line rest = writtenFrom σ line rest
+
+-- What is still to be written, when the bytes `line` of the current line are read, which may be the first, the input from a
+-- place on comes next, and then whatever follows the input. After a malformed line, nothing.
+unfoldable pub due : State → Bool → List ℕ → Bool → List ℕ → ℕ → List ℕ → List ℕ
+due σ first line stopped input next future = pick stopped [] (dueFor σ first line (drop next input ++ future))
 
 -- From x to y: `text` was written, and it comes before all that is still due.
 pub record Continues (l : Lent) (g : Logs) (x : Session) (input old : List ℕ) (l' : Lent) (g' : Logs) (y : Session) (new seen : List ℕ) : Type 0 where
@@ -34,16 +44,35 @@ pub record Continues (l : Lent) (g : Logs) (x : Session) (input old : List ℕ) 
   pub line : List ℕ
   pub after : After line (y .parser)
   pub rest : (future : List ℕ)
-      → due (stateOf l g (x .core)) seen (x .stopped) input (x .next) future
-      ≡ text ++ due (stateOf l' g' (y .core)) line (y .stopped) input (y .next) future
+      → due (stateOf l g (x .core)) (x .first) seen (x .stopped) input (x .next) future
+      ≡ text ++ due (stateOf l' g' (y .core)) (y .first) line (y .stopped) input (y .next) future
 
 -- the same, whatever bytes of the current line were read before
 pub record Feeds (l : Lent) (g : Logs) (x : Session) (input old : List ℕ) (l' : Lent) (g' : Logs) (y : Session) (new : List ℕ) : Type 0 where
   pub ready : Ready l' g' (y .core)
-  pub started : Started (y .parser)
+  pub started : Started l' g' y
   pub size : length new ≡ length old
   pub room : y .at ≤ length new
   pub continues : (seen : List ℕ) → After seen (x .parser) → Continues l g x input old l' g' y new seen
+
+-- ---- lines that are no steps: from x to y, when the parser p goes on at a place of the input
+
+-- a malformed line: no more is run
+pub record EndsMalformed (x : Session) (p : Parser) (next : ℕ) (old new : List ℕ) (y : Session) : Type 0 where
+  pub wrote : Wrote old (x .at) malformedLine new (y .at)
+  pub after : y ≡ record { core = x .core; parser = p; next = next; at = y .at; stopped = true; first = false }
+
+-- the first line is G: the map is a guarded one
+pub record BeginsGuarded (x : Session) (p : Parser) (next : ℕ) (old new : List ℕ) (y : Session) : Type 0 where
+  pub wrote : Wrote old (x .at) guardedAnswer new (y .at)
+  pub after : y ≡ record { core = guardedCore (x .core); parser = p; next = next; at = y .at; stopped = false; first = false }
+
+-- a line G: any other is malformed
+pub record RunsGuard (x : Session) (p : Parser) (next : ℕ) (old new : List ℕ) (y : Session) : Type 0 where
+  pub begins : x .first ≡ true → BeginsGuarded x p next old new y
+  pub ends : x .first ≡ false → EndsMalformed x p next old new y
+
+-- ---- lines
 
 -- how much there is to do
 abbrev pub left : List ℕ → Session → ℕ
@@ -65,19 +94,21 @@ pub record Runs (l : Lent) (g : Logs) (x : Session) (input old : List ℕ) (l' :
 
 -- ---- a session begins, and its buffers are filled and emptied
 
--- a fresh map, at the start of a line
+-- a fresh map that is not guarded, at the start of the first line
 pub record Begins (l : Lent) (g : Logs) (x : Session) : Type 0 where
-  pub fresh : Fresh l g (x .core)
+  pub fresh : Fresh l g false (x .core)
   pub after : After [] (x .parser)
   pub next-is : x .next ≡ 0
   pub at-is : x .at ≡ 0
   pub goes : x .stopped ≡ false
+  pub first-is : x .first ≡ true
 
 abbrev pub withPlaces : Session → ℕ → ℕ → Session
-withPlaces x next at = record { core = x .core; parser = x .parser; next = next; at = at; stopped = x .stopped }
+withPlaces x next at =
+    record { core = x .core; parser = x .parser; next = next; at = at; stopped = x .stopped; first = x .first }
 
 -- A run over the input `whole` stands at session x: the bytes `line` of the current line are read, the piece `input` is
 -- read up to the session's place, `future` has not come yet, and `told` was written.
 pub record Told (whole : List ℕ) (l : Lent) (g : Logs) (x : Session) (line input future told : List ℕ) : Type 0 where
   pub after : After line (x .parser)
-  pub is : output whole ≡ told ++ due (stateOf l g (x .core)) line (x .stopped) input (x .next) future
+  pub is : output whole ≡ told ++ due (stateOf l g (x .core)) (x .first) line (x .stopped) input (x .next) future

@@ -7,23 +7,22 @@ use mathlib.Core.Bool.{Bool, true}
 use mathlib.Core.List.{List, [], _++_, append-assoc, append-nil}
 use lib.ListN.{length, drop, drop-of-length-le}
 use Rattle.lists.specs.Tests.{pick}
-use Rattle.spec.specs.Steps.{State}
 use Rattle.map.specs.Views.{Lent}
 use Rattle.transactions.specs.Views.{Logs, stateOf}
 use Rattle.console.specs.declared.session.Session.{Session}
-use Rattle.console.specs.Program.{writtenFrom, output}
-use Rattle.console.specs.Sessions.{due, Continues, Begins, withPlaces, Told}
+use Rattle.console.specs.Program.{output}
+use Rattle.console.specs.Sessions.{dueFor, due, Continues, Begins, withPlaces, Told}
 
 -- a fresh session: nothing has come, nothing was written
 pub told-start : {l : Lent} {g : Logs} {x : Session} (whole : List ℕ) → Begins l g x → Told whole l g x [] [] whole []
-unfolding due
+unfolding due dueFor
 told-start {l} {g} {x} whole b =
     record {
       after = b .after;
       is =
-          ap (λ (σ : State). writtenFrom σ [] whole) (sym (b .fresh .state))
-          ∙ ap (λ (n : ℕ). writtenFrom (stateOf l g (x .core)) [] (drop n [] ++ whole)) (sym (b .next-is))
-          ∙ ap (λ (s : Bool). pick s [] (writtenFrom (stateOf l g (x .core)) [] (drop (x .next) [] ++ whole))) (sym (b .goes));
+          ap (λ (n : ℕ). output (drop n [] ++ whole)) (sym (b .next-is))
+          ∙ ap (λ (f : Bool). dueFor (stateOf l g (x .core)) f [] (drop (x .next) [] ++ whole)) (sym (b .first-is))
+          ∙ ap (λ (s : Bool). pick s [] (dueFor (stateOf l g (x .core)) (x .first) [] (drop (x .next) [] ++ whole))) (sym (b .goes));
     }
 
 module _ {whole : List ℕ} {l : Lent} {g : Logs} {x : Session} {line input told : List ℕ} where
@@ -47,20 +46,20 @@ module _ {whole : List ℕ} {l : Lent} {g : Logs} {x : Session} {line input told
   told-piece {future} more at t h =
       record {
         after = t .after;
-        is = t .is ∙ ap (λ (bs : List ℕ). told ++ pick (x .stopped) [] (writtenFrom (stateOf l g (x .core)) line (bs ++ (more ++ future)))) (drop-of-length-le input h);
+        is = t .is ∙ ap (λ (bs : List ℕ). told ++ pick (x .stopped) [] (dueFor (stateOf l g (x .core)) (x .first) line (bs ++ (more ++ future)))) (drop-of-length-le input h);
       }
 
   -- the input is at its end: what `finish` writes then is all that is missing
   pub told-end : Told whole l g x line input [] told → length input ≤ x .next
-      → told ++ due (stateOf l g (x .core)) line (x .stopped) [] 0 [] ≡ output whole
+      → told ++ due (stateOf l g (x .core)) (x .first) line (x .stopped) [] 0 [] ≡ output whole
   unfolding due
   told-end t h =
-      sym (t .is ∙ ap (λ (bs : List ℕ). told ++ pick (x .stopped) [] (writtenFrom (stateOf l g (x .core)) line (bs ++ []))) (drop-of-length-le input h))
+      sym (t .is ∙ ap (λ (bs : List ℕ). told ++ pick (x .stopped) [] (dueFor (stateOf l g (x .core)) (x .first) line (bs ++ []))) (drop-of-length-le input h))
 
   -- a malformed line was met: nothing is missing, whatever may still come
   pub told-stopped : {future : List ℕ} → Told whole l g x line input future told → x .stopped ≡ true → told ≡ output whole
   unfolding due
   told-stopped {future} t e =
       sym (t .is
-      ∙ ap (λ (s : Bool). told ++ pick s [] (writtenFrom (stateOf l g (x .core)) line (drop (x .next) input ++ future))) e
+      ∙ ap (λ (s : Bool). told ++ pick s [] (dueFor (stateOf l g (x .core)) (x .first) line (drop (x .next) input ++ future))) e
       ∙ append-nil told)

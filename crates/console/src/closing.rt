@@ -19,6 +19,7 @@ ghost use Rattle.transactions.specs.Views.{logs};
 ghost use Rattle.transactions.specs.Ready.{Ready};
 ghost use Rattle.script.specs.Output.{endLine};
 ghost use Rattle.console.specs.Closings.{allRecords, PairsPut};
+ghost use Rattle.console.specs.Sessions.{Started};
 ghost use Rattle.console.specs.Finishes.{longestEnd, Finishes};
 
 // The pairs of all records, by rising address.
@@ -72,6 +73,7 @@ pub fn finish(
     x: Session,
 ) -> usize
     requires { ⌜ Ready (lent (now rows) (now leaves) (now slots)) (logs (now reads) (now leafsets) (now writes)) (x .core) ⌝ }
+    requires { ⌜ Started (lent (now rows) (now leaves) (now slots)) (logs (now reads) (now leafsets) (now writes)) x ⌝ }
     requires { ⌜ x .at + longestEnd ≤ length (now out) ⌝ }
     ensures { λ r. ⌜ Finishes (lent (now (rows .entry)) (now (leaves .entry)) (now (slots .entry))) (logs (now (reads .entry)) (now (leafsets .entry)) (now (writes .entry))) x (now (out .entry)) (now (out .exit)) r ⌝ }
 {

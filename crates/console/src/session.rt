@@ -16,27 +16,30 @@ use transactions::Core;
 use transactions::starts;
 ghost use mathlib.Core.Path.{_≡_};
 ghost use mathlib.Core.Bool.{true};
-ghost use Prim.Native.Nat.{_≤_};
+ghost use Prim.Native.Nat.{_+_, _≤_};
 ghost use lib.ListN.{length};
 ghost use Rattle.map.specs.Views.{lent};
 ghost use Rattle.transactions.specs.Views.{logs};
 ghost use Rattle.transactions.specs.Ready.{Ready};
-ghost use Rattle.console.specs.Sessions.{Started, canGoOn, RunsLine, Runs, Begins, withPlaces};
+ghost use Rattle.transactions.specs.Starts.{guardedCore};
+ghost use Rattle.console.specs.Program.{longestLine};
+ghost use Rattle.console.specs.Sessions.{Started, canGoOn, EndsMalformed, RunsGuard, RunsLine, Runs, Begins, withPlaces};
 
 // The longest line that is written: a letter, two numbers, a scan's pairs and a line feed.
 const LONGEST_LINE: usize = 44 + 42 * SCAN_PLACES;
 
-// What is kept from line to line: the engine's core, the parser, the place in the input, the place in the output, and
-// whether a malformed line has ended the script.
+// What is kept from line to line: the engine's core, the parser, the place in the input, the place in the output, whether a
+// malformed line has ended the script, and whether the first line has not been read through, so that it may be `G`.
 pub struct Session {
     pub core: Core,
     pub parser: Parser,
     pub next: usize,
     pub at: usize,
     pub stopped: bool,
+    pub first: bool,
 }
 
-// A session with a fresh map, whatever the arrays held.
+// A session with a fresh map that is not guarded, whatever the arrays held.
 pub fn fresh_session(
     rows: &mut Records,
     leaves: &mut Leaves,
@@ -47,7 +50,7 @@ pub fn fresh_session(
 ) -> Session
     ensures { λ r. ⌜ Begins (lent (now (rows .exit)) (now (leaves .exit)) (now (slots .exit))) (logs (now (reads .exit)) (now (leafsets .exit)) (now (writes .exit))) r ⌝ }
 {
-    let core = starts::fresh_state(rows, leaves, slots, reads, leafsets, writes);
+    let core = starts::fresh_state(rows, leaves, slots, reads, leafsets, writes, false);
     let parser = script::fresh_parser();
     Session {
         core,
@@ -55,6 +58,7 @@ pub fn fresh_session(
         next: 0,
         at: 0,
         stopped: false,
+        first: true,
     }
 }
 
@@ -70,6 +74,7 @@ pub fn at_places(x: Session, next: usize, at: usize) -> Session
         next,
         at,
         stopped: x.stopped,
+        first: x.first,
     }
 }
 
@@ -92,6 +97,58 @@ fn can_go_on(stopped: bool, next: usize, size: usize, at: usize, room: usize) ->
     true
 }
 
+// The core of a guarded map.
+fn guarded(c: Core) -> Core
+    ensures { λ r. ⌜ r ≡ guardedCore c ⌝ }
+{
+    let workers = c.workers;
+    let sizes = c.sizes;
+    let counters = c.counters;
+    Core {
+        workers,
+        sizes,
+        counters,
+        guarded: true,
+    }
+}
+
+// A malformed line ends the script.
+fn end_malformed(out: &mut [u8], x: Session, parser: Parser, next: usize) -> Session
+    requires { ⌜ x .at + 2 ≤ length (now out) ⌝ }
+    ensures { λ r. ⌜ EndsMalformed x parser next (now (out .entry)) (now (out .exit)) r ⌝ }
+{
+    let core = x.core;
+    let at = text::put_malformed(out, x.at);
+    Session {
+        core,
+        parser,
+        next,
+        at,
+        stopped: true,
+        first: false,
+    }
+}
+
+// The line `G`: as the first one it makes the map, on which nothing was run, a guarded one. Any other is malformed.
+fn run_guard(out: &mut [u8], x: Session, parser: Parser, next: usize) -> Session
+    requires { ⌜ x .at + longestLine ≤ length (now out) ⌝ }
+    ensures { λ r. ⌜ RunsGuard x parser next (now (out .entry)) (now (out .exit)) r ⌝ }
+{
+    if x.first {
+        let core = guarded(x.core);
+        let at = text::put_guarded(out, x.at);
+        return Session {
+            core,
+            parser,
+            next,
+            at,
+            stopped: false,
+            first: false,
+        };
+    }
+    end_malformed(out, x, parser, next)
+}
+
 // Reads to the end of a line, performs it and writes its answer; or reads to what makes a line malformed, or to the end
 // of the input.
 fn run_line(
@@ -108,7 +165,7 @@ fn run_line(
     x: Session,
 ) -> Session
     requires { ⌜ Ready (lent (now rows) (now leaves) (now slots)) (logs (now reads) (now leafsets) (now writes)) (x .core) ⌝ }
-    requires { ⌜ Started (x .parser) ⌝ }
+    requires { ⌜ Started (lent (now rows) (now leaves) (now slots)) (logs (now reads) (now leafsets) (now writes)) x ⌝ }
     requires { ⌜ canGoOn (x .stopped) (x .next) (length (now input)) (x .at) (length (now out)) ≡ true ⌝ }
     ensures { λ r. ⌜ RunsLine (lent (now (rows .entry)) (now (leaves .entry)) (now (slots .entry)))
         (logs (now (reads .entry)) (now (leafsets .entry)) (now (writes .entry))) x (now (input .entry)) (now (out .entry))
@@ -143,24 +200,18 @@ fn run_line(
                 next,
                 at,
                 stopped: false,
+                first: false,
             }
         }
-        Event::Malformed => {
-            let at = text::put_malformed(out, x.at);
-            Session {
-                core,
-                parser: after,
-                next,
-                at,
-                stopped: true,
-            }
-        }
+        Event::Guard => run_guard(out, x, after, next),
+        Event::Malformed => end_malformed(out, x, after, next),
         Event::SliceEnd => Session {
             core,
             parser: after,
             next,
             at: x.at,
             stopped: false,
+            first: x.first,
         },
     }
 }
@@ -179,7 +230,7 @@ pub fn feed(
     start: Session,
 ) -> Session
     requires { ⌜ Ready (lent (now rows) (now leaves) (now slots)) (logs (now reads) (now leafsets) (now writes)) (start .core) ⌝ }
-    requires { ⌜ Started (start .parser) ⌝ }
+    requires { ⌜ Started (lent (now rows) (now leaves) (now slots)) (logs (now reads) (now leafsets) (now writes)) start ⌝ }
     requires { ⌜ start .at ≤ length (now out) ⌝ }
     ensures { λ r. ⌜ Runs (lent (now (rows .entry)) (now (leaves .entry)) (now (slots .entry)))
         (logs (now (reads .entry)) (now (leafsets .entry)) (now (writes .entry))) start (now (input .entry)) (now (out .entry))

@@ -39,9 +39,9 @@ set-same xs w x h = getD-set-same xs w x freeWorker h
 pub set-other : (xs : List Worker) (w : ℕ) (x : Worker) (v : ℕ) → (v ≡ w → ⊥) → getD (set xs w x) v freeWorker ≡ getD xs v freeWorker
 set-other xs w x v d = getD-set-other xs w v x freeWorker d
 
-pub worker-fresh : (s : Settings) (w : ℕ) → workerOf (fresh s) w ≡ freeWorker
+pub worker-fresh : (s : Settings) (g : Bool) (w : ℕ) → workerOf (fresh s g) w ≡ freeWorker
 unfolding workerOf
-worker-fresh s w = go (s .workers) w
+worker-fresh s g w = go (s .workers) w
   where
     go : (n w : ℕ) → getD (replicate n freeWorker) w freeWorker ≡ freeWorker
     go zero w = refl

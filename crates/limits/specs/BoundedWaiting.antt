@@ -72,9 +72,9 @@ unfolding final
 final-aged h a [] = a
 final-aged h a (s ∷ ss) = final-aged (next-kept h s) (next-aged h a s) ss
 
-fresh-aged : (s : Settings) → Aged (fresh s)
+fresh-aged : (s : Settings) (g : Bool) → Aged (fresh s g)
 unfolding waitsSince contentOf entries look
-fresh-aged s = record { past = λ k t e. both-options e refl }
+fresh-aged s g = record { past = λ k t e. both-options e refl }
 
 -- ---- one step
 
@@ -229,15 +229,15 @@ within {σ} h a k t n e l (s ∷ ss) m =
         taken-later s e w (subst (λ (b : Bool). n + pick b 1 0 ≤ n) (sym o) (let z : n + 0 ≤ n = omega arith in z))
         (ih n (let z : olderCount (next σ s .map) k t < n = omega arith in z) m)
 
-pub bounded-waiting : (s : Settings) → GoodSettings s → (ss : List Step) (k t : ℕ) → waitsSince (final (fresh s) ss .map) k ≡ some t
-    → (ts : List Step) → s .waitingLimit ≤ oldestMerges ts → TakenWithin (final (fresh s) ss) k (s .waitingLimit) ts
-bounded-waiting s g ss k t e ts m =
-    within h (final-aged (fresh-kept s g) (fresh-aged s) ss) k t (s .waitingLimit) e few ts m
+pub bounded-waiting : (s : Settings) (g : Bool) → GoodSettings s → (ss : List Step) (k t : ℕ) → waitsSince (final (fresh s g) ss .map) k ≡ some t
+    → (ts : List Step) → s .waitingLimit ≤ oldestMerges ts → TakenWithin (final (fresh s g) ss) k (s .waitingLimit) ts
+bounded-waiting s g c ss k t e ts m =
+    within h (final-aged (fresh-kept s g c) (fresh-aged s g) ss) k t (s .waitingLimit) e few ts m
   where
-    h : Kept (final (fresh s) ss)
-    h = final-kept (fresh-kept s g) ss
+    h : Kept (final (fresh s g) ss)
+    h = final-kept (fresh-kept s g c) ss
 
-    few : olderCount (final (fresh s) ss .map) k t < s .waitingLimit
+    few : olderCount (final (fresh s g) ss .map) k t < s .waitingLimit
     few =
-        lt-of-lt-of-le (older-fewer-than-entries (final (fresh s) ss .map) k t (h .map .slots) e)
-        (subst (λ (x : Settings). length (entries (final (fresh s) ss .map .slots)) ≤ x .waitingLimit) (final-settings (fresh s) ss) (h .map .waiting))
+        lt-of-lt-of-le (older-fewer-than-entries (final (fresh s g) ss .map) k t (h .map .slots) e)
+        (subst (λ (x : Settings). length (entries (final (fresh s g) ss .map .slots)) ≤ x .waitingLimit) (final-settings (fresh s g) ss) (h .map .waiting))

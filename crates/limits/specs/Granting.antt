@@ -109,7 +109,10 @@ pub lock-passed : (σ : State) (w : ℕ) → refusal σ (lock w) ≡ none → At
 unfolding refusal causes
 lock-passed σ w e =
     let a = stage-passed σ isOpen w _ e in
-    let b = cause-passed _ _ (a .2) in
+    let fit = cause-passed _ _ (a .2) in
+    let covered = cause-passed _ _ (fit .1) in
+    let clear = cause-passed _ _ (covered .1) in
+    let b = cause-passed _ _ (clear .1) in
     let c = cause-passed _ _ (b .1) in
     let d = cause-passed _ _ (c .1) in (
       record { inside = a .0; stage = a .1 },

@@ -9,7 +9,7 @@ use Prim.Native.Nat.{ℕ, zero, suc, _+_, _*_, _^_, _<_, _≤_, zero-le}
 use native.Mathlib.Nat.{le-of-eq, mul-zero, mul-le-mul-left}
 use native.Mathlib.Omega.{arith}
 use mathlib.Core.Path.{_≡_, refl, sym, ap, _∙_, subst}
-use mathlib.Core.Bool.{true, false}
+use mathlib.Core.Bool.{Bool, true, false}
 use mathlib.Core.List.{List}
 use mathlib.Core.Option.{some}
 use lib.ListN.{length, replicate, length-replicate}
@@ -112,13 +112,13 @@ none-checked (suc n) = let e : total (λ (i : ℕ) (x : Worker). pick (isChecked
 at-most-none : (c : ℕ) → c ≡ 0 → 0 + c ≤ 0
 at-most-none c e = omega arith
 
-pub fresh-kept : (s : Settings) → GoodSettings s → Kept (fresh s)
-fresh-kept s g =
+pub fresh-kept : (s : Settings) (g : Bool) → GoodSettings s → Kept (fresh s g)
+fresh-kept s g h =
     record {
-      settings = g;
+      settings = h;
       map = fresh-bounded s;
       worker-count = length-replicate (s .workers) freeWorker;
-      worker = λ w. subst (GoodWorker s 0) (sym (worker-fresh s w)) (free-good s 0);
+      worker = λ w. subst (GoodWorker s 0) (sym (worker-fresh s g w)) (free-good s 0);
       holds = λ w k t. clash t (unlocked w);
       held-by = λ w k e. both-options e (unfold contentOf entries look in refl);
       numbers = zero-le;
@@ -126,8 +126,8 @@ fresh-kept s g =
       versions = nothing;
     }
   where
-    unlocked : (w : ℕ) → hasLocks (workerOf (fresh s) w .stage) ≡ false
-    unlocked w = ap (λ (x : Worker). hasLocks (x .stage)) (worker-fresh s w) ∙ (unfold hasLocks isLocked isChecked in refl)
+    unlocked : (w : ℕ) → hasLocks (workerOf (fresh s g) w .stage) ≡ false
+    unlocked w = ap (λ (x : Worker). hasLocks (x .stage)) (worker-fresh s g w) ∙ (unfold hasLocks isLocked isChecked in refl)
 
     nothing : 0 + versionsPerMerge s * (pendingCount emptySlots + s .writeLimit * checkedCount (replicate (s .workers) freeWorker)) ≤ versionsPerMerge s * s .writeLimit * 0
     nothing =

@@ -5,6 +5,7 @@ use Prim.Native.Nat.{_+_, ℕ, suc, _*_, _≤_}
 use native.Mathlib.Omega.{arith}
 use mathlib.Core.Path.{_≡_, refl, sym, ap, _∙_, subst}
 use mathlib.Core.Logic.{⊎-elim}
+use mathlib.Core.Bool.{Bool}
 use mathlib.Core.List.{List, [], _∷_, _++_}
 use mathlib.Core.Option.{Option, none, some}
 use lib.ListN.{length}
@@ -15,7 +16,7 @@ use Rattle.spec.specs.Refusals.{ends}
 use Rattle.spec.specs.Records.{Settings, standard, written, deleted}
 use Rattle.spec.specs.Slots.{entries}
 use Rattle.spec.specs.Maps.{oldest}
-use Rattle.spec.specs.Steps.{State, fresh, workerOf, Step, begin, read, scan, put, remove, lock, validate, install, abort, merge, mergeOldest, scanReads, scanVersions, refusal, withWorker, withMap, withCounters, installCounted, dropped, merged, effect, next, final}
+use Rattle.spec.specs.Steps.{State, fresh, workerOf, Step, begin, read, scan, put, remove, lock, validate, install, abort, merge, mergeOldest, scanReads, scanVersions, remembered, refusal, withWorker, withMap, withCounters, installCounted, dropped, merged, effect, next, final}
 use Rattle.laws.specs.MapBounds.{record-count, leaf-limit}
 use Rattle.laws.specs.WorkerLaws.{standard-settings}
 use Rattle.limits.specs.Invariant.{Kept, fresh-kept, standard-version}
@@ -33,7 +34,7 @@ module _ {σ : State} (h : Kept σ) where
   granted-kept (read w k) e = let p = read-passed σ w k e in read-kept h w k (p .0) (p .1)
   granted-kept (scan w lo hi m n) e =
       let p = scan-passed σ w lo hi m n e in
-      logs-kept h w (p .0) (scanReads σ lo hi) (scanVersions σ lo hi) (p .1 .reads) (p .1 .versions)
+      logs-kept h w (p .0) (scanReads σ lo hi) (scanVersions σ lo hi) (remembered σ w lo hi ∷ []) (p .1 .reads) (p .1 .versions)
   granted-kept (put w k d) e = let p = put-passed σ w k d e in write-kept h w k (written d) (p .0) (p .1)
   granted-kept (remove w k) e = let p = remove-passed σ w k e in write-kept h w k deleted (p .0) (p .1)
   granted-kept (lock w) e = let p = lock-passed σ w e in lock-kept h w (p .0) (p .1)
@@ -131,5 +132,5 @@ standard-limits {σ} h e =
     }
 
 -- after every list of steps from a fresh map
-pub every-run : (ss : List Step) → WithinLimits (final (fresh standard) ss)
-every-run ss = standard-limits (final-kept (fresh-kept standard standard-settings) ss) (final-settings (fresh standard) ss)
+pub every-run : (g : Bool) (ss : List Step) → WithinLimits (final (fresh standard g) ss)
+every-run g ss = standard-limits (final-kept (fresh-kept standard g standard-settings) ss) (final-settings (fresh standard g) ss)

@@ -100,5 +100,5 @@ pub next-logged : {σ : State} → Kept σ → LoggedOld σ → (s : Step) → L
 unfolding workerOf
 next-logged k h s = record { old = next-old k (h .old) s }
 
-pub fresh-logged : (s : Settings) → LoggedOld (fresh s)
-fresh-logged s = record { old = λ w. subst (λ (x : Worker). Old 0 (x .versions)) (sym (worker-fresh s w)) (none-old 0) }
+pub fresh-logged : (s : Settings) (g : Bool) → LoggedOld (fresh s g)
+fresh-logged s g = record { old = λ w. subst (λ (x : Worker). Old 0 (x .versions)) (sym (worker-fresh s g w)) (none-old 0) }

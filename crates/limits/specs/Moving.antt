@@ -23,7 +23,7 @@ use Rattle.limits.specs.Invariant.{GoodWorker, checkedCount, Kept}
 
 -- the state with worker w as x, and another map and other counters
 abbrev pub movedTo : State → ℕ → Worker → MapState → Counters → State
-movedTo σ w x m c = record { settings = σ .settings; counters = c; map = m; workers = set (σ .workers) w x }
+movedTo σ w x m c = record { settings = σ .settings; guarded = σ .guarded; counters = c; map = m; workers = set (σ .workers) w x }
 
 -- who has the lock of k
 abbrev pub holderOf : MapState → ℕ → Option ℕ

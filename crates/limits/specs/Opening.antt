@@ -16,6 +16,7 @@ use Rattle.lists.specs.RowLaws.{rising-nil}
 use Rattle.lists.specs.Memberships.{rising-insert, insert-longer, insert-replaces}
 use Rattle.spec.specs.declared.Stage.the-variants.{Open}
 use Rattle.spec.specs.Records.{Settings, Record, Write}
+use Rattle.spec.specs.Guards.{Scan}
 use Rattle.spec.specs.Steps.{Worker, freeWorker, State, workerOf, isFree, isOpen, isLocked, isChecked, ownWrite, withWorker, atStage, logged, writing, readRows}
 use Rattle.laws.specs.VersionBounds.{versionsPerMerge}
 use Rattle.laws.specs.WorkerLaws.{hasLocks, free-no-locks, open-no-locks, no-locks-unchecked, open-busy}
@@ -26,11 +27,11 @@ use Rattle.limits.specs.Granting.{AtStage, WriteFits}
 -- ---- workers that log or write
 
 logged-good : {s : Settings} {n : ℕ} {x : Worker} → GoodWorker s n x → isFree (x .stage) ≡ false
-    → (rs : List (Row (Option Record))) (vs : List ℕ)
+    → (rs : List (Row (Option Record))) (vs : List ℕ) (cs : List Scan)
     → length (x .reads) + length rs ≤ s .readLimit → length (x .versions) + length vs ≤ s .leafSetLimit
-    → GoodWorker s n (logged rs vs x)
+    → GoodWorker s n (logged rs vs cs x)
 unfolding logged
-logged-good {s} {n} {x} g b rs vs r l =
+logged-good {s} {n} {x} g b rs vs cs r l =
     record {
       rising = g .rising;
       writes = g .writes;
@@ -106,19 +107,19 @@ module _ {σ : State} (h : Kept σ) where
           }
 
   -- an open worker that logs
-  pub logs-kept : (w : ℕ) → AtStage isOpen σ w → (rs : List (Row (Option Record))) (vs : List ℕ)
+  pub logs-kept : (w : ℕ) → AtStage isOpen σ w → (rs : List (Row (Option Record))) (vs : List ℕ) (cs : List Scan)
       → length (workerOf σ w .reads) + length rs ≤ σ .settings .readLimit → length (workerOf σ w .versions) + length vs ≤ σ .settings .leafSetLimit
-      → Kept (withWorker σ w (logged rs vs (workerOf σ w)))
-  logs-kept w a rs vs r l =
-      quiet w (logged rs vs (workerOf σ w)) (a .inside) unlocked-stage (unfold logged in unlocked-stage)
-      (logged-good (h .worker w) (open-busy (workerOf σ w .stage) (a .stage)) rs vs r l)
+      → Kept (withWorker σ w (logged rs vs cs (workerOf σ w)))
+  logs-kept w a rs vs cs r l =
+      quiet w (logged rs vs cs (workerOf σ w)) (a .inside) unlocked-stage (unfold logged in unlocked-stage)
+      (logged-good (h .worker w) (open-busy (workerOf σ w .stage) (a .stage)) rs vs cs r l)
     where
       unlocked-stage : hasLocks (workerOf σ w .stage) ≡ false
       unlocked-stage = open-no-locks (workerOf σ w .stage) (a .stage)
 
   pub read-kept : (w k : ℕ) → AtStage isOpen σ w → ((present (ownWrite σ w k) ≡ true) ⊎ (length (workerOf σ w .reads) < σ .settings .readLimit))
-      → Kept (withWorker σ w (logged (readRows σ w k) [] (workerOf σ w)))
-  read-kept w k a f = logs-kept w a (readRows σ w k) [] (rows (ownWrite σ w k) refl f) (le-trans (le-of-eq (omega arith)) (h .worker w .versions))
+      → Kept (withWorker σ w (logged (readRows σ w k) [] [] (workerOf σ w)))
+  read-kept w k a f = logs-kept w a (readRows σ w k) [] [] (rows (ownWrite σ w k) refl f) (le-trans (le-of-eq (omega arith)) (h .worker w .versions))
     where
       rows : (o : Option Write) → ownWrite σ w k ≡ o → ((present (ownWrite σ w k) ≡ true) ⊎ (length (workerOf σ w .reads) < σ .settings .readLimit))
           → length (workerOf σ w .reads) + length (readRows σ w k) ≤ σ .settings .readLimit

@@ -148,7 +148,7 @@ fn close(
     w: Work,
 )
     requires { ⌜ Ready (lent (now rows) (now leaves) (now slots)) (logs (now reads) (now leafsets) (now writes)) (w .session .core) ⌝ }
-    requires { ⌜ Started (w .session .parser) ⌝ }
+    requires { ⌜ Started (lent (now rows) (now leaves) (now slots)) (logs (now reads) (now leafsets) (now writes)) (w .session) ⌝ }
     requires { ⌜ (w .session .at ≡ 0) × (longestEnd ≤ length (now out)) ⌝ }
 {
     if w.failed {

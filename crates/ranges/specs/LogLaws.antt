@@ -1,22 +1,27 @@
 -- The laws of what a scan logs, and of the places of the worker's own writes.
-use Prim.Native.Nat.{ℕ, suc, _+_, _-_, _<_, _≤_}
+use Prim.Native.Nat.{ℕ, zero, suc, _+_, _-_, _<_, _≤_}
 use native.Mathlib.Nat.{le-trans}
 use native.Mathlib.Omega.{arith}
 use mathlib.Core.Path.{_≡_, refl, sym, ap, _∙_}
+use mathlib.Core.Bool.{Bool}
 use mathlib.Core.List.{List, [], _∷_, _++_, append-nil}
 use mathlib.Core.Option.{Option, none}
 use lib.ListN.{length, take, drop, getD}
-use Rattle.lists.specs.Tests.{pick, present}
+use lib.Dec.{eqb}
+use Rattle.lists.specs.Tests.{pick, present, same}
+use Rattle.lists.specs.TestLaws.{same-refl, same-no}
 use Rattle.lists.specs.Rows.{Row, look, Rising}
 use Rattle.lists.specs.Places.{place, place-most, Absent, look-present, look-absent}
 use Rattle.lists.specs.Shifts.{drop-take}
 use Rattle.spec.specs.Records.{standard, Record, Write}
+use Rattle.spec.specs.Guards.{Scan}
 use Rattle.spec.specs.Leaves.{Leaf}
 use Rattle.sets.specs.declared.writes.Entry.{Entry}
 use Rattle.sets.specs.declared.reads.Observed.{Observed}
 use Rattle.sets.specs.declared.leaves.LoggedLeaf.{LoggedLeaf}
 use Rattle.sets.specs.Reads.{ReadRows, readsOf, ReadSetHeld, LogsRead}
-use Rattle.sets.specs.Leaves.{LeafSetRows, versionsOf, lowsOf, LeafSetHeld, LogsLeaf}
+use Rattle.sets.specs.declared.leaves.Scanned.{Scanned}
+use Rattle.sets.specs.Leaves.{LeafSetRows, versionsOf, lowsOf, scannedIn, rememberedIf, marksOf, joined, LeafSetHeld, LogsLeaf}
 use Rattle.sets.specs.Writes.{WriteRows, noWrite, writeIn, writesOf, WriteSetOrdered, GivesWrite}
 use Rattle.sets.specs.WritePlaces.{PlaceOf}
 use Rattle.sets.specs.SetLaws.{length-rows}
@@ -25,7 +30,7 @@ use Rattle.queries.specs.declared.Range.{Range}
 use Rattle.queries.specs.QueryViews.{walk, SeenAt, versionIn, loggedIn, LoggedAt}
 use Rattle.queries.specs.RangeLaws.{place-mono, place-next, between-places}
 use Rattle.ranges.specs.Parts.{walk-on, walk-past, done-one, take-rows}
-use Rattle.ranges.specs.Scanning.{OwnSpans, span, seenIn, LogsRows, LoggingRows, lowIn, LogsLeaves, LoggingLeaves}
+use Rattle.ranges.specs.Scanning.{OwnSpans, span, seenIn, LogsRows, LoggingRows, across, lowIn, marked, LogsLeaves, LoggingLeaves}
 
 -- ---- the worker's writes of a range
 
@@ -128,7 +133,7 @@ module _ (rs : ReadRows) (n : ℕ) (rows : RecordRows) (k : ℕ) (slots : SlotRo
 
 -- ---- leaves
 
-module _ (rs : LeafSetRows) (n : ℕ) (lows versions : List ℕ) (p : Range) where
+module _ (rs : LeafSetRows) (n : ℕ) (lows versions : List ℕ) (p : Range) (s : Scanned) where
   -- the version and the low address at each place
   abbrev version : ℕ → ℕ → ℕ
   version m = versionIn (leavesIn lows versions m)
@@ -136,15 +141,15 @@ module _ (rs : LeafSetRows) (n : ℕ) (lows versions : List ℕ) (p : Range) whe
   abbrev low : ℕ → ℕ → ℕ
   low m = lowIn (leavesIn lows versions m)
 
-  pub leaves-start : LeafSetHeld rs → LoggingLeaves rs n lows versions p rs (p .from) n
-  leaves-start held = record { held = held; count = refl; versions-are = λ m b d. refl; lows-are = λ m b d. refl }
+  pub leaves-start : LeafSetHeld rs → LoggingLeaves rs n lows versions p s rs (p .from) n
+  leaves-start held = record { held = held; count = refl; versions-are = λ m b d. refl; lows-are = λ m b d. refl; marks-are = refl }
 
-  module _ (us : LeafSetRows) (i r : ℕ) (h : LoggingLeaves rs n lows versions p us i r) where
+  module _ (us : LeafSetRows) (i r : ℕ) (h : LoggingLeaves rs n lows versions p s us i r) where
     pub leaves-room : i < p .to → n + span p ≤ standard .leafSetLimit → r < standard .leafSetLimit
     leaves-room l b = let q : r + (p .to - i) ≡ n + span p = h .count in omega arith
 
-    pub leaves-on : (x : LoggedLeaf) (us' : LeafSetRows) (r' : ℕ) → i < p .to → LoggedAt lows versions i x → LogsLeaf us r x us' r'
-        → LoggingLeaves rs n lows versions p us' (i + 1) r'
+    pub leaves-on : (x : LoggedLeaf) (us' : LeafSetRows) (r' : ℕ) → i < p .to → LoggedAt lows versions i x → LogsLeaf us r x (eqb i (p .from)) s us' r'
+        → LoggingLeaves rs n lows versions p s us' (i + 1) r'
     unfolding versionIn lowIn loggedIn
     leaves-on x us' r' l a g =
         let q : r + (p .to - i) ≡ n + span p = h .count in
@@ -162,9 +167,14 @@ module _ (rs : LeafSetRows) (n : ℕ) (lows versions : List ℕ) (p : Range) whe
               (g .lows ∙ ap (λ (y : Leaf). lowsOf us r ++ (y .low ∷ [])) (a .leaf-is m (le-trans l b) d))
               (walk-on (low m) i (p .to) l)
               ∙ h .lows-are m b d;
+          marks-are =
+              done-one (marksOf us r) (walk (marked (p .from) s) i (p .to - i)) (walk (marked (p .from) s) (i + 1) (p .to - (i + 1))) (marksOf us' r') (marked (p .from) s i)
+              (unfold marked same in g .marks)
+              (walk-on (marked (p .from) s) i (p .to) l)
+              ∙ h .marks-are;
         }
 
-    pub leaves-end : p .to ≤ i → LogsLeaves rs n lows versions p us r
+    pub leaves-end : p .to ≤ i → LogsLeaves rs n lows versions p s us r
     leaves-end l =
         let q : r + (p .to - i) ≡ n + span p = h .count in
         record {
@@ -174,4 +184,26 @@ module _ (rs : LeafSetRows) (n : ℕ) (lows versions : List ℕ) (p : Range) whe
               sym (append-nil (versionsOf us r)) ∙ ap (λ (xs : List ℕ). versionsOf us r ++ xs) (sym (walk-past (version m) i (p .to) l)) ∙ h .versions-are m b d;
           lows-are = λ m b d.
               sym (append-nil (lowsOf us r)) ∙ ap (λ (xs : List ℕ). lowsOf us r ++ xs) (sym (walk-past (low m) i (p .to) l)) ∙ h .lows-are m b d;
+          marks-are =
+              sym (append-nil (marksOf us r)) ∙ ap (λ (xs : List (List Scan)). marksOf us r ++ xs) (sym (walk-past (marked (p .from) s) i (p .to) l)) ∙ h .marks-are;
         }
+
+-- ---- the scan
+
+module _ (s : Scanned) (first : ℕ) where
+  -- past the first, nothing is remembered
+  none-more : (i n : ℕ) → first < i → joined (walk (marked first s) i n) ≡ []
+  unfolding walk joined
+  none-more i zero h = refl
+  none-more i (suc n) h = ap (λ (xs : List Scan). xs ++ joined (walk (marked first s) (suc i) n)) (unmarked i h) ∙ none-more (suc i) n (omega arith)
+    where
+      unmarked : (i : ℕ) → first < i → marked first s i ≡ []
+      unmarked i h = unfold marked in ap (λ (b : Bool). rememberedIf b (scannedIn s)) (same-no {m = i} {n = first} (λ e. omega arith))
+
+-- a scan that meets a leaf is remembered once
+pub scan-remembered : (s : Scanned) (p : Range) → p .from < p .to → joined (across (marked (p .from) s) p) ≡ scannedIn s ∷ []
+unfolding joined
+scan-remembered s p h =
+    ap joined (walk-on (marked (p .from) s) (p .from) (p .to) h)
+    ∙ ap (λ (xs : List Scan). marked (p .from) s (p .from) ++ xs) (none-more s (p .from) (p .from + 1) (p .to - (p .from + 1)) (omega arith))
+    ∙ (unfold marked in ap (λ (b : Bool). rememberedIf b (scannedIn s) ++ []) (same-refl (p .from)))

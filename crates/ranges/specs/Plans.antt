@@ -10,6 +10,7 @@ use Rattle.spec.specs.declared.Refusal.{Refusal}
 use Rattle.spec.specs.declared.Refusal.the-variants.{Backward, LogFull, ShortBuffer}
 use Rattle.sets.specs.declared.workers.Worker.{Worker}
 use Rattle.sets.specs.Reads.{ReadRows}
+use Rattle.sets.specs.declared.leaves.Scanned.{Scanned}
 use Rattle.sets.specs.Leaves.{LeafSetRows}
 use Rattle.sets.specs.Writes.{WriteRows, WriteSetOrdered}
 use Rattle.map.specs.declared.Sizes.{Sizes}
@@ -86,10 +87,14 @@ pub record Planned (rows : RecordRows) (lows : List ℕ) (slots : SlotRows) (ws 
   pub count : t .count ≡ length (shownOf rows slots ws z t)
   pub roomy : Roomy t m n
 
+-- the scan from lo to hi, as the transaction remembers it
+abbrev pub scanMade : Worker → Task → ℕ → ℕ → Scanned
+scanMade x t lo hi = record { lo = lo; hi = hi; from = x .reads; count = span (t .index) }
+
 -- the buffers and the worker's sets after the scan, and the worker with its new counts
-pub record Carried (rows : RecordRows) (lows versions : List ℕ) (slots : SlotRows) (ws : WriteRows) (z : Sizes) (x : Worker) (t : Task)
+pub record Carried (rows : RecordRows) (lows versions : List ℕ) (slots : SlotRows) (ws : WriteRows) (z : Sizes) (x : Worker) (t : Task) (lo hi : ℕ)
     (ks vs : List ℕ) (rs : ReadRows) (ls : LeafSetRows) (ks' vs' : List ℕ) (rs' : ReadRows) (ls' : LeafSetRows) (y : Worker) : Type 0 where
   pub fills : Fills ks vs (shownOf rows slots ws z t) ks' vs' (t .count)
   pub logs-rows : LogsRows rs (x .reads) (seenIn rows (z .records) slots) (t .index) rs' (y .reads)
-  pub logs-leaves : LogsLeaves ls (x .leaves) lows versions (t .met) ls' (y .leaves)
+  pub logs-leaves : LogsLeaves ls (x .leaves) lows versions (t .met) (scanMade x t lo hi) ls' (y .leaves)
   pub worker : y ≡ record { stage = x .stage; number = x .number; reads = y .reads; leaves = y .leaves; writes = x .writes }

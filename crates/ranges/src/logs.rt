@@ -6,6 +6,7 @@ use queries::Range;
 use sets::LeafSet;
 use sets::ReadSet;
 use sets::leaves;
+use sets::leaves::Scanned;
 use sets::reads;
 ghost use Rattle.sets.specs.Reads.{ReadSetHeld};
 ghost use Rattle.sets.specs.Leaves.{LeafSetHeld};
@@ -36,17 +37,18 @@ pub fn log_rows(
     count
 }
 
-// Appends the leaves at these places to the m rows of a leaf set. Answers how many there are now.
-pub fn log_leaves(leafset: &mut LeafSet, leaves: &Leaves, m: usize, p: Range) -> usize
+// Appends the leaves at these places, which a scan has met, to the m rows of a leaf set; the first of them remembers the scan.
+// Answers how many there are now.
+pub fn log_leaves(leafset: &mut LeafSet, leaves: &Leaves, m: usize, p: Range, s: Scanned) -> usize
     requires { ⌜ LeafSetHeld (now leafset) ⌝ }
     requires { ⌜ LeavesRoom (lowsOf (now leaves)) m p ⌝ }
-    ensures { λ r. ⌜ LogsLeaves (now (leafset .entry)) m (lowsOf (now (leaves .entry))) (versionsOf (now (leaves .entry))) p (now (leafset .exit)) r ⌝ }
+    ensures { λ r. ⌜ LogsLeaves (now (leafset .entry)) m (lowsOf (now (leaves .entry))) (versionsOf (now (leaves .entry))) p s (now (leafset .exit)) r ⌝ }
 {
     let mut i = p.from;
     let mut count = m;
     while i < p.to {
         let leaf = queries::leaf(leaves, i);
-        count = leaves::log_leaf(leafset, count, leaf);
+        count = leaves::log_leaf(leafset, count, leaf, i == p.from, s);
         i += 1;
     }
     count

@@ -10,6 +10,7 @@ use queries::Range;
 use sets::LeafSet;
 use sets::ReadSet;
 use sets::WriteSet;
+use sets::leaves::Scanned;
 use sets::workers::Worker;
 use sets::writes;
 use spec::Address;
@@ -105,7 +106,8 @@ pub fn measure(
     })
 }
 
-// Writes the records shown and logs what the scan passed. Answers the worker with the new counts.
+// Writes the records shown, logs what the scan from lo to hi passed, and remembers the scan. Answers the worker with the new
+// counts.
 pub fn carry_out(
     addresses: &mut [u32],
     values: &mut [u64],
@@ -118,12 +120,14 @@ pub fn carry_out(
     z: Sizes,
     x: Worker,
     t: Task,
+    lo: Address,
+    hi: Address,
 ) -> Worker
     requires { ⌜ Planning (now rows) (lowsOf (now leaves)) (now slots) (now writes) z x ⌝ }
     requires { ⌜ Planned (now rows) (lowsOf (now leaves)) (now slots) (now writes) z x t (length (now addresses)) (length (now values)) ⌝ }
     requires { ⌜ ReadSetHeld (now reads) ⌝ }
     requires { ⌜ LeafSetHeld (now leafset) ⌝ }
-    ensures { λ r. ⌜ Carried (now (rows .entry)) (lowsOf (now (leaves .entry))) (versionsOf (now (leaves .entry))) (now (slots .entry)) (now (writes .entry)) z x t
+    ensures { λ r. ⌜ Carried (now (rows .entry)) (lowsOf (now (leaves .entry))) (versionsOf (now (leaves .entry))) (now (slots .entry)) (now (writes .entry)) z x t lo hi
         (now (addresses .entry)) (now (values .entry)) (now (reads .entry)) (now (leafset .entry))
         (now (addresses .exit)) (now (values .exit)) (now (reads .exit)) (now (leafset .exit)) r ⌝ }
 {
@@ -147,7 +151,13 @@ pub fn carry_out(
         own.from,
     );
     let logged = logs::log_rows(reads, rows, slots, z.records, x.reads as usize, index);
-    let logged_leaves = logs::log_leaves(leafset, leaves, x.leaves as usize, met);
+    let scan = Scanned {
+        lo: lo as u64,
+        hi: hi as u64,
+        from: x.reads as u64,
+        count: (index.to - index.from) as u64,
+    };
+    let logged_leaves = logs::log_leaves(leafset, leaves, x.leaves as usize, met, scan);
     Worker {
         stage,
         number: x.number,

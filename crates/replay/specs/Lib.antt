@@ -10,3 +10,4 @@ pub mod RunLaws
 pub mod LoopLaws
 pub mod Starred
 pub mod WaitingReplays
+pub mod GuardedReplays

@@ -29,6 +29,7 @@ use Rattle.replay.specs.declared.decodes.Decoded.the-variants.{Meant, Me
 use Rattle.replay.specs.declared.runs.Stop.{Stop}
 use Rattle.replay.specs.declared.runs.Stop.the-variants as stop
 use Rattle.replay.specs.declared.runs.AfterCode.{AfterCode}
+use Rattle.replay.specs.declared.runs.Replayed.{Replayed}
 use Rattle.replay.specs.Codes.{decoded, wordsOf}
 use Rattle.replay.specs.Replays.{Ran, ended, event, followedBy, byMeaning, stepWords, codeOf, longestAnswer, ran, allWords, leftIn, addressOf, valueOf, listedIn, runOf, Replays}
 use Rattle.replay.specs.RunLaws.{codeAt, wordsFrom, drop-code, allFollowedBy, chained, tally, TakesCode}
@@ -77,12 +78,12 @@ ran-model m n σ room (k ∷ a ∷ b ∷ c ∷ d ∷ e ∷ ws) =
     go (Meant o p q) ih = on (less room (longestAnswer p q)) o p q (ih (stepIn o p q))
 
 -- demand 3 of a run
-ran-serial : (m n room : ℕ) (ws : List ℕ) → SerialRun (ran m n (fresh standard) room ws .events) (contents (ran m n (fresh standard) room ws .state .map))
-ran-serial m n room ws =
-    let r = ran m n (fresh standard) room ws in
-    let h : Models (fresh standard) r = ran-model m n (fresh standard) room ws in
+ran-serial : (b : Bool) (m n room : ℕ) (ws : List ℕ) → SerialRun (ran m n (fresh standard b) room ws .events) (contents (ran m n (fresh standard b) room ws .state .map))
+ran-serial b m n room ws =
+    let r = ran m n (fresh standard b) room ws in
+    let h : Models (fresh standard b) r = ran-model m n (fresh standard b) room ws in
     subst (λ (σ : State). SerialRun (r .events) (contents (σ .map))) (h .state)
-    (subst (λ (es : List Event). SerialRun es (contents (final (fresh standard) (stepsOf (r .events)) .map))) (h .answers) (theorem (stepsOf (r .events))))
+    (subst (λ (es : List Event). SerialRun es (contents (final (fresh standard b) (stepsOf (r .events)) .map))) (h .answers) (theorem b (stepsOf (r .events))))
 
 -- ---- the words that make no whole code
 
@@ -127,12 +128,12 @@ words-append (e ∷ es) fs =
 
 -- ---- the promise, once the run is known
 
-ends : {words ks₀ vs₀ out₀ : List ℕ} {l : Lent} {g : Logs} {c : Core} {ks vs out : List ℕ} {at i : ℕ} {x : Stop} {es : List Event} → Ready l g c
-    → runOf words ks₀ vs₀ out₀ ≡ record { events = es; stop = x; state = stateOf l g c } → i ≡ length es → Wrote out₀ 0 (allWords es) out at
+ends : {b : Bool} {words ks₀ vs₀ out₀ : List ℕ} {l : Lent} {g : Logs} {c : Core} {ks vs out : List ℕ} {at i : ℕ} {x : Stop} {es : List Event} → Ready l g c
+    → runOf b words ks₀ vs₀ out₀ ≡ record { events = es; stop = x; state = stateOf l g c } → i ≡ length es → Wrote out₀ 0 (allWords es) out at
     → ks ≡ leftIn addressOf es ks₀ → vs ≡ leftIn valueOf es vs₀
-    → Replays words ks₀ vs₀ out₀ l g ks vs out (record { core = c; taken = i; written = at; stop = x })
-ends {words} {ks₀} {vs₀} {out₀} {l} {g} {c} {ks} {vs} {out} {at} {i} {x} {es} r e n w a v =
-    let f : runOf words ks₀ vs₀ out₀ .events ≡ es = ap (λ (y : Ran). y .events) e in
+    → Replays b words ks₀ vs₀ out₀ l g ks vs out (record { core = c; taken = i; written = at; stop = x })
+ends {b} {words} {ks₀} {vs₀} {out₀} {l} {g} {c} {ks} {vs} {out} {at} {i} {x} {es} r e n w a v =
+    let f : runOf b words ks₀ vs₀ out₀ .events ≡ es = ap (λ (y : Ran). y .events) e in
     record {
       ready = r;
       state = sym (ap (λ (y : Ran). y .state) e);
@@ -142,8 +143,8 @@ ends {words} {ks₀} {vs₀} {out₀} {l} {g} {c} {ks} {vs} {out} {at} {i} {x} {
       addresses = a ∙ ap (λ (fs : List Event). leftIn addressOf fs ks₀) (sym f);
       values = v ∙ ap (λ (fs : List Event). leftIn valueOf fs vs₀) (sym f);
       serial =
-          subst (λ (m : MapState). SerialRun (runOf words ks₀ vs₀ out₀ .events) (contents m)) (ap (λ (y : Ran). y .state .map) e ∙ map-in l g c)
-          (ran-serial (length ks₀) (length vs₀) (length out₀) words);
+          subst (λ (m : MapState). SerialRun (runOf b words ks₀ vs₀ out₀ .events) (contents m)) (ap (λ (y : Ran). y .state .map) e ∙ map-in l g c)
+          (ran-serial b (length ks₀) (length vs₀) (length out₀) words);
     }
 
 no-events : (es : List Event) → length es ≡ 0 → es ≡ []
@@ -152,19 +153,19 @@ no-events (y ∷ ys) q = absurd (let b : ⊥ = omega arith in b)
 
 -- ---- after i codes
 
-pub record Replaying (words ks₀ vs₀ out₀ : List ℕ) (l : Lent) (g : Logs) (c : Core) (ks vs out : List ℕ) (at i : ℕ) : Type 0 where
+pub record Replaying (b : Bool) (words ks₀ vs₀ out₀ : List ℕ) (l : Lent) (g : Logs) (c : Core) (ks vs out : List ℕ) (at i : ℕ) : Type 0 where
   pub events : List Event
   pub ready : Ready l g c
   pub wrote : Wrote out₀ 0 (allWords events) out at
-  pub run : runOf words ks₀ vs₀ out₀ ≡ allFollowedBy events (ran (length ks₀) (length vs₀) (stateOf l g c) (length out₀ - at) (drop (stepWords * i) words))
+  pub run : runOf b words ks₀ vs₀ out₀ ≡ allFollowedBy events (ran (length ks₀) (length vs₀) (stateOf l g c) (length out₀ - at) (drop (stepWords * i) words))
   pub count : i ≡ length events
   pub inside : i ≤ length words / stepWords
   pub addresses : ks ≡ leftIn addressOf events ks₀
   pub values : vs ≡ leftIn valueOf events vs₀
 
-pub replaying-start : {l : Lent} {g : Logs} {c : Core} (words ks vs out : List ℕ) → Fresh l g c → Replaying words ks vs out l g c ks vs out 0 0
+pub replaying-start : {l : Lent} {g : Logs} {c : Core} (b : Bool) (words ks vs out : List ℕ) → Fresh l g b c → Replaying b words ks vs out l g c ks vs out 0 0
 unfolding allWords leftIn
-replaying-start {l} {g} {c} words ks vs out f =
+replaying-start {l} {g} {c} b words ks vs out f =
     record {
       events = [];
       ready = f .ready;
@@ -178,8 +179,21 @@ replaying-start {l} {g} {c} words ks vs out f =
       values = refl;
     }
 
+-- a fresh start tells whether the map is guarded
+core-guarded : {l : Lent} {g : Logs} {b : Bool} {c : Core} → Fresh l g b c → c .guarded ≡ b
+unfolding stateOf
+core-guarded f = ap (λ (σ : State). σ .guarded) (f .state)
+
+pub fresh-as : {l : Lent} {g : Logs} {b : Bool} {c : Core} → Fresh l g b c → Fresh l g (c .guarded) c
+fresh-as {l} {g} {c = c} f = subst (λ (x : Bool). Fresh l g x c) (sym (core-guarded f)) f
+
+pub replays-as : {l l' : Lent} {g g' : Logs} {b : Bool} {c : Core} {words ks vs out ks' vs' out' : List ℕ} {r : Replayed} → Fresh l g b c
+    → Replays (c .guarded) words ks vs out l' g' ks' vs' out' r → Replays b words ks vs out l' g' ks' vs' out' r
+replays-as {l' = l'} {g' = g'} {words = words} {ks} {vs} {out} {ks'} {vs'} {out'} {r} f =
+    subst (λ (x : Bool). Replays x words ks vs out l' g' ks' vs' out' r) (core-guarded f)
+
 -- the buffers keep their lengths, and the place is in the answer buffer
-module _ {words ks₀ vs₀ out₀ : List ℕ} {l : Lent} {g : Logs} {c : Core} {ks vs out : List ℕ} {at i : ℕ} (h : Replaying words ks₀ vs₀ out₀ l g c ks vs out at i) where
+module _ {b : Bool} {words ks₀ vs₀ out₀ : List ℕ} {l : Lent} {g : Logs} {c : Core} {ks vs out : List ℕ} {at i : ℕ} (h : Replaying b words ks₀ vs₀ out₀ l g c ks vs out at i) where
   pub replaying-addresses : length ks ≡ length ks₀
   replaying-addresses = ap length (h .addresses) ∙ left-length addressOf (h .events) ks₀
 
@@ -211,12 +225,12 @@ module _ {l l' : Lent} {g g' : Logs} {c : Core} {k : Code} {ks vs out ks' vs' ou
     pub takes-as : {j : Code} → k ≡ j → TakesCode l g c j ks vs out at l' g' ks' vs' out' t
     takes-as e = subst (λ (x : Code). TakesCode l g c x ks vs out at l' g' ks' vs' out' t) e u
 
-module _ {words ks₀ vs₀ out₀ : List ℕ} {l l' : Lent} {g g' : Logs} {c : Core} {ks vs out ks' vs' out' : List ℕ} {at i : ℕ} {t : AfterCode}
-    (h : Replaying words ks₀ vs₀ out₀ l g c ks vs out at i) (u : TakesCode l g c (codeAt words i) ks vs out at l' g' ks' vs' out' t)
+module _ {b : Bool} {words ks₀ vs₀ out₀ : List ℕ} {l l' : Lent} {g g' : Logs} {c : Core} {ks vs out ks' vs' out' : List ℕ} {at i : ℕ} {t : AfterCode}
+    (h : Replaying b words ks₀ vs₀ out₀ l g c ks vs out at i) (u : TakesCode l g c (codeAt words i) ks vs out at l' g' ks' vs' out' t)
     (whole : stepWords * i + stepWords ≤ length words)
   where
     -- the run after the code
-    run-on : runOf words ks₀ vs₀ out₀
+    run-on : runOf b words ks₀ vs₀ out₀
         ≡ allFollowedBy (h .events)
         (chained (u .events) (t .stop) (stateOf l' g' (t .core))
         (ran (length ks₀) (length vs₀) (stateOf l' g' (t .core)) (length out₀ - t .at) (drop (stepWords * (i + 1)) words)))
@@ -244,7 +258,7 @@ module _ {words ks₀ vs₀ out₀ : List ℕ} {l l' : Lent} {g g' : Logs} {c : 
     all-values : vs' ≡ leftIn valueOf (h .events ++ u .events) vs₀
     all-values = u .values ∙ ap (leftIn valueOf (u .events)) (h .values) ∙ left-append valueOf (h .events) (u .events) vs₀
 
-    pub replaying-on : t .stop ≡ stop.Complete → Replaying words ks₀ vs₀ out₀ l' g' (t .core) ks' vs' out' (t .at) (i + 1)
+    pub replaying-on : t .stop ≡ stop.Complete → Replaying b words ks₀ vs₀ out₀ l' g' (t .core) ks' vs' out' (t .at) (i + 1)
     replaying-on e =
         let one : length (u .events) ≡ 1 = u .count ∙ ap tally e in
         let many : length (h .events ++ u .events) ≡ length (h .events) + length (u .events) = length-append (h .events) (u .events) in
@@ -269,7 +283,7 @@ module _ {words ks₀ vs₀ out₀ : List ℕ} {l l' : Lent} {g g' : Logs} {c : 
     stopped x e z = no-events (u .events) (u .count ∙ ap tally e ∙ z)
 
     pub replays-stop : (x : Stop) → t .stop ≡ x → tally x ≡ 0 → ((r : Ran) (σ : State) → chained [] x σ r ≡ ended x σ)
-        → Replays words ks₀ vs₀ out₀ l' g' ks' vs' out' (record { core = t .core; taken = i; written = t .at; stop = x })
+        → Replays b words ks₀ vs₀ out₀ l' g' ks' vs' out' (record { core = t .core; taken = i; written = t .at; stop = x })
     replays-stop x e z q =
         let none : u .events ≡ [] = stopped x e z in
         let all : h .events ++ u .events ≡ h .events = ap (λ (es : List Event). h .events ++ es) none ∙ append-nil (h .events) in
@@ -286,10 +300,10 @@ module _ {words ks₀ vs₀ out₀ : List ℕ} {l l' : Lent} {g g' : Logs} {c : 
         (all-values ∙ ap (λ (es : List Event). leftIn valueOf es vs₀) all)
 
 -- no code is left
-pub replays-end : {words ks₀ vs₀ out₀ : List ℕ} {l : Lent} {g : Logs} {c : Core} {ks vs out : List ℕ} {at : ℕ} {x : Stop} (i : ℕ)
-    → Replaying words ks₀ vs₀ out₀ l g c ks vs out at i → length words / stepWords ≤ i → x ≡ restStop (length words % stepWords)
-    → Replays words ks₀ vs₀ out₀ l g ks vs out (record { core = c; taken = i; written = at; stop = x })
-replays-end {words} {ks₀} {vs₀} {out₀} {l} {g} {c} {at} {x} i h b e =
+pub replays-end : {b : Bool} {words ks₀ vs₀ out₀ : List ℕ} {l : Lent} {g : Logs} {c : Core} {ks vs out : List ℕ} {at : ℕ} {x : Stop} (i : ℕ)
+    → Replaying b words ks₀ vs₀ out₀ l g c ks vs out at i → length words / stepWords ≤ i → x ≡ restStop (length words % stepWords)
+    → Replays b words ks₀ vs₀ out₀ l g ks vs out (record { core = c; taken = i; written = at; stop = x })
+replays-end {b} {words} {ks₀} {vs₀} {out₀} {l} {g} {c} {at} {x} i h z e =
     let a : i ≤ length words / stepWords = h .inside in
     let d : length (drop (stepWords * i) words) ≡ length words - stepWords * i = length-drop (stepWords * i) words in
     let n : length (drop (stepWords * i) words) ≡ length words % stepWords = d ∙ (let z : length words - stepWords * i ≡ length words % stepWords = omega arith in z) in

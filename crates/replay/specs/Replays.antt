@@ -2,6 +2,7 @@
 -- included.
 use Prim.Native.Nat.{ℕ, _+_, _-_, _*_, min}
 use mathlib.Core.Path.{_≡_}
+use mathlib.Core.Bool.{Bool}
 use mathlib.Core.List.{List, [], _∷_, _++_, map}
 use lib.ListN.{length}
 use lib.Seq.{sets}
@@ -103,20 +104,20 @@ valueOf r = r .item .value
 
 -- ---- what is promised
 
--- The run of these words, with these buffers, from a fresh map.
-abbrev pub runOf : List ℕ → List ℕ → List ℕ → List ℕ → Ran
-runOf words ks vs out = ran (length ks) (length vs) (fresh standard) (length out) words
+-- The run of these words, with these buffers, from a fresh map, guarded or not.
+abbrev pub runOf : Bool → List ℕ → List ℕ → List ℕ → List ℕ → Ran
+runOf guarded words ks vs out = ran (length ks) (length vs) (fresh standard guarded) (length out) words
 
--- The words of the steps, the scan buffers and the answer buffer before, the arrays, the buffers and the outcome after.
-pub record Replays (words ks vs out : List ℕ) (l : Lent) (g : Logs) (ks' vs' out' : List ℕ) (r : Replayed) : Type 0 where
+-- Whether the map is guarded, the words of the steps, the scan buffers and the answer buffer before, the arrays, the buffers and the outcome after.
+pub record Replays (guarded : Bool) (words ks vs out : List ℕ) (l : Lent) (g : Logs) (ks' vs' out' : List ℕ) (r : Replayed) : Type 0 where
   pub ready : Ready l g (r .core)
   -- the steps that the run takes are taken, and why no more
-  pub state : stateOf l g (r .core) ≡ runOf words ks vs out .state
-  pub stop : r .stop ≡ runOf words ks vs out .stop
-  pub taken : r .taken ≡ length (runOf words ks vs out .events)
+  pub state : stateOf l g (r .core) ≡ runOf guarded words ks vs out .state
+  pub stop : r .stop ≡ runOf guarded words ks vs out .stop
+  pub taken : r .taken ≡ length (runOf guarded words ks vs out .events)
   -- their answers are written, and nothing past them
-  pub answers : Wrote out 0 (allWords (runOf words ks vs out .events)) out' (r .written)
-  pub addresses : ks' ≡ leftIn addressOf (runOf words ks vs out .events) ks
-  pub values : vs' ≡ leftIn valueOf (runOf words ks vs out .events) vs
+  pub answers : Wrote out 0 (allWords (runOf guarded words ks vs out .events)) out' (r .written)
+  pub addresses : ks' ≡ leftIn addressOf (runOf guarded words ks vs out .events) ks
+  pub values : vs' ≡ leftIn valueOf (runOf guarded words ks vs out .events) vs
   -- demand 3, of these steps, these answers and the contents after them
-  pub serial : SerialRun (runOf words ks vs out .events) (contents (mapOf l (r .core .sizes)))
+  pub serial : SerialRun (runOf guarded words ks vs out .events) (contents (mapOf l (r .core .sizes)))

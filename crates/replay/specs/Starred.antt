@@ -1,6 +1,7 @@
 -- Document 01's starred runs, of the engine: one fact about `replay`, over the table of crate `spec`.
 use Prim.Native.Nat.{ℕ}
 use mathlib.Core.Path.{_≡_, refl, sym, ap, _∙_, subst}
+use mathlib.Core.Bool.{Bool}
 use mathlib.Core.List.{List, [], _∷_, _++_}
 use lib.ListN.{length}
 use Rattle.lists.specs.Rows.{Row}
@@ -56,9 +57,9 @@ room = 4096
 abbrev pub HoldsOf : Run → Type 0
 HoldsOf (home a h) = homeSlot (standard .bytes) a ≡ h
 HoldsOf (leaves n ns) = cuts standard n ≡ ns
-HoldsOf (script h rs) =
+HoldsOf (script b h rs) =
     (ks vs out : List ℕ) (l : Lent) (g : Logs) (ks' vs' out' : List ℕ) (r : Replayed)
-    → length ks ≡ places → length vs ≡ places → length out ≡ room → Replays (codesFor h) ks vs out l g ks' vs' out' r
+    → length ks ≡ places → length vs ≡ places → length out ≡ room → Replays b (codesFor h) ks vs out l g ks' vs' out' r
     → Shows h rs out l out' r
 
 abbrev pub AllHoldOf : List Run → Type 0
@@ -66,21 +67,21 @@ AllHoldOf [] = Unit {0}
 AllHoldOf (r ∷ rs) = HoldsOf r × AllHoldOf rs
 
 -- a script's steps are all taken, and answered as the table says
-abbrev Runs : List Event → Type 0
-Runs h = (ran places places (fresh standard) room (codesFor h) .events ≡ h) × (ran places places (fresh standard) room (codesFor h) .stop ≡ stop.Complete)
+abbrev Runs : Bool → List Event → Type 0
+Runs b h = (ran places places (fresh standard b) room (codesFor h) .events ≡ h) × (ran places places (fresh standard b) room (codesFor h) .stop ≡ stop.Complete)
 
-shows : (h : List Event) (rs : List (Row Record)) → Runs h → Holds (script h rs) → HoldsOf (script h rs)
-shows h rs e k ks vs out l g ks' vs' out' r a b c p =
-    let run = ran places places (fresh standard) room (codesFor h) in
-    let same : ran (length ks) (length vs) (fresh standard) (length out) (codesFor h) ≡ run
-    = ap (λ (m : ℕ). ran m (length vs) (fresh standard) (length out) (codesFor h)) a
-    ∙ ap (λ (n : ℕ). ran places n (fresh standard) (length out) (codesFor h)) b
-    ∙ ap (λ (n : ℕ). ran places places (fresh standard) n (codesFor h)) c in
-    let state : stateOf l g (r .core) ≡ final (fresh standard) (stepsOf h)
+shows : (b : Bool) (h : List Event) (rs : List (Row Record)) → Runs b h → Holds (script b h rs) → HoldsOf (script b h rs)
+shows b h rs e k ks vs out l g ks' vs' out' r n m o p =
+    let run = ran places places (fresh standard b) room (codesFor h) in
+    let same : ran (length ks) (length vs) (fresh standard b) (length out) (codesFor h) ≡ run
+    = ap (λ (m : ℕ). ran m (length vs) (fresh standard b) (length out) (codesFor h)) n
+    ∙ ap (λ (n : ℕ). ran places n (fresh standard b) (length out) (codesFor h)) m
+    ∙ ap (λ (n : ℕ). ran places places (fresh standard b) n (codesFor h)) o in
+    let state : stateOf l g (r .core) ≡ final (fresh standard b) (stepsOf h)
     = p .state
     ∙ ap (λ (x : Ran). x .state) same
-    ∙ sym (ran-model places places (fresh standard) room (codesFor h) .state)
-    ∙ ap (λ (es : List Event). final (fresh standard) (stepsOf es)) (e .0) in
+    ∙ sym (ran-model places places (fresh standard b) room (codesFor h) .state)
+    ∙ ap (λ (es : List Event). final (fresh standard b) (stepsOf es)) (e .0) in
     record {
       complete = p .stop ∙ ap (λ (x : Ran). x .stop) same ∙ e .1;
       answers = subst (λ (es : List Event). Wrote out 0 (allWords es) out' (r .written)) (ap (λ (x : Ran). x .events) same ∙ e .0) (p .answers);
@@ -90,4 +91,4 @@ shows h rs e k ks vs out l g ks' vs' out' r a b c p =
 pub starred-replay : AllHoldOf starred
 unfolding model ran decoded decodedNumbered decodedAccess decodedScan wordsOf pairWords
 starred-replay =
-    (refl, (refl, (refl, (refl, (refl, (refl, (refl, (shows _ _ (refl, refl) (refl, refl), (shows _ _ (refl, refl) (refl, refl), (shows _ _ (refl, refl) (refl, refl), (shows _ _ (refl, refl) (refl, refl), (shows _ _ (refl, refl) (refl, refl), (shows _ _ (refl, refl) (refl, refl), (shows _ _ (refl, refl) (refl, refl), tt))))))))))))))
+    (refl, (refl, (refl, (refl, (refl, (refl, (refl, (shows _ _ _ (refl, refl) (refl, refl), (shows _ _ _ (refl, refl) (refl, refl), (shows _ _ _ (refl, refl) (refl, refl), (shows _ _ _ (refl, refl) (refl, refl), (shows _ _ _ (refl, refl) (refl, refl), (shows _ _ _ (refl, refl) (refl, refl), (shows _ _ _ (refl, refl) (refl, refl), tt))))))))))))))

@@ -2,6 +2,7 @@
 -- the steps after it, whatever they are, have merged the oldest as often as addresses can wait.
 use Prim.Native.Nat.{ℕ, _≤_}
 use mathlib.Core.Path.{_≡_, sym, _∙_}
+use mathlib.Core.Bool.{Bool}
 use mathlib.Core.List.{List}
 use mathlib.Core.Option.{some}
 use lib.ListN.{length}
@@ -15,9 +16,9 @@ use Rattle.replay.specs.declared.runs.Replayed.{Replayed}
 use Rattle.replay.specs.Replays.{runOf, Replays}
 use Rattle.replay.specs.LoopLaws.{ran-model}
 
-pub replay-waiting : {words ks vs out : List ℕ} {l : Lent} {g : Logs} {ks' vs' out' : List ℕ} {r : Replayed} → Replays words ks vs out l g ks' vs' out' r
+pub replay-waiting : {b : Bool} {words ks vs out : List ℕ} {l : Lent} {g : Logs} {ks' vs' out' : List ℕ} {r : Replayed} → Replays b words ks vs out l g ks' vs' out' r
     → (k t : ℕ) → waitsSince (mapOf l (r .core .sizes)) k ≡ some t → (ts : List Step) → standard .waitingLimit ≤ oldestMerges ts
     → TakenWithin (stateOf l g (r .core)) k (standard .waitingLimit) ts
-replay-waiting {words} {ks} {vs} {out} {l} {g} {r = r} h k t w ts m =
-    reached-waiting l g (r .core) (stepsOf (runOf words ks vs out .events))
-    (h .state ∙ sym (ran-model (length ks) (length vs) (fresh standard) (length out) words .state)) k t w ts m
+replay-waiting {b} {words} {ks} {vs} {out} {l} {g} {r = r} h k t w ts m =
+    reached-waiting l g (r .core) b (stepsOf (runOf b words ks vs out .events))
+    (h .state ∙ sym (ran-model (length ks) (length vs) (fresh standard b) (length out) words .state)) k t w ts m

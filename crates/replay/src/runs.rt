@@ -165,8 +165,8 @@ fn take_all(
     steps: &[u64],
     start: Core,
 ) -> Replayed
-    requires { ⌜ Fresh (lent (now rows) (now leaves) (now slots)) (logs (now reads) (now leafsets) (now writes)) start ⌝ }
-    ensures { λ r. ⌜ Replays (now (steps .entry)) (now (addresses .entry)) (now (values .entry)) (now (out .entry))
+    requires { ⌜ Fresh (lent (now rows) (now leaves) (now slots)) (logs (now reads) (now leafsets) (now writes)) (start .guarded) start ⌝ }
+    ensures { λ r. ⌜ Replays (start .guarded) (now (steps .entry)) (now (addresses .entry)) (now (values .entry)) (now (out .entry))
         (lent (now (rows .exit)) (now (leaves .exit)) (now (slots .exit))) (logs (now (reads .exit)) (now (leafsets .exit)) (now (writes .exit)))
         (now (addresses .exit)) (now (values .exit)) (now (out .exit)) r ⌝ }
 {
@@ -225,8 +225,8 @@ fn take_all(
     }
 }
 
-// Runs a list of steps, STEP_WORDS words to each (`Code`), from a fresh map in the lent arrays, whatever they hold, and writes the
-// answers one after the other. The buffers may have any lengths.
+// Runs a list of steps, STEP_WORDS words to each (`Code`), from a fresh map in the lent arrays, guarded or not, whatever they hold,
+// and writes the answers one after the other. The buffers may have any lengths.
 pub fn replay(
     out: &mut [u64],
     addresses: &mut [u32],
@@ -238,12 +238,13 @@ pub fn replay(
     leafsets: &mut LeafSets,
     writes: &mut WriteSets,
     steps: &[u64],
+    guarded: bool,
 ) -> Replayed
-    ensures { λ r. ⌜ Replays (now (steps .entry)) (now (addresses .entry)) (now (values .entry)) (now (out .entry))
+    ensures { λ r. ⌜ Replays guarded (now (steps .entry)) (now (addresses .entry)) (now (values .entry)) (now (out .entry))
         (lent (now (rows .exit)) (now (leaves .exit)) (now (slots .exit))) (logs (now (reads .exit)) (now (leafsets .exit)) (now (writes .exit)))
         (now (addresses .exit)) (now (values .exit)) (now (out .exit)) r ⌝ }
 {
-    let start = starts::fresh_state(rows, leaves, slots, reads, leafsets, writes);
+    let start = starts::fresh_state(rows, leaves, slots, reads, leafsets, writes, guarded);
     take_all(
         out,
         addresses,

@@ -5,6 +5,7 @@ use Prim.Native.Char.{code}
 use Prim.Native.String.{String}
 use Prim.Native.String as text
 use mathlib.Core.Path.{_≡_, refl}
+use mathlib.Core.Bool.{true, false}
 use mathlib.Core.List.{List, [], _∷_, _++_, map}
 use mathlib.Core.Option.{none, some}
 use Rattle.lists.specs.Tests.{same, less, atMost, within}
@@ -14,8 +15,8 @@ use Rattle.spec.specs.Runs.{fullRun, oldestMerged, value, entryOf, event}
 use Rattle.spec.specs.declared.Refusal.the-variants.{NoWorker, Phantom}
 use Rattle.script.specs.declared.Line.{Line}
 use Rattle.script.specs.declared.Line.the-variants.{Begin, Read, Scan, Put, Remove, Lock, Validate, Install, Abort, Merge, MergeOldest}
-use Rattle.script.specs.Grammar.{firstWord, moreWords, isDigit, extend, number, numbers, noNumber, oneNumber, twoNumbers, threeNumbers, lineOf, lettered, meaning}
-use Rattle.script.specs.Output.{digitsWithin, decimal, field, pair, pairs, stepOf, answerText, answerLine, endLine}
+use Rattle.script.specs.Grammar.{firstWord, moreWords, isDigit, extend, number, numbers, noNumber, oneNumber, twoNumbers, threeNumbers, lineOf, lettered, meaning, guardLine, isGuard}
+use Rattle.script.specs.Output.{digitsWithin, decimal, field, pair, pairs, stepOf, answerText, answerLine, endLine, guardedAnswer}
 
 -- the bytes of a text; every character here is one byte
 abbrev bytes : String → List ℕ
@@ -89,6 +90,10 @@ malformed =
     ∷ "B x"
     ∷ "R 0"
     ∷ "R 0 0 0"
+    ∷ "G "
+    ∷ "G 0"
+    ∷ "GG"
+    ∷ "g"
     ∷ "T "
     ∷ "T 0"
     ∷ "TT"
@@ -112,11 +117,17 @@ pub record Written : Type 0 where
   pub said : map (λ (c : Case). meaning (bytes (c .reads))) cases ≡ map (λ (c : Case). some (c .line)) cases
   pub wrote : map (λ (c : Case). answerLine (c .line) (c .answer)) cases ≡ map (λ (c : Case). bytes (c .writes)) cases
   pub wrong : map (λ (s : String). meaning (bytes s)) malformed ≡ map (λ (s : String). none) malformed
+  -- request 102's line, which is no step, and no malformed line is it
+  pub guard : guardLine ≡ bytes "G"
+  pub guard-no-step : meaning guardLine ≡ none
+  pub guard-is : isGuard guardLine ≡ true
+  pub guarded : guardedAnswer ≡ bytes "G 0\n"
+  pub not-guard : map (λ (s : String). isGuard (bytes s)) malformed ≡ map (λ (s : String). false) malformed
   pub end : endLine (entryOf 4096 32 1 ∷ []) ≡ bytes "E 1 4096 32\n"
   pub nothing : endLine [] ≡ bytes "E 0\n"
 
 pub written : Written
-unfolding same less atMost within firstWord moreWords isDigit extend number numbers noNumber oneNumber twoNumbers threeNumbers lineOf lettered meaning digitsWithin decimal field pair pairs answerText answerLine endLine
+unfolding same less atMost within firstWord moreWords isDigit extend number numbers noNumber oneNumber twoNumbers threeNumbers lineOf lettered meaning isGuard digitsWithin decimal field pair pairs answerText answerLine endLine
 written =
     record {
       model = refl;
@@ -124,6 +135,11 @@ written =
       said = refl;
       wrote = refl;
       wrong = refl;
+      guard = refl;
+      guard-no-step = refl;
+      guard-is = refl;
+      guarded = refl;
+      not-guard = refl;
       end = refl;
       nothing = refl;
     }

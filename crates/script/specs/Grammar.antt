@@ -1,7 +1,7 @@
 -- Document 01, "The script program": what a line of a script says. A line is its bytes, without the line feed.
 -- It is a letter and decimal numbers, with single spaces between; what is anything else is malformed (none).
 use Prim.Native.Nat.{ℕ, _+_, _-_, _*_, _^_}
-use mathlib.Core.Bool.{Bool}
+use mathlib.Core.Bool.{Bool, false}
 use mathlib.Core.List.{List, [], _∷_}
 use mathlib.Core.Option.{Option, none, some}
 use Rattle.lists.specs.Tests.{pick, both, maybe, same, less, within}
@@ -81,6 +81,18 @@ lettered [] ns = none
 lettered (c ∷ []) ns = lineOf c ns
 lettered (c ∷ d ∷ w) ns = none
 
--- what a line says; none if it is malformed
+-- what a line says as a step; none if it is malformed
 unfoldable pub meaning : List ℕ → Option Line
 meaning l = maybe (numbers (moreWords l)) none (λ (ns : List ℕ). lettered (firstWord l) ns)
+
+-- ---- the line of a guarded map
+
+-- G, request 102's line, which asks for no step
+abbrev pub guardLine : List ℕ
+guardLine = 71 ∷ []
+
+-- a line is that one
+unfoldable pub isGuard : List ℕ → Bool
+isGuard [] = false
+isGuard (b ∷ []) = same b 71
+isGuard (b ∷ c ∷ l) = false

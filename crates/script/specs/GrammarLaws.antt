@@ -3,7 +3,7 @@ use Prim.Native.Nat.{ℕ, _+_, _-_, _*_, _^_, _<_, _≤_}
 use native.Mathlib.Omega.{arith}
 use mathlib.Core.Path.{_≡_, refl, sym, ap, _∙_}
 use mathlib.Core.Logic.{⊎-elim}
-use mathlib.Core.Bool.{Bool, true, false}
+use mathlib.Core.Bool.{Bool, true, false, not}
 use mathlib.Core.List.{List, [], _∷_, _++_}
 use mathlib.Core.Option.{Option, none, some}
 use Rattle.lists.specs.Tests.{pick, both, maybe, same, less, within, atMost}
@@ -13,8 +13,8 @@ use Rattle.script.specs.declared.Line.{Line}
 use Rattle.script.specs.declared.Line.the-variants.{MergeOldest}
 use Rattle.script.specs.declared.Fields.{Fields}
 use Rattle.script.specs.declared.Fields.the-variants.{None, One, Two}
-use Rattle.script.specs.Grammar.{firstWord, moreWords, isDigit, extend, number, numbers, noNumber, oneNumber, twoNumbers, threeNumbers, lineOf, lettered, meaning}
-use Rattle.script.specs.Parsing.{values, numberOn, fieldsOn, letterOn, aloneOn}
+use Rattle.script.specs.Grammar.{firstWord, moreWords, isDigit, extend, number, numbers, noNumber, oneNumber, twoNumbers, threeNumbers, lineOf, lettered, meaning, isGuard}
+use Rattle.script.specs.Parsing.{filled, values, numberOn, fieldsOn, letterOn, aloneOn}
 
 -- ---- bytes
 
@@ -219,12 +219,10 @@ unfolding letterOn
 start-letter c [] h e = letter-alone c h ∙ e
 start-letter c (b ∷ l) h e = letter-byte c b l h
 
--- a letter that is a line by itself, and no line with numbers
-start-alone : (c : ℕ) (x : Line) (l : List ℕ) → (c ≡ 32 → ⊥) → lineOf c [] ≡ some x → ((m : ℕ) (ms : List ℕ) → lineOf c (m ∷ ms) ≡ none)
-    → meaning (c ∷ l) ≡ aloneOn x l
-unfolding aloneOn fieldsOn
-start-alone c x [] h e g = letter-alone c h ∙ e
-start-alone c x (b ∷ l) h e g =
+-- a letter that is no line with numbers
+no-numbers : (c b : ℕ) (l : List ℕ) → (c ≡ 32 → ⊥) → ((m : ℕ) (ms : List ℕ) → lineOf c (m ∷ ms) ≡ none) → meaning (c ∷ b ∷ l) ≡ none
+unfolding fieldsOn
+no-numbers c b l h g =
     letter-byte c b l h
     ∙ ap (λ (o : Option Line). pick (same b 32) o none) (nothing (numberOn false 0 (firstWord l)) (numbers (moreWords l)))
     ∙ pick-same (same b 32) none
@@ -234,6 +232,7 @@ start-alone c x (b ∷ l) h e g =
     nothing (some m) none = refl
     nothing (some m) (some ms) = g m ms
 
+-- T
 oldest-alone : lineOf 84 [] ≡ some MergeOldest
 unfolding lineOf noNumber same
 oldest-alone = refl
@@ -245,14 +244,38 @@ oldest-numbers a (b ∷ []) = pick-same (both (less a (2 ^ 32)) (less b (2 ^ 32)
 oldest-numbers a (b ∷ d ∷ []) = pick-same (both (less a (2 ^ 32)) (less b (2 ^ 32))) none
 oldest-numbers a (b ∷ d ∷ e ∷ ms) = refl
 
--- T
 pub oldest-letter : (l : List ℕ) → meaning (84 ∷ l) ≡ aloneOn MergeOldest l
-oldest-letter l = start-alone 84 MergeOldest l (λ q. omega arith) oldest-alone oldest-numbers
+unfolding aloneOn
+oldest-letter [] = letter-alone 84 (λ q. omega arith) ∙ oldest-alone
+oldest-letter (b ∷ l) = no-numbers 84 b l (λ q. omega arith) oldest-numbers
 
 -- no other letter is a line by itself
 pub other-alone : (c : ℕ) → (c ≡ 84 → ⊥) → lineOf c [] ≡ none
 unfolding lineOf noNumber
 other-alone c t = rw (same-no t)
+
+-- G
+guard-numbers : (m : ℕ) (ms : List ℕ) → lineOf 71 (m ∷ ms) ≡ none
+unfolding lineOf oneNumber twoNumbers threeNumbers same
+guard-numbers a [] = pick-same (less a (2 ^ 32)) none
+guard-numbers a (b ∷ []) = pick-same (both (less a (2 ^ 32)) (less b (2 ^ 32))) none
+guard-numbers a (b ∷ d ∷ []) = pick-same (both (less a (2 ^ 32)) (less b (2 ^ 32))) none
+guard-numbers a (b ∷ d ∷ e ∷ ms) = refl
+
+-- no step begins with it
+pub guard-letter : (l : List ℕ) → meaning (71 ∷ l) ≡ none
+guard-letter [] = letter-alone 71 (λ q. omega arith) ∙ other-alone 71 (λ q. omega arith)
+guard-letter (b ∷ l) = no-numbers 71 b l (λ q. omega arith) guard-numbers
+
+pub guard-alone : (l : List ℕ) → isGuard (71 ∷ l) ≡ not (filled l)
+unfolding isGuard
+guard-alone [] = same-refl 71
+guard-alone (b ∷ l) = refl
+
+pub other-guard : (c : ℕ) (l : List ℕ) → (c ≡ 71 → ⊥) → isGuard (c ∷ l) ≡ false
+unfolding isGuard
+other-guard c [] h = same-no h
+other-guard c (b ∷ l) h = refl
 
 pub letter-space : (c : ℕ) (l : List ℕ) → letterOn c (32 ∷ l) ≡ fieldsOn c [] false 0 l
 unfolding letterOn

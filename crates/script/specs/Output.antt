@@ -95,6 +95,10 @@ answerLine l a = letterOf l ∷ answerText a ++ (10 ∷ [])
 unfoldable pub endLine : List (Row Record) → List ℕ
 endLine rs = 69 ∷ field (length rs) ++ pairs (λ (r : Record). r .payload .value) rs ++ (10 ∷ [])
 
+-- for the line G, request 102's, which is always granted
+abbrev pub guardedAnswer : List ℕ
+guardedAnswer = 71 ∷ field 0 ++ (10 ∷ [])
+
 -- after a malformed line
 abbrev pub malformedLine : List ℕ
 malformedLine = 63 ∷ 10 ∷ []

@@ -3,7 +3,7 @@
 use Prim.Native.Nat.{ℕ, _+_}
 use mathlib.Core.Path.{_≡_}
 use mathlib.Core.Logic.{_⊎_}
-use mathlib.Core.Bool.{Bool, true, false}
+use mathlib.Core.Bool.{Bool, true, false, not}
 use mathlib.Core.List.{List, [], _∷_, _++_}
 use mathlib.Core.Option.{Option, none, some}
 use lib.ListN.{length, drop}
@@ -14,13 +14,18 @@ use Rattle.script.specs.declared.Line.the-variants.{MergeOldest}
 use Rattle.script.specs.declared.Fields.{Fields}
 use Rattle.script.specs.declared.Fields.the-variants.{None, One, Two}
 use Rattle.script.specs.declared.Parser.{Parser}
-use Rattle.script.specs.declared.Parser.the-variants.{Start, Letter, Oldest, First, Second, Third}
+use Rattle.script.specs.declared.Parser.the-variants.{Start, Letter, Oldest, Guard, First, Second, Third}
 use Rattle.script.specs.declared.Event.{Event}
 use Rattle.script.specs.declared.Event.the-variants as event
 use Rattle.script.specs.declared.Parsed.{Parsed}
-use Rattle.script.specs.Grammar.{firstWord, moreWords, extend, numbers, lineOf, meaning}
+use Rattle.script.specs.Grammar.{firstWord, moreWords, extend, numbers, lineOf, meaning, guardLine, isGuard}
 
 -- ---- what the line says whose first bytes the parser has read, if the given bytes are the rest of it
+
+-- the list is not empty
+abbrev pub filled : List ℕ → Bool
+filled [] = false
+filled (b ∷ bs) = true
 
 -- the numbers before the current one
 abbrev pub values : Fields → List ℕ
@@ -56,14 +61,25 @@ unfoldable pub aloneOn : Line → List ℕ → Option Line
 aloneOn x [] = some x
 aloneOn x (b ∷ l) = none
 
--- any parser
+-- any parser: the step
 unfoldable pub continued : Parser → List ℕ → Option Line
 continued Start l = meaning l
 continued (Letter c) l = letterOn c l
 continued Oldest l = aloneOn MergeOldest l
+continued Guard l = none
 continued (First c d n) l = fieldsOn c [] d n l
 continued (Second c d a n) l = fieldsOn c (a ∷ []) d n l
 continued (Third c d a b n) l = fieldsOn c (a ∷ b ∷ []) d n l
+
+-- ... and if it is G
+unfoldable pub guardOn : Parser → List ℕ → Bool
+guardOn Start l = isGuard l
+guardOn (Letter c) l = false
+guardOn Oldest l = false
+guardOn Guard l = not (filled l)
+guardOn (First c d n) l = false
+guardOn (Second c d a n) l = false
+guardOn (Third c d a b n) l = false
 
 -- ---- what is promised
 
@@ -72,20 +88,17 @@ abbrev pub started : Parser → Bool
 started Start = false
 started (Letter c) = true
 started Oldest = true
+started Guard = true
 started (First c d n) = true
 started (Second c d a n) = true
 started (Third c d a b n) = true
-
--- the list is not empty
-abbrev pub filled : List ℕ → Bool
-filled [] = false
-filled (b ∷ bs) = true
 
 -- p is the parser after these bytes of a line: none is a line feed, and p knows what the line says, whatever follows
 pub record After (seen : List ℕ) (p : Parser) : Type 0 where
   pub unbroken : has 10 seen ≡ false
   pub begun : started p ≡ filled seen
   pub means : (rest : List ℕ) → meaning (seen ++ rest) ≡ continued p rest
+  pub guards : (rest : List ℕ) → isGuard (seen ++ rest) ≡ guardOn p rest
 
 -- the bytes are those of the line l and its line feed
 pub record Whole (l bs : List ℕ) : Type 0 where
@@ -97,13 +110,18 @@ pub record Cut (s : List ℕ) (i : ℕ) (bs : List ℕ) (j : ℕ) : Type 0 where
   pub rest : drop i s ≡ bs ++ drop j s
   pub place : j ≡ i + length bs
 
--- What an event says of the line's bytes: of a line, that it is complete, and what it says; of a malformed one, that it is
--- complete and says nothing, or that no line that begins so says anything; else, what the parser is.
+-- the line is neither a step nor G
+abbrev pub SaysNothing : List ℕ → Type 0
+SaysNothing l = (meaning l ≡ none) × (isGuard l ≡ false)
+
+-- What an event says of the line's bytes: of a line, that it is complete, and what it says, or that it is G; of a malformed
+-- one, that it is complete and says nothing, or that no line that begins so says anything; else, what the parser is.
 unfoldable pub Says : Event → Parser → List ℕ → Type 0
 Says (event.Line x) p bs = (l : List ℕ) × Whole l bs × (meaning l ≡ some x) × (p ≡ Start)
+Says event.Guard p bs = Whole guardLine bs × (p ≡ Start)
 Says event.Malformed p bs =
-    (((l : List ℕ) × Whole l bs × (meaning l ≡ none))
-    ⊎ ((has 10 bs ≡ false) × ((rest : List ℕ) → meaning (bs ++ rest) ≡ none)))
+    (((l : List ℕ) × Whole l bs × SaysNothing l)
+    ⊎ ((has 10 bs ≡ false) × ((rest : List ℕ) → SaysNothing (bs ++ rest))))
     × (p ≡ Start)
 Says event.SliceEnd p bs = After bs p
 

@@ -15,19 +15,19 @@ use Rattle.script.specs.declared.Line.the-variants.{MergeOldest}
 use Rattle.script.specs.declared.Fields.{Fields}
 use Rattle.script.specs.declared.Fields.the-variants.{None, One, Two}
 use Rattle.script.specs.declared.Parser.{Parser}
-use Rattle.script.specs.declared.Parser.the-variants.{Start, Letter, Oldest, First, Second, Third}
+use Rattle.script.specs.declared.Parser.the-variants.{Start, Letter, Oldest, Guard, First, Second, Third}
 use Rattle.script.specs.declared.Event.{Event}
 use Rattle.script.specs.declared.Event.the-variants as event
 use Rattle.script.specs.declared.Parsed.{Parsed}
 use Rattle.script.specs.declared.Run.{Run}
-use Rattle.script.specs.Grammar.{isDigit, lineOf, meaning}
-use Rattle.script.specs.Parsing.{values, inNumber, fieldsOn, letterOn, aloneOn, started, continued}
-use Rattle.script.specs.GrammarLaws.{digit-from, fields-four, fields-digit, fields-other, fields-blank, fields-nothing, fields-end, fields-space, fields-wide, start-space, start-nothing, start-letter, oldest-letter, other-alone, letter-space, letter-nothing, letter-other}
-use Rattle.script.specs.Tokens.{Digits, Moves, Spells, Stops, Tells, ParsesPart, cut-byte, cut-join, cut-none, goes-turns, has-byte, moves-join, moves-none, tells-join, told}
+use Rattle.script.specs.Grammar.{isDigit, lineOf, meaning, isGuard}
+use Rattle.script.specs.Parsing.{values, inNumber, fieldsOn, letterOn, aloneOn, started, continued, guardOn}
+use Rattle.script.specs.GrammarLaws.{digit-from, fields-four, fields-digit, fields-other, fields-blank, fields-nothing, fields-end, fields-space, fields-wide, start-space, start-nothing, start-letter, oldest-letter, other-alone, guard-letter, guard-alone, other-guard, letter-space, letter-nothing, letter-other}
+use Rattle.script.specs.Tokens.{Digits, Moves, Spells, Stops, TellsNothing, Tells, ParsesPart, cut-byte, cut-join, cut-none, goes-turns, has-byte, moves-join, moves-none, tells-join, told}
 
 -- ---- a byte
 
-bad : (p : Parser) (b : ℕ) → (b ≡ 10 → continued p [] ≡ none) → ((rest : List ℕ) → (b ≡ 10 → ⊥) → continued p (b ∷ rest) ≡ none) → Tells p event.Malformed Start (b ∷ [])
+bad : (p : Parser) (b : ℕ) → (b ≡ 10 → TellsNothing p []) → ((rest : List ℕ) → (b ≡ 10 → ⊥) → TellsNothing p (b ∷ rest)) → Tells p event.Malformed Start (b ∷ [])
 unfolding Tells
 bad p b h g = (
   ⊎-elim
@@ -38,50 +38,80 @@ bad p b h g = (
 )
 
 -- the line feed: the line is complete
-feed-tells : (p : Parser) (o : Option Line) → continued p [] ≡ o → Tells p (told o) Start (10 ∷ [])
+feed-tells : (p : Parser) (o : Option Line) → continued p [] ≡ o → guardOn p [] ≡ false → Tells p (told o) Start (10 ∷ [])
 unfolding Tells
-feed-tells p none e = (inl ([], record { unbroken = has-nil 10; fed = refl }, e), refl)
-feed-tells p (some x) e = ([], record { unbroken = has-nil 10; fed = refl }, e, refl)
+feed-tells p none e g = (inl ([], record { unbroken = has-nil 10; fed = refl }, (e, g)), refl)
+feed-tells p (some x) e g = ([], record { unbroken = has-nil 10; fed = refl }, e, refl)
 
 pub start-bad : (b : ℕ) → (b ≡ 32) ⊎ (b ≡ 10) → Tells Start event.Malformed Start (b ∷ [])
-unfolding continued
+unfolding continued guardOn isGuard
 start-bad b h =
-    bad Start b (λ q. start-nothing)
-    (λ rest q. ⊎-elim (λ e. ap (λ (x : ℕ). meaning (x ∷ rest)) e ∙ start-space rest) (λ e. absurd (q e)) h)
+    bad Start b (λ q. (start-nothing, refl))
+    (λ rest q.
+    ⊎-elim
+    (λ e. (ap (λ (x : ℕ). meaning (x ∷ rest)) e ∙ start-space rest, other-guard b rest (λ g. omega arith)))
+    (λ e. absurd (q e))
+    h)
 
-pub start-good : (b : ℕ) → (b ≡ 32 → ⊥) → (b ≡ 10 → ⊥) → (b ≡ 84 → ⊥) → Tells Start event.SliceEnd (Letter b) (b ∷ [])
-unfolding Tells continued
-start-good b h g t = record { unbroken = has-byte b g; begun = refl; means = λ rest. start-letter b rest h (other-alone b t) }
+pub start-good : (b : ℕ) → (b ≡ 32 → ⊥) → (b ≡ 10 → ⊥) → (b ≡ 84 → ⊥) → (b ≡ 71 → ⊥) → Tells Start event.SliceEnd (Letter b) (b ∷ [])
+unfolding Tells continued guardOn
+start-good b h f t g =
+    record {
+      unbroken = has-byte b f;
+      begun = refl;
+      means = λ rest. start-letter b rest h (other-alone b t);
+      guards = λ rest. other-guard b rest g;
+    }
 
 pub start-oldest : (b : ℕ) → b ≡ 84 → Tells Start event.SliceEnd Oldest (b ∷ [])
-unfolding Tells continued
+unfolding Tells continued guardOn
 start-oldest b e =
     record {
       unbroken = has-byte b (λ q. omega arith);
       begun = refl;
       means = λ rest. ap (λ (x : ℕ). meaning (x ∷ rest)) e ∙ oldest-letter rest;
+      guards = λ rest. other-guard b rest (λ g. omega arith);
+    }
+
+pub start-guard : (b : ℕ) → b ≡ 71 → Tells Start event.SliceEnd Guard (b ∷ [])
+unfolding Tells continued guardOn
+start-guard b e =
+    record {
+      unbroken = has-byte b (λ q. omega arith);
+      begun = refl;
+      means = λ rest. ap (λ (x : ℕ). meaning (x ∷ rest)) e ∙ guard-letter rest;
+      guards = λ rest. ap (λ (x : ℕ). isGuard (x ∷ rest)) e ∙ guard-alone rest;
     }
 
 pub letter-bad : (c b : ℕ) → (b ≡ 32 → ⊥) → Tells (Letter c) event.Malformed Start (b ∷ [])
-unfolding continued
-letter-bad c b h = bad (Letter c) b (λ q. letter-nothing c) (λ rest q. letter-other c b rest h)
+unfolding continued guardOn
+letter-bad c b h = bad (Letter c) b (λ q. (letter-nothing c, refl)) (λ rest q. (letter-other c b rest h, refl))
 
 pub letter-good : (c b : ℕ) → b ≡ 32 → Tells (Letter c) event.SliceEnd (First c false 0) (b ∷ [])
-unfolding Tells continued
+unfolding Tells continued guardOn
 letter-good c b h =
     record {
       unbroken = has-byte b (λ q. omega arith);
       begun = refl;
       means = λ rest. ap (λ (x : ℕ). letterOn c (x ∷ rest)) h ∙ letter-space c rest;
+      guards = λ rest. refl;
     }
 
 pub oldest-bad : (b : ℕ) → (b ≡ 10 → ⊥) → Tells Oldest event.Malformed Start (b ∷ [])
-unfolding continued aloneOn
-oldest-bad b h = bad Oldest b (λ q. absurd (h q)) (λ rest q. refl)
+unfolding continued aloneOn guardOn
+oldest-bad b h = bad Oldest b (λ q. absurd (h q)) (λ rest q. (refl, refl))
 
 pub oldest-feed : (b : ℕ) → b ≡ 10 → Tells Oldest (event.Line MergeOldest) Start (b ∷ [])
-unfolding continued aloneOn
-oldest-feed b e = rw e (feed-tells Oldest (some MergeOldest) refl)
+unfolding continued aloneOn guardOn
+oldest-feed b e = rw e (feed-tells Oldest (some MergeOldest) refl refl)
+
+pub guard-bad : (b : ℕ) → (b ≡ 10 → ⊥) → Tells Guard event.Malformed Start (b ∷ [])
+unfolding continued guardOn
+guard-bad b h = bad Guard b (λ q. absurd (h q)) (λ rest q. (refl, refl))
+
+pub guard-feed : (b : ℕ) → b ≡ 10 → Tells Guard event.Guard Start (b ∷ [])
+unfolding Tells guardOn
+guard-feed b e = rw e ([], record { unbroken = has-nil 10; fed = refl }, refl, refl)
 
 -- ---- a number
 
@@ -109,6 +139,12 @@ within-continued c None d n l = refl
 within-continued c (One a) d n l = refl
 within-continued c (Two a b) d n l = refl
 
+within-guard : (c : ℕ) (f : Fields) (d : Bool) (n : ℕ) (l : List ℕ) → guardOn (inNumber c f d n) l ≡ false
+unfolding inNumber guardOn
+within-guard c None d n l = refl
+within-guard c (One a) d n l = refl
+within-guard c (Two a b) d n l = refl
+
 -- a byte within a number, or the space after it
 within-moves : (c : ℕ) (f g : Fields) (d e : Bool) (n m b : ℕ) → (b ≡ 10 → ⊥)
     → ((rest : List ℕ) → fieldsOn c (values f) d n (b ∷ rest) ≡ fieldsOn c (values g) e m rest) → Moves (inNumber c f d n) (inNumber c g e m) (b ∷ [])
@@ -117,6 +153,7 @@ within-moves c f g d e n m b h w =
       unbroken = has-byte b h;
       begun = within-started c g e m ∙ sym (ap (λ (x : Bool). either x true) (within-started c f d n));
       means = λ rest. within-continued c f d n (b ∷ rest) ∙ w rest ∙ sym (within-continued c g e m rest);
+      guards = λ rest. within-guard c f d n (b ∷ rest) ∙ sym (within-guard c g e m rest);
     }
 
 pub spells-none : (s : List ℕ) (i : ℕ) (d : Bool) (n : ℕ) → Spells s i d n i d n
@@ -139,22 +176,28 @@ spells-digit {s} {i} {j} {d} {e} {n} {m} h g t =
 pub field-bad : (c : ℕ) (f : Fields) (d : Bool) (n b : ℕ) → (b ≡ 32 → d ≡ false) → (b ≡ 10 → d ≡ false) → Stops n b → Tells (inNumber c f d n) event.Malformed Start (b ∷ [])
 field-bad c f d n b h g t =
     bad (inNumber c f d n) b
-    (λ q. within-continued c f d n [] ∙ ap (λ (x : Bool). fieldsOn c (values f) x n []) (g q) ∙ fields-nothing c (values f) n)
-    (λ rest q. within-continued c f d n (b ∷ rest)
-    ∙ ⊎-elim
-    (λ e. let z : b ≡ 32 = same-true b 32 e in
-    ap (λ (x : ℕ). fieldsOn c (values f) d n (x ∷ rest)) z
-    ∙ ap (λ (x : Bool). fieldsOn c (values f) x n (32 ∷ rest)) (h z)
-    ∙ fields-blank c (values f) n rest)
-    (λ e. stopped rest (same-false b 32 e))
-    (cases (same b 32)))
+    (λ q. (within-continued c f d n [] ∙ ended q, within-guard c f d n []))
+    (λ rest q. (within-continued c f d n (b ∷ rest) ∙ spoiled rest, within-guard c f d n (b ∷ rest)))
   where
+    ended : b ≡ 10 → fieldsOn c (values f) d n [] ≡ none
+    ended q = ap (λ (x : Bool). fieldsOn c (values f) x n []) (g q) ∙ fields-nothing c (values f) n
+
     stopped : (rest : List ℕ) → (b ≡ 32 → ⊥) → fieldsOn c (values f) d n (b ∷ rest) ≡ none
     stopped rest z =
         ⊎-elim
         (λ y. ⊎-elim (λ o. fields-other c (values f) d n b rest o z) (λ w. fields-wide c f d n b rest y w) t)
         (λ o. fields-other c (values f) d n b rest o z)
         (cases (isDigit b))
+
+    spoiled : (rest : List ℕ) → fieldsOn c (values f) d n (b ∷ rest) ≡ none
+    spoiled rest =
+        ⊎-elim
+        (λ e. let z : b ≡ 32 = same-true b 32 e in
+        ap (λ (x : ℕ). fieldsOn c (values f) d n (x ∷ rest)) z
+        ∙ ap (λ (x : Bool). fieldsOn c (values f) x n (32 ∷ rest)) (h z)
+        ∙ fields-blank c (values f) n rest)
+        (λ e. stopped rest (same-false b 32 e))
+        (cases (same b 32))
 
 -- ---- the end of a number
 
@@ -167,8 +210,11 @@ field-space c f g n e =
 
 -- a fourth number
 field-fourth : (c a b n : ℕ) → Tells (inNumber c (Two a b) true n) event.Malformed Start (32 ∷ [])
-unfolding Tells continued inNumber
-field-fourth c a b n = (inr (has-byte 32 (λ q. omega arith), λ rest. fields-space c (a ∷ b ∷ []) n rest ∙ fields-four c a b n rest), refl)
+unfolding Tells continued guardOn inNumber
+field-fourth c a b n = (
+  inr (has-byte 32 (λ q. omega arith), λ rest. (fields-space c (a ∷ b ∷ []) n rest ∙ fields-four c a b n rest, refl)),
+  refl,
+)
 
 -- ---- the ends of a run of digits
 
@@ -196,15 +242,15 @@ pub turn-byte : (p : Parser) {s : List ℕ} {i : ℕ} (q : Parser) (e : Event) �
 turn-byte p {s} {i} q e h t = record { taken = getD s i 0 ∷ []; cut = cut-byte s i h; tells = t }
 
 -- a letter and the space after it, and then as within its first number
-pub letter-turn : {s : List ℕ} {i : ℕ} {r : Parsed} → i + 1 + 1 < length s → (getD s i 0 ≡ 32 → ⊥) → (getD s i 0 ≡ 10 → ⊥) → (getD s i 0 ≡ 84 → ⊥)
+pub letter-turn : {s : List ℕ} {i : ℕ} {r : Parsed} → i + 1 + 1 < length s → (getD s i 0 ≡ 32 → ⊥) → (getD s i 0 ≡ 10 → ⊥) → (getD s i 0 ≡ 84 → ⊥) → (getD s i 0 ≡ 71 → ⊥)
     → getD s (i + 1) 0 ≡ 32 → ParsesPart s (i + 1 + 1) (inNumber (getD s i 0) None false 0) r → ParsesPart s i Start r
 unfolding Tells inNumber
-letter-turn {s} {i} h p q t e x =
+letter-turn {s} {i} h p q t g e x =
     goes-turns
     (record {
       taken = (getD s i 0 ∷ []) ++ (getD s (i + 1) 0 ∷ []);
       cut = cut-join (cut-byte s i (omega arith)) (cut-byte s (i + 1) (omega arith));
-      moves = moves-join (start-good (getD s i 0) p q t) (letter-good (getD s i 0) (getD s (i + 1) 0) e);
+      moves = moves-join (start-good (getD s i 0) p q t g) (letter-good (getD s i 0) (getD s (i + 1) 0) e);
     })
     x
 
@@ -234,7 +280,9 @@ space-turn c f d n b r p q t = rw (p, q) t
 
 pub feed-turn : (c : ℕ) (f : Fields) (d : Bool) (n b : ℕ) (e : Event) → d ≡ true → b ≡ 10
     → e ≡ told (lineOf c (values f ++ (n ∷ []))) → Tells (inNumber c f d n) e Start (b ∷ [])
-feed-turn c f d n b e p q t = rw (p, q, t) (feed-tells (inNumber c f true n) (lineOf c (values f ++ (n ∷ []))) (within-continued c f true n [] ∙ fields-end c (values f) n))
+feed-turn c f d n b e p q t =
+    rw (p, q, t)
+    (feed-tells (inNumber c f true n) (lineOf c (values f ++ (n ∷ []))) (within-continued c f true n [] ∙ fields-end c (values f) n) (within-guard c f true n []))
 
 -- neither a space nor a line feed follows a digit
 pub refused : (b : ℕ) (d : Bool) → ((b ≡ 32 → ⊥) × (b ≡ 10 → ⊥)) ⊎ (d ≡ false) → (b ≡ 32 → d ≡ false) × (b ≡ 10 → d ≡ false)

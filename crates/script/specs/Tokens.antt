@@ -11,7 +11,7 @@ use mathlib.Core.Option.{Option, none, some}
 use lib.ListN.{length, drop, getD, length-append, drop-of-length-le}
 use lib.Seq.{drop-cons}
 use Rattle.lists.specs.Tests.{either}
-use Rattle.lists.specs.TestLaws.{same-no}
+use Rattle.lists.specs.TestLaws.{clash, same-true, same-no}
 use Rattle.lists.specs.Rows.{has}
 use Rattle.lists.specs.Counting.{has-nil, has-cons, has-append}
 use Rattle.script.specs.declared.Line.{Line}
@@ -22,8 +22,8 @@ use Rattle.script.specs.declared.Event.{Event}
 use Rattle.script.specs.declared.Event.the-variants as event
 use Rattle.script.specs.declared.Parsed.{Parsed}
 use Rattle.script.specs.declared.Run.{Run}
-use Rattle.script.specs.Grammar.{isDigit}
-use Rattle.script.specs.Parsing.{inNumber, continued, started, filled, After, Whole, Cut, Says, Parses}
+use Rattle.script.specs.Grammar.{isDigit, guardLine, isGuard}
+use Rattle.script.specs.Parsing.{inNumber, continued, guardOn, started, filled, After, Whole, Cut, Says, Parses}
 
 -- ---- bytes of a slice
 
@@ -53,12 +53,18 @@ pub record Moves (p q : Parser) (bs : List ℕ) : Type 0 where
   pub unbroken : has 10 bs ≡ false
   pub begun : started q ≡ either (started p) (filled bs)
   pub means : (rest : List ℕ) → continued p (bs ++ rest) ≡ continued q rest
+  pub guards : (rest : List ℕ) → guardOn p (bs ++ rest) ≡ guardOn q rest
+
+-- with the bytes l the line is neither a step nor G
+abbrev pub TellsNothing : Parser → List ℕ → Type 0
+TellsNothing p l = (continued p l ≡ none) × (guardOn p l ≡ false)
 
 unfoldable pub Tells : Parser → Event → Parser → List ℕ → Type 0
 Tells p (event.Line x) q bs = (l : List ℕ) × Whole l bs × (continued p l ≡ some x) × (q ≡ Start)
+Tells p event.Guard q bs = (l : List ℕ) × Whole l bs × (guardOn p l ≡ true) × (q ≡ Start)
 Tells p event.Malformed q bs =
-    (((l : List ℕ) × Whole l bs × (continued p l ≡ none))
-    ⊎ ((has 10 bs ≡ false) × ((rest : List ℕ) → continued p (bs ++ rest) ≡ none)))
+    (((l : List ℕ) × Whole l bs × TellsNothing p l)
+    ⊎ ((has 10 bs ≡ false) × ((rest : List ℕ) → TellsNothing p (bs ++ rest))))
     × (q ≡ Start)
 Tells p event.SliceEnd q bs = Moves p q bs
 
@@ -98,6 +104,7 @@ moves-join {p} {q} {r} {a} {b} x y =
       unbroken = has-join a b (x .unbroken) (y .unbroken);
       begun = y .begun ∙ begun-join (started p) (started q) a b (x .begun);
       means = λ l. ap (continued p) (append-assoc a b l) ∙ x .means (b ++ l) ∙ y .means l;
+      guards = λ l. ap (guardOn p) (append-assoc a b l) ∙ x .guards (b ++ l) ∙ y .guards l;
     }
 
 whole-join : (a : List ℕ) {l b : List ℕ} → has 10 a ≡ false → Whole l b → Whole (a ++ l) (a ++ b)
@@ -111,13 +118,18 @@ whole-join a {l} {b} h w =
 pub tells-join : (e : Event) {p q : Parser} (r : Parser) {a : List ℕ} (b : List ℕ) → Moves p q a → Tells q e r b → Tells p e r (a ++ b)
 unfolding Tells
 tells-join (event.Line x) {p} {q} r {a} b m t = (a ++ t .0, whole-join a (m .unbroken) (t .1), m .means (t .0) ∙ t .2, t .3)
+tells-join event.Guard {p} {q} r {a} b m t = (a ++ t .0, whole-join a (m .unbroken) (t .1), m .guards (t .0) ∙ t .2, t .3)
 tells-join event.Malformed {p} {q} r {a} b m t = (
   ⊎-elim
-      (λ w. inl (a ++ w .0, whole-join a (m .unbroken) (w .1), m .means (w .0) ∙ w .2))
-      (λ w. inr (has-join a b (m .unbroken) (w .0), λ l. ap (continued p) (append-assoc a b l) ∙ m .means (b ++ l) ∙ w .1 l))
+      (λ w. inl (a ++ w .0, whole-join a (m .unbroken) (w .1), on (w .0) (w .2)))
+      (λ w.
+      inr (has-join a b (m .unbroken) (w .0), λ l. subst (TellsNothing p) (sym (append-assoc a b l)) (on (b ++ l) (w .1 l))))
       (t .0),
   t .1,
 )
+  where
+    on : (l : List ℕ) → TellsNothing q l → TellsNothing p (a ++ l)
+    on l n = (m .means l ∙ n .0, m .guards l ∙ n .1)
 tells-join event.SliceEnd r b m t = moves-join m t
 
 pub goes-turns : {s : List ℕ} {i j : ℕ} {p q : Parser} {r : Parsed} → Advances s i p j q → ParsesPart s j q r → ParsesPart s i p r
@@ -127,14 +139,22 @@ goes-turns {r = r} g t =
 -- ---- from the parser to the bytes of the line
 
 after-moves : {seen : List ℕ} {p : Parser} → After seen p → Moves Start p seen
-unfolding continued
-after-moves a = record { unbroken = a .unbroken; begun = a .begun; means = a .means }
+unfolding continued guardOn
+after-moves a = record { unbroken = a .unbroken; begun = a .begun; means = a .means; guards = a .guards }
+
+guard-line : (l : List ℕ) → isGuard l ≡ true → l ≡ guardLine
+unfolding isGuard
+guard-line [] e = clash e refl
+guard-line (b ∷ []) e = ap (λ (x : ℕ). x ∷ []) (same-true b 71 e)
+guard-line (b ∷ c ∷ l) e = clash e refl
 
 tells-says : (e : Event) (q : Parser) (bs : List ℕ) → Tells Start e q bs → Says e q bs
-unfolding Tells Says continued
+unfolding Tells Says continued guardOn
 tells-says (event.Line x) q bs t = t
+tells-says event.Guard q bs t = (subst (λ (l : List ℕ). Whole l bs) (guard-line (t .0) (t .2)) (t .1), t .3)
 tells-says event.Malformed q bs t = t
-tells-says event.SliceEnd q bs t = record { unbroken = t .unbroken; begun = t .begun; means = t .means }
+tells-says event.SliceEnd q bs t =
+    record { unbroken = t .unbroken; begun = t .begun; means = t .means; guards = t .guards }
 
 turns-reads : {seen s : List ℕ} {i : ℕ} {p : Parser} {r : Parsed} → After seen p → ParsesPart s i p r → (r .event ≡ event.SliceEnd → drop (r .next) s ≡ []) → Parses seen s i r
 turns-reads {seen} {r = r} a t w =
@@ -146,8 +166,8 @@ turns-reads {seen} {r = r} a t w =
     }
 
 pub after-fresh : After [] Start
-unfolding continued
-after-fresh = record { unbroken = has-nil 10; begun = refl; means = λ rest. refl }
+unfolding continued guardOn
+after-fresh = record { unbroken = has-nil 10; begun = refl; means = λ rest. refl; guards = λ rest. refl }
 
 pub at-start : (p : Parser) (seen : List ℕ) → p ≡ Start → After seen p → true ≡ not (filled seen)
 at-start p seen e a = ap not (sym (ap started e) ∙ a .begun)
@@ -160,7 +180,8 @@ told none = event.Malformed
 told (some x) = event.Line x
 
 pub moves-none : (p : Parser) → Moves p p []
-moves-none p = record { unbroken = has-nil 10; begun = nothing (started p); means = λ rest. refl }
+moves-none p =
+    record { unbroken = has-nil 10; begun = nothing (started p); means = λ rest. refl; guards = λ rest. refl }
   where
     nothing : (b : Bool) → b ≡ either b false
     nothing true = refl
@@ -177,6 +198,9 @@ turns-as {s} {i} {p} {q} {r} e t = subst (λ (x : Parser). ParsesPart s i x r) (
 
 pub line-ends : {e : Event} {x : Line} → e ≡ event.Line x → e ≡ event.SliceEnd → ⊥
 line-ends p q = let z : _≡_ {A = ℕ} 0 1 = cc in omega arith
+
+pub guard-ends : {e : Event} → e ≡ event.Guard → e ≡ event.SliceEnd → ⊥
+guard-ends p q = let z : _≡_ {A = ℕ} 0 1 = cc in omega arith
 
 pub malformed-ends : {e : Event} → e ≡ event.Malformed → e ≡ event.SliceEnd → ⊥
 malformed-ends p q = let z : _≡_ {A = ℕ} 0 1 = cc in omega arith

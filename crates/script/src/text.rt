@@ -6,7 +6,7 @@ ghost use Prim.Native.Nat.{_+_, _*_, _≤_, _<_};
 ghost use lib.ListN.{length, take};
 ghost use lib.Seq.{sets};
 ghost use Rattle.lists.specs.Texts.{Wrote};
-ghost use Rattle.script.specs.Output.{decimal, field as Output·field, absent, pair, pairsOf, malformedLine};
+ghost use Rattle.script.specs.Output.{decimal, field as Output·field, absent, pair, pairsOf, guardedAnswer, malformedLine};
 ghost use Rattle.script.specs.OutputLaws.{lastDigits};
 
 // How many digits a number has.
@@ -126,6 +126,14 @@ pub fn put_granted_line(out: &mut [u8], at: usize, letter: u8, n: u64) -> usize
     let next = put_answer(out, at, letter, 0);
     let last = put_field(out, next, n);
     put_byte(out, last, b'\n')
+}
+
+// What is written for the line `G`.
+pub fn put_guarded(out: &mut [u8], at: usize) -> usize
+    requires { ⌜ at + 23 ≤ length (now out) ⌝ }
+    ensures { λ r. ⌜ Wrote (now (out .entry)) at guardedAnswer (now (out .exit)) r ⌝ }
+{
+    put_line(out, at, b'G', 0)
 }
 
 // What is written after a malformed line.

@@ -1,7 +1,7 @@
 -- From what the Rattle functions promise to what the exported ones promise.
 use Prim.Native.Nat.{ℕ}
 use mathlib.Core.Path.{_≡_, refl, sym, ap, _∙_, subst}
-use mathlib.Core.Bool.{true, false}
+use mathlib.Core.Bool.{Bool, true, false}
 use mathlib.Core.List.{List, [], _∷_}
 use mathlib.Core.Option.{Option, none, some}
 use lib.ListN.{length}
@@ -32,8 +32,8 @@ use Rattle.sections.specs.Exports.{codedIn, steppedIn, ExportedStep, sto
 
 -- ---- the core in the rows
 
-pub fresh-saved : {l : Lent} {g : Logs} {c : Core} (core : List (List ℕ)) → Fresh l g c → savedCore core ≡ c → Fresh l g (savedCore core)
-fresh-saved {l} {g} core h e = subst (Fresh l g) (sym e) h
+pub fresh-saved : {l : Lent} {g : Logs} {b : Bool} {c : Core} (core : List (List ℕ)) → Fresh l g b c → savedCore core ≡ c → Fresh l g b (savedCore core)
+fresh-saved {l} {g} {b} core h e = subst (Fresh l g b) (sym e) h
 
 pub ready-loaded : {l : Lent} {g : Logs} {c : Core} (core : List (List ℕ)) → c ≡ savedCore core → Ready l g (savedCore core) → Ready l g c
 ready-loaded {l} {g} core e h = subst (Ready l g) (sym e) h
@@ -74,11 +74,11 @@ stop-back stop.Complete = refl
 stop-back stop.Meaningless = refl
 stop-back stop.Full = refl
 
-pub replayed : {words ks vs out : List ℕ} {l : Lent} {g : Logs} {ks' vs' out' : List ℕ} (core : List (List ℕ)) (counts : List ℕ) (n : ℕ) (r : Replayed)
-    → Replays words ks vs out l g ks' vs' out' r → savedCore core ≡ r .core → CountsAre counts (r .taken) (r .written) → n ≡ stopNumber (r .stop)
-    → Replays words ks vs out l g ks' vs' out' (replayedIn core counts n)
-replayed {words} {ks} {vs} {out} {l} {g} {ks'} {vs'} {out'} core counts n r h e f q =
-    subst (Replays words ks vs out l g ks' vs' out')
+pub replayed : {b : Bool} {words ks vs out : List ℕ} {l : Lent} {g : Logs} {ks' vs' out' : List ℕ} (core : List (List ℕ)) (counts : List ℕ) (n : ℕ) (r : Replayed)
+    → Replays b words ks vs out l g ks' vs' out' r → savedCore core ≡ r .core → CountsAre counts (r .taken) (r .written) → n ≡ stopNumber (r .stop)
+    → Replays b words ks vs out l g ks' vs' out' (replayedIn core counts n)
+replayed {b} {words} {ks} {vs} {out} {l} {g} {ks'} {vs'} {out'} core counts n r h e f q =
+    subst (Replays b words ks vs out l g ks' vs' out')
     (λ i. record {
       core = sym e i;
       taken = sym (f .taken-is) i;

@@ -1,8 +1,10 @@
 -- The core in rows of words: for each seat its stage (0 free, 1 open, 2 locked, 3 checked), its number and the counts of its
--- three sets; then the four sizes; then the three counters. A seat's number is the low 32 bits of its word, a count the low 8.
+-- three sets; then the four sizes; then the three counters, and 1 if the map is guarded. A seat's number is the low 32 bits of its word, a count the low 8.
 use Prim.Native.Nat.{ℕ, _+_, _%_, _^_}
 use mathlib.Core.Path.{_≡_}
+use mathlib.Core.Bool.{Bool}
 use mathlib.Core.List.{List, []}
+use lib.Dec.{eqb}
 use lib.ListN.{length, getD}
 use Rattle.lists.specs.Tests.{pick, same}
 use Rattle.spec.specs.declared.Stage.{Stage}
@@ -44,12 +46,16 @@ savedSizes r = record { records = getD r 0 0; leaves = getD r 1 0; entries = get
 abbrev pub savedCounters : List ℕ → Counters
 savedCounters r = record { number = getD r 0 0; version = getD r 1 0; installs = getD r 2 0 }
 
+abbrev pub savedGuarded : List ℕ → Bool
+savedGuarded r = eqb (getD r 3 0) 1
+
 unfoldable pub savedCore : List (List ℕ) → Core
 savedCore rs =
     record {
       workers = savedWorkers rs;
       sizes = savedSizes (getD rs (standard .workers) []);
       counters = savedCounters (getD rs (standard .workers + 1) []);
+      guarded = savedGuarded (getD rs (standard .workers + 1) []);
     }
 
 -- rows of a core that hold these seats

@@ -6,6 +6,7 @@ use mathlib.Core.Path.{_≡_, refl, sym, ap, _∙_}
 use mathlib.Core.Logic.{⊎-elim}
 use mathlib.Core.List.{List, [], _∷_}
 use lib.ListN.{length, getD, set, length-set}
+use mir.Val.{boolByte}
 use lib.Seq.{ext-getD, getD-set-same, getD-set-other}
 use Rattle.lists.specs.Tests.{same}
 use Rattle.lists.specs.TestLaws.{cases, same-true, same-false, same-no}
@@ -15,11 +16,11 @@ use Rattle.spec.specs.Records.{standard}
 use Rattle.sets.specs.declared.workers.Worker.{Worker}
 use Rattle.sets.specs.Workers.{freed}
 use Rattle.sets.specs.Sets.{firstRows}
+use Rattle.sets.specs.ReadLaws.{flag-back}
 use Rattle.sets.specs.SetLaws.{length-rows, row-at}
 use Rattle.map.specs.declared.Sizes.{Sizes}
-use Rattle.counters.specs.declared.Counters.{Counters}
 use Rattle.transactions.specs.declared.Core.{Core}
-use Rattle.sections.specs.Saved.{stageOf, stageNumber, savedWorker, savedWorkers, savedSizes, savedCounters, savedCore, Seated}
+use Rattle.sections.specs.Saved.{stageOf, stageNumber, savedWorker, savedWorkers, savedSizes, savedCounters, savedGuarded, savedCore, Seated}
 
 -- ---- a seat
 
@@ -106,29 +107,29 @@ rows-same f rs us n h =
     (λ j k. row-at f rs n j (f []) (omega arith) ∙ ap f (h j (omega arith)) ∙ sym (row-at f us n j (f []) (omega arith)))
 
 pub core-read : (rs : List (List ℕ)) {xs : List Worker} {z : Sizes} → xs ≡ savedWorkers rs → z ≡ savedSizes (getD rs (standard .workers) [])
-    → record { workers = xs; sizes = z; counters = savedCounters (getD rs (standard .workers + 1) []) } ≡ savedCore rs
+    → record { workers = xs; sizes = z; counters = savedCounters (getD rs (standard .workers + 1) []); guarded = savedGuarded (getD rs (standard .workers + 1) []) } ≡ savedCore rs
 unfolding savedCore
-core-read rs e f = λ i. record { workers = e i; sizes = f i; counters = savedCounters (getD rs (standard .workers + 1) []) }
+core-read rs e f = λ i. record { workers = e i; sizes = f i; counters = savedCounters (getD rs (standard .workers + 1) []); guarded = savedGuarded (getD rs (standard .workers + 1) []) }
 
--- the rows of the sizes and the counters
+-- the rows of the sizes, and of the counters and the guard
 abbrev sizesRow : Sizes → List ℕ
 sizesRow z = z .records ∷ z .leaves ∷ z .entries ∷ z .outside ∷ 0 ∷ []
 
-abbrev countersRow : Counters → List ℕ
-countersRow k = k .number ∷ k .version ∷ k .installs ∷ 0 ∷ 0 ∷ []
+abbrev countersRow : Core → List ℕ
+countersRow c = c .counters .number ∷ c .counters .version ∷ c .counters .installs ∷ boolByte (c .guarded) ∷ 0 ∷ []
 
 module _ (core : Core) (rs : List (List ℕ)) where
   abbrev withSizes : List (List ℕ)
   withSizes = set rs (standard .workers) (sizesRow (core .sizes))
 
   abbrev whole : List (List ℕ)
-  whole = set withSizes (standard .workers + 1) (countersRow (core .counters))
+  whole = set withSizes (standard .workers + 1) (countersRow core)
 
   seats-same : savedWorkers whole ≡ savedWorkers rs
   seats-same =
       rows-same savedWorker whole rs (standard .workers)
       (λ j h.
-      getD-set-other withSizes (standard .workers + 1) j (countersRow (core .counters)) [] (λ q. let z : ⊥ = omega arith in z)
+      getD-set-other withSizes (standard .workers + 1) j (countersRow core) [] (λ q. let z : ⊥ = omega arith in z)
       ∙ getD-set-other rs (standard .workers) j (sizesRow (core .sizes)) [] (λ q. let z : ⊥ = omega arith in z))
 
   -- they are put after the seats
@@ -141,7 +142,8 @@ module _ (core : Core) (rs : List (List ℕ)) where
         workers = (seats-same ∙ s .workers) i;
         sizes =
             savedSizes
-            ((getD-set-other withSizes (standard .workers + 1) (standard .workers) (countersRow (core .counters)) [] (λ q. let z : ⊥ = omega arith in z)
+            ((getD-set-other withSizes (standard .workers + 1) (standard .workers) (countersRow core) [] (λ q. let z : ⊥ = omega arith in z)
             ∙ getD-set-same rs (standard .workers) (sizesRow (core .sizes)) [] (omega arith)) i);
-        counters = savedCounters (getD-set-same withSizes (standard .workers + 1) (countersRow (core .counters)) [] (omega arith) i);
+        counters = savedCounters (getD-set-same withSizes (standard .workers + 1) (countersRow core) [] (omega arith) i);
+        guarded = (ap savedGuarded (getD-set-same withSizes (standard .workers + 1) (countersRow core) [] (omega arith)) ∙ flag-back (core .guarded)) i;
       }

@@ -42,7 +42,7 @@ pub const FOUND_WORDS: usize = 3;
 
 pub type FoundWords = [u64; FOUND_WORDS];
 
-// Makes the arrays a fresh map, whatever they hold.
+// Makes the arrays a fresh map, guarded or not (request 102), whatever they hold.
 #[no_mangle]
 pub extern "C" fn sections_fresh(
     core: &mut Saved,
@@ -52,10 +52,11 @@ pub extern "C" fn sections_fresh(
     reads: &mut ReadSets,
     leafsets: &mut LeafSets,
     writes: &mut WriteSets,
+    guarded: bool,
 )
-    ensures { λ _. ⌜ Fresh (lent (now (rows .exit)) (now (leaves .exit)) (now (slots .exit))) (logs (now (reads .exit)) (now (leafsets .exit)) (now (writes .exit))) (savedCore (now (core .exit))) ⌝ }
+    ensures { λ _. ⌜ Fresh (lent (now (rows .exit)) (now (leaves .exit)) (now (slots .exit))) (logs (now (reads .exit)) (now (leafsets .exit)) (now (writes .exit))) guarded (savedCore (now (core .exit))) ⌝ }
 {
-    let c = starts::fresh_state(rows, leaves, slots, reads, leafsets, writes);
+    let c = starts::fresh_state(rows, leaves, slots, reads, leafsets, writes, guarded);
     saved::store(core, c);
 }
 
@@ -138,7 +139,7 @@ fn put_counts(counts: &mut CountWords, taken: usize, written: usize)
     *counts = all;
 }
 
-// A list of steps, six numbers to each, from a fresh map (`replay::runs::replay`, whose promise is demand 3). It counts the
+// A list of steps, six numbers to each, from a fresh map, guarded or not (`replay::runs::replay`, whose promise is demand 3). It counts the
 // steps taken and the words of answers written, and returns why no more were taken: 0 there are none, 1 a code has no
 // meaning, 2 no room for answers.
 #[no_mangle]
@@ -155,8 +156,9 @@ pub extern "C" fn sections_replay(
     leafsets: &mut LeafSets,
     writes: &mut WriteSets,
     steps: &[u64],
+    guarded: bool,
 ) -> u64
-    ensures { λ r. ⌜ Replays (now (steps .entry)) (now (addresses .entry)) (now (values .entry)) (now (out .entry))
+    ensures { λ r. ⌜ Replays guarded (now (steps .entry)) (now (addresses .entry)) (now (values .entry)) (now (out .entry))
         (lent (now (rows .exit)) (now (leaves .exit)) (now (slots .exit))) (logs (now (reads .exit)) (now (leafsets .exit)) (now (writes .exit)))
         (now (addresses .exit)) (now (values .exit)) (now (out .exit)) (replayedIn (now (core .exit)) (now (counts .exit)) r) ⌝ }
 {
@@ -171,6 +173,7 @@ pub extern "C" fn sections_replay(
         leafsets,
         writes,
         steps,
+        guarded,
     );
     let c = p.core;
     let stop = p.stop;

@@ -1,5 +1,5 @@
 // The core in lent words: what goes by value between Rattle functions, another language keeps in an array. A row for each
-// seat, then one for the sizes and one for the counters.
+// seat, then one for the sizes, and one for the counters and whether the map is guarded (1 or 0).
 use counters::Counters;
 use map::Sizes;
 use sets::workers::Worker;
@@ -130,6 +130,7 @@ pub fn load(words: &Saved) -> Core
         workers,
         sizes,
         counters,
+        guarded: row[3] == 1,
     }
 }
 
@@ -180,7 +181,7 @@ pub fn store(words: &mut Saved, core: Core)
         0,
     ];
     rows[WORKERS] = sizes;
-    let counters = [k.number, k.version, k.installs, 0, 0];
+    let counters = [k.number, k.version, k.installs, core.guarded as u64, 0];
     rows[WORKERS + 1] = counters;
     *words = rows;
 }

@@ -6,8 +6,8 @@ use native.Mathlib.Omega.{arith}
 use mathlib.Core.Path.{_≡_, refl, sym, ap, _∙_, subst}
 use mathlib.Core.Logic.{⊎-elim}
 use mathlib.Core.Bool.{Bool, true, false}
-use mathlib.Core.List.{List, [], _∷_, _++_, List·Memᴰ·head, List·Memᴰ·cases-cons, Memᴰ·append-left, Memᴰ·append-right}
-use mathlib.Core.Option.{Option, none, some}
+use mathlib.Core.List.{List, [], _∷_, _++_, List·Memᴰ, List·Memᴰ·head, List·Memᴰ·tail, List·Memᴰ·not-nil, List·Memᴰ·cases-cons, List·Memᴰ·append-cases, List·Memᴰ·eq-of-singleton, Memᴰ·append-left, Memᴰ·append-right}
+use mathlib.Core.Option.{Option, none, some, Option·getD}
 use lib.ListN.{length}
 use Rattle.lists.specs.Tests.{pick, both, maybe, present, within}
 use Rattle.lists.specs.TestLaws.{cases, clash, atMost-yes}
@@ -16,16 +16,18 @@ use Rattle.lists.specs.RowLaws.{from-insert}
 use Rattle.spec.specs.Records.{Payload, Record, Write, written, deleted, payloadOf, ownView}
 use Rattle.spec.specs.Leaves.{Leaf, versionAt}
 use Rattle.spec.specs.Slots.{contentOf}
+use Rattle.spec.specs.Guards.{Scan}
 use Rattle.spec.specs.Maps.{MapState, current, indexedBetween}
-use Rattle.spec.specs.Steps.{Worker, State, workerOf, Step, read, scan, put, remove, Answer, done, found, listed, Event, isFree, isOpen, isChecked, ownWrite, scanned, scanReads, scanVersions, withWorker, withMap, logged, writing, readRows}
+use Rattle.spec.specs.Steps.{Worker, State, workerOf, Step, read, scan, put, remove, Answer, done, found, listed, Event, isFree, isOpen, isChecked, ownWrite, scanned, scanReads, scanVersions, remembered, withWorker, withMap, logged, writing, readRows}
 use Rattle.spec.specs.Sequential.{Agrees}
 use Rattle.spec.specs.Claim.{Reading, runningNow, extended, goesOn}
 use Rattle.laws.specs.ContentLaws.{look-indexedBetween}
 use Rattle.laws.specs.LeafLaws.{version-old, meeting-covers}
 use Rattle.serial.specs.Stages.{open-unchecked, open-busy}
 use Rattle.serial.specs.Feeding.{eventWrites, writesOf-snoc, wrote, look-member}
-use Rattle.serial.specs.Invariant.{Facts, Observation, Throughout, Explains, Backed, by-read, by-leaf, Working, Invariant}
+use Rattle.serial.specs.Invariant.{Facts, Observation, Throughout, Explains, Backed, by-read, by-leaf, Saw, AllSaw, Roomy, Working, Invariant}
 use Rattle.serial.specs.Keeping.{ReadOn, own-step}
+use Rattle.serial.specs.Guarding.{saw-longer, saw-now}
 use Rattle.serial.specs.Observing.{explain-quiet, explain-own-read, readOf, explain-read, ScanOf, scanOf, shown, explain-scan}
 use Rattle.serial.specs.Model.{facts, Fine, worker-same, worker-other, fine-worker, read-running, running-same, running-other, goesOn-some}
 
@@ -53,6 +55,7 @@ own-map σ m' w x ρ ρ' o e c r n mine i =
     own-step {F = facts σ} {F' = facts (withWorker (withMap σ m') w x)} {ρ = ρ} {ρ' = ρ'} {w = w}
     (record {
       given = refl;
+      guard = refl;
       lastVersion = refl;
       current = o .current;
       indexed = λ k. ap (λ (rs : List (Row Record)). present (look rs k)) (o .records);
@@ -92,8 +95,10 @@ pub goes-on : (F F' : Facts) (ρ : Reading) (w : ℕ) (x x' : Worker) (e : Event
     → Throughout os (Backed F' x')
     → (isOpen (x' .stage) ≡ false → (k : ℕ) → present (look (x' .writes) k) ≡ true → F' .holder k ≡ some w)
     → isChecked (x' .stage) ≡ false
+    → (isOpen (x' .stage) ≡ true → AllSaw x' os)
+    → (isOpen (x' .stage) ≡ false → Roomy (F' .guard) os (x' .writes))
     → Working F' (goesOn ρ w e) w x'
-goes-on F F' ρ w x x' e os g n h q b l c =
+goes-on F F' ρ w x x' e os g n h q b l c a r =
     subst (λ (ρ' : Reading). Working F' ρ' w x') (sym (goesOn-some ρ w e (g .t) (g .running)))
     (unfold runningNow in
     record {
@@ -109,6 +114,8 @@ goes-on F F' ρ w x x' e os g n h q b l c =
       backed = λ s. b;
       locked = l;
       checked = λ s. clash s c;
+      saw = a;
+      room = r;
     })
 
 pub read-goesOn : (F : Facts) (ρ : Reading) (w : ℕ) (x : Worker) (e : Event) → Working F ρ w x → ReadOn ρ (goesOn ρ w e)
@@ -137,21 +144,26 @@ module _ {σ : State} {ρ : Reading} {w : ℕ} (h : Sound σ ρ) (o : IsOpen σ 
   unfolding x
   g-backed = g .backed (open-unchecked (workerOf σ w .stage) (o .stage))
 
+  pub g-saw : AllSaw x (g .os)
+  unfolding x
+  g-saw = g .saw (o .stage)
+
   -- a step that stays in the open stage and adds to the worker's log or write set
   stays-open : (x' : Worker) (e : Event) (os : List Observation) → x' .stage ≡ x .stage → Rising (x' .writes)
       → Explains os (g .t .events ++ (e ∷ []))
       → wrote (x .writes) (e .step) ≡ x' .writes
       → Throughout os (Backed (facts σ) x')
+      → AllSaw x' os
       → Sound (withWorker σ w x') (goesOn ρ w e)
   unfolding x
-  stays-open x' e os s r n q b =
+  stays-open x' e os s r n q b a =
       record {
         fine = fine-worker σ w x' r (h .fine);
         invariant =
             own-worker σ w x' ρ (goesOn ρ w e) (o .inside) unchecked (read-goesOn (facts σ) ρ w x e g) (running-goesOn (facts σ) ρ w x e g)
             (λ f. goes-on (facts σ) (facts (withWorker σ w x')) ρ w x x' e os g (unfold withWorker in refl) n q
             (λ o' m k lo hi. moved k (o' .seen k) (b o' m k lo hi))
-            (λ c. clash (ap isOpen s ∙ o .stage) c) unchecked)
+            (λ c. clash (ap isOpen s ∙ o .stage) c) unchecked (λ c. a) (λ c. clash (ap isOpen s ∙ o .stage) c))
             (h .invariant);
       }
     where
@@ -177,6 +189,7 @@ module _ {σ : State} {ρ : Reading} {w : ℕ} (h : Sound σ ρ) (o : IsOpen σ 
       (explain-quiet (g .os) (g .t .events) s a quiet (g .explains))
       (unfold writing in q)
       (λ o' m j lo hi. backed-writing k e j (o' .seen j) (g-backed o' m j lo hi))
+      (unfold writing in g-saw)
 
   pub put-sound : (k : ℕ) (p : Payload) → Sound (withWorker σ w (writing k (written p) (workerOf σ w))) (goesOn ρ w (record { step = put w k p; answer = done }))
   unfolding x
@@ -188,19 +201,22 @@ module _ {σ : State} {ρ : Reading} {w : ℕ} (h : Sound σ ρ) (o : IsOpen σ 
 
   -- ---- read and scan
 
-  backed-logged : (rs : List (Row (Option Record))) (vs : List ℕ) (j : ℕ) (r : Option Record) → Backed (facts σ) x j r → Backed (facts σ) (logged rs vs x) j r
+  backed-logged : (rs : List (Row (Option Record))) (vs : List ℕ) (cs : List Scan) (j : ℕ) (r : Option Record) → Backed (facts σ) x j r → Backed (facts σ) (logged rs vs cs x) j r
   unfolding logged
-  backed-logged rs vs j r (by-read m) = by-read (Memᴰ·append-left rs m)
-  backed-logged rs vs j r (by-leaf v q m l f) = by-leaf v q (Memᴰ·append-left vs m) l f
+  backed-logged rs vs cs j r (by-read m) = by-read (Memᴰ·append-left rs m)
+  backed-logged rs vs cs j r (by-leaf v q m l f) = by-leaf v q (Memᴰ·append-left vs m) l f
 
-  observes : (rs : List (Row (Option Record))) (vs : List ℕ) (s : Step) (a : Answer) (os : List Observation)
+  observes : (rs : List (Row (Option Record))) (vs : List ℕ) (cs : List Scan) (s : Step) (a : Answer) (os : List Observation)
       → Explains os (g .t .events ++ (record { step = s; answer = a } ∷ []))
       → wrote (x .writes) s ≡ x .writes
-      → Throughout os (Backed (facts σ) (logged rs vs x))
-      → Sound (withWorker σ w (logged rs vs x)) (goesOn ρ w (record { step = s; answer = a }))
-  observes rs vs s a os n q b =
-      stays-open (logged rs vs x) (record { step = s; answer = a }) os (unfold logged in refl)
+      → Throughout os (Backed (facts σ) (logged rs vs cs x))
+      → ((o' : Observation) → List·Memᴰ o' (g .os) → List·Memᴰ o' os)
+      → ((c : Scan) → List·Memᴰ c cs → Saw (x .reads ++ rs) os c)
+      → Sound (withWorker σ w (logged rs vs cs x)) (goesOn ρ w (record { step = s; answer = a }))
+  observes rs vs cs s a os n q b i new =
+      stays-open (logged rs vs cs x) (record { step = s; answer = a }) os (unfold logged in refl)
       (unfold logged x in h .fine .writes w) n (unfold logged in q) b
+      (unfold logged in λ c m. ⊎-elim (λ l. saw-longer (x .reads) rs i c (g-saw c l)) (λ r. new c r) (List·Memᴰ·append-cases (x .scans) m))
 
   -- what the worker wrote is what its events wrote
   own-is : (k : ℕ) → look (eventWrites (g .t .events)) k ≡ ownWrite σ w k
@@ -208,13 +224,15 @@ module _ {σ : State} {ρ : Reading} {w : ℕ} (h : Sound σ ρ) (o : IsOpen σ 
   own-is k = ap (λ (ws : List (Row Write)). look ws k) (g .wrote)
 
   read-by : (k : ℕ) (y : Option Write) → ownWrite σ w k ≡ y
-      → Sound (withWorker σ w (logged (maybe y (row k (current (σ .map) k) ∷ []) (λ (e : Write). [])) [] x))
+      → Sound (withWorker σ w (logged (maybe y (row k (current (σ .map) k) ∷ []) (λ (e : Write). [])) [] [] x))
       (goesOn ρ w (record { step = read w k; answer = found (maybe y (payloadOf (current (σ .map) k)) ownView) }))
   read-by k none q =
-      observes (row k (current (σ .map) k) ∷ []) [] (read w k) (found (payloadOf (current (σ .map) k))) (readOf k (current (σ .map) k) ∷ g .os)
+      observes (row k (current (σ .map) k) ∷ []) [] [] (read w k) (found (payloadOf (current (σ .map) k))) (readOf k (current (σ .map) k) ∷ g .os)
       (explain-read (g .os) (g .t .events) w k (current (σ .map) k) (own-is k ∙ q) (g .explains))
       (unfold wrote in refl)
-      (λ o' m j lo hi. ⊎-elim (λ e. new o' e j lo hi) (λ e. backed-logged _ _ j (o' .seen j) (g-backed o' e j lo hi)) (List·Memᴰ·cases-cons m))
+      (λ o' m j lo hi. ⊎-elim (λ e. new o' e j lo hi) (λ e. backed-logged _ _ _ j (o' .seen j) (g-backed o' e j lo hi)) (List·Memᴰ·cases-cons m))
+      (λ o' m. List·Memᴰ·tail m)
+      (λ c m. absurd (List·Memᴰ·not-nil m))
     where
       rs : List (Row (Option Record))
       rs = row k (current (σ .map) k) ∷ []
@@ -222,21 +240,23 @@ module _ {σ : State} {ρ : Reading} {w : ℕ} (h : Sound σ ρ) (o : IsOpen σ 
       at-k : (j : ℕ) → k ≤ j → j ≤ k → row j (current (σ .map) k) ≡ row k (current (σ .map) k)
       at-k j lo hi = let e : j ≡ k = omega arith in ap (λ (i : ℕ). row i (current (σ .map) k)) e
 
-      seen-k : (j : ℕ) → k ≤ j → j ≤ k → Backed (facts σ) (logged rs [] x) j (current (σ .map) k)
+      seen-k : (j : ℕ) → k ≤ j → j ≤ k → Backed (facts σ) (logged rs [] [] x) j (current (σ .map) k)
       seen-k j lo hi = unfold logged in by-read (Memᴰ·append-right (x .reads) (List·Memᴰ·head (at-k j lo hi)))
 
-      new : (o' : Observation) → o' ≡ readOf k (current (σ .map) k) → (j : ℕ) → o' .lo ≤ j → j ≤ o' .hi → Backed (facts σ) (logged rs [] x) j (o' .seen j)
+      new : (o' : Observation) → o' ≡ readOf k (current (σ .map) k) → (j : ℕ) → o' .lo ≤ j → j ≤ o' .hi → Backed (facts σ) (logged rs [] [] x) j (o' .seen j)
       new o' e j lo hi =
-          subst (λ (r : Option Record). Backed (facts σ) (logged rs [] x) j r) (sym (ap (λ (y : Observation). y .seen j) e))
+          subst (λ (r : Option Record). Backed (facts σ) (logged rs [] [] x) j r) (sym (ap (λ (y : Observation). y .seen j) e))
           (seen-k j (subst (λ (y : Observation). y .lo ≤ j) e lo) (subst (λ (y : Observation). j ≤ y .hi) e hi))
   read-by k (some e) q =
-      observes [] [] (read w k) (found (ownView e)) (g .os)
+      observes [] [] [] (read w k) (found (ownView e)) (g .os)
       (explain-own-read (g .os) (g .t .events) w k e (own-is k ∙ q) (g .explains))
       (unfold wrote in refl)
-      (λ o' m j lo hi. backed-logged [] [] j (o' .seen j) (g-backed o' m j lo hi))
+      (λ o' m j lo hi. backed-logged [] [] [] j (o' .seen j) (g-backed o' m j lo hi))
+      (λ o' m. m)
+      (λ c m. absurd (List·Memᴰ·not-nil m))
 
   pub read-sound : (k : ℕ)
-      → Sound (withWorker σ w (logged (readRows σ w k) [] (workerOf σ w)))
+      → Sound (withWorker σ w (logged (readRows σ w k) [] [] (workerOf σ w)))
       (goesOn ρ w (record { step = read w k; answer = found (maybe (ownWrite σ w k) (payloadOf (current (σ .map) k)) ownView) }))
   unfolding readRows x
   read-sound k = read-by k (ownWrite σ w k) refl
@@ -246,15 +266,17 @@ module _ {σ : State} {ρ : Reading} {w : ℕ} (h : Sound σ ρ) (o : IsOpen σ 
   scan-is lo hi = record { looks = look-indexedBetween (σ .map) lo hi }
 
   pub scan-sound : (lo hi a b : ℕ)
-      → Sound (withWorker σ w (logged (scanReads σ lo hi) (scanVersions σ lo hi) (workerOf σ w)))
+      → Sound (withWorker σ w (logged (scanReads σ lo hi) (scanVersions σ lo hi) (remembered σ w lo hi ∷ []) (workerOf σ w)))
       (goesOn ρ w (record { step = scan w lo hi a b; answer = listed (scanned σ w lo hi) }))
   unfolding x
   scan-sound lo hi a b =
-      observes (scanReads σ lo hi) (scanVersions σ lo hi) (scan w lo hi a b) (listed (scanned σ w lo hi)) (new ∷ g .os)
+      observes (scanReads σ lo hi) (scanVersions σ lo hi) (remembered σ w lo hi ∷ []) (scan w lo hi a b) (listed (scanned σ w lo hi)) (new ∷ g .os)
       (subst (λ (rs : List (Row Payload)). Explains (new ∷ g .os) (g .t .events ++ (record { step = scan w lo hi a b; answer = listed rs } ∷ []))) shows
       (explain-scan (scan-is lo hi) (g .os) (g .t .events) w a b (g .explains)))
       (unfold wrote in refl)
-      (λ o' m j l u. ⊎-elim (λ e. seen-new o' e j l u) (λ e. backed-logged _ _ j (o' .seen j) (g-backed o' e j l u)) (List·Memᴰ·cases-cons m))
+      (λ o' m j l u. ⊎-elim (λ e. seen-new o' e j l u) (λ e. backed-logged _ _ _ j (o' .seen j) (g-backed o' e j l u)) (List·Memᴰ·cases-cons m))
+      (λ o' m. List·Memᴰ·tail m)
+      (λ c m. subst (Saw (x .reads ++ scanReads σ lo hi) (new ∷ g .os)) (sym (List·Memᴰ·eq-of-singleton m)) saw-new)
     where
       new : Observation
       new = scanOf (facts σ .indexed) (facts σ .current) lo hi
@@ -266,7 +288,7 @@ module _ {σ : State} {ρ : Reading} {w : ℕ} (h : Sound σ ρ) (o : IsOpen σ 
       inside j l u = unfold within in rw (atMost-yes l, atMost-yes u)
 
       x' : Worker
-      x' = logged (scanReads σ lo hi) (scanVersions σ lo hi) x
+      x' = logged (scanReads σ lo hi) (scanVersions σ lo hi) (remembered σ w lo hi ∷ []) x
 
       found-there : (j : ℕ) → lo ≤ j → j ≤ hi → facts σ .indexed j ≡ true → Backed (facts σ) x' j (facts σ .current j)
       found-there j l u e =
@@ -281,6 +303,15 @@ module _ {σ : State} {ρ : Reading} {w : ℕ} (h : Sound σ ρ) (o : IsOpen σ 
           (Memᴰ·append-right (x .versions) (meeting-covers (h .fine .leaves) lo j hi l u))
           (version-old (h .fine .leaves) j)
           (λ i q. (refl, e))
+
+      saw-new : Saw (x .reads ++ scanReads σ lo hi) (new ∷ g .os) (remembered σ w lo hi)
+      saw-new =
+          unfold remembered x in
+          saw-now (workerOf σ w .reads) (scanReads σ lo hi) new (g .os)
+          (λ j l u.
+          ap (λ (y : Option (Option Record)). Option·getD y none)
+          (scan-is lo hi .looks j ∙ ap (λ (c : Bool). pick (both c (facts σ .indexed j)) (some (facts σ .current j)) none) (inside j l u))
+          ∙ ⊎-elim (λ e. rw e) (λ e. rw e) (cases (facts σ .indexed j)))
 
       both-ways : (j : ℕ) → lo ≤ j → j ≤ hi → Backed (facts σ) x' j (new .seen j)
       both-ways j l u =

@@ -4,7 +4,7 @@
 use Prim.Native.Nat.{ℕ}
 use native.Mathlib.Omega.{arith}
 use mathlib.Core.Path.{_≡_, refl}
-use mathlib.Core.Bool.{Bool, not}
+use mathlib.Core.Bool.{Bool, false, not}
 use mathlib.Core.List.{List, [], _∷_, _++_}
 use mathlib.Core.Option.{none, some}
 use Rattle.lists.specs.Tests.{pick, both, either, maybe, present, same}
@@ -70,7 +70,7 @@ editedHistory rule x (s ∷ ss) =
 -- the claim of the run by the rule
 pub SerialUnder : Rule → List Step → Type 0
 SerialUnder rule ss =
-    let x : Edit = record { state = fresh standard; flagged = [] } in
+    let x : Edit = record { state = fresh standard false; flagged = [] } in
     SerialRun (editedHistory rule x ss) (contents (editedFinal rule x ss .state .map))
 
 -- ---- the tests dropped

@@ -34,7 +34,7 @@ use Rattle.serial.specs.Model.{facts, Fine, worker-same, worker-other, w
 use Rattle.serial.specs.Continuing.{Sound}
 use Rattle.serial.specs.Locking.{other-holds}
 
-either-left : (a b : Bool) → either a b ≡ false → a ≡ false
+pub either-left : (a b : Bool) → either a b ≡ false → a ≡ false
 either-left true b e = e
 either-left false b e = refl
 
@@ -174,6 +174,7 @@ module _ {σ : State} {ρ : Reading} {w : ℕ} (h : Sound σ ρ) (p : Validatabl
   checks =
       record {
         given = unfold withWorker withCounters in refl;
+        guard = unfold withWorker withCounters in refl;
         lastVersion = unfold withWorker withCounters in refl;
         current = λ k. unfold withWorker withCounters in refl;
         indexed = λ k. unfold withWorker withCounters in refl;
@@ -297,6 +298,7 @@ module _ {σ : State} {ρ : Reading} (h : Sound σ ρ) (w : ℕ) (s : isChecked 
   installs =
       record {
         given = refl;
+        guard = refl;
         lastVersion = refl;
         current = current-installed;
         indexed = λ k. ap (λ (rs : List (Row Record)). present (look rs k)) records-installed;
@@ -376,6 +378,7 @@ module _ {σ : State} {ρ : Reading} (h : Sound σ ρ) (a : ℕ) where
   rearranged =
       record {
         given = refl;
+        guard = refl;
         lastVersion = does .later;
         current = does .same-current;
         holder = does .same-holder;
@@ -405,6 +408,7 @@ same-sound {σ} {ρ} h =
           merge-step
           (record {
             given = refl;
+            guard = refl;
             lastVersion = le-refl (σ .counters .version);
             current = λ k. refl;
             holder = λ k. refl;

@@ -12,17 +12,18 @@ use Rattle.lists.specs.Tests.{present, same, less}
 use Rattle.lists.specs.TestLaws.{cases, clash, same-true, same-false, less-true, less-false}
 use Rattle.lists.specs.Rows.{Row, row, look, keys, has, Different}
 use Rattle.lists.specs.RowLaws.{look-there, has-keys}
-use Rattle.spec.specs.Records.{Record, Write, deleted, outcome}
+use Rattle.spec.specs.Records.{Payload, Record, Write, written, deleted, outcome}
 use Rattle.spec.specs.Steps.{Worker, isFree, isChecked}
 use Rattle.spec.specs.Claim.{Transaction, Reading, listAfter}
 use Rattle.serial.specs.Stages.{checked-busy, checked-not-open}
 use Rattle.serial.specs.Feeding.{eventWrites, laid, listAfter-before, listAfter-other, listAfter-mine}
-use Rattle.serial.specs.Invariant.{Facts, Observation, Matches, Explains, Harmless, unwritten, already-absent, Valid, CheckedAs, Working, Done, Invariant}
+use Rattle.serial.specs.Invariant.{Facts, Observation, Matches, Explains, RoomFor, Harmless, unwritten, already-absent, Valid, CheckedAs, Working, Done, Invariant}
 use Rattle.serial.specs.Keeping.{SameChecks, valid-kept, Kept, working-kept, backed-kept}
 
 -- The state and the reading after worker w installed.
 pub record Installs (F F' : Facts) (ρ ρ' : Reading) (w : ℕ) : Type 0 where
   pub given : F' .given ≡ F .given
+  pub guard : F' .guard ≡ F .guard
   pub lastVersion : F' .lastVersion ≡ F .lastVersion
   pub current : (k : ℕ) → F' .current k ≡ laid (F .worker w .number) (F .worker w .writes) k (F .current k)
   pub indexed : (k : ℕ) → F' .indexed k ≡ F .indexed k
@@ -126,6 +127,10 @@ module _ {F F' : Facts} {ρ ρ' : Reading} {w : ℕ} (h : Installs F F' ρ ρ' w
         explains = subst (Explains (g .os)) (sym (h .now-same (g .t) (g .running) .1)) (g .explains);
         valid = valid-installed (c .m) (g .os) (c .valid);
         past = λ q mem l. ⊎-elim (λ e. absurd (never q e l)) (λ m. earlier q m l) (List·Memᴰ·cases-cons mem);
+        room =
+            λ l q.
+            subst (λ (ws : List (Row Write)). (k : ℕ) (p : Payload) → look ws k ≡ some (written p) → RoomFor l (g .os) ws k p) (sym writes)
+            (g .room (checked-not-open (F .worker w .stage) (h .was-checked)) l (sym (h .guard) ∙ q));
       }
     where
       never : (q : Row Transaction) → q ≡ row n (h .now) → q .item .ended < h .now .begun → ⊥
@@ -149,6 +154,7 @@ module _ {F F' : Facts} {ρ ρ' : Reading} {w : ℕ} (h : Installs F F' ρ ρ' w
         explains = d .explains;
         valid = valid-installed (d .m) (d .os) (d .valid);
         past = λ q mem l. ⊎-elim (λ e. absurd (never q e l)) (λ m. d .past q m l) (List·Memᴰ·cases-cons mem);
+        room = λ l q. d .room l (sym (h .guard) ∙ q);
       }
     where
       never : (q : Row Transaction) → q ≡ row n (h .now) → q .item .ended < r .item .begun → ⊥
@@ -168,6 +174,7 @@ module _ {F F' : Facts} {ρ ρ' : Reading} {w : ℕ} (h : Installs F F' ρ ρ' w
       record {
         running = h .running v d;
         given = given-same;
+        guard = h .guard;
         place = h .place;
         installed = λ r m. ⊎-elim (λ e. inr (ends-now r e)) (λ q. inl q) (List·Memᴰ·cases-cons (subst (List·Memᴰ r) installs m));
         backed = backed-kept F F' (F .worker v) (le-of-eq (sym (h .lastVersion))) (h .version) (h .indexed);

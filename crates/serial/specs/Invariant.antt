@@ -6,15 +6,18 @@
 -- - until it is checked, each observation is backed by its log: by a read-set entry, or, for a key that was absent from
 --   the index, by a leaf version which, as long as it is live, is still the key's leaf, and the index lacks the key;
 -- - once it has number m + 1, each observation equals what the transactions numbered up to m leave, and no checked
---   transaction that may still be installed among those would change it (`Valid`).
-use Prim.Native.Nat.{ℕ, suc, _<_, _≤_}
+--   transaction that may still be installed among those would change it (`Valid`);
+-- - in a guarded map, once it is locked, each put fits and has room between what one of its scans saw (`Roomy`).
+use Prim.Native.Nat.{ℕ, suc, _+_, _-_, _<_, _≤_}
 use mathlib.Core.Path.{_≡_}
 use mathlib.Core.Bool.{Bool, true, false}
 use mathlib.Core.List.{List, List·Memᴰ}
-use mathlib.Core.Option.{Option, none, some}
+use mathlib.Core.Option.{Option, none, some, Option·getD}
+use lib.ListN.{length}
 use Rattle.lists.specs.Tests.{present}
 use Rattle.lists.specs.Rows.{Row, row, look, Rising, keys, Different}
-use Rattle.spec.specs.Records.{Record, Write, deleted}
+use Rattle.spec.specs.Records.{Settings, Payload, Record, Write, written, deleted, payloadOf}
+use Rattle.spec.specs.Guards.{Scan, stretch, lastByte, share, unfit}
 use Rattle.spec.specs.Steps.{Worker, isFree, isOpen, isChecked, Event}
 use Rattle.spec.specs.Sequential.{AllAgree}
 use Rattle.spec.specs.Claim.{Transaction, Reading, listAfter}
@@ -29,6 +32,7 @@ pub record Facts : Type 0 where
   pub holder : ℕ → Option ℕ  -- the worker that has the key's lock
   pub version : ℕ → ℕ  -- the version of the key's leaf
   pub worker : ℕ → Worker
+  pub guard : Option Settings  -- the limits that a guarded map goes by
 
 -- What a transaction saw of the keys from lo to hi.
 pub record Observation : Type 0 where
@@ -53,6 +57,35 @@ pub data Backed (F : Facts) (x : Worker) (k : ℕ) (r : Option Record) : Type 0 
   by-read : List·Memᴰ (row k r) (x .reads) → Backed F x k r
   by-leaf : (v : ℕ) → r ≡ none → List·Memᴰ v (x .versions) → v ≤ F .lastVersion
       → ((j : ℕ) → F .version j ≡ v → (F .version k ≡ v) × (F .indexed k ≡ false)) → Backed F x k r
+
+-- A scan that the worker remembers is one of its observations, and the rows that it logged say what was seen.
+pub record Saw (reads : List (Row (Option Record))) (os : List Observation) (c : Scan) : Type 0 where
+  pub o : Observation
+  pub member : List·Memᴰ o os
+  pub lo : o .lo ≡ c .lo
+  pub hi : o .hi ≡ c .hi
+  pub inside : c .from + c .count ≤ length reads
+  pub seen : (k : ℕ) → o .lo ≤ k → k ≤ o .hi → Option·getD (look (stretch reads c) k) none ≡ o .seen k
+
+abbrev pub AllSaw : Worker → List Observation → Type 0
+AllSaw x os = (c : Scan) → List·Memᴰ c (x .scans) → Saw (x .reads) os c
+
+-- The put of p at k fits, and shares no byte with the other puts, nor with what one observation saw from where a section
+-- could reach into it to its last byte.
+pub record RoomFor (s : Settings) (os : List Observation) (ws : List (Row Write)) (k : ℕ) (p : Payload) : Type 0 where
+  pub fits : unfit s k (p .value) ≡ false
+  pub o : Observation
+  pub member : List·Memᴰ o os
+  pub below : o .lo ≤ k - (s .longest - 1)
+  pub above : lastByte k (p .value) ≤ o .hi
+  pub own : (j : ℕ) (q : Payload) → (j ≡ k → ⊥) → look ws j ≡ some (written q) → share j (q .value) k (p .value) ≡ false
+  pub others :
+      (j : ℕ) (q : Payload) → (j ≡ k → ⊥) → look ws j ≡ none → o .lo ≤ j → j ≤ o .hi → payloadOf (o .seen j) ≡ some q
+      → share j (q .value) k (p .value) ≡ false
+
+-- in a guarded map, each put of the write set has room
+abbrev pub Roomy : Option Settings → List Observation → List (Row Write) → Type 0
+Roomy g os ws = (s : Settings) → g ≡ some s → (k : ℕ) (p : Payload) → look ws k ≡ some (written p) → RoomFor s os ws k p
 
 -- The write set would not change r at k.
 pub data Harmless (ws : List (Row Write)) (k : ℕ) (r : Option Record) : Type 0 where
@@ -94,6 +127,8 @@ pub record Working (F : Facts) (ρ : Reading) (w : ℕ) (x : Worker) : Type 0 wh
   pub backed : isChecked (x .stage) ≡ false → Throughout os (Backed F x)
   pub locked : isOpen (x .stage) ≡ false → (k : ℕ) → present (look (x .writes) k) ≡ true → F .holder k ≡ some w
   pub checked : isChecked (x .stage) ≡ true → CheckedAs F (ρ .installed) x t os since
+  pub saw : isOpen (x .stage) ≡ true → AllSaw x os
+  pub room : isOpen (x .stage) ≡ false → Roomy (F .guard) os (x .writes)
 
 -- An installed transaction.
 pub record Done (F : Facts) (ts : List (Row Transaction)) (r : Row Transaction) : Type 0 where
@@ -104,6 +139,7 @@ pub record Done (F : Facts) (ts : List (Row Transaction)) (r : Row Transaction) 
   pub explains : Explains os (r .item .events)
   pub valid : Valid F ts m os
   pub past : (q : Row Transaction) → List·Memᴰ q ts → q .item .ended < r .item .begun → q .key ≤ m
+  pub room : Roomy (F .guard) os (eventWrites (r .item .events))
 
 pub record Invariant (F : Facts) (ρ : Reading) : Type 0 where
   pub numbers : ρ .given ≡ F .given

@@ -35,8 +35,8 @@ valid-kept F F' ts m os h v =
     }
 
 pub done-kept : (F F' : Facts) (ts : List (Row Transaction)) (r : Row Transaction)
-    → F .given ≤ F' .given → ((m : ℕ) → m < F .given → SameChecks F F' m) → Done F ts r → Done F' ts r
-done-kept F F' ts r g h d =
+    → F .given ≤ F' .given → F' .guard ≡ F .guard → ((m : ℕ) → m < F .given → SameChecks F F' m) → Done F ts r → Done F' ts r
+done-kept F F' ts r g e h d =
     record {
       m = d .m;
       number = d .number;
@@ -45,6 +45,7 @@ done-kept F F' ts r g h d =
       explains = d .explains;
       valid = valid-kept F F' ts (d .m) (d .os) (h (d .m) (d .given)) (d .valid);
       past = d .past;
+      room = λ s q. d .room s (sym e ∙ q);
     }
 
 pub checked-kept : (F F' : Facts) (ts : List (Row Transaction)) (x : Worker)
@@ -66,6 +67,7 @@ checked-kept F F' ts x g h t os since c =
 pub record Kept (F F' : Facts) (ρ ρ' : Reading) (w : ℕ) (x : Worker) : Type 0 where
   pub running : look (ρ' .running) w ≡ look (ρ .running) w
   pub given : F .given ≤ F' .given
+  pub guard : F' .guard ≡ F .guard
   pub place : ρ .place ≤ ρ' .place
   pub installed :
       (r : Row Transaction) → List·Memᴰ r (ρ' .installed) → List·Memᴰ r (ρ .installed) ⊎ (ρ .place ≤ r .item .ended)
@@ -90,6 +92,8 @@ working-kept {F} {F'} {ρ} {ρ'} {w} {x} h g =
       backed = λ s o mem k a b. h .backed k (o .seen k) (g .backed s o mem k a b);
       locked = λ s k p. h .holder k (g .locked s k p);
       checked = λ s. h .checked (g .t) (g .os) (g .since) s (g .checked s);
+      saw = g .saw;
+      room = λ s l q. g .room s l (sym (h .guard) ∙ q);
     }
   where
     early : (r : Row Transaction) → r .item .ended < g .t .begun → ρ .place ≤ r .item .ended → ⊥
@@ -120,6 +124,7 @@ still-installed h r m = subst (List·Memᴰ r) (h .installed) m
 
 pub record Own (F F' : Facts) (ρ ρ' : Reading) (w : ℕ) : Type 0 where
   pub given : F' .given ≡ F .given
+  pub guard : F' .guard ≡ F .guard
   pub lastVersion : F' .lastVersion ≡ F .lastVersion
   pub current : (k : ℕ) → F' .current k ≡ F .current k
   pub indexed : (k : ℕ) → F' .indexed k ≡ F .indexed k
@@ -147,6 +152,7 @@ module _ {F F' : Facts} {ρ ρ' : Reading} {w : ℕ} (h : Own F F' ρ ρ' w) whe
       record {
         running = h .running v d;
         given = own-given;
+        guard = h .guard;
         place = h .reading .place;
         installed = λ r m. inl (still-installed (h .reading) r m);
         backed = backed-kept F F' x (le-of-eq (sym (h .lastVersion))) (h .version) (h .indexed);
@@ -168,7 +174,7 @@ module _ {F F' : Facts} {ρ ρ' : Reading} {w : ℕ} (h : Own F F' ρ ρ' w) whe
         different = along (λ (ts : List (Row Transaction)). Different (keys ts)) (h .reading) (i .different);
         done =
             λ r m. along (λ (ts : List (Row Transaction)). Done F' ts r) (h .reading)
-            (done-kept F F' (ρ .installed) r own-given own-checks (i .done r (still-installed (h .reading) r m)));
+            (done-kept F F' (ρ .installed) r own-given (h .guard) own-checks (i .done r (still-installed (h .reading) r m)));
         begun = λ r m. le-trans (i .begun r (still-installed (h .reading) r m)) (h .reading .place);
         working = λ v s. ⊎-elim (λ e. mine v (same-true v w e) s) (λ e. other v (same-false v w e) s) (cases (same v w));
         apart =
@@ -195,6 +201,7 @@ module _ {F F' : Facts} {ρ ρ' : Reading} {w : ℕ} (h : Own F F' ρ ρ' w) whe
 -- Leaf versions and index keys change together: of each key both are kept, or the old version is live no more.
 pub record Rearranged (F F' : Facts) : Type 0 where
   pub given : F' .given ≡ F .given
+  pub guard : F' .guard ≡ F .guard
   pub lastVersion : F .lastVersion ≤ F' .lastVersion
   pub current : (k : ℕ) → F' .current k ≡ F .current k
   pub holder : (k : ℕ) → F' .holder k ≡ F .holder k
@@ -227,6 +234,7 @@ module _ {F F' : Facts} {ρ ρ' : Reading} (h : Rearranged F F') (d : ReadOn ρ 
       record {
         running = ap (λ (rs : List (Row Transaction)). look rs v) same-running;
         given = le-of-eq (sym (h .given));
+        guard = h .guard;
         place = d .place;
         installed = λ r m. inl (still-installed d r m);
         backed = backed-merged x;
@@ -248,7 +256,7 @@ module _ {F F' : Facts} {ρ ρ' : Reading} (h : Rearranged F F') (d : ReadOn ρ 
         different = along (λ (ts : List (Row Transaction)). Different (keys ts)) d (i .different);
         done =
             λ r m. along (λ (ts : List (Row Transaction)). Done F' ts r) d
-            (done-kept F F' (ρ .installed) r (le-of-eq (sym (h .given))) merge-checks (i .done r (still-installed d r m)));
+            (done-kept F F' (ρ .installed) r (le-of-eq (sym (h .given))) (h .guard) merge-checks (i .done r (still-installed d r m)));
         begun = λ r m. le-trans (i .begun r (still-installed d r m)) (d .place);
         working =
             λ v s.

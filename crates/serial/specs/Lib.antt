@@ -1,6 +1,7 @@
 pub mod Stages
 pub mod Feeding
 pub mod Invariant
+pub mod Guarding
 pub mod Keeping
 pub mod Validating
 pub mod Installing
@@ -11,4 +12,5 @@ pub mod Continuing
 pub mod Locking
 pub mod Finishing
 pub mod Theorem
+pub mod NoOverlaps
 pub mod Edited

@@ -5,26 +5,29 @@ use mathlib.Core.Path.{_≡_, refl, sym, ap, _∙_, subst}
 use mathlib.Core.Logic.{⊎-elim}
 use mathlib.Core.Bool.{Bool, true, false, not}
 use mathlib.Core.List.{List, [], List·Memᴰ, List·Memᴰ·not-nil}
-use mathlib.Core.Option.{Option, some}
+use mathlib.Core.Option.{Option, none, some}
 use lib.ListN.{length}
-use Rattle.lists.specs.Tests.{pick, maybe, present, same}
+use Rattle.lists.specs.Tests.{pick, both, maybe, present, same}
 use Rattle.lists.specs.TestLaws.{cases, clash}
+use Rattle.lists.specs.Options.{both-options, some-same}
 use Rattle.lists.specs.Rows.{Row, look, has, Rising}
 use Rattle.lists.specs.RowLaws.{has-keys, rising-nil}
 use Rattle.spec.specs.declared.Stage.the-variants.{Open, Locked}
-use Rattle.spec.specs.Records.{Record, Write}
+use Rattle.spec.specs.Records.{Settings, Payload, Record, Write, written}
 use Rattle.spec.specs.Slots.{Pending, Content, contentOf}
+use Rattle.spec.specs.Guards.{anyPut}
 use Rattle.spec.specs.Maps.{MapState, outcomeOf, current, heldByOther, withSlots, lockAll, unlockAll}
-use Rattle.spec.specs.Steps.{Worker, freeWorker, State, workerOf, lock, done, Event, isChecked, lockedByOther, writeKeys, withWorker, withMap, atStage, dropped}
+use Rattle.spec.specs.Steps.{Worker, freeWorker, State, workerOf, lock, done, Event, isOpen, isChecked, guard, unfitPut, uncoveredPut, overlappedPut, lockedByOther, writeKeys, withWorker, withMap, atStage, dropped}
 use Rattle.spec.specs.Sequential.{Agrees, AllAgree}
 use Rattle.spec.specs.Claim.{Transaction, Reading, runningNow, passed, started, goesOn}
 use Rattle.laws.specs.MapLaws.{LockRoom, withHolder, lock-good, lock-says, unlocked, unlocked-pending, unlocked-holder, unlock-good, unlock-says}
 use Rattle.serial.specs.Stages.{open-open, open-not-checked, free-free}
 use Rattle.serial.specs.Feeding.{writesOf-nil, wrote}
-use Rattle.serial.specs.Invariant.{Throughout, Backed, by-read, by-leaf, Working, Invariant}
+use Rattle.serial.specs.Guarding.{lock-room-for}
+use Rattle.serial.specs.Invariant.{Throughout, Backed, by-read, by-leaf, AllSaw, RoomFor, Roomy, Working, Invariant}
 use Rattle.serial.specs.Observing.{explain-quiet}
 use Rattle.serial.specs.Model.{facts, Fine, worker-same, worker-free, fine-worker, read-passed, read-running, running-same, running-other}
-use Rattle.serial.specs.Continuing.{Sound, OwnLocks, own-map, own-worker, goes-on, read-goesOn, running-goesOn, IsOpen, g, g-backed}
+use Rattle.serial.specs.Continuing.{Sound, OwnLocks, own-map, own-worker, goes-on, read-goesOn, running-goesOn, IsOpen, g, g-backed, g-saw}
 
 -- ---- begin
 
@@ -62,6 +65,8 @@ begin-sound σ ρ w l h =
           backed = λ s o m. absurd (List·Memᴰ·not-nil m);
           locked = λ s k p. clash open-open s;
           checked = λ s. clash s open-not-checked;
+          saw = λ s c m. absurd (List·Memᴰ·not-nil m);
+          room = λ s. clash open-open s;
         }
 
 -- ---- a map in which at most the locks of one worker differ
@@ -92,6 +97,14 @@ fine-slots σ m' r l s f =
 pub record Lockable (σ : State) (w : ℕ) : Type 0 where
   pub unheld : (k : ℕ) → has k (writeKeys σ w) ≡ true → lockedByOther σ w k ≡ false
   pub room : LockRoom (σ .map .slots) (writeKeys σ w)
+  pub fit : unfitPut σ w ≡ false
+  pub covered : uncoveredPut σ w ≡ false
+  pub clear : overlappedPut σ w ≡ false
+
+-- the limits that a guarded map goes by are its settings
+guarded-settings : (b : Bool) (s t : Settings) → pick b (some s) none ≡ some t → (b ≡ true) × (s ≡ t)
+guarded-settings true s t e = (refl, some-same e)
+guarded-settings false s t e = both-options e refl
 
 pub other-holds : (w : ℕ) (c : Content) (v : ℕ) → (v ≡ w → ⊥) → c .holder ≡ some v → heldByOther w c ≡ true
 unfolding heldByOther
@@ -172,7 +185,7 @@ module _ {σ : State} {ρ : Reading} {w : ℕ} (h : Sound σ ρ) (o : IsOpen σ 
             (explain-quiet (w-working .os) (w-working .t .events) (lock w) done (λ l. unfold Agrees in tt) (w-working .explains))
             (unfold wrote atStage in refl)
             (λ o' m k lo hi. still-backed k (o' .seen k) (w-backed o' m k lo hi))
-            (λ c k p. holds k p) unchecked)
+            (λ c k p. holds k p) unchecked (λ c. clash c shut) (λ c. unfold withWorker withMap atStage in roomy))
             (h .invariant);
       }
     where
@@ -184,6 +197,28 @@ module _ {σ : State} {ρ : Reading} {w : ℕ} (h : Sound σ ρ) (o : IsOpen σ 
 
       unchecked : isChecked (x' .stage) ≡ false
       unchecked = unfold atStage isChecked in refl
+
+      shut : isOpen (x' .stage) ≡ false
+      shut = unfold atStage isOpen in refl
+
+      w-saw : AllSaw (workerOf σ w) (w-working .os)
+      w-saw = unfold Rattle.serial.specs.Continuing.x in g-saw h o
+
+      -- in a guarded map each put passed the three tests
+      roomy : Roomy (facts σ .guard) (w-working .os) (workerOf σ w .writes)
+      roomy s q = by-settings (guarded-settings (σ .guarded) (σ .settings) s q)
+        where
+          unguarded : (f : ℕ → ℕ → Bool) → σ .guarded ≡ true → guard σ w f ≡ false → anyPut f (workerOf σ w .writes) ≡ false
+          unguarded f t c = unfold guard in sym (ap (λ (b : Bool). both b (anyPut f (workerOf σ w .writes))) t) ∙ (unfold guard in c)
+
+          by-settings : (σ .guarded ≡ true) × (σ .settings ≡ s) → (k : ℕ) (p : Payload) → look (workerOf σ w .writes) k ≡ some (written p)
+              → RoomFor s (w-working .os) (workerOf σ w .writes) k p
+          by-settings t =
+              subst
+              (λ (r : Settings). (k : ℕ) (p : Payload) → look (workerOf σ w .writes) k ≡ some (written p) → RoomFor r (w-working .os) (workerOf σ w .writes) k p)
+              (t .1)
+              (lock-room-for (σ .settings) (workerOf σ w .reads) (workerOf σ w .scans) (workerOf σ w .writes) (w-working .os) w-saw
+              (unguarded _ (t .0) (unfold unfitPut in l .fit)) (unguarded _ (t .0) (unfold uncoveredPut in l .covered)) (unguarded _ (t .0) (unfold overlappedPut in l .clear)))
 
       same-given : facts σ' .given ≡ facts σ .given
       same-given = unfold withWorker withMap in refl

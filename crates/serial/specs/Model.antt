@@ -37,6 +37,7 @@ facts σ =
       holder = λ (k : ℕ). contentOf (σ .map .slots) k .holder;
       version = versionAt (σ .map .leaves);
       worker = workerOf σ;
+      guard = pick (σ .guarded) (some (σ .settings)) none;
     }
 
 pub record Fine (σ : State) : Type 0 where
@@ -70,24 +71,24 @@ worker-free σ w =
     (λ e. worker-out σ w freeWorker (less-false w (length (σ .workers)) e))
     (cases (less w (length (σ .workers))))
 
-pub worker-fresh : (s : Settings) (w : ℕ) → workerOf (fresh s) w ≡ freeWorker
+pub worker-fresh : (s : Settings) (g : Bool) (w : ℕ) → workerOf (fresh s g) w ≡ freeWorker
 unfolding workerOf
-worker-fresh s w = go (s .workers) w
+worker-fresh s g w = go (s .workers) w
   where
     go : (n w : ℕ) → getD (replicate n freeWorker) w freeWorker ≡ freeWorker
     go zero w = refl
     go (suc n) zero = refl
     go (suc n) (suc w) = go n w
 
-pub fine-fresh : (s : Settings) → GoodSettings s → Fine (fresh s)
-fine-fresh s g =
+pub fine-fresh : (s : Settings) (g : Bool) → GoodSettings s → Fine (fresh s g)
+fine-fresh s g h =
     record {
-      settings = g;
+      settings = h;
       slots = fresh-good (s .bytes);
       records = rising-nil Record;
       leaves = fresh-leaves;
       crew = length-replicate (s .workers) freeWorker;
-      writes = λ w. subst (λ (x : Worker). Rising (x .writes)) (sym (worker-fresh s w)) (rising-nil Write);
+      writes = λ w. subst (λ (x : Worker). Rising (x .writes)) (sym (worker-fresh s g w)) (rising-nil Write);
     }
 
 -- another worker, and nothing else

@@ -83,7 +83,7 @@ scanOf indexed current lo hi = record { lo = lo; hi = hi; seen = λ (k : ℕ). p
 abbrev pub shown : List (Row Write) → ℕ → ℕ → List (Row (Option Record)) → List (Row Payload)
 shown ws lo hi rows = lay (mapItems ownView (between lo hi ws)) (lay (mapItems payloadOf rows) [])
 
-within-low : (lo hi k : ℕ) → within lo hi k ≡ true → (lo ≤ k) × (k ≤ hi)
+pub within-low : (lo hi k : ℕ) → within lo hi k ≡ true → (lo ≤ k) × (k ≤ hi)
 unfolding within
 within-low lo hi k e =
     ⊎-elim (λ a. (atMost-true lo k a, atMost-true k hi (sym (side a) ∙ e))) (λ a. Rattle.lists.specs.TestLaws.clash e (rw a)) (cases (atMost lo k))

@@ -3,7 +3,7 @@ use Prim.Native.Nat.{ℕ, zero, suc, _<_}
 use native.Mathlib.Nat.{le-trans, le-of-eq, lt-of-le-of-lt}
 use mathlib.Core.Path.{_≡_, refl, sym, ap, _∙_}
 use mathlib.Core.Logic.{⊎-elim}
-use mathlib.Core.Bool.{true, false, not}
+use mathlib.Core.Bool.{Bool, true, false, not}
 use mathlib.Core.List.{List, [], _∷_, List·Memᴰ·not-nil}
 use mathlib.Core.Option.{Option, none, some, Option·getD}
 use lib.ListN.{length, replicate}
@@ -51,7 +51,10 @@ module _ {σ : State} {ρ : Reading} (h : Sound σ ρ) where
   unfolding refusal causes waitingWith
   lockable w e =
       let a = is-open w _ e in
-      let b = cause-passed _ _ (a .1) in
+      let fit = cause-passed _ _ (a .1) in
+      let covered = cause-passed _ _ (fit .1) in
+      let clear = cause-passed _ _ (covered .1) in
+      let b = cause-passed _ _ (clear .1) in
       let c = cause-passed _ _ (b .1) in (
         a .0,
         record {
@@ -60,6 +63,9 @@ module _ {σ : State} {ρ : Reading} (h : Sound σ ρ) where
               lt-of-le-of-lt
               (less-false (σ .settings .waitingLimit) _ (c .0))
               (h .fine .settings .roomy);
+          fit = fit .0;
+          covered = covered .0;
+          clear = clear .0;
         },
       )
 
@@ -148,7 +154,7 @@ module _ {σ : State} {ρ : Reading} (h : Sound σ ρ) where
 
 -- ---- runs
 
-run-sound : (σ : State) (ρ : Reading) (ss : List Step) → Sound σ ρ → Sound (final σ ss) (readOn ρ (history σ ss))
+pub run-sound : (σ : State) (ρ : Reading) (ss : List Step) → Sound σ ρ → Sound (final σ ss) (readOn ρ (history σ ss))
 unfolding final history readOn
 run-sound σ ρ [] h = h
 run-sound σ ρ (s ∷ ss) h =
@@ -166,10 +172,10 @@ current-fresh k =
     ∙ ap (λ (o : Option Content). maybe (Option·getD o idle .pending) (look (freshMap .records) k) outcomeOf) (look-nil k)
     ∙ look-nil k
 
-fresh-sound : (s : Settings) → GoodSettings s → Sound (fresh s) nothingRead
-fresh-sound s g =
+pub fresh-sound : (s : Settings) (g : Bool) → GoodSettings s → Sound (fresh s g) nothingRead
+fresh-sound s g h =
     record {
-      fine = fine-fresh s g;
+      fine = fine-fresh s g h;
       invariant =
           record {
             numbers = refl;
@@ -178,23 +184,23 @@ fresh-sound s g =
             done = λ r m. absurd (List·Memᴰ·not-nil m);
             begun = λ r m. absurd (List·Memᴰ·not-nil m);
             working = λ w e. clash (free w) e;
-            apart = λ w v c d e. clash (free w) (checked-busy (workerOf (fresh s) w .stage) c);
+            apart = λ w v c d e. clash (free w) (checked-busy (workerOf (fresh s g) w .stage) c);
           };
     }
   where
-    free : (w : ℕ) → isFree (workerOf (fresh s) w .stage) ≡ true
-    free w = ap (λ (x : Worker). isFree (x .stage)) (worker-fresh s w) ∙ free-free
+    free : (w : ℕ) → isFree (workerOf (fresh s g) w .stage) ≡ true
+    free w = ap (λ (x : Worker). isFree (x .stage)) (worker-fresh s g w) ∙ free-free
 
 -- Demand 3: for every list of steps, the claim holds of the history and the contents at the end.
-pub every-run-is-serial : (s : Settings) → GoodSettings s → (ss : List Step)
-    → SerialRun (history (fresh s) ss) (contents (final (fresh s) ss .map))
+pub every-run-is-serial : (s : Settings) (g : Bool) → GoodSettings s → (ss : List Step)
+    → SerialRun (history (fresh s g) ss) (contents (final (fresh s g) ss .map))
 unfolding reading
-every-run-is-serial s g ss =
-    let h = run-sound (fresh s) nothingRead ss (fresh-sound s g) in
-    serial (h .invariant) (contents (final (fresh s) ss .map))
-    (rising-contents (final (fresh s) ss .map) (h .fine .records))
-    (look-contents (final (fresh s) ss .map) (h .fine .slots))
+every-run-is-serial s g k ss =
+    let h = run-sound (fresh s g) nothingRead ss (fresh-sound s g k) in
+    serial (h .invariant) (contents (final (fresh s g) ss .map))
+    (rising-contents (final (fresh s g) ss .map) (h .fine .records))
+    (look-contents (final (fresh s g) ss .map) (h .fine .slots))
 
 -- ... under document 01's limits
-pub theorem : (ss : List Step) → SerialRun (history (fresh standard) ss) (contents (final (fresh standard) ss .map))
-theorem ss = every-run-is-serial standard standard-settings ss
+pub theorem : (g : Bool) (ss : List Step) → SerialRun (history (fresh standard g) ss) (contents (final (fresh standard g) ss .map))
+theorem g ss = every-run-is-serial standard g standard-settings ss

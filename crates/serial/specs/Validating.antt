@@ -11,12 +11,12 @@ use mathlib.Core.Option.{Option, none, some}
 use Rattle.lists.specs.Tests.{present, same}
 use Rattle.lists.specs.TestLaws.{cases, clash, same-true, same-false}
 use Rattle.lists.specs.Rows.{Row, row, look, keys, Different}
-use Rattle.spec.specs.Records.{Record}
+use Rattle.spec.specs.Records.{Payload, Record, Write, written}
 use Rattle.spec.specs.Steps.{Worker, isFree, isOpen, isChecked}
 use Rattle.spec.specs.Claim.{Transaction, Reading, listAfter}
-use Rattle.serial.specs.Stages.{checked-busy}
+use Rattle.serial.specs.Stages.{checked-busy, checked-not-open}
 use Rattle.serial.specs.Feeding.{eventWrites, NoLaterWriter, look-member, listAfter-none}
-use Rattle.serial.specs.Invariant.{Facts, Observation, Throughout, Explains, Backed, by-read, by-leaf, Harmless, Valid, CheckedAs, Working, Done, Invariant}
+use Rattle.serial.specs.Invariant.{Facts, Observation, Throughout, Explains, Backed, by-read, by-leaf, RoomFor, Harmless, Valid, CheckedAs, Working, Done, Invariant}
 use Rattle.serial.specs.Keeping.{SameChecks, done-kept, checked-kept, Kept, working-kept, backed-kept}
 
 -- no checked worker but w would change r at k
@@ -35,6 +35,7 @@ pub record Passed (F : Facts) (w : ℕ) (x : Worker) : Type 0 where
 -- The state and the reading after worker w was validated.
 pub record Checks (F F' : Facts) (ρ ρ' : Reading) (w : ℕ) : Type 0 where
   pub given : F' .given ≡ suc (F .given)
+  pub guard : F' .guard ≡ F .guard
   pub lastVersion : F' .lastVersion ≡ F .lastVersion
   pub current : (k : ℕ) → F' .current k ≡ F .current k
   pub indexed : (k : ℕ) → F' .indexed k ≡ F .indexed k
@@ -170,6 +171,11 @@ module _ {F F' : Facts} {ρ ρ' : Reading} {w : ℕ} (h : Checks F F' ρ ρ' w) 
               unused = fresh-number;
               latest = λ k q. all-earlier k;
             });
+        saw = λ s. clash s (checked-not-open (F' .worker w .stage) (h .is-checked));
+        room =
+            λ s l q.
+            subst (λ (ws : List (Row Write)). (k : ℕ) (p : Payload) → look ws k ≡ some (written p) → RoomFor l (g .os) ws k p) (sym (h .writes))
+            (g .room (h .was-locked) l (sym (h .guard) ∙ q));
       }
 
   kept : (v : ℕ) → (v ≡ w → ⊥) → (x : Worker) → Kept F F' ρ ρ' v x
@@ -177,6 +183,7 @@ module _ {F F' : Facts} {ρ ρ' : Reading} {w : ℕ} (h : Checks F F' ρ ρ' w) 
       record {
         running = h .running v d;
         given = more;
+        guard = h .guard;
         place = h .place;
         installed = λ r m. inl (subst (List·Memᴰ r) (h .installed) m);
         backed = backed-kept F F' x (le-of-eq (sym (h .lastVersion))) (h .version) (h .indexed);
@@ -211,7 +218,7 @@ module _ {F F' : Facts} {ρ ρ' : Reading} {w : ℕ} (h : Checks F F' ρ ρ' w) 
         done =
             λ r m.
             subst (λ (is : List (Row Transaction)). Done F' is r) (sym (h .installed))
-            (done-kept F F' (ρ .installed) r more (λ n l. checks n (le-trans (le-step (le-refl n)) l)) (i .done r (subst (List·Memᴰ r) (h .installed) m)));
+            (done-kept F F' (ρ .installed) r more (h .guard) (λ n l. checks n (le-trans (le-step (le-refl n)) l)) (i .done r (subst (List·Memᴰ r) (h .installed) m)));
         begun = λ r m. le-trans (i .begun r (subst (List·Memᴰ r) (h .installed) m)) (h .place);
         working = λ v s. ⊎-elim (λ e. subst (λ (u : ℕ). Working F' ρ' u (F' .worker u)) (sym (same-true v w e)) mine) (λ e. other v (same-false v w e) s) (cases (same v w));
         apart = λ u v cu cv e. ⊎-elim (λ a. ⊎-elim (λ b. same-true u w a ∙ sym (same-true v w b)) (λ b. absurd (old-number v (same-false v w b) cv (sym e ∙ ap (λ (y : ℕ). F' .worker y .number) (same-true u w a) ∙ h .number))) (cases (same v w))) (λ a. ⊎-elim (λ b. absurd (old-number u (same-false u w a) cu (e ∙ ap (λ (y : ℕ). F' .worker y .number) (same-true v w b) ∙ h .number))) (λ b. before u v (same-false u w a) (same-false v w b) cu cv e) (cases (same v w))) (cases (same u w));

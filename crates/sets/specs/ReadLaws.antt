@@ -15,7 +15,7 @@ use Rattle.sets.specs.Sets.{addresses}
 use Rattle.sets.specs.Reads.{ReadRows, readWords, recordOf, observedIn, noRead, readIn, readsOf, ReadSetHeld, ReadsHeld, LogsRead, GivesRead}
 use Rattle.sets.specs.SetLaws.{each-set, each-alike, row-at, row-appended}
 
-flag-back : (b : Bool) → eqb (boolByte b) 1 ≡ b
+pub flag-back : (b : Bool) → eqb (boolByte b) 1 ≡ b
 flag-back true = refl
 flag-back false = refl
 

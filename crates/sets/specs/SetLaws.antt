@@ -9,7 +9,7 @@ use lib.Seq.{length-take-le, getD-take, getD-set-same, getD-set-other, take-set-
 use Rattle.lists.specs.Tests.{same}
 use Rattle.lists.specs.TestLaws.{cases, same-true, same-false}
 use Rattle.lists.specs.Tabulation.{tab, tabFrom}
-use Rattle.lists.specs.Shifts.{moved, length-moved, length-tab, getD-tab, put-in}
+use Rattle.lists.specs.Shifts.{moved, length-moved, length-tab, getD-tab, tab-snoc, put-in}
 use Rattle.sets.specs.Sets.{Each, firstRows}
 
 -- ---- one of the lists is replaced: a row of a set, or a worker's set
@@ -60,6 +60,10 @@ module _ {A : Type 0} (f : List ℕ → A) (rs : List (List ℕ)) where
   pub row-at : (n i : ℕ) (d : A) → i < n → getD (firstRows f rs n) i d ≡ f (getD rs i [])
   unfolding firstRows
   row-at n i d h = getD-tab (λ (i : ℕ). f (getD rs i [])) n i d h
+
+  pub rows-snoc : (n : ℕ) → firstRows f rs (suc n) ≡ firstRows f rs n ++ (f (getD rs n []) ∷ [])
+  unfolding firstRows
+  rows-snoc n = tab-snoc (λ (i : ℕ). f (getD rs i [])) n
 
   taken : (n : ℕ) → n ≤ length rs → firstRows f rs n ≡ map f (take n rs)
   taken n h =

@@ -5,7 +5,7 @@ use Rattle.spec.specs.declared.Stage.the-variants.{Free, Open, Locked, Checked}
 use Rattle.spec.specs.Steps as model
 use Rattle.sets.specs.declared.workers.Worker.{Worker}
 use Rattle.sets.specs.Reads.{ReadRows, readsIn}
-use Rattle.sets.specs.Leaves.{LeafSetRows, versionsIn}
+use Rattle.sets.specs.Leaves.{LeafSetRows, versionsIn, scansIn}
 use Rattle.sets.specs.Writes.{WriteRows, writesIn}
 
 -- worker w (document 01: a seat), with the rows of all read sets, leaf sets and write sets
@@ -15,6 +15,7 @@ workerIn x rs ls ws w =
       stage = x .stage;
       reads = readsIn rs w (x .reads);
       versions = versionsIn ls w (x .leaves);
+      scans = scansIn ls w (x .leaves);
       writes = writesIn ws w (x .writes);
       number = x .number;
     }

@@ -13,7 +13,7 @@ pub mod writes;
 // How many words a row of each set has.
 pub const READ_WORDS: usize = 4;
 
-pub const LEAF_SET_WORDS: usize = 2;
+pub const LEAF_SET_WORDS: usize = 7;
 
 pub const WRITE_WORDS: usize = 3;
 

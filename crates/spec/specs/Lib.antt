@@ -3,6 +3,7 @@ pub mod Records
 pub mod Leaves
 pub mod Slots
 pub mod Maps
+pub mod Guards
 pub mod Steps
 pub mod Waiting
 pub mod Sequential

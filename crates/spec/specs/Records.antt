@@ -19,6 +19,8 @@ pub record Settings : Type 0 where
   pub run : ℕ  -- records of a run cut off a larger leaf
   pub lastNumber : ℕ  -- serial numbers end here
   pub bytes : ℕ  -- bytes of an address, for the home slot
+  pub highest : ℕ  -- the highest address
+  pub longest : ℕ  -- bytes of the longest section of a guarded map
 
 abbrev pub standard : Settings
 standard =
@@ -33,6 +35,8 @@ standard =
       run = 8;
       lastNumber = 1000000;
       bytes = 4;
+      highest = 4294967295;
+      longest = 65536;
     }
 
 -- What a put gives a record (document 01: a value).

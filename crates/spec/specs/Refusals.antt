@@ -1,8 +1,8 @@
--- Document 01, "Refusals by number": the number of each refusal, and which of them end the transaction.
+-- Document 01, "Refusals by number", and the requests: the number of each refusal, and which of them end the transaction.
 use Prim.Native.Nat.{ℕ}
 use mathlib.Core.Bool.{Bool, true, false}
 use Rattle.spec.specs.declared.Refusal.{Refusal}
-use Rattle.spec.specs.declared.Refusal.the-variants.{NoWorker, WorkerFree, WorkerTaken, WrongStage, Backward, LogFull, WritesFull, ShortBuffer, Held, IndexletFull, MapFull, Changed, UnderLock, Phantom, Spent}
+use Rattle.spec.specs.declared.Refusal.the-variants.{NoWorker, WorkerFree, WorkerTaken, WrongStage, Backward, LogFull, WritesFull, ShortBuffer, Held, IndexletFull, MapFull, Changed, UnderLock, Phantom, Spent, Unfit, Uncovered, Overlap}
 
 abbrev pub numberOf : Refusal → ℕ
 numberOf NoWorker = 1
@@ -20,6 +20,9 @@ numberOf Changed = 12
 numberOf UnderLock = 13
 numberOf Phantom = 14
 numberOf Spent = 15
+numberOf Unfit = 16
+numberOf Uncovered = 17
+numberOf Overlap = 18
 
 -- 12, 13 and 14 end the transaction
 abbrev pub ends : Refusal → Bool
@@ -38,3 +41,6 @@ ends Changed = true
 ends UnderLock = true
 ends Phantom = true
 ends Spent = false
+ends Unfit = false
+ends Uncovered = false
+ends Overlap = false

@@ -1,10 +1,11 @@
 -- The starred runs of document 01, "Runs to keep": one table, and one fact proved over it by computing.
 use Prim.Native.Nat.{ℕ}
 use mathlib.Core.Path.{_≡_, refl}
+use mathlib.Core.Bool.{Bool, true, false}
 use mathlib.Core.List.{List, [], _∷_, _++_, map}
 use mathlib.Core.Option.{none, some}
 use Rattle.lists.specs.Rows.{Row, row}
-use Rattle.spec.specs.declared.Refusal.the-variants.{NoWorker, WorkerFree, Backward, ShortBuffer, Changed, UnderLock, Phantom}
+use Rattle.spec.specs.declared.Refusal.the-variants.{NoWorker, WorkerFree, Backward, ShortBuffer, Held, Changed, UnderLock, Phantom, Unfit, Uncovered, Overlap}
 use Rattle.spec.specs.Records.{standard, Payload, Record}
 use Rattle.spec.specs.Leaves.{cuts}
 use Rattle.spec.specs.Slots.{homeSlot}
@@ -21,19 +22,19 @@ event s a = record { step = s; answer = a }
 abbrev pub entryOf : ℕ → ℕ → ℕ → Row Record
 entryOf k n c = row k (record { payload = value n; commit = c })
 
--- A row of the table: a home slot; the leaves that so many records make; a script with its answers and the contents that
--- it leaves.
+-- A row of the table: a home slot; the leaves that so many records make; whether the map is guarded, a script with its answers,
+-- and the contents that it leaves.
 pub data Run : Type 0 where
   home : ℕ → ℕ → Run
   leaves : ℕ → List ℕ → Run
-  script : List Event → List (Row Record) → Run
+  script : Bool → List Event → List (Row Record) → Run
 
 -- what the row says of the model
 abbrev pub Holds : Run → Type 0
 Holds (home a h) = homeSlot (standard .bytes) a ≡ h
 Holds (leaves n ns) = cuts standard n ≡ ns
-Holds (script h rs) =
-    (history (fresh standard) (stepsOf h) ≡ h) × (contents (final (fresh standard) (stepsOf h) .map) ≡ rs)
+Holds (script g h rs) =
+    (history (fresh standard g) (stepsOf h) ≡ h) × (contents (final (fresh standard g) (stepsOf h) .map) ≡ rs)
 
 abbrev pub AllHold : List Run → Type 0
 AllHold [] = Unit {0}
@@ -204,6 +205,97 @@ oldestFirst =
     ∷ oldestMerged 0
     ∷ [])
 
+-- Request 102. A put needs a scan from 65,535 before it to its last byte; the scan may come after the put. A section that
+-- waits is met as a phantom, and once merged as an overlap; it may be removed and its place be put over.
+abbrev pub guardedDay : List Event
+guardedDay =
+    event (begin 0) done
+    ∷ event (put 0 4096 (value 32)) done
+    ∷ event (lock 0) (refused Uncovered)
+    ∷ event (scan 0 0 4127 64 64) (listed (row 4096 (value 32) ∷ []))
+    ∷ event (lock 0) done
+    ∷ event (begin 1) done
+    ∷ event (scan 1 0 5000 64 64) (listed [])
+    ∷ event (put 1 4120 (value 8)) done
+    ∷ event (validate 0) (numbered 1)
+    ∷ event (install 0) done
+    ∷ event (lock 1) done
+    ∷ event (validate 1) (refused Phantom)
+    ∷ event (merge 0) (counted 1)
+    ∷ event (begin 1) done
+    ∷ event (put 1 4120 (value 16)) done
+    ∷ event (scan 1 0 4134 64 64) (listed (row 4096 (value 32) ∷ row 4120 (value 16) ∷ []))
+    ∷ event (lock 1) (refused Uncovered)
+    ∷ event (scan 1 0 4135 64 64) (listed (row 4096 (value 32) ∷ row 4120 (value 16) ∷ []))
+    ∷ event (lock 1) (refused Overlap)
+    ∷ event (put 1 4128 (value 8)) done
+    ∷ event (lock 1) (refused Overlap)
+    ∷ event (remove 1 4120) done
+    ∷ event (lock 1) done
+    ∷ event (validate 1) (numbered 2)
+    ∷ event (install 1) done
+    ∷ event (begin 2) done
+    ∷ event (scan 2 0 5000 64 64) (listed (row 4096 (value 32) ∷ []))
+    ∷ event (remove 2 4096) done
+    ∷ event (put 2 4100 (value 28)) done
+    ∷ event (lock 2) done
+    ∷ event (validate 2) (refused Phantom)
+    ∷ event (merge 0) (counted 2)
+    ∷ event (begin 2) done
+    ∷ event (scan 2 0 5000 64 64) (listed (row 4096 (value 32) ∷ row 4128 (value 8) ∷ []))
+    ∷ event (remove 2 4096) done
+    ∷ event (put 2 4100 (value 29)) done
+    ∷ event (lock 2) (refused Overlap)
+    ∷ event (put 2 4100 (value 28)) done
+    ∷ event (lock 2) done
+    ∷ event (validate 2) (numbered 3)
+    ∷ event (install 2) done
+    ∷ []
+
+-- Lengths and ends come before scans, scans before overlaps, all before locks of others. Of the scans that cover a put the
+-- latest decides: here it has seen less than the first.
+abbrev pub guardedOrder : List Event
+guardedOrder =
+    event (begin 0) done
+    ∷ event (scan 0 0 200000 64 64) (listed [])
+    ∷ event (put 0 0 (value 65536)) done
+    ∷ event (lock 0) done
+    ∷ event (begin 1) done
+    ∷ event (put 1 0 (value 65537)) done
+    ∷ event (lock 1) (refused Unfit)
+    ∷ event (put 1 0 (value 0)) done
+    ∷ event (put 1 4294967295 (value 1)) done
+    ∷ event (lock 1) (refused Unfit)
+    ∷ event (put 1 0 (value 8)) done
+    ∷ event (lock 1) (refused Uncovered)
+    ∷ event (scan 1 0 4294967295 64 64) (listed (row 0 (value 8) ∷ row 4294967295 (value 1) ∷ []))
+    ∷ event (lock 1) (refused Held)
+    ∷ event (put 1 4294967295 (value 2)) done
+    ∷ event (lock 1) (refused Unfit)
+    ∷ event (put 1 4294967295 (value 1)) done
+    ∷ event (remove 1 0) done
+    ∷ event (put 1 4294901760 (value 65536)) done
+    ∷ event (lock 1) (refused Overlap)
+    ∷ event (remove 1 4294967295) done
+    ∷ event (lock 1) (refused Held)
+    ∷ event (validate 0) (numbered 1)
+    ∷ event (install 0) done
+    ∷ event (merge 0) (counted 1)
+    ∷ event (begin 2) done
+    ∷ event (scan 2 0 200000 64 64) (listed (row 0 (value 65536) ∷ []))
+    ∷ event (put 2 65535 (value 4)) done
+    ∷ event (lock 2) (refused Overlap)
+    ∷ event (begin 0) done
+    ∷ event (remove 0 0) done
+    ∷ event (lock 0) done
+    ∷ event (validate 0) (numbered 2)
+    ∷ event (install 0) done
+    ∷ event (merge 0) (counted 1)
+    ∷ event (scan 2 0 200000 64 64) (listed (row 65535 (value 4) ∷ []))
+    ∷ event (lock 2) done
+    ∷ event (validate 2) (refused Changed)
+    ∷ []
+
 -- Document 01's starred runs, in its order.
 abbrev pub starred : List Run
 starred =
@@ -214,34 +306,36 @@ starred =
     ∷ leaves 17 (8 ∷ 9 ∷ [])
     ∷ leaves 24 (8 ∷ 8 ∷ 8 ∷ [])
     ∷ leaves 31 (8 ∷ 8 ∷ 15 ∷ [])
-    ∷ script fullRun (entryOf 4096 32 1 ∷ [])
-    ∷ script (event (merge 0) (counted 0) ∷ []) []
-    ∷ script
+    ∷ script false fullRun (entryOf 4096 32 1 ∷ [])
+    ∷ script false (event (merge 0) (counted 0) ∷ []) []
+    ∷ script false
     (event (begin 0) done
     ∷ event (scan 0 5 5 64 64) (listed [])
     ∷ event (scan 0 5 4 64 64) (refused Backward)
     ∷ [])
     []
-    ∷ script (event (begin 7) done ∷ event (begin 8) (refused NoWorker) ∷ []) []
-    ∷ script crossing (entryOf 1 10 1 ∷ [])
-    ∷ script installedLater (entryOf 1 10 1 ∷ entryOf 2 20 2 ∷ [])
-    ∷ script removedUnderLock []
+    ∷ script false (event (begin 7) done ∷ event (begin 8) (refused NoWorker) ∷ []) []
+    ∷ script false crossing (entryOf 1 10 1 ∷ [])
+    ∷ script false installedLater (entryOf 1 10 1 ∷ entryOf 2 20 2 ∷ [])
+    ∷ script false removedUnderLock []
     ∷ []
 
 abbrev pub further : List Run
 further =
-    script sameValueAgain (entryOf 9 90 2 ∷ [])
-    ∷ script ownWrites []
-    ∷ script oldestFirst
+    script false sameValueAgain (entryOf 9 90 2 ∷ [])
+    ∷ script false ownWrites []
+    ∷ script false oldestFirst
     (entryOf 0 0 1 ∷ entryOf 5 5 3 ∷ entryOf 6 6 5 ∷ entryOf 7 7 7
     ∷ writtenBy 1 (10 ∷ 20 ∷ 30 ∷ 40 ∷ 50 ∷ 60 ∷ 70 ∷ [])
     ++ (writtenBy 2 (800 ∷ 810 ∷ 820 ∷ 830 ∷ 840 ∷ 850 ∷ 860 ∷ 870 ∷ 880 ∷ [])
     ++ (entryOf 900 900 6 ∷ entryOf 901 901 7 ∷ entryOf 902 902 7 ∷ [])))
+    ∷ script true guardedDay (entryOf 4100 28 3 ∷ entryOf 4128 8 2 ∷ [])
+    ∷ script true guardedOrder []
     ∷ []
 
 pub further-hold : AllHold further
 unfolding model
-further-hold = ((refl, refl), ((refl, refl), ((refl, refl), tt)))
+further-hold = ((refl, refl), ((refl, refl), ((refl, refl), ((refl, refl), ((refl, refl), tt)))))
 
 pub starred-hold : AllHold starred
 unfolding model

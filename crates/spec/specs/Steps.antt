@@ -8,13 +8,14 @@ use lib.ListN.{length, getD, set, replicate}
 use Rattle.lists.specs.Tests.{pick, both, either, maybe, present, less}
 use Rattle.lists.specs.Rows.{Row, row, look, insert, lay, between, keys, mapItems, any}
 use Rattle.spec.specs.declared.Refusal.{Refusal}
-use Rattle.spec.specs.declared.Refusal.the-variants.{NoWorker, WorkerFree, WorkerTaken, WrongStage, Backward, LogFull, WritesFull, ShortBuffer, Held, IndexletFull, MapFull, Changed, UnderLock, Phantom, Spent}
+use Rattle.spec.specs.declared.Refusal.the-variants.{NoWorker, WorkerFree, WorkerTaken, WrongStage, Backward, LogFull, WritesFull, ShortBuffer, Held, IndexletFull, MapFull, Changed, UnderLock, Phantom, Spent, Unfit, Uncovered, Overlap}
 use Rattle.spec.specs.declared.Stage.{Stage}
 use Rattle.spec.specs.declared.Stage.the-variants.{Free, Open, Locked, Checked}
 use Rattle.spec.specs.Refusals.{ends}
 use Rattle.spec.specs.Records.{Settings, Payload, Record, Write, written, deleted, ownView, payloadOf, sameRecord}
 use Rattle.spec.specs.Leaves.{live, meeting}
 use Rattle.spec.specs.Slots.{contentOf}
+use Rattle.spec.specs.Guards.{Scan, unfit, uncovered, overlapped, anyPut}
 use Rattle.spec.specs.Maps.{MapState, freshMap, current, indexedBetween, heldByOther, hides, waitingWith, addressesWith, merging, lockAll, unlockAll, installAll, Merged, mergeAt, oldest}
 
 -- ---- state
@@ -24,11 +25,12 @@ pub record Worker : Type 0 where
   pub stage : Stage
   pub reads : List (Row (Option Record))  -- the log's record entries: address and present record, or its absence
   pub versions : List ℕ  -- the log's marks
+  pub scans : List Scan  -- its granted scans, in their order (request 102)
   pub writes : List (Row Write)  -- the edits, by rising address
   pub number : ℕ  -- the commit number, once checked
 
 abbrev pub freeWorker : Worker
-freeWorker = record { stage = Free; reads = []; versions = []; writes = []; number = 0 }
+freeWorker = record { stage = Free; reads = []; versions = []; scans = []; writes = []; number = 0 }
 
 -- The last commit number and the last leaf version given (document 01: serial number and mark), and how many installs there
 -- were (request 101).
@@ -39,15 +41,17 @@ pub record Counters : Type 0 where
 
 pub record State : Type 0 where
   pub settings : Settings
+  pub guarded : Bool  -- from its start on (request 102)
   pub counters : Counters
   pub map : MapState
   pub workers : List Worker
 
--- a fresh map: empty, nothing waiting or locked, no number given, every worker free
-abbrev pub fresh : Settings → State
-fresh s =
+-- a fresh map, guarded or not: empty, nothing waiting or locked, no number given, every worker free
+abbrev pub fresh : Settings → Bool → State
+fresh s g =
     record {
       settings = s;
+      guarded = g;
       counters = record { number = 0; version = 0; installs = 0 };
       map = freshMap;
       workers = replicate (s .workers) freeWorker;
@@ -137,6 +141,11 @@ scanReads σ lo hi = indexedBetween (σ .map) lo hi
 unfoldable pub scanVersions : State → ℕ → ℕ → List ℕ
 scanVersions σ lo hi = meeting (σ .map .leaves) lo hi
 
+-- the scan, as the transaction remembers it: its rows come behind those that are logged already
+unfoldable pub remembered : State → ℕ → ℕ → ℕ → Scan
+remembered σ w lo hi =
+    record { lo = lo; hi = hi; from = length (workerOf σ w .reads); count = length (scanReads σ lo hi) }
+
 -- ---- refusals
 
 pub record Cause : Type 0 where
@@ -184,7 +193,22 @@ changedSince σ r = not (sameRecord (current (σ .map) (r .key)) (r .item))
 unfoldable pub phantomIn : State → ℕ → ℕ → Bool
 phantomIn σ w v = either (not (live (σ .map .leaves) v)) (hides (σ .map) w v)
 
--- The causes of a step's refusals, in the order in which they are answered.
+-- in a guarded map, some put of the worker's write set meets the test
+unfoldable pub guard : State → ℕ → (ℕ → ℕ → Bool) → Bool
+guard σ w f = both (σ .guarded) (anyPut f (workerOf σ w .writes))
+
+unfoldable pub unfitPut : State → ℕ → Bool
+unfitPut σ w = guard σ w (unfit (σ .settings))
+
+unfoldable pub uncoveredPut : State → ℕ → Bool
+uncoveredPut σ w = guard σ w (uncovered (σ .settings) (workerOf σ w .scans))
+
+unfoldable pub overlappedPut : State → ℕ → Bool
+overlappedPut σ w =
+    guard σ w (overlapped (σ .settings) (workerOf σ w .reads) (workerOf σ w .scans) (workerOf σ w .writes))
+
+-- The causes of a step's refusals, in the order in which they are answered: by their numbers, but where a request gives one
+-- its place.
 unfoldable pub causes : State → Step → List Cause
 causes σ (begin w) = noWorker σ w ∷ cause (not (isFree (workerOf σ w .stage))) WorkerTaken ∷ []
 causes σ (read w k) =
@@ -205,6 +229,9 @@ causes σ (lock w) =
     noWorker σ w
     ∷ workerFree σ w
     ∷ wrongStage isOpen σ w
+    ∷ cause (unfitPut σ w) Unfit
+    ∷ cause (uncoveredPut σ w) Uncovered
+    ∷ cause (overlappedPut σ w) Overlap
     ∷ cause (any (lockedByOther σ w) (writeKeys σ w)) Held
     ∷ cause (less (σ .settings .waitingLimit) (waitingWith (σ .map) (writeKeys σ w))) IndexletFull
     ∷ cause (less (σ .settings .mapLimit) (addressesWith (σ .map) (writeKeys σ w))) MapFull
@@ -252,15 +279,16 @@ granted σ mergeOldest = mergeCount σ (oldest (σ .map))
 
 unfoldable pub withWorker : State → ℕ → Worker → State
 withWorker σ w x =
-    record { settings = σ .settings; counters = σ .counters; map = σ .map; workers = set (σ .workers) w x }
+    record { settings = σ .settings; guarded = σ .guarded; counters = σ .counters; map = σ .map; workers = set (σ .workers) w x }
 
 unfoldable pub withMap : State → MapState → State
-withMap σ m = record { settings = σ .settings; counters = σ .counters; map = m; workers = σ .workers }
+withMap σ m = record { settings = σ .settings; guarded = σ .guarded; counters = σ .counters; map = m; workers = σ .workers }
 
 unfoldable pub withCounters : State → ℕ → ℕ → State
 withCounters σ n v =
     record {
       settings = σ .settings;
+      guarded = σ .guarded;
       counters = record { number = n; version = v; installs = σ .counters .installs };
       map = σ .map;
       workers = σ .workers;
@@ -271,6 +299,7 @@ unfoldable pub installCounted : State → State
 installCounted σ =
     record {
       settings = σ .settings;
+      guarded = σ .guarded;
       counters =
           record {
             number = σ .counters .number;
@@ -283,14 +312,16 @@ installCounted σ =
 
 unfoldable pub atStage : Stage → Worker → Worker
 atStage st x =
-    record { stage = st; reads = x .reads; versions = x .versions; writes = x .writes; number = x .number }
+    record { stage = st; reads = x .reads; versions = x .versions; scans = x .scans; writes = x .writes; number = x .number }
 
-unfoldable pub logged : List (Row (Option Record)) → List ℕ → Worker → Worker
-logged rs vs x =
+-- the worker with more in its log, and with scans more to remember
+unfoldable pub logged : List (Row (Option Record)) → List ℕ → List Scan → Worker → Worker
+logged rs vs cs x =
     record {
       stage = x .stage;
       reads = x .reads ++ rs;
       versions = x .versions ++ vs;
+      scans = x .scans ++ cs;
       writes = x .writes;
       number = x .number;
     }
@@ -301,13 +332,14 @@ writing k e x =
       stage = x .stage;
       reads = x .reads;
       versions = x .versions;
+      scans = x .scans;
       writes = insert k e (x .writes);
       number = x .number;
     }
 
 unfoldable pub checkedAs : ℕ → Worker → Worker
 checkedAs n x =
-    record { stage = Checked; reads = x .reads; versions = x .versions; writes = x .writes; number = n }
+    record { stage = Checked; reads = x .reads; versions = x .versions; scans = x .scans; writes = x .writes; number = n }
 
 -- what a read logs: nothing, where the worker's own write answered it
 unfoldable pub readRows : State → ℕ → ℕ → List (Row (Option Record))
@@ -332,8 +364,9 @@ installedMap σ w =
 -- the state after a granted step
 unfoldable pub effect : State → Step → State
 effect σ (begin w) = withWorker σ w (atStage Open freeWorker)
-effect σ (read w k) = withWorker σ w (logged (readRows σ w k) [] (workerOf σ w))
-effect σ (scan w lo hi m n) = withWorker σ w (logged (scanReads σ lo hi) (scanVersions σ lo hi) (workerOf σ w))
+effect σ (read w k) = withWorker σ w (logged (readRows σ w k) [] [] (workerOf σ w))
+effect σ (scan w lo hi m n) =
+    withWorker σ w (logged (scanReads σ lo hi) (scanVersions σ lo hi) (remembered σ w lo hi ∷ []) (workerOf σ w))
 effect σ (put w k p) = withWorker σ w (writing k (written p) (workerOf σ w))
 effect σ (remove w k) = withWorker σ w (writing k deleted (workerOf σ w))
 effect σ (lock w) =

@@ -32,6 +32,9 @@ pub const RUN: usize = 8;
 
 pub const LAST_NUMBER: u64 = 1000000;
 
+// The longest section of a guarded map, in bytes.
+pub const LONGEST: u64 = 65536;
+
 // The current record of an address, or none there (document 01: present record): its value and its commit number (stamp).
 pub struct Current {
     pub there: bool,
@@ -39,7 +42,8 @@ pub struct Current {
     pub commit: u64,
 }
 
-// A refusal, one variant for each row of document 01's table.
+// A refusal, one variant for each row of document 01's table; then those that request 102 adds to lock in a guarded map: a
+// length or an end that does not fit, no scan that covers the section, an overlap.
 pub enum Refusal {
     NoWorker,
     WorkerFree,
@@ -56,6 +60,9 @@ pub enum Refusal {
     UnderLock,
     Phantom,
     Spent,
+    Unfit,
+    Uncovered,
+    Overlap,
 }
 
 // The stage of a worker's transaction (document 01: a job's stage).
@@ -66,7 +73,7 @@ pub enum Stage {
     Checked,
 }
 
-// The number of a refusal in document 01's table.
+// The number of a refusal in document 01's table, or in the request's text.
 pub fn number_of(r: Refusal) -> u64
     ensures { λ n. ⌜ n ≡ numberOf r ⌝ }
 {
@@ -86,5 +93,8 @@ pub fn number_of(r: Refusal) -> u64
         Refusal::UnderLock => 13,
         Refusal::Phantom => 14,
         Refusal::Spent => 15,
+        Refusal::Unfit => 16,
+        Refusal::Uncovered => 17,
+        Refusal::Overlap => 18,
     }
 }

@@ -34,7 +34,7 @@ use Rattle.transactions.specs.ReadyLaws.{refines}
 
 -- the core after a merge
 abbrev pub mergedCore : Core → Merged → Core
-mergedCore c r = record { workers = c .workers; sizes = r .sizes; counters = r .counters }
+mergedCore c r = record { workers = c .workers; sizes = r .sizes; counters = r .counters; guarded = c .guarded }
 
 -- the version counter is far from its end
 pub version-room : {l : Lent} {g : Logs} {c : Core} → Ready l g c → c .counters .version + versionsPerMerge standard < 2 ^ 64
@@ -82,6 +82,7 @@ module _ {l l' : Lent} {g : Logs} {c : Core} {a : ℕ} {r : Merged} (h : Ready l
   merged-state =
       λ i. record {
         settings = standard;
+        guarded = c .guarded;
         counters = record { number = m .number i; version = m .version i; installs = m .installs i };
         map = m .map i;
         workers = Rattle.transactions.specs.Views.workersFrom g (c .workers) 0;

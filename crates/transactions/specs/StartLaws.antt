@@ -1,12 +1,13 @@
 -- The laws of a fresh start.
 use Prim.Native.Nat.{ℕ, zero, suc, _<_, zero-le}
 use native.Mathlib.Nat.{not-suc-le-zero}
-use mathlib.Core.Path.{_≡_, refl, sym, subst}
+use mathlib.Core.Path.{_≡_, refl, sym, ap, subst}
+use mathlib.Core.Bool.{Bool, true, false}
 use mathlib.Core.List.{_∷_}
 use lib.ListN.{getD, replicate, length-replicate}
 use Rattle.spec.specs.Records.{standard}
 use Rattle.spec.specs.Maps.{freshMap}
-use Rattle.spec.specs.Steps.{fresh, freeWorker}
+use Rattle.spec.specs.Steps.{State, fresh, freeWorker}
 use Rattle.laws.specs.WorkerLaws.{standard-settings}
 use Rattle.limits.specs.Invariant.{Kept, fresh-kept}
 use Rattle.limits.specs.LoggedVersions.{LoggedOld, fresh-logged}
@@ -19,9 +20,10 @@ use Rattle.sets.specs.WorkerLaws.{free-in}
 use Rattle.map.specs.declared.Sizes.{Sizes}
 use Rattle.map.specs.Views.{Lent}
 use Rattle.map.specs.Entries.{MapBecomes}
+use Rattle.transactions.specs.declared.Core.{Core}
 use Rattle.transactions.specs.Views.{Logs, modelWorker, workersFrom, stateOf}
-use Rattle.transactions.specs.Ready.{workerAt, Within, Stored}
-use Rattle.transactions.specs.Starts.{Fresh, noLogs, startCore}
+use Rattle.transactions.specs.Ready.{workerAt, Within, Stored, Ready}
+use Rattle.transactions.specs.Starts.{Fresh, noLogs, startCore, guardedCore}
 
 free-worker : (g : Logs) (w : ℕ) → modelWorker g freed w ≡ freeWorker
 free-worker g w = free-in (g .reads) (g .leaves) (g .writes) w
@@ -36,21 +38,22 @@ getD-free zero w = refl
 getD-free (suc n) zero = refl
 getD-free (suc n) (suc w) = getD-free n w
 
-module _ (l : Lent) (z : Sizes) (b : MapBecomes l z 0 freshMap) where
-  fresh-state : stateOf l noLogs (startCore z) ≡ fresh standard
+module _ (l : Lent) (z : Sizes) (guarded : Bool) (b : MapBecomes l z 0 freshMap) where
+  fresh-state : stateOf l noLogs (startCore z guarded) ≡ fresh standard guarded
   unfolding stateOf
   fresh-state =
       λ i. record {
         settings = standard;
+        guarded = guarded;
         counters = record { number = 0; version = 0; installs = 0 };
         map = b .map i;
         workers = free-workers noLogs (standard .workers) 0 i;
       }
 
-  no-leaf : (w i : ℕ) → i < workerAt (startCore z) w .leaves → {A : Type 0} → A
+  no-leaf : (w i : ℕ) → i < workerAt (startCore z guarded) w .leaves → {A : Type 0} → A
   no-leaf w i h = absurd (not-suc-le-zero (subst (λ (x : Worker). i < x .leaves) (getD-free (standard .workers) w) h))
 
-  fresh-stored : Stored l noLogs (startCore z)
+  fresh-stored : Stored l noLogs (startCore z guarded)
   fresh-stored =
       record {
         map = b .held;
@@ -62,14 +65,43 @@ module _ (l : Lent) (z : Sizes) (b : MapBecomes l z 0 freshMap) where
         lows = λ w h i j. no-leaf w i j;
       }
 
-  pub fresh-start : Fresh l noLogs (startCore z)
+  pub fresh-start : Fresh l noLogs guarded (startCore z guarded)
   fresh-start =
       record {
         ready =
             record {
               stored = fresh-stored;
-              kept = subst Kept (sym fresh-state) (fresh-kept standard standard-settings);
-              logged = subst LoggedOld (sym fresh-state) (fresh-logged standard);
+              kept = subst Kept (sym fresh-state) (fresh-kept standard guarded standard-settings);
+              logged = subst LoggedOld (sym fresh-state) (fresh-logged standard guarded);
             };
         state = fresh-state;
       }
+
+-- ---- the map is guarded from here on
+
+-- a fresh map becomes a fresh guarded one
+pub guarded-fresh : {l : Lent} {g : Logs} {c : Core} → Ready l g c → stateOf l g c ≡ fresh standard false
+    → Ready l g (guardedCore c) × (stateOf l g (guardedCore c) ≡ fresh standard true)
+guarded-fresh {l} {g} {c} r e = (
+  record {
+    stored =
+        record {
+          map = r .stored .map;
+          reads = r .stored .reads;
+          leaves = r .stored .leaves;
+          writes = r .stored .writes;
+          workers = r .stored .workers;
+          counts = r .stored .counts;
+          lows = r .stored .lows;
+        };
+    kept = subst Kept (sym now) (fresh-kept standard true standard-settings);
+    logged = subst LoggedOld (sym now) (fresh-logged standard true);
+  },
+  now,
+)
+  where
+    withGuard : State → State
+    withGuard σ = record { settings = σ .settings; guarded = true; counters = σ .counters; map = σ .map; workers = σ .workers }
+
+    now : stateOf l g (guardedCore c) ≡ fresh standard true
+    now = unfold stateOf in ap withGuard e

@@ -1,6 +1,7 @@
 -- The arrays of a fresh map, with every worker free.
 use Prim.Native.Nat.{ℕ}
 use mathlib.Core.Path.{_≡_}
+use mathlib.Core.Bool.{Bool, true}
 use mathlib.Core.List.{List}
 use lib.ListN.{replicate}
 use Rattle.spec.specs.Records.{standard}
@@ -15,9 +16,9 @@ use Rattle.transactions.specs.declared.Core.{Core}
 use Rattle.transactions.specs.Views.{Logs, logs, stateOf}
 use Rattle.transactions.specs.Ready.{Ready}
 
-pub record Fresh (l : Lent) (g : Logs) (c : Core) : Type 0 where
+pub record Fresh (l : Lent) (g : Logs) (guarded : Bool) (c : Core) : Type 0 where
   pub ready : Ready l g c
-  pub state : stateOf l g c ≡ fresh standard
+  pub state : stateOf l g c ≡ fresh standard guarded
 
 -- all workers' sets, of rows of zeros
 abbrev zeros : ℕ → ℕ → List (List (List ℕ))
@@ -26,5 +27,9 @@ zeros limit words = replicate (standard .workers) (replicate limit (replicate wo
 abbrev pub noLogs : Logs
 noLogs = logs (zeros (standard .readLimit) readWords) (zeros (standard .leafSetLimit) leafSetWords) (zeros (standard .writeLimit) writeWords)
 
-abbrev pub startCore : Sizes → Core
-startCore z = record { workers = replicate (standard .workers) freed; sizes = z; counters = record { number = 0; version = 0; installs = 0 } }
+abbrev pub startCore : Sizes → Bool → Core
+startCore z guarded = record { workers = replicate (standard .workers) freed; sizes = z; counters = record { number = 0; version = 0; installs = 0 }; guarded = guarded }
+
+-- the core of a guarded map, with all else as it is
+abbrev pub guardedCore : Core → Core
+guardedCore c = record { workers = c .workers; sizes = c .sizes; counters = c .counters; guarded = true }

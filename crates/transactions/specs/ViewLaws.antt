@@ -37,7 +37,7 @@ unfolding stateOf workerOf
 worker-at l g c w h = from-at g (c .workers) 0 w h ∙ ap (modelWorker g (getD (c .workers) w freed)) (let e : 0 + w ≡ w = omega arith in e)
 
 pub same-logs : (g : Logs) (w : ℕ) → OthersSame g g w
-same-logs g w = record { reads = λ v n d. refl; leaves = λ v n d. refl; writes = λ v n d. refl }
+same-logs g w = record { reads = λ v n d. refl; leaves = λ v n d. refl; scans = λ v n d. refl; writes = λ v n d. refl }
 
 other-worker : (g g' : Logs) (w : ℕ) → OthersSame g g' w → (x : Worker) (v : ℕ) → (v ≡ w → ⊥) → modelWorker g' x v ≡ modelWorker g x v
 unfolding workerIn
@@ -46,6 +46,7 @@ other-worker g g' w o x v d =
       stage = x .stage;
       reads = o .reads v (x .reads) d i;
       versions = o .leaves v (x .leaves) d i;
+      scans = o .scans v (x .leaves) d i;
       writes = o .writes v (x .writes) d i;
       number = x .number;
     }
@@ -79,6 +80,7 @@ state-with l g g' c w x o =
     (λ (ws : List model.Worker).
     record {
       settings = standard;
+      guarded = c .guarded;
       counters = record { number = c .counters .number; version = c .counters .version; installs = c .counters .installs };
       map = mapOf l (c .sizes);
       workers = ws;

@@ -9,7 +9,7 @@ use Rattle.spec.specs.Steps.{State}
 use Rattle.sets.specs.declared.workers.Worker.{Worker}
 use Rattle.sets.specs.Workers.{workerIn}
 use Rattle.sets.specs.Reads.{ReadRows, readsIn}
-use Rattle.sets.specs.Leaves.{LeafSetRows, versionsIn}
+use Rattle.sets.specs.Leaves.{LeafSetRows, versionsIn, scansIn}
 use Rattle.sets.specs.Writes.{WriteRows, writesIn}
 use Rattle.map.specs.declared.Sizes.{Sizes}
 use Rattle.map.specs.Views.{Lent, mapOf}
@@ -38,6 +38,7 @@ unfoldable pub stateOf : Lent → Logs → Core → State
 stateOf l g c =
     record {
       settings = standard;
+      guarded = c .guarded;
       counters = record { number = c .counters .number; version = c .counters .version; installs = c .counters .installs };
       map = mapOf l (c .sizes);
       workers = workersFrom g (c .workers) 0;
@@ -45,13 +46,14 @@ stateOf l g c =
 
 -- the core with another worker, and with other sizes
 abbrev pub coreWith : Core → ℕ → Worker → Core
-coreWith c w x = record { workers = set (c .workers) w x; sizes = c .sizes; counters = c .counters }
+coreWith c w x = record { workers = set (c .workers) w x; sizes = c .sizes; counters = c .counters; guarded = c .guarded }
 
 abbrev pub withBoth : Core → ℕ → Worker → Sizes → Core
-withBoth c w x z = record { workers = set (c .workers) w x; sizes = z; counters = c .counters }
+withBoth c w x z = record { workers = set (c .workers) w x; sizes = z; counters = c .counters; guarded = c .guarded }
 
 -- the rows of every worker but w are the same
 pub record OthersSame (g g' : Logs) (w : ℕ) : Type 0 where
   pub reads : (v n : ℕ) → (v ≡ w → ⊥) → readsIn (g' .reads) v n ≡ readsIn (g .reads) v n
   pub leaves : (v n : ℕ) → (v ≡ w → ⊥) → versionsIn (g' .leaves) v n ≡ versionsIn (g .leaves) v n
+  pub scans : (v n : ℕ) → (v ≡ w → ⊥) → scansIn (g' .leaves) v n ≡ scansIn (g .leaves) v n
   pub writes : (v n : ℕ) → (v ≡ w → ⊥) → writesIn (g' .writes) v n ≡ writesIn (g .writes) v n

@@ -36,6 +36,7 @@ pub fn begin(c: Core, w: u32) -> Done
                 workers,
                 sizes,
                 counters,
+                guarded: c.guarded,
             };
             Done {
                 core,

@@ -10,9 +10,11 @@ use map::Sizes;
 use sets::workers::Worker;
 use spec::WORKERS;
 
-// What goes by value: the workers, how much the map's arrays hold, and the last commit number and leaf version given.
+// What goes by value: the workers, how much the map's arrays hold, the last commit number and leaf version given, and whether
+// the map is guarded (request 102).
 pub struct Core {
     pub workers: [Worker; WORKERS],
     pub sizes: Sizes,
     pub counters: Counters,
+    pub guarded: bool,
 }

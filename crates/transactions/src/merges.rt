@@ -46,6 +46,7 @@ pub fn merge_at(
         workers,
         sizes: z,
         counters: k,
+        guarded: c.guarded,
     };
     MergeDone {
         core,

@@ -21,7 +21,7 @@ ghost use Rattle.map.specs.Views.{lent};
 ghost use Rattle.transactions.specs.Views.{logs};
 ghost use Rattle.transactions.specs.Starts.{Fresh};
 
-// Empties the arrays. Whatever they held, the state is document 01's fresh map.
+// Empties the arrays. Whatever they held, the state is document 01's fresh map, guarded or not.
 pub fn fresh_state(
     rows: &mut Records,
     leaves: &mut Leaves,
@@ -29,8 +29,9 @@ pub fn fresh_state(
     reads: &mut ReadSets,
     leafsets: &mut LeafSets,
     writes: &mut WriteSets,
+    guarded: bool,
 ) -> Core
-    ensures { λ r. ⌜ Fresh (lent (now (rows .exit)) (now (leaves .exit)) (now (slots .exit))) (logs (now (reads .exit)) (now (leafsets .exit)) (now (writes .exit))) r ⌝ }
+    ensures { λ r. ⌜ Fresh (lent (now (rows .exit)) (now (leaves .exit)) (now (slots .exit))) (logs (now (reads .exit)) (now (leafsets .exit)) (now (writes .exit))) guarded r ⌝ }
 {
     let sizes = entries::fresh_map(rows, leaves, slots);
     let no_read = [0u64; READ_WORDS];
@@ -59,5 +60,6 @@ pub fn fresh_state(
         workers,
         sizes,
         counters,
+        guarded,
     }
 }

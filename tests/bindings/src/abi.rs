@@ -1,5 +1,6 @@
-//! Declarations as they are written, in Rattle and in Rust: the sizes of arrays
-//! and the parameters of functions, so that the bindings can be held to the code.
+//! Declarations as they are written, in Rattle and in Rust: the sizes of arrays,
+//! the parameters of functions and the numbers of an enum's cases, so that the
+//! bindings can be held to the code.
 
 use std::collections::BTreeMap;
 use std::path::Path;
@@ -12,7 +13,7 @@ pub struct Sources(BTreeMap<String, String>);
 /// array behind a reference.
 #[derive(Clone, PartialEq, Eq, Debug)]
 pub enum Passed {
-    /// A number.
+    /// A number, or a truth value.
     Number(String),
     /// A pointer to numbers, and whether they may be written; with the length of
     /// each dimension, outermost first, of an array, and none of a slice.
@@ -136,6 +137,18 @@ impl Sources {
         let result = rest.trim_start().strip_prefix("->").unwrap_or("()").trim_start();
         let end = result.find([' ', '\n', ';', '{']).unwrap_or(result.len());
         Some(Signature { parameters: passed, result: result[..end].into() })
+    }
+
+    /// The number that a function gives to each case of an enum, a line for each:
+    /// `ENUM::CASE => NUMBER,`.
+    pub fn numbers(&self, home: &str, function: &str, of: &str) -> Vec<(String, usize)> {
+        let start = self.0.get(home).and_then(|text| text.split_once(&format!("fn {function}(")));
+        let body = start.map_or("", |(_, rest)| rest.split("\n}").next().unwrap_or(""));
+        let cases =
+            body.lines().filter_map(|line| line.trim().strip_prefix(of)?.strip_prefix("::"));
+        let numbered = cases.filter_map(|case| case.strip_suffix(',')?.split_once(" => "));
+        let read = |(case, number): (&str, &str)| Some((case.into(), self.number(home, number)?));
+        numbered.filter_map(read).collect()
     }
 }
 

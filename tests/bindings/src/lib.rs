@@ -7,6 +7,24 @@ use plain::map::Commit;
 use plain::step::{self, Answer, Buffers, PLACES};
 use sections::{Refusal, Sections, SerialNumber, Step};
 
+/// A fresh map, guarded or not.
+pub fn fresh(guarded: bool) -> Sections {
+    if guarded {
+        Sections::guarded()
+    } else {
+        Sections::new()
+    }
+}
+
+/// A list of steps on such a map.
+pub fn replay(steps: &[Step], guarded: bool) -> (Sections, Vec<Result<sections::Answer, Refusal>>) {
+    if guarded {
+        Sections::replay_guarded(steps)
+    } else {
+        Sections::replay(steps)
+    }
+}
+
 /// A step of the second model, its scans with buffers of so many places.
 pub fn step_of(step: step::Step, addresses: usize, values: usize) -> Step {
     match step {

@@ -1,8 +1,8 @@
 //! The library, held to the second model on whole scripts.
 
-use crate::{answer_of, by_method, script_step};
+use crate::{answer_of, by_method, fresh, replay, script_step};
 use plain::compare::Subject;
-use plain::script::{steps, write_answer, write_contents};
+use plain::script::{guarded, steps, write_answer, write_contents, write_start};
 use plain::step::Buffers;
 use sections::{Sections, Step};
 use std::io;
@@ -19,9 +19,11 @@ impl Subject for Stepwise {
     }
 
     fn answers(&self, script: &[u8]) -> io::Result<Vec<u8>> {
-        let mut map = Sections::new();
+        let guarded = guarded(script);
+        let mut map = fresh(guarded);
         let mut buffers = Buffers::default();
         let mut text = Vec::new();
+        write_start(&mut text, guarded);
         for step in steps(script) {
             let answer = by_method(&mut map, step, &mut buffers);
             write_answer(&mut text, step, answer, &buffers);
@@ -37,10 +39,11 @@ impl Subject for Replaying {
     }
 
     fn answers(&self, script: &[u8]) -> io::Result<Vec<u8>> {
-        let steps = steps(script);
+        let (steps, guarded) = (steps(script), guarded(script));
         let list: Vec<Step> = steps.iter().map(|&step| script_step(step)).collect();
-        let (map, answers) = Sections::replay(&list);
+        let (map, answers) = replay(&list, guarded);
         let mut text = Vec::new();
+        write_start(&mut text, guarded);
         for (step, answer) in steps.into_iter().zip(answers) {
             let mut buffers = Buffers::default();
             let answer = answer_of(answer, &mut buffers.addresses, &mut buffers.values);

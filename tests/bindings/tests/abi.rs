@@ -1,7 +1,7 @@
 //! Header and wrapper against the code: the same functions, the same sizes, the
 //! same numbers and words.
 
-use bindings::abi::{Signature, Sources};
+use bindings::abi::{Passed, Signature, Sources};
 use sections::Refusal;
 use std::path::{Path, PathBuf};
 use std::process::Command;
@@ -20,6 +20,13 @@ fn crates() -> Sources {
 
 fn library(name: &str) -> Signature {
     crates().signature("sections", name).unwrap_or_else(|| panic!("{name} is not read"))
+}
+
+/// The arrays of a map. Besides them a fresh one is made from whether it is guarded.
+fn arrays() -> Vec<Passed> {
+    let mut parameters = library("sections_fresh").parameters;
+    assert_eq!(parameters.pop(), Some(Passed::Number("bool".into())));
+    parameters
 }
 
 fn header() -> String {
@@ -54,8 +61,39 @@ fn header_declares_what_the_library_has() {
 
 #[test]
 fn header_is_cpp_too() {
-    let text = "static struct sections map;\nint main() { sections_init(&map); return sections_begin(&map, 0); }\n";
+    let text = "static struct sections map;
+    int main() {
+        sections_init(&map);
+        sections_init_guarded(&map);
+        return sections_begin(&map, 0);
+    }\n";
     printed("cpp", text, &["c++", "-std=c++11", "-x", "c++"]);
+}
+
+/// A section of no bytes: any map but a guarded one locks it. Each function that
+/// makes a map anew decides which one it is, whatever it was before.
+#[test]
+fn guarded_or_not() {
+    let text = "static struct sections map;
+    static int lock(void) {
+        sections_begin(&map, 0);
+        sections_put(&map, 0, 5, 0);
+        return sections_lock(&map, 0);
+    }
+    int main(void) {
+        struct sections_code steps[] = {sections_code_begin(1), sections_code_put(1, 7, 0), sections_code_lock(1)};
+        uint64_t answers[9];
+        sections_init_guarded(&map);
+        printf(\"%d\\n\", lock());
+        sections_run(&map, steps, 3, NULL, answers, 9, false);
+        printf(\"%d\\n%d\\n\", (int)answers[6], lock());
+        sections_run(&map, steps, 3, NULL, answers, 9, true);
+        printf(\"%d\\n%d\\n\", (int)answers[6], lock());
+        sections_init(&map);
+        printf(\"%d\\n\", lock());
+        return 0;
+    }\n";
+    assert_eq!(numbers(&printed("guarded", text, &C)), [16, 0, 0, 16, 16, 0]);
 }
 
 /// The header's functions pass no null pointer on.
@@ -64,14 +102,14 @@ fn null_where_there_are_no_places() {
     let text = "static struct sections map;
     int main(void) {
         struct sections_buffers none = {NULL, 0, NULL, 0};
-        struct sections_ran ran = sections_run(&map, NULL, 0, NULL, NULL, 0);
+        struct sections_ran ran = sections_run(&map, NULL, 0, NULL, NULL, 0, false);
         printf(\"%d\\n%zu\\n\", ran.stop, ran.taken);
         sections_begin(&map, 0);
         printf(\"%d\\n\", sections_scan(&map, 0, 0, 9, &none).refusal);
         sections_put(&map, 0, 4, 5);
         printf(\"%d\\n\", sections_scan(&map, 0, 0, 9, &none).refusal);
         struct sections_code steps[] = {sections_code_begin(0), sections_code_scan(0, 0, 9, 0, 0)};
-        ran = sections_run(&map, steps, 2, &none, NULL, 0);
+        ran = sections_run(&map, steps, 2, &none, NULL, 0, false);
         printf(\"%d\\n%zu\\n\", ran.stop, ran.taken);
         return 0;
     }\n";
@@ -86,7 +124,7 @@ fn header_has_the_sizes_of_the_code() {
     let names = members.split(';').filter_map(|member| {
         Some(member.trim().strip_prefix("uint64_t ")?.split_once('[')?.0.to_owned())
     });
-    let arrays = library("sections_fresh").parameters;
+    let arrays = arrays();
     let names: Vec<String> = names.collect();
     assert_eq!(names.len(), arrays.len());
     let line = |name: &String| {
@@ -108,10 +146,10 @@ fn numbers(text: &str) -> Vec<usize> {
 /// Document 01's limits stand in the lengths of the arrays.
 #[test]
 fn header_has_the_limits_of_the_code() {
-    let [_, records, _, slots, reads, marks, writes] = &library("sections_fresh").parameters[..]
-    else {
+    let [_, records, _, slots, reads, marks, writes] = &arrays()[..] else {
         panic!("the library has other arrays");
     };
+    let longest = crates().constant("LONGEST").expect("the longest section");
     let step = library("sections_step").parameters;
     let (first, last) = (&step[0], step.last().expect("a step has a code"));
     let limits = [
@@ -121,6 +159,7 @@ fn header_has_the_limits_of_the_code() {
         ("SECTIONS_READ_LIMIT", reads.dimensions()[1]),
         ("SECTIONS_MARK_LIMIT", marks.dimensions()[1]),
         ("SECTIONS_WRITE_LIMIT", writes.dimensions()[1]),
+        ("SECTIONS_LONGEST", longest),
         ("SECTIONS_ANSWER_WORDS", first.dimensions()[0]),
         ("SECTIONS_CODE_WORDS", last.dimensions()[0]),
     ];
@@ -130,6 +169,7 @@ fn header_has_the_limits_of_the_code() {
     assert_eq!(numbers(&text), limits.map(|(_, limit)| limit));
     assert_eq!(sections::SEATS, limits[0].1);
     assert_eq!(sections::SCAN_LIMIT, limits[3].1 + limits[5].1);
+    assert_eq!(sections::LONGEST, longest as u64);
 }
 
 #[test]
@@ -141,25 +181,51 @@ fn wrapper_declares_what_the_library_has() {
     }
 }
 
-/// Both have the same table, which ends where the second model's does.
+/// The refusals as the code names and numbers them, with document 01's words for
+/// its workers and write sets.
+fn refusals() -> Vec<(String, usize)> {
+    let refusals = crates().numbers("spec", "number_of", "Refusal");
+    let named = |name: String| name.replace("Worker", "Seat").replace("Writes", "Edits");
+    refusals.into_iter().map(|(name, number)| (named(name), number)).collect()
+}
+
+/// `SeatFree` is "seat free".
+fn word_of(name: &str) -> String {
+    let spaced = name.chars().flat_map(|c| c.is_uppercase().then_some(' ').into_iter().chain([c]));
+    spaced.collect::<String>().trim().to_lowercase()
+}
+
+/// Header and wrapper have the code's table: a name, a number and a word for each.
 #[test]
 fn refusals_are_the_same() {
+    let refusals = refusals();
+    let name = |refusal: &Refusal| (format!("{refusal:?}"), refusal.number() as usize);
+    assert_eq!(Refusal::ALL.iter().map(name).collect::<Vec<_>>(), refusals);
+    let constant = |(name, _): &(String, usize)| {
+        let name = word_of(name).to_uppercase().replace(' ', "_");
+        format!("printf(\"%d\\n\", SECTIONS_{name});\n")
+    };
+    let lines: String = refusals.iter().map(constant).collect();
+    let text = printed("refusals", &format!("int main(void) {{ {lines}return 0; }}\n"), &C);
+    let given: Vec<usize> = refusals.iter().map(|&(_, number)| number).collect();
+    assert_eq!(numbers(&text), given);
+    // The second model has no more of them.
+    assert_eq!(given.last(), Some(&(plain::engine::Refusal::Overlap as usize)));
+}
+
+#[test]
+fn words_are_the_same() {
     let text = "int main(void) {
         for (int i = 0; i < 128; i++)
             printf(\"%s\\n\", sections_word((enum sections_refusal)i));
         return 0;
     }\n";
-    let meaningless = crates().constant("MEANINGLESS");
-    assert!(meaningless.is_some_and(|number| number < 128));
-    for (number, word) in printed("words", text, &C).lines().enumerate() {
-        let expected = match Refusal::from_number(number as u64) {
-            Some(refusal) => refusal.word(),
-            None if number == 0 => "granted",
-            None if Some(number) == meaningless => "no meaning",
-            None => "unknown",
-        };
-        assert_eq!(word, expected, "{number}");
+    let mut words = vec!["unknown".to_owned(); 128];
+    words[0] = "granted".into();
+    words[crates().constant("MEANINGLESS").expect("its number")] = "no meaning".into();
+    refusals().into_iter().for_each(|(name, number)| words[number] = word_of(&name));
+    assert_eq!(printed("words", text, &C).lines().collect::<Vec<_>>(), words);
+    for refusal in Refusal::ALL {
+        assert_eq!(refusal.word(), words[refusal.number() as usize]);
     }
-    let last = Refusal::ALL.last().expect("there are refusals").number();
-    assert_eq!(last, plain::engine::Refusal::Spent as u64);
 }

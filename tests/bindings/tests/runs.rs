@@ -1,6 +1,7 @@
-//! Document 01's runs that are not starred, and the edges of the map.
+//! Document 01's runs that are not starred, and the edges of the map and of a
+//! guarded one.
 
-use sections::{Answer, Record, Refusal, Sections, Step};
+use sections::{Answer, Record, Refusal, Sections, Step, LONGEST};
 
 /// A whole job of puts.
 fn enter(map: &mut Sections, seat: u32, addresses: impl Iterator<Item = u32>) -> u64 {
@@ -155,4 +156,128 @@ fn maps_between_threads() {
     });
     assert_eq!(count, [2, 1]);
     assert_eq!(std::thread::spawn(move || map.iter().count()).join().expect("it looks"), 2);
+}
+
+/// What a lock answers in an empty guarded map, if its job has seen all of it and
+/// puts these sections.
+fn locked(sections: &[(u32, u64)]) -> Result<(), Refusal> {
+    let mut map = Sections::guarded();
+    map.begin(0)?;
+    map.scan_all(0, 0, u32::MAX)?;
+    sections.iter().try_for_each(|&(address, length)| map.put(0, address, length))?;
+    map.lock(0)
+}
+
+#[test]
+fn shortest_and_longest_sections() {
+    let lock = |length| locked(&[(100_000, length)]);
+    assert_eq!([1, LONGEST].map(lock), [Ok(()); 2]);
+    assert_eq!([0, LONGEST + 1, 1 << 32, u64::MAX].map(lock), [Err(Refusal::Unfit); 4]);
+}
+
+/// A section may end with the highest address, and not past it.
+#[test]
+fn sections_at_the_highest_address() {
+    let first = (1 << 32) - LONGEST;
+    let lock = |(address, length): (u64, u64)| locked(&[(address as u32, length)]);
+    assert_eq!([(first, LONGEST), (u32::MAX.into(), 1)].map(lock), [Ok(()); 2]);
+    let past = [(first + 1, LONGEST), (u32::MAX.into(), 2)];
+    assert_eq!(past.map(lock), [Err(Refusal::Unfit); 2]);
+}
+
+#[test]
+fn sections_side_by_side() {
+    assert_eq!(locked(&[(0, 10), (10, LONGEST), (65_546, 1)]), Ok(()));
+    assert_eq!(locked(&[(0, 11), (10, LONGEST)]), Err(Refusal::Overlap));
+    assert_eq!(locked(&[(10, LONGEST), (65_545, 1)]), Err(Refusal::Overlap));
+}
+
+/// What a scan must cover for a section: all from where another one could reach into
+/// it, up to its last byte.
+fn reach(address: u32, length: u64) -> (u32, u32) {
+    (address.saturating_sub(LONGEST as u32 - 1), address + (length - 1) as u32)
+}
+
+/// A byte is missing at one end or at the other, and then none.
+#[test]
+fn scans_that_cover() -> Result<(), Refusal> {
+    let mut map = Sections::guarded();
+    map.begin(0)?;
+    map.put(0, 200_000, 1000)?;
+    assert_eq!(map.lock(0), Err(Refusal::Uncovered));
+    let (lo, hi) = reach(200_000, 1000);
+    for (lo, hi) in [(lo + 1, hi), (lo, hi - 1)] {
+        map.scan_all(0, lo, hi)?;
+        assert_eq!(map.lock(0), Err(Refusal::Uncovered));
+    }
+    map.scan_all(0, lo, hi)?;
+    map.lock(0)
+}
+
+/// A whole job of a guarded map, of sections of so many bytes side by side.
+fn lay(map: &mut Sections, first: u32, count: u32, length: u64) -> Result<(), Refusal> {
+    map.begin(7)?;
+    let (lo, hi) = reach(first, length * u64::from(count));
+    map.scan_all(7, lo, hi)?;
+    (0..count).try_for_each(|place| map.put(7, first + place * length as u32, length))?;
+    map.lock(7)?;
+    map.validate(7)?;
+    map.install(7)
+}
+
+/// What a job removes is not in its way. Its lock is refused before, and leaves it
+/// open.
+#[test]
+fn over_an_own_removal() -> Result<(), Refusal> {
+    let mut map = Sections::guarded();
+    lay(&mut map, 1000, 2, 100)?;
+    map.fold(0)?;
+    map.begin(0)?;
+    assert_eq!(map.scan_all(0, 0, 2000)?, [(1000, 100), (1100, 100)]);
+    map.put(0, 1050, 50)?;
+    assert_eq!(map.lock(0), Err(Refusal::Overlap));
+    map.remove(0, 1000)?;
+    map.lock(0)?;
+    map.validate(0)?;
+    map.install(0)?;
+    let contents: Vec<(u32, u64)> = map.iter().map(|it| (it.address, it.value)).collect();
+    assert_eq!(contents, [(1050, 50), (1100, 100)]);
+    Ok(())
+}
+
+/// 1,024 sections, of which 192 are put anew and wait, one of them locked by seat 0:
+/// the causes of seat 1's lock hold together, and are taken away one by one.
+#[test]
+fn order_of_a_lock() -> Result<(), Refusal> {
+    let mut map = Sections::guarded();
+    assert_eq!([map.lock(8), map.lock(1)], [Err(Refusal::NoSeat), Err(Refusal::SeatFree)]);
+    let first = |job: u32| 16 * job * LONGEST as u32;
+    for job in 0..64 {
+        lay(&mut map, first(job), 16, LONGEST)?;
+        map.fold_oldest()?;
+    }
+    (0..12).try_for_each(|job| lay(&mut map, first(job), 16, LONGEST))?;
+    map.begin(0)?;
+    map.scan_all(0, 0, 0)?;
+    map.put(0, 0, 1)?;
+    map.lock(0)?;
+    assert_eq!(map.lock(0), Err(Refusal::WrongStage));
+
+    let new = first(64);
+    map.begin(1)?;
+    [(0, 0), (1, 1), (new, 1)].into_iter().try_for_each(|(at, n)| map.put(1, at, n))?;
+    assert_eq!(map.lock(1), Err(Refusal::Unfit));
+    map.put(1, 0, 2)?;
+    map.scan_all(1, 0, 1)?;
+    assert_eq!(map.lock(1), Err(Refusal::Uncovered));
+    let (lo, hi) = reach(new, 1);
+    map.scan_all(1, lo, hi)?;
+    assert_eq!(map.lock(1), Err(Refusal::Overlap));
+    map.put(1, 0, 1)?;
+    assert_eq!(map.lock(1), Err(Refusal::Held));
+    map.abort(0)?;
+    assert_eq!(map.lock(1), Err(Refusal::IndexletFull));
+    map.fold_oldest()?;
+    assert_eq!(map.lock(1), Err(Refusal::MapFull));
+    Ok(())
 }

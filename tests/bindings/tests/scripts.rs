@@ -1,7 +1,7 @@
 //! The random scripts of the second model through the library.
 
 use bindings::subjects::{Replaying, Stepwise};
-use bindings::{answer_of, by_method, step_of};
+use bindings::{answer_of, by_method, fresh, replay, step_of};
 use plain::compare::suite::{by_script, random, Size};
 use plain::compare::{run, runs, Script, Subject};
 use plain::engine::Engine;
@@ -9,7 +9,6 @@ use plain::generate;
 use plain::profiles::PROFILES;
 use plain::random::Random;
 use plain::step::{self, Answer, Buffers, Step};
-use sections::Sections;
 
 fn agrees(subject: &dyn Subject, seed: u64) {
     let size = Size { seeds: seed..seed + 2, steps: 12_000 };
@@ -36,7 +35,7 @@ fn in_one_call() {
 
 const LENGTHS: [usize; 9] = [0, 1, 2, 3, 7, 20, 63, 64, 90];
 
-const PROFILES_OF_SCANS: [&str; 5] = ["ordinary", "scans", "ends", "leaves", "limits"];
+const PROFILES_OF_SCANS: [&str; 6] = ["ordinary", "scans", "ends", "leaves", "limits", "guarded"];
 
 /// Buffers of any two lengths that hold something already.
 fn buffers(random: &mut Random) -> (Vec<u32>, Vec<u64>) {
@@ -50,20 +49,31 @@ fn scan(engine: &mut Engine, step: Step, lent: &mut (Vec<u32>, Vec<u64>)) -> Ans
     answer.map_or_else(Answer::from, Answer::Found)
 }
 
-/// Granted with records, refused for short buffers, granted with unequal ones.
+/// Scans granted with records, refused for short buffers, granted with unequal ones;
+/// locks that a guarded map refused by 16, by 17 and by 18.
 #[derive(Default, Debug)]
-struct Reached([usize; 3]);
+struct Reached {
+    scans: [usize; 3],
+    locks: [usize; 3],
+}
 
 impl Reached {
-    fn count(&mut self, answer: Answer, (addresses, values): &(Vec<u32>, Vec<u64>)) {
+    fn count_scan(&mut self, answer: Answer, (addresses, values): &(Vec<u32>, Vec<u64>)) {
         let found = matches!(answer, Answer::Found(1..));
         let unequal = found && addresses.len() != values.len();
         let kinds = [found, answer == Answer::Refused(8), unequal];
-        self.0.iter_mut().zip(kinds).for_each(|(count, kind)| *count += usize::from(kind));
+        self.scans.iter_mut().zip(kinds).for_each(|(count, kind)| *count += usize::from(kind));
+    }
+
+    fn count(&mut self, answer: Answer) {
+        if let Answer::Refused(number @ 16..=18) = answer {
+            self.locks[usize::from(number) - 16] += 1;
+        }
     }
 
     fn enough(&self) {
-        assert!(self.0.iter().all(|&count| count > 500), "{self:?}");
+        let reached = |counts: [usize; 3], least| counts.iter().all(|&count| count > least);
+        assert!(reached(self.scans, 500) && reached(self.locks, 100), "{self:?}");
     }
 }
 
@@ -75,12 +85,13 @@ fn buffers_of_any_lengths() {
     for name in PROFILES_OF_SCANS {
         let profile = plain::profiles::find(name, 0).expect("it is a profile");
         let mut random = Random::new(5);
-        let (mut engine, mut map) = (Engine::default(), Sections::new());
+        let (mut engine, mut map) = (profile.engine(), fresh(profile.guarded));
         let mut places = Buffers::default();
         for step in generate::script(5, 30_000, profile) {
             let Step::Scan { worker, lo, hi } = step else {
                 let expected = step::run(&mut engine, step, &mut places);
                 assert_eq!(by_method(&mut map, step, &mut places), expected, "{name}: {step:?}");
+                reached.count(expected);
                 continue;
             };
             let mut lent = buffers(&mut random);
@@ -89,7 +100,7 @@ fn buffers_of_any_lengths() {
             let given = map.scan(worker, lo, hi, &mut ours.0, &mut ours.1);
             let given = given.map_or_else(|no| Answer::Refused(no.number() as u8), Answer::Found);
             assert_eq!((given, &ours), (expected, &lent), "{name}: {step:?}");
-            reached.count(expected, &lent);
+            reached.count_scan(expected, &lent);
         }
     }
     reached.enough();
@@ -102,21 +113,23 @@ fn lists_with_different_buffers() {
     for name in PROFILES_OF_SCANS {
         let profile = plain::profiles::find(name, 0).expect("it is a profile");
         let mut random = Random::new(6);
-        let mut engine = Engine::default();
+        let mut engine = profile.engine();
         let (mut list, mut expected) = (Vec::new(), Vec::new());
         for step in generate::script(6, 30_000, profile) {
             let mut lent = buffers(&mut random);
             list.push(step_of(step, lent.0.len(), lent.1.len()));
             expected.push(if let Step::Scan { .. } = step {
                 let answer = scan(&mut engine, step, &mut lent);
-                reached.count(answer, &lent);
+                reached.count_scan(answer, &lent);
                 (answer, lent)
             } else {
-                (step::run(&mut engine, step, &mut Buffers::default()), lent)
+                let answer = step::run(&mut engine, step, &mut Buffers::default());
+                reached.count(answer);
+                (answer, lent)
             });
         }
-        let (_, answers) = Sections::replay(&list);
-        let mut map = Sections::new();
+        let (_, answers) = replay(&list, profile.guarded);
+        let mut map = fresh(profile.guarded);
         for ((step, answer), (expected, lent)) in list.into_iter().zip(answers).zip(expected) {
             assert_eq!(map.perform(step), answer, "{name}: {step:?}");
             let mut ours = (vec![7; lent.0.len()], vec![9; lent.1.len()]);

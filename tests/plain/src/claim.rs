@@ -35,9 +35,8 @@ pub struct Holds {
     pub answers: usize,
 }
 
-/// The engine's history of these steps.
-pub fn record(steps: impl IntoIterator<Item = Step>) -> Run {
-    let mut engine = Engine::default();
+/// A fresh engine's history of these steps.
+pub fn record(mut engine: Engine, steps: impl IntoIterator<Item = Step>) -> Run {
     let mut buffers = Buffers::default();
     let mut history = Vec::new();
     for step in steps {

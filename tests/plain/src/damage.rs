@@ -6,17 +6,35 @@ use crate::random::Random;
 
 pub struct Kind {
     pub name: &'static str,
+    place: Place,
     /// The damaged line, with its line feed unless that is the damage.
     damage: fn(&str, &mut Random) -> Vec<u8>,
 }
 
-const fn kind(name: &'static str, damage: fn(&str, &mut Random) -> Vec<u8>) -> Kind {
-    Kind { name, damage }
+/// Where the damaged line stands.
+enum Place {
+    Any,
+    First,
+    /// Behind another line.
+    Later,
+    Last,
+    /// There is no other line.
+    Alone,
 }
 
-const NO_LINE_FEED: &str = "no line feed";
+const fn kind(name: &'static str, damage: fn(&str, &mut Random) -> Vec<u8>) -> Kind {
+    Kind { name, place: Place::Any, damage }
+}
 
-pub const KINDS: [Kind; 25] = [
+const fn kind_at(
+    place: Place,
+    name: &'static str,
+    damage: fn(&str, &mut Random) -> Vec<u8>,
+) -> Kind {
+    Kind { name, place, damage }
+}
+
+pub const KINDS: [Kind; 30] = [
     kind("empty line", |_, _| b"\n".to_vec()),
     kind("only a space", |_, _| b" \n".to_vec()),
     kind("carriage return", |line, _| format!("{line}\r\n").into()),
@@ -25,14 +43,19 @@ pub const KINDS: [Kind; 25] = [
     kind("no space", |line, random| respaced(line, "", random)),
     kind("trailing space", |line, _| format!("{line} \n").into()),
     kind("leading space", |line, _| format!(" {line}\n").into()),
-    kind("unknown letter", |line, random| relettered(line, b"CEFGHJKNOQUWXYZ?#-", random)),
-    kind("small letter", |line, random| relettered(line, b"brspdlviamt", random)),
+    kind("unknown letter", |line, random| relettered(line, b"CEFHJKNOQUWXYZ?#-", random)),
+    kind("small letter", |line, random| relettered(line, b"brspdlviamtg", random)),
     kind("strange byte", |line, random| relettered(line, &[0, 0x7f, 0x80, 0xff, b'\r'], random)),
     kind("no letter", |line, _| format!("{}\n", &line[2..]).into()),
     kind("missing field", missing_field),
     kind("extra field", |line, random| format!("{line} {}\n", random.below(9)).into()),
     kind("only a letter", |line, _| format!("{}\n", &line[..1]).into()),
-    kind("more than a letter", |_, random| more_than_a_letter(random)),
+    kind("more than T", |_, random| more_than("T", random)),
+    kind_at(Place::First, "more than G", |_, random| more_than("G", random)),
+    kind_at(Place::First, "small g", |_, _| b"g\n".to_vec()),
+    kind_at(Place::Later, "late G", |_, random| random.pick(&["G\n", "G\n", "G 0\n"]).into()),
+    kind_at(Place::First, "G twice", |_, _| b"G\nG\n".to_vec()),
+    kind_at(Place::Alone, "G without line feed", |_, _| b"G".to_vec()),
     kind("plus sign", |line, random| numbered(line, random, |number| format!("+{number}"))),
     kind("minus sign", |line, random| numbered(line, random, |number| format!("-{number}"))),
     kind("no digit", |line, random| numbered(line, random, |_| "x".into())),
@@ -41,10 +64,12 @@ pub const KINDS: [Kind; 25] = [
     kind("wide worker", |_, random| format!("B {}\n", wide(u32::MAX.into(), random)).into()),
     kind("wide address", wide_address),
     kind("wide value", |_, random| format!("P 0 1 {}\n", wide(u64::MAX, random)).into()),
-    kind(NO_LINE_FEED, |line, random| line[..random.between(1, line.len())].into()),
+    kind_at(Place::Last, "no line feed", |line, random| {
+        line[..random.between(1, line.len())].into()
+    }),
 ];
 
-/// A script and the place of its damaged line, counted from 0.
+/// A script and the place of its malformed line, counted from 0.
 pub struct Damaged {
     pub kind: &'static str,
     pub line: usize,
@@ -58,14 +83,26 @@ pub fn damaged(seed: u64, steps: usize) -> Damaged {
     let profile = profiles::find("any", seed).expect("any is a profile");
     let whole = text(seed, steps.max(1), profile);
     let lines: Vec<&[u8]> = whole.split_inclusive(|&byte| byte == b'\n').collect();
-    let at = if kind.name == NO_LINE_FEED { lines.len() - 1 } else { random.below(lines.len()) };
-    let line = std::str::from_utf8(lines[at]).expect("a script is plain text").trim_end();
+    let at = place(kind, lines.len(), &mut random);
+    let line = lines.get(at).map_or(&b""[..], |line| line.trim_ascii_end());
+    let line = std::str::from_utf8(line).expect("a script is plain text");
     // Most kinds of damage are to a number, so a line without any gives way to one that has it.
-    let line = if line.len() == 1 { "M 0" } else { line };
-    let mut text = lines[..at].concat();
-    text.extend((kind.damage)(line, &mut random));
-    text.extend(lines[at + 1..].concat());
-    Damaged { kind: kind.name, line: at, text }
+    let line = if line.len() < 2 { "M 0" } else { line };
+    let damage = (kind.damage)(line, &mut random);
+    let rest = if let Place::Alone = kind.place { &[] } else { lines.get(at + 1..).unwrap_or(&[]) };
+    // The last line of the damage is the malformed one.
+    let good = damage.split_inclusive(|&byte| byte == b'\n').count() - 1;
+    let text = [lines[..at].concat(), damage, rest.concat()].concat();
+    Damaged { kind: kind.name, line: at + good, text }
+}
+
+fn place(kind: &Kind, lines: usize, random: &mut Random) -> usize {
+    match kind.place {
+        Place::Any => random.below(lines),
+        Place::First | Place::Alone => 0,
+        Place::Later => random.between(1, lines),
+        Place::Last => lines - 1,
+    }
 }
 
 /// One of the spaces made into something else. Made into nothing, it leaves the
@@ -84,11 +121,12 @@ fn relettered(line: &str, letters: &[u8], random: &mut Random) -> Vec<u8> {
     bytes
 }
 
-/// The step that has no number, with something after its letter.
-fn more_than_a_letter(random: &mut Random) -> Vec<u8> {
+/// A letter that has no number, with something after it.
+fn more_than(letter: &str, random: &mut Random) -> Vec<u8> {
     let number = random.number();
-    let rest = [" ", " 0", "\r", "\t", "  ", "T", "0", " T", &format!(" {number}"), " 0 0"];
-    format!("T{}\n", random.pick(&rest)).into()
+    let (again, apart) = (letter, format!(" {letter}"));
+    let rest = [" ", " 0", "\r", "\t", "  ", again, "0", &apart, &format!(" {number}"), " 0 0"];
+    format!("{letter}{}\n", random.pick(&rest)).into()
 }
 
 fn missing_field(line: &str, _: &mut Random) -> Vec<u8> {

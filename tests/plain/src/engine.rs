@@ -1,6 +1,8 @@
 //! Eight workers over one map: the steps and their refusals.
 
+use crate::guard;
 use crate::map::{Commit, Leaf, Map, Pending, Stored, Write, INDEXLET_LIMIT};
+use std::ops::Range;
 
 pub const WORKERS: usize = 8;
 pub const READ_LIMIT: usize = 64;
@@ -8,7 +10,7 @@ pub const LEAF_LIMIT: usize = 32;
 pub const WRITE_LIMIT: usize = 16;
 pub const LAST_COMMIT: Commit = 1_000_000;
 
-/// Document 01's table of refusals, with its numbers.
+/// Document 01's table of refusals, with its numbers, and request 102's three.
 #[derive(Clone, Copy, PartialEq, Eq, Debug)]
 pub enum Refusal {
     NoWorker = 1,
@@ -26,6 +28,9 @@ pub enum Refusal {
     UnderLock = 13,
     Phantom = 14,
     Spent = 15,
+    BadLength = 16,
+    MissingScan = 17,
+    Overlap = 18,
 }
 
 use Refusal::*;
@@ -39,6 +44,13 @@ pub enum Stage {
     Checked,
 }
 
+/// A granted scan: its range, and where in the read set its log stands.
+pub struct Scan {
+    pub lo: u32,
+    pub hi: u32,
+    pub logged: Range<usize>,
+}
+
 /// A seat in document 01, with its job, here a transaction.
 #[derive(Default)]
 pub struct Worker {
@@ -47,6 +59,9 @@ pub struct Worker {
     pub read_set: Vec<(u32, Option<Stored>)>,
     /// The log of marks.
     pub leaf_set: Vec<Leaf>,
+    /// The granted scans in their order. Each logs a leaf, so there are at most as
+    /// many as leaves.
+    pub scans: Vec<Scan>,
     /// The edits, by rising address.
     pub write_set: Vec<(u32, Write)>,
     commit: Commit,
@@ -71,12 +86,15 @@ impl Worker {
         self.stage = Stage::Free;
         self.read_set.clear();
         self.leaf_set.clear();
+        self.scans.clear();
         self.write_set.clear();
     }
 }
 
+/// By default the map is not guarded.
 #[derive(Default)]
 pub struct Engine {
+    guarded: bool,
     map: Map,
     workers: [Worker; WORKERS],
     last_commit: Commit,
@@ -85,6 +103,10 @@ pub struct Engine {
 }
 
 impl Engine {
+    pub fn new(guarded: bool) -> Self {
+        Engine { guarded, ..Engine::default() }
+    }
+
     pub fn map(&self) -> &Map {
         &self.map
     }
@@ -183,8 +205,10 @@ impl Engine {
             addresses[place] = address;
             values[place] = value;
         }
+        let first = worker.read_set.len();
         worker.read_set.extend(seen);
         worker.leaf_set.extend(leaves);
+        worker.scans.push(Scan { lo, hi, logged: first..worker.read_set.len() });
         Ok(found.len())
     }
 
@@ -207,9 +231,14 @@ impl Engine {
         Ok(())
     }
 
+    /// What a guarded map asks for goes before the other causes, whose numbers are
+    /// lower.
     pub fn lock(&mut self, worker: u32) -> Result<(), Refusal> {
         let at = self.at_stage(worker, Stage::Open)?;
         let worker = &mut self.workers[at];
+        if self.guarded {
+            guard::check(worker)?;
+        }
         // An open transaction holds no lock, so any holder is another.
         if worker.written().any(|address| self.map.holder(address).is_some()) {
             return Err(Held);
@@ -298,7 +327,7 @@ impl Engine {
 }
 
 /// What was seen in the index with the own writes laid over, both rising.
-fn lay_over(seen: &[(u32, Option<Stored>)], writes: &[(u32, Write)]) -> Vec<(u32, u64)> {
+pub fn lay_over(seen: &[(u32, Option<Stored>)], writes: &[(u32, Write)]) -> Vec<(u32, u64)> {
     let shown = |&(address, stored): &(u32, Option<Stored>)| Some((address, stored?.value));
     let mut found = Vec::with_capacity(seen.len() + writes.len());
     let mut rest = seen;

@@ -4,7 +4,8 @@
 use crate::engine::{Engine, Stage, LAST_COMMIT, WORKERS};
 use crate::profiles::{wild, Profile};
 use crate::random::Random;
-use crate::script::{fields, letter, write_step};
+use crate::rounds::guarded::cover;
+use crate::script::{fields, letter, write_step, GUARD};
 use crate::step::{run, Answer, Buffers, Step};
 use std::collections::VecDeque;
 
@@ -34,10 +35,11 @@ pub fn script(seed: u64, steps: usize, profile: &Profile) -> Vec<Step> {
     generator.script
 }
 
-/// The script's lines, in a padded profile some with leading zeros.
+/// The script's lines, in a padded profile some with leading zeros. The first line
+/// of a guarded one is no step.
 pub fn text(seed: u64, steps: usize, profile: &Profile) -> Vec<u8> {
     let mut random = Random::new(seed);
-    let mut text = Vec::new();
+    let mut text = if profile.guarded { GUARD.to_vec() } else { Vec::new() };
     for step in script(seed, steps, profile) {
         if profile.padded && random.one_in(8) {
             write_padded(&mut text, step, &mut random);
@@ -90,7 +92,7 @@ impl Generator {
             growing: true,
             oldest: profile.oldest,
             random,
-            engine: Engine::default(),
+            engine: profile.engine(),
             buffers: Buffers::default(),
             script: Vec::new(),
             queues: Default::default(),
@@ -158,6 +160,11 @@ impl Generator {
                     self.queues[worker].push_front(step);
                 }
             }
+            (Step::Lock { .. }, 16..=18) => match self.random.below(4) {
+                0 => self.mend(worker, step, refusal),
+                1 => {}
+                _ => self.give_up(worker),
+            },
             (Step::Validate { .. }, 12..=14) if !self.random.one_in(8) => {
                 self.queues[worker].clear();
             }
@@ -169,6 +176,17 @@ impl Generator {
     fn give_up(&mut self, worker: usize) {
         self.queues[worker].clear();
         self.queues[worker].push_back(Step::Abort { worker: worker as u32 });
+    }
+
+    /// Scans what was not scanned, or takes back all puts, and tries the lock again.
+    fn mend(&mut self, at: usize, lock: Step, refusal: u8) {
+        let (worker, writes) = (at as u32, &self.engine.worker(at).write_set);
+        let mut steps: Vec<Step> = match cover(writes) {
+            Some((lo, hi)) if refusal == 17 => vec![Step::Scan { worker, lo, hi }],
+            _ => writes.iter().map(|&(address, _)| Step::Remove { worker, address }).collect(),
+        };
+        steps.push(lock);
+        steps.into_iter().rev().for_each(|step| self.queues[at].push_front(step));
     }
 
     /// Makes the worker free at once.

@@ -7,6 +7,7 @@ pub mod compare;
 pub mod damage;
 pub mod engine;
 pub mod generate;
+pub mod guard;
 pub mod list;
 pub mod map;
 pub mod moves;

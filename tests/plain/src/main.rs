@@ -2,6 +2,7 @@
 
 use plain::compare::suite::{Programs, Size};
 use plain::compare::{self, Check};
+use plain::engine::Engine;
 use plain::{claim, damage, generate, profiles, script};
 use std::io::{self, Read, Write};
 use std::path::Path;
@@ -87,7 +88,8 @@ fn report(checks: &[Check]) -> ExitCode {
 
 /// A malformed line ends the run, as it does for the answers.
 fn check_claim(script: &[u8]) -> io::Result<ExitCode> {
-    match claim::check(&claim::record(script::steps(script))) {
+    let engine = Engine::new(script::guarded(script));
+    match claim::check(&claim::record(engine, script::steps(script))) {
         Ok(holds) => {
             let (jobs, answers) = (holds.transactions, holds.answers);
             println!("claim holds: {jobs} jobs, {answers} answers compared");

@@ -123,8 +123,14 @@ impl Map {
 
     /// All current records by rising address.
     pub fn contents(&self) -> Vec<Record> {
-        let mut addresses: Vec<u32> = self.index.iter().map(|record| record.address).collect();
-        addresses.extend(self.indexlet.keys());
+        self.contents_between(0, u32::MAX)
+    }
+
+    pub fn contents_between(&self, lo: u32, hi: u32) -> Vec<Record> {
+        let indexed = self.indexed_between(lo, hi).iter().map(|record| record.address);
+        let inside = |address: &u32| (lo..=hi).contains(address);
+        let other = self.indexlet.keys().copied().filter(inside);
+        let mut addresses: Vec<u32> = indexed.chain(other).collect();
         addresses.sort_unstable();
         addresses.dedup();
         let record = |address| Some(Record { address, stored: self.current(address)? });

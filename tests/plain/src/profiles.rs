@@ -1,10 +1,11 @@
 //! The profiles, and the plans of those whose workers go on side by side.
 
 use crate::choose::leaf_around;
+use crate::engine::Engine;
 use crate::generate::Generator;
 use crate::map::Write;
 use crate::moves::{transaction, write_of};
-use crate::rounds::{capacity, leaves, limits, spent, turns};
+use crate::rounds::{capacity, guarded, leaves, limits, spent, turns};
 use crate::scenarios;
 use crate::step::Step;
 
@@ -18,13 +19,22 @@ pub struct Profile {
     pub padded: bool,
     /// Of the merges at something pending, one in so many picks its own leaf.
     pub oldest: usize,
+    /// Whether the map is guarded.
+    pub guarded: bool,
 }
 
 const fn profile(name: &'static str, round: fn(&mut Generator)) -> Profile {
-    Profile { name, round, least: 0, padded: false, oldest: 4 }
+    Profile { name, round, least: 0, padded: false, oldest: 4, guarded: false }
 }
 
-pub const PROFILES: [Profile; 13] = [
+impl Profile {
+    /// A fresh one, for its scripts.
+    pub fn engine(&self) -> Engine {
+        Engine::new(self.guarded)
+    }
+}
+
+pub const PROFILES: [Profile; 14] = [
     profile("ordinary", |generator| generator.go_on(ordinary)),
     profile("contended", |generator| generator.go_on(contended)),
     profile("scans", |generator| generator.go_on(scans)),
@@ -36,6 +46,7 @@ pub const PROFILES: [Profile; 13] = [
     profile("waiting", capacity::waiting),
     profile("limits", limits::limits),
     Profile { oldest: 1, ..profile("turns", turns::turns) },
+    Profile { guarded: true, ..profile("guarded", guarded::guarded) },
     Profile { padded: true, ..profile("wild", wild) },
     Profile { least: 4_005_000, ..profile("spent", spent::spent) },
 ];
@@ -49,7 +60,7 @@ pub fn find(name: &str, seed: u64) -> Option<&'static Profile> {
 }
 
 /// Ends some transactions early.
-fn or_abort(generator: &mut Generator, mut steps: Vec<Step>, one_in: usize) -> Vec<Step> {
+pub fn or_abort(generator: &mut Generator, mut steps: Vec<Step>, one_in: usize) -> Vec<Step> {
     if generator.random.one_in(one_in) {
         if let Some(worker) = steps[0].worker() {
             steps.truncate(generator.random.between(1, steps.len() - 1));

@@ -7,14 +7,20 @@ use std::io::{self, Write};
 
 const CHUNK: usize = 1 << 16;
 
+/// The first line of a script for a guarded map. Anywhere else it is malformed.
+pub const GUARD: &[u8] = b"G\n";
+
 /// Steps read one by one. It stands at the start of a line.
 pub struct Parser<'a> {
+    /// Whether the first line was the one for a guarded map.
+    pub guarded: bool,
     rest: &'a [u8],
 }
 
 impl<'a> Parser<'a> {
     pub fn new(script: &'a [u8]) -> Self {
-        Parser { rest: script }
+        let behind = script.strip_prefix(GUARD);
+        Parser { guarded: behind.is_some(), rest: behind.unwrap_or(script) }
     }
 
     pub fn at_end(&self) -> bool {
@@ -75,6 +81,11 @@ impl<'a> Parser<'a> {
     }
 }
 
+/// Whether the script runs on a guarded map.
+pub fn guarded(script: &[u8]) -> bool {
+    Parser::new(script).guarded
+}
+
 /// The steps up to the end or the first malformed line.
 pub fn steps(script: &[u8]) -> Vec<Step> {
     let mut parser = Parser::new(script);
@@ -83,10 +94,11 @@ pub fn steps(script: &[u8]) -> Vec<Step> {
 
 /// Prints what `mapscript` must print.
 pub fn answer(script: &[u8], out: &mut impl Write) -> io::Result<()> {
-    let mut engine = Engine::default();
-    let mut buffers = Buffers::default();
     let mut parser = Parser::new(script);
+    let mut engine = Engine::new(parser.guarded);
+    let mut buffers = Buffers::default();
     let mut text = Vec::with_capacity(2 * CHUNK);
+    write_start(&mut text, parser.guarded);
     while !parser.at_end() {
         let Some(step) = parser.step() else {
             text.extend(b"?\n");
@@ -101,6 +113,13 @@ pub fn answer(script: &[u8], out: &mut impl Write) -> io::Result<()> {
     }
     write_contents(&mut text, &pairs(&engine.map().contents()));
     out.write_all(&text)
+}
+
+/// The answer to the line that makes the map a guarded one, if there is one.
+pub fn write_start(text: &mut Vec<u8>, guarded: bool) {
+    if guarded {
+        text.extend(b"G 0\n");
+    }
 }
 
 pub fn write_answer(text: &mut Vec<u8>, step: Step, answer: Answer, buffers: &Buffers) {

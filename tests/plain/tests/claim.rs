@@ -1,7 +1,8 @@
 //! The claim's check on histories made by hand: good ones pass, and each way to
 //! break the claim is found.
 
-use plain::claim::{check, Event, Holds, Run};
+use plain::claim::{check, record, Event, Holds, Run};
+use plain::engine::Engine;
 use plain::list::Item;
 use plain::script;
 use plain::step::{Answer, Step};
@@ -167,6 +168,17 @@ fn only_installed_transactions_count() {
            P 2 5 9 -> P 0";
     let holds = judge(&history, &[(5, 6, 1)]).unwrap();
     assert_eq!(holds, Holds { transactions: 1, answers: 0 });
+}
+
+/// A lock that a guarded map refuses is not fed either, and its job may still be.
+#[test]
+fn a_guarded_day_holds() {
+    let day = include_bytes!("../../samples/guarded.script");
+    assert!(script::guarded(day));
+    let run = record(Engine::new(true), script::steps(day));
+    let refused = |number| run.history.iter().any(|event| event.answer == Answer::Refused(number));
+    assert!([16, 17, 18].into_iter().all(refused));
+    assert_eq!(check(&run), Ok(Holds { transactions: 5, answers: 6 }));
 }
 
 #[test]

@@ -16,11 +16,22 @@ fn good_lines() {
     assert_eq!(answers(text.as_bytes()), "B 0\nP 0\nR 0 18446744073709551615\nE 0\n");
     assert_eq!(answers(b"B 4294967295\nR 8 1\n"), "B 1\nR 1\nE 0\n");
     assert_eq!(answers(b"T\nT\n"), "T 0 0\nT 0 0\nE 0\n");
+    assert_eq!(answers(b"G\nT\n"), "G 0\nT 0 0\nE 0\n");
+}
+
+/// A map is guarded from its start on: only the first line may say so.
+#[test]
+fn malformed_first_lines() {
+    for line in ["G ", "G 0", "G\r", "G\t", "G\0", "GG", "G0", " G", "g", "G 0 0", "G T", "", "E"] {
+        assert_eq!(answers(format!("{line}\nB 0\n").as_bytes()), "?\n", "{line:?}");
+        assert_eq!(answers(format!("G\n{line}\nB 0\n").as_bytes()), "G 0\n?\n", "{line:?}");
+    }
+    assert_eq!(answers(b"G\nG\n"), "G 0\n?\n");
 }
 
 #[test]
 fn malformed_lines() {
-    let lines: [&[u8]; 46] = [
+    let lines: [&[u8]; 51] = [
         b"\n",
         b" \n",
         b"\r\n",
@@ -64,6 +75,11 @@ fn malformed_lines() {
         b" T\n",
         b"t\n",
         b"T\x00\n",
+        b"G\n",
+        b"G \n",
+        b"G 0\n",
+        b"GG\n",
+        b"g\n",
         b"B 0\x00\n",
         b"\x00\n",
         b"B \xff\n",
@@ -76,7 +92,7 @@ fn malformed_lines() {
 
 #[test]
 fn last_line_without_its_line_feed() {
-    for line in ["B 2", "B ", "B", "M 5", "T", "T ", "P 1 2 3", " ", "\r"] {
+    for line in ["B 2", "B ", "B", "M 5", "T", "T ", "G", "G ", "P 1 2 3", " ", "\r"] {
         assert_eq!(answers(format!("B 1\n{line}").as_bytes()), "B 0\n?\n", "{line:?}");
         assert_eq!(answers(line.as_bytes()), "?\n", "{line:?}");
     }
@@ -105,6 +121,7 @@ fn lines_read_back() {
         let steps = plain::generate::script(5, 500, profile);
         let text = plain::generate::text(5, 500, profile);
         assert_eq!(script::steps(&text), steps);
+        assert_eq!(script::guarded(&text), profile.guarded);
     }
 }
 
@@ -131,6 +148,10 @@ fn commands() {
     let (code, claim) = run(&["claim"], script.as_bytes());
     assert_eq!(code, Some(0));
     assert!(claim.starts_with("claim holds: "), "{claim}");
+    let (_, script) = run(&["script", "3", "300", "guarded"], b"");
+    assert!(script.starts_with("G\n") && script.lines().count() == 301);
+    assert_eq!(run(&["answer"], script.as_bytes()).1, answers(script.as_bytes()));
+    assert_eq!(run(&["claim"], script.as_bytes()).0, Some(0));
     assert_eq!(run(&["script", "3", "300", "none"], b"").0, Some(2));
     assert_eq!(run(&["profiles"], b"").1.lines().count(), profiles::PROFILES.len());
     assert_eq!(run(&["damage-kinds"], b"").1.lines().count(), KINDS.len());

@@ -1,4 +1,4 @@
-//! The sample of the README, and what the README says of it.
+//! The samples, and what the README says of them.
 
 mod common;
 
@@ -6,10 +6,16 @@ use common::answers;
 
 const README: &str = include_str!("../../../README.md");
 const DAY: &str = include_str!("../../samples/day.script");
+const GUARDED: &str = include_str!("../../samples/guarded.script");
 
-/// What stands between back quotes in one column of the table of the day.
-fn column(at: usize) -> String {
-    let rows = README.lines().skip_while(|line| !line.starts_with("| lines |")).skip(2);
+/// The README from a heading on.
+fn from(heading: &str) -> &'static str {
+    &README[README.find(heading).expect("the heading")..]
+}
+
+/// What stands between back quotes in one column of the table of a day.
+fn column(text: &str, at: usize) -> String {
+    let rows = text.lines().skip_while(|line| !line.starts_with("| lines |")).skip(2);
     let cells = rows.take_while(|line| line.starts_with('|')).map(|row| row.split('|').nth(at));
     let quoted = cells.flat_map(|cell| cell.expect("a cell").split('`').skip(1).step_by(2));
     quoted.map(|line| format!("{line}\n")).collect()
@@ -17,7 +23,17 @@ fn column(at: usize) -> String {
 
 #[test]
 fn the_day_is_as_told() {
-    assert_eq!(column(2), DAY);
-    assert_eq!(column(3), answers(DAY.as_bytes()));
-    assert!(column(3).ends_with("E 4 0 256 4096 8192 12288 2048 20480 128\n"));
+    let day = from("## A day with eight jobs");
+    assert_eq!(column(day, 2), DAY);
+    assert_eq!(column(day, 3), answers(DAY.as_bytes()));
+    assert!(column(day, 3).ends_with("E 4 0 256 4096 8192 12288 2048 20480 128\n"));
+}
+
+#[test]
+fn the_guarded_day_is_as_told() {
+    let day = from("## A day in a guarded map");
+    assert_eq!(column(day, 2), GUARDED);
+    assert_eq!(column(day, 3), answers(GUARDED.as_bytes()));
+    let end = "E 5 0 256 4096 4096 8192 2048 16384 4096 20992 512\n";
+    assert!(column(day, 3).ends_with(end));
 }

@@ -2,16 +2,16 @@
 //! its own leaf, whatever else comes between.
 
 use plain::engine::Engine;
-use plain::generate;
 use plain::map::INDEXLET_LIMIT;
 use plain::profiles::PROFILES;
 use plain::step::{run, Buffers, Step};
+use plain::{generate, script};
 use std::collections::HashMap;
 
-/// The most such merges that any write of the history saw while it waited, the
+/// The most such merges that any write of a fresh engine's history saw while it waited, the
 /// one that took it in or the last of the history included.
-fn longest(steps: &[Step]) -> usize {
-    let (mut engine, mut buffers) = (Engine::default(), Buffers::default());
+fn longest(mut engine: Engine, steps: &[Step]) -> usize {
+    let mut buffers = Buffers::default();
     let mut waited: HashMap<u32, usize> = HashMap::new();
     let mut longest = 0;
     for &step in steps {
@@ -37,7 +37,7 @@ fn longest(steps: &[Step]) -> usize {
 fn nobody_starves() {
     for profile in PROFILES.iter().filter(|profile| profile.least == 0) {
         for seed in 0..4 {
-            let most = longest(&generate::script(seed, 20_000, profile));
+            let most = longest(profile.engine(), &generate::script(seed, 20_000, profile));
             assert!(most > 0, "{}", profile.name);
         }
     }
@@ -47,6 +47,9 @@ fn nobody_starves() {
 #[test]
 fn the_last_of_192() {
     let runs = plain::compare::runs::all();
-    let longest = runs.iter().map(|script| longest(&plain::script::steps(&script.text())));
+    let longest = runs.iter().map(|run| {
+        let text = run.text();
+        longest(Engine::new(script::guarded(&text)), &script::steps(&text))
+    });
     assert_eq!(longest.max(), Some(INDEXLET_LIMIT));
 }

@@ -24,6 +24,9 @@ enum-told-5 c = search needs
 enum-told-6 : tie.Need-enum-told-6
 enum-told-6 c = search needs
 
+enum-told-7 : tie.Need-enum-told-7
+enum-told-7 c = search needs
+
 returns : tie.Need-returns
 returns c seen a = at-start _ seen (c .enum-told .given .1) a
 
@@ -42,6 +45,9 @@ returns-5 c seen a = past-start _ seen (ap started (c .enum-told5 .given .1)) a
 returns-6 : tie.Need-returns-6
 returns-6 c seen a = past-start _ seen (ap started (c .enum-told6 .given .1)) a
 
+returns-7 : tie.Need-returns-7
+returns-7 c seen a = past-start _ seen (ap started (c .enum-told7 .given .1)) a
+
 pub at-line-start-spec : {M : Type 1} → statement M
 at-line-start-spec =
     tie.close
@@ -52,9 +58,11 @@ at-line-start-spec =
     enum-told-4
     enum-told-5
     enum-told-6
+    enum-told-7
     returns
     returns-2
     returns-3
     returns-4
     returns-5
-    returns-6)
+    returns-6
+    returns-7)

@@ -3,7 +3,7 @@ use Prim.Native.Nat.{_-_}
 use native.Mathlib.Omega.{arith}
 use lib.ListN.{length}
 use borrow.Author.Needs.{needs}
-use Rattle.script.specs.Tokens.{Advances, goes-none, goes-on, goes-ends, goes-whole, line-ends, malformed-ends}
+use Rattle.script.specs.Tokens.{Advances, goes-none, goes-on, goes-ends, goes-whole, line-ends, guard-ends, malformed-ends}
 use Rattle.script.proofs.parse.Statement.{statement}
 use Rattle.script.proofs.parse.Tie as tie
 
@@ -29,19 +29,25 @@ enum-told-2 : tie.Need-enum-told-2 Inv-loop μ-loop
 enum-told-2 c = search needs
 
 returns-2 : tie.Need-returns-2 Inv-loop μ-loop
-returns-2 c = goes-ends (c .before .before .before .before .loop .inv) (c .before .before .parse-part .ensures .0) (malformed-ends (c .enum-told2 .given .1))
+returns-2 c = goes-ends (c .before .before .before .before .loop .inv) (c .before .before .parse-part .ensures .0) (guard-ends (c .enum-told2 .given .1))
 
 enum-told-3 : tie.Need-enum-told-3 Inv-loop μ-loop
 enum-told-3 c = search needs
+
+returns-3 : tie.Need-returns-3 Inv-loop μ-loop
+returns-3 c = goes-ends (c .before .before .before .before .loop .inv) (c .before .before .parse-part .ensures .0) (malformed-ends (c .enum-told3 .given .1))
+
+enum-told-4 : tie.Need-enum-told-4 Inv-loop μ-loop
+enum-told-4 c = search needs
 
 loop-less : tie.Need-loop-less Inv-loop μ-loop
 loop-less c = omega arith
 
 loop-again : tie.Need-loop-again Inv-loop μ-loop
-loop-again c = goes-on (c .before .before .before .before .loop .inv) (c .before .before .parse-part .ensures .0) (c .enum-told3 .given .1)
+loop-again c = goes-on (c .before .before .before .before .loop .inv) (c .before .before .parse-part .ensures .0) (c .enum-told4 .given .1)
 
-returns-3 : tie.Need-returns-3 Inv-loop μ-loop
-returns-3 c = goes-whole (c .before .loop .inv) (c .loop-test .left)
+returns-4 : tie.Need-returns-4 Inv-loop μ-loop
+returns-4 c = goes-whole (c .before .loop .inv) (c .loop-test .left)
 
 pub parse-spec : {M : Type 1} → statement M
 parse-spec =
@@ -56,6 +62,8 @@ parse-spec =
     enum-told-2
     returns-2
     enum-told-3
+    returns-3
+    enum-told-4
     loop-less
     loop-again
-    returns-3)
+    returns-4)

@@ -23,6 +23,12 @@ enum-told-2 c = search needs
 after-oldest-requires : tie.Need-after-oldest-requires
 after-oldest-requires c κs = search needs
 
+enum-told-3 : tie.Need-enum-told-3
+enum-told-3 c = search needs
+
+after-guard-requires : tie.Need-after-guard-requires
+after-guard-requires c κs = search needs
+
 enum-known-p-2 : tie.Need-enum-known-p-2
 enum-known-p-2 c = search needs
 
@@ -51,16 +57,19 @@ returns-3 : tie.Need-returns-3
 returns-3 c = (turns-as (c .before .enum-told2 .given .1) (c .after-oldest .ensures .0), c .after-oldest .ensures .1)
 
 returns-4 : tie.Need-returns-4
-unfolding inNumber
-returns-4 c = (turns-as (c .before .before .p2 .given .1) (c .field .ensures .0), c .field .ensures .1)
+returns-4 c = (turns-as (c .before .enum-told3 .given .1) (c .after-guard .ensures .0), c .after-guard .ensures .1)
 
 returns-5 : tie.Need-returns-5
 unfolding inNumber
-returns-5 c = (turns-as (c .before .before .p3 .given .1) (c .field2 .ensures .0), c .field2 .ensures .1)
+returns-5 c = (turns-as (c .before .before .p2 .given .1) (c .field .ensures .0), c .field .ensures .1)
 
 returns-6 : tie.Need-returns-6
 unfolding inNumber
-returns-6 c = (turns-as (c .before .before .p4 .given .1) (c .field3 .ensures .0), c .field3 .ensures .1)
+returns-6 c = (turns-as (c .before .before .p3 .given .1) (c .field2 .ensures .0), c .field2 .ensures .1)
+
+returns-7 : tie.Need-returns-7
+unfolding inNumber
+returns-7 c = (turns-as (c .before .before .p4 .given .1) (c .field3 .ensures .0), c .field3 .ensures .1)
 
 pub parse-part-spec : {M : Type 1} → statement M
 parse-part-spec =
@@ -72,6 +81,8 @@ parse-part-spec =
     after-letter-requires
     enum-told-2
     after-oldest-requires
+    enum-told-3
+    after-guard-requires
     enum-known-p-2
     field-requires
     enum-known-p-3
@@ -83,4 +94,5 @@ parse-part-spec =
     returns-3
     returns-4
     returns-5
-    returns-6)
+    returns-6
+    returns-7)

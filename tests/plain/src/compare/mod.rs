@@ -2,6 +2,7 @@
 //! line.
 
 mod difference;
+mod guarded;
 pub mod program;
 pub mod runs;
 mod script;

@@ -1,19 +1,19 @@
 //! Runs with their answers written down by hand: those of document 01 that are
-//! not starred, as far as a script can show them, folds of the oldest, and the
-//! edges of a script.
+//! not starred, as far as a script can show them, folds of the oldest, guarded maps
+//! and the edges of a script.
 
-use super::Script;
+use super::{guarded, Script};
 
 /// Lines with their answers, in the order in which they are run.
 #[derive(Default)]
-struct Run {
+pub(super) struct Run {
     text: String,
     answers: String,
 }
 
 impl Run {
     /// Lines of the form `input -> output`.
-    fn lines(mut self, lines: &str) -> Self {
+    pub fn lines(mut self, lines: &str) -> Self {
         for line in lines.lines() {
             let (input, output) = line.trim().split_once(" -> ").expect("an arrow");
             self.text += &format!("{input}\n");
@@ -37,7 +37,12 @@ impl Run {
     }
 
     /// A whole job of removals.
-    fn removals(self, seat: u32, number: u32, addresses: impl IntoIterator<Item = u32>) -> Self {
+    pub fn removals(
+        self,
+        seat: u32,
+        number: u32,
+        addresses: impl IntoIterator<Item = u32>,
+    ) -> Self {
         let mut run = self.lines(&format!("B {seat} -> B 0"));
         for address in addresses {
             run = run.lines(&format!("D {seat} {address} -> D 0"));
@@ -46,11 +51,11 @@ impl Run {
     }
 
     /// Folds of the oldest, with the counts that they answer.
-    fn oldest(self, counts: &[usize]) -> Self {
+    pub fn oldest(self, counts: &[usize]) -> Self {
         counts.iter().fold(self, |run, count| run.lines(&format!("T -> T 0 {count}")))
     }
 
-    fn end(self, name: &str, records: impl Iterator<Item = (u32, u64)>) -> Script {
+    pub fn end(self, name: &str, records: impl Iterator<Item = (u32, u64)>) -> Script {
         let pairs: Vec<String> =
             records.map(|(address, value)| format!(" {address} {value}")).collect();
         let answers = format!("{}E {}{}\n", self.answers, pairs.len(), pairs.concat());
@@ -69,6 +74,7 @@ fn as_put(address: u32) -> (u32, u64) {
 pub fn all() -> Vec<Script> {
     let mut scripts = vec![full_indexlet(), full_write_set(), short_buffer(), zeros()];
     scripts.extend([install_order(), age_of_an_address(), ages_in_one_install(), last_of_192()]);
+    scripts.extend(guarded::all());
     let edges = [
         ("empty input", "", "E 0\n"),
         ("a last line without its line feed", "B 0\nB 1", "B 0\n?\n"),
@@ -79,6 +85,16 @@ pub fn all() -> Vec<Script> {
         ("T and a number", "T\nT 0\nT\n", "T 0 0\n?\n"),
         ("T and a carriage return", "T\nT\r\nT\n", "T 0 0\n?\n"),
         ("T without its line feed", "T\nT", "T 0 0\n?\n"),
+        ("G alone", "G\n", "G 0\nE 0\n"),
+        ("G without its line feed", "G", "?\n"),
+        ("a line without its line feed behind G", "G\nB 0", "G 0\n?\n"),
+        ("G and a space", "G \nB 0\n", "?\n"),
+        ("G and a number", "G 0\nB 0\n", "?\n"),
+        ("G and a carriage return", "G\r\nB 0\n", "?\n"),
+        ("a small g", "g\nB 0\n", "?\n"),
+        ("G twice", "G\nG\nB 0\n", "G 0\n?\n"),
+        ("G in the second line", "B 0\nG\nB 1\n", "B 0\n?\n"),
+        ("G behind an empty line", "\nG\nB 0\n", "?\n"),
     ];
     scripts.extend(edges.map(|(name, text, answers)| Script::Text {
         name: name.into(),

@@ -1,6 +1,7 @@
 //! What a step meets, worked out before it from the engine's stores by document
 //! 01's words, and not by the engine's own tests.
 
+use crate::guard::Guard;
 use crate::observe::Observer;
 use plain::engine::{Stage, Worker, WORKERS};
 use plain::map::{Leaf, Map, Write};
@@ -32,6 +33,7 @@ pub enum Facts {
         removal: bool,
     },
     Lock {
+        guard: Guard,
         count: usize,
         held: bool,
         waiting: usize,
@@ -47,6 +49,7 @@ pub enum Facts {
     Install {
         number: u32,
         written: Vec<u32>,
+        puts: bool,
     },
     Merge {
         /// What is to be said of the pick, if the merge picked its own leaf.
@@ -67,11 +70,9 @@ impl Meeting {
         let facts = match (step, at, stage) {
             (Step::Merge { address }, _, _) => merge_facts(engine.map(), address, vec![]),
             (Step::MergeOldest, _, _) => oldest_facts(observer),
-            (Step::Install { .. }, Some(at), Some(Stage::Checked)) => {
-                let written = engine.worker(at).write_set.iter().map(|&(address, _)| address);
-                Facts::Install { number: observer.numbers[at], written: written.collect() }
-            }
+            (Step::Install { .. }, Some(at), Some(Stage::Checked)) => install_facts(observer, at),
             (Step::Validate { .. }, Some(at), Some(Stage::Locked)) => validate_facts(observer, at),
+            (Step::Lock { .. }, Some(at), Some(Stage::Open)) => lock_facts(observer, at),
             (_, Some(at), Some(Stage::Open)) => open_facts(engine.map(), engine.worker(at), step),
             _ => Facts::Plain,
         };
@@ -96,7 +97,6 @@ fn open_facts(map: &Map, worker: &Worker, step: Step) -> Facts {
         Step::Scan { lo, hi, .. } => scan_facts(map, worker, lo, hi),
         Step::Put { address, .. } => Facts::Write { old: own(address), count, removal: false },
         Step::Remove { address, .. } => Facts::Write { old: own(address), count, removal: true },
-        Step::Lock { .. } => lock_facts(map, worker),
         _ => Facts::Plain,
     }
 }
@@ -124,12 +124,14 @@ fn scan_facts(map: &Map, worker: &Worker, lo: u32, hi: u32) -> Facts {
     }
 }
 
-fn lock_facts(map: &Map, worker: &Worker) -> Facts {
+fn lock_facts(observer: &Observer, at: usize) -> Facts {
+    let (map, worker) = (observer.engine.map(), observer.engine.worker(at));
     let written: BTreeSet<u32> = worker.write_set.iter().map(|&(at, _)| at).collect();
     let indexlet: BTreeSet<u32> = map.indexlet().keys().copied().collect();
     let index: BTreeSet<u32> = map.index().iter().map(|record| record.address).collect();
     let both: BTreeSet<u32> = indexlet.union(&written).copied().collect();
     Facts::Lock {
+        guard: if observer.guarded { observer.logs[at].guard() } else { Guard::default() },
         count: written.len(),
         held: written.iter().any(|&at| map.holder(at).is_some()),
         waiting: indexlet.len(),
@@ -184,6 +186,15 @@ fn validate_facts(observer: &Observer, at: usize) -> Facts {
         }
     }
     Facts::Validate { changes, held, phantoms, calm }
+}
+
+fn install_facts(observer: &Observer, at: usize) -> Facts {
+    let writes = &observer.engine.worker(at).write_set;
+    Facts::Install {
+        number: observer.numbers[at],
+        written: writes.iter().map(|&(address, _)| address).collect(),
+        puts: writes.iter().any(|(_, write)| matches!(write, Write::Put(_))),
+    }
 }
 
 fn oldest_facts(observer: &Observer) -> Facts {

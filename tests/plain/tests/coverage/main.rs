@@ -3,13 +3,14 @@
 
 mod ages;
 mod facts;
+mod guard;
 mod names;
 mod observe;
 
 use observe::{Observer, Seen};
 use plain::profiles::{find, Profile, PROFILES};
 use plain::step::{run, Buffers, Step};
-use plain::{claim, engine, generate, script};
+use plain::{claim, generate, script};
 
 /// Letter and the refusals listed for it, but for 15.
 const REFUSALS: [(char, &[u8]); 11] = [
@@ -18,7 +19,7 @@ const REFUSALS: [(char, &[u8]); 11] = [
     ('S', &[0, 1, 2, 4, 5, 6, 8]),
     ('P', &[0, 1, 2, 4, 7]),
     ('D', &[0, 1, 2, 4, 7]),
-    ('L', &[0, 1, 2, 4, 9, 10, 11]),
+    ('L', &[0, 1, 2, 4, 9, 10, 11, 16, 17, 18]),
     ('V', &[0, 1, 2, 4, 12, 13, 14]),
     ('I', &[0, 1, 2, 4]),
     ('A', &[0, 1, 2]),
@@ -121,8 +122,61 @@ const MEETINGS: [&str; 78] = [
     "I 0 Some(Checked)",
 ];
 
+/// What request 102 adds: each reason for 16 to 18, what they go before, and what
+/// a granted put may rest on.
+const GUARDED: [&str; 47] = [
+    "16 by length 0",
+    "16 by length 65537",
+    "16 by a long length",
+    "16 by a length above 32 bits",
+    "16 by a length cut to 32 bits",
+    "16 by a sum that wraps",
+    "16 by an end one past the last address",
+    "16 by an end past the last address",
+    "17 by no scan",
+    "17 by reads alone",
+    "17 by a byte at lo",
+    "17 by a byte at hi",
+    "17 by two scans together",
+    "17 by a scan elsewhere",
+    "18 by a section below",
+    "18 by a section above",
+    "18 by a byte of a section below",
+    "18 by a byte of a section above",
+    "18 by an own put",
+    "18 by the latest scan",
+    "16 before 17 of a lower address",
+    "16 before 18 of a lower address",
+    "17 before 18 of a lower address",
+    "16 before 9",
+    "16 before 10",
+    "16 before 11",
+    "17 before 9",
+    "17 before 10",
+    "17 before 11",
+    "18 before 9",
+    "18 before 10",
+    "18 before 11",
+    "put with length 1",
+    "put with length 65536",
+    "put with the first byte",
+    "put with the last byte",
+    "put with lo just enough",
+    "put with lo 0 for a low address",
+    "put with hi just enough",
+    "put with a scan after the put",
+    "put with the latest scan",
+    "put with a narrow scan that would refuse it",
+    "put with an own removal in its way",
+    "put with an own put in its way cut short",
+    "put with its own old section",
+    "put with a section that touches it",
+    "put with an own put that touches it",
+];
+
 fn required() -> Vec<String> {
-    let mut names: Vec<String> = MEETINGS.iter().map(|name| name.to_string()).collect();
+    let names = MEETINGS.iter().chain(&GUARDED);
+    let mut names: Vec<String> = names.map(|name| name.to_string()).collect();
     for (letter, numbers) in REFUSALS {
         names.extend(numbers.iter().map(|number| format!("{letter} {number}")));
     }
@@ -136,14 +190,15 @@ fn short_profiles() -> impl Iterator<Item = &'static Profile> {
     PROFILES.iter().filter(|profile| profile.least == 0)
 }
 
-fn observe(steps: &[Step], seen: &mut Seen) {
-    let mut observer = Observer::default();
+/// A script of the profile.
+fn observe(profile: &Profile, steps: &[Step], seen: &mut Seen) {
+    let mut observer = Observer::new(profile.guarded);
     steps.iter().for_each(|&step| observer.play(step, seen));
 }
 
-fn assert_claim(steps: Vec<Step>, name: &str) {
-    if let Err(failure) = claim::check(&claim::record(steps)) {
-        panic!("{name}: {failure}");
+fn assert_claim(profile: &Profile, steps: Vec<Step>) {
+    if let Err(failure) = claim::check(&claim::record(profile.engine(), steps)) {
+        panic!("{}: {failure}", profile.name);
     }
 }
 
@@ -152,7 +207,7 @@ fn profiles_reach_everything() {
     let mut seen = Seen::new();
     for profile in short_profiles() {
         for seed in 0..3 {
-            observe(&generate::script(seed, 20_000, profile), &mut seen);
+            observe(profile, &generate::script(seed, 20_000, profile), &mut seen);
         }
     }
     let missing: Vec<String> =
@@ -164,7 +219,7 @@ fn profiles_reach_everything() {
 fn claim_holds_on_every_profile() {
     for profile in short_profiles() {
         for (seed, steps) in [(0, 20_000), (1, 20_000), (2, 20_000), (3, 2_000), (4, 500)] {
-            assert_claim(generate::script(seed, steps, profile), profile.name);
+            assert_claim(profile, generate::script(seed, steps, profile));
         }
     }
 }
@@ -172,7 +227,7 @@ fn claim_holds_on_every_profile() {
 #[test]
 fn ordinary_grants_every_kind_often() {
     let profile = find("ordinary", 0).unwrap();
-    let (mut engine, mut buffers) = (engine::Engine::default(), Buffers::default());
+    let (mut engine, mut buffers) = (profile.engine(), Buffers::default());
     let mut granted = [0; 256];
     for step in generate::script(1, 1_000_000, profile) {
         if run(&mut engine, step, &mut buffers).granted() {
@@ -192,20 +247,39 @@ fn turns_has_every_pick() {
     let steps = generate::script(1, 45_000, profile);
     assert!(!steps.iter().any(|step| matches!(step, Step::Merge { .. })));
     let mut seen = Seen::new();
-    observe(&steps, &mut seen);
+    observe(profile, &steps, &mut seen);
     for name in MEETINGS.iter().filter(|name| name.starts_with("oldest")) {
         assert!(seen.get(*name).is_some_and(|&times| times >= 20), "{name}: {seen:?}");
     }
 }
 
+/// In a guarded map all that the guard may say comes up, and the other refusals of
+/// lock and validate too; many transactions are installed all the same.
+#[test]
+fn guarded_has_every_cause() {
+    let profile = find("guarded", 0).unwrap();
+    let mut seen = Seen::new();
+    observe(profile, &generate::script(1, 45_000, profile), &mut seen);
+    let times = |name: &str| seen.get(name).copied().unwrap_or(0);
+    for name in GUARDED {
+        assert!(times(name) >= 3, "{name}: {seen:?}");
+    }
+    for name in ["L 9", "L 10", "L 11", "L 16", "L 17", "L 18", "V 12", "V 13", "V 14"] {
+        assert!(times(name) >= 20, "{name}: {seen:?}");
+    }
+    assert!(5 * times("I 0") > 2 * times("B 0"), "{seen:?}");
+    assert!(4 * times("install of puts") > times("B 0"), "{seen:?}");
+}
+
 #[test]
 fn commit_numbers_end() {
-    let steps = generate::script(1, 0, find("spent", 0).unwrap());
+    let profile = find("spent", 0).unwrap();
+    let steps = generate::script(1, 0, profile);
     let mut seen = Seen::new();
-    observe(&steps, &mut seen);
+    observe(profile, &steps, &mut seen);
     for name in ["V 15", "12 before 15", "13 before 15", "14 before 15", "I 0", "A 0 Some(Locked)"]
     {
         assert!(seen.contains_key(name), "{name}");
     }
-    assert_claim(steps, "spent");
+    assert_claim(profile, steps);
 }

@@ -1,14 +1,15 @@
-//! The answer held against the facts: document 01's causes, lowest number first,
-//! and the names of the limits and actions met.
+//! The answer held against the facts: document 01's causes, in the order in which
+//! they are answered, and the names of the limits and actions met.
 
 use crate::facts::{Facts, Meeting};
+use crate::guard::Guard;
 use crate::observe::Observer;
 use plain::engine::{Engine, Stage, LEAF_LIMIT, READ_LIMIT, WORKERS, WRITE_LIMIT};
 use plain::map::{Leaf, Map, Write, INDEXLET_LIMIT, MAP_LIMIT};
 use plain::step::{Answer, PLACES};
 use std::collections::BTreeSet;
 
-/// The lowest cause must be the answer.
+/// The first cause must be the answer.
 fn expect(answer: Answer, causes: &[(bool, u8)]) {
     let refusal = causes.iter().find(|cause| cause.0).map(|cause| cause.1);
     match refusal {
@@ -44,9 +45,9 @@ impl Meeting {
             }
             Facts::Lock { .. } => self.lock_names(answer),
             Facts::Validate { .. } => self.validate_names(observer, answer),
-            Facts::Install { number, written } => {
+            Facts::Install { number, written, puts } => {
                 observer.ages.install(*number, written);
-                Vec::new()
+                chosen(&[(*puts, "install of puts")])
             }
             Facts::Merge { .. } => self.merge_names(observer, answer),
         }
@@ -75,13 +76,20 @@ impl Meeting {
     }
 
     fn lock_names(&self, answer: Answer) -> Vec<String> {
-        let Facts::Lock { count, held, waiting, indexlet, total } = self.facts else {
+        let &Facts::Lock { ref guard, count, held, waiting, indexlet, total } = &self.facts else {
             return vec![];
         };
         let (narrow, full) = (indexlet > INDEXLET_LIMIT, total > MAP_LIMIT);
-        expect(answer, &[(held, 9), (narrow, 10), (full, 11)]);
+        let [length, scan, overlap] = [16, 17, 18].map(|number| guard.has(number));
+        expect(
+            answer,
+            &[(length, 16), (scan, 17), (overlap, 18), (held, 9), (narrow, 10), (full, 11)],
+        );
+        if length || scan || overlap {
+            return guard_names(guard, answer, [(held, 9), (narrow, 10), (full, 11)]);
+        }
         let granted = answer.granted();
-        chosen(&[
+        let mut names = chosen(&[
             (
                 granted && count > 0 && waiting < indexlet && indexlet == INDEXLET_LIMIT,
                 "lock fills the indexlet",
@@ -98,7 +106,11 @@ impl Meeting {
             (held && full && !narrow, "9 before 11"),
             (!held && narrow && full, "10 before 11"),
             (held && narrow && full, "9 before 10 and 11"),
-        ])
+        ]);
+        if granted {
+            names.extend(guard.calm.iter().map(|name| format!("put with {name}")));
+        }
+        names
     }
 
     fn validate_names(&self, observer: &Observer, answer: Answer) -> Vec<String> {
@@ -172,6 +184,22 @@ impl Meeting {
     }
 }
 
+/// Why the guard refused, and what it went before.
+fn guard_names(guard: &Guard, answer: Answer, later: [(bool, u8); 3]) -> Vec<String> {
+    let Answer::Refused(number) = answer else { return vec![] };
+    let mut names: Vec<String> =
+        guard.reason(number).iter().map(|reason| format!("{number} by {reason}")).collect();
+    for other in number + 1..=18 {
+        if guard.jumps(number, other) {
+            names.push(format!("{number} before {other} of a lower address"));
+        }
+    }
+    names.extend(
+        later.iter().filter(|cause| cause.0).map(|cause| format!("{number} before {}", cause.1)),
+    );
+    names
+}
+
 /// Locked are just the write sets of locked and checked workers, and every entry
 /// of the indexlet is pending or locked.
 pub fn check_entries(engine: &Engine) {
@@ -180,6 +208,7 @@ pub fn check_entries(engine: &Engine) {
     let mut locked = 0;
     for at in 0..WORKERS {
         let worker = engine.worker(at);
+        assert!(worker.scans.len() <= worker.leaf_set.len(), "each scan logs a leaf");
         if matches!(worker.stage, Stage::Locked | Stage::Checked) {
             let held = |&(address, _): &(u32, Write)| engine.map().holder(address) == Some(at);
             assert!(worker.write_set.iter().all(held));

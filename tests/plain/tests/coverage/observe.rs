@@ -2,6 +2,7 @@
 
 use crate::ages::Ages;
 use crate::facts::{Facts, Meeting};
+use crate::guard::Log;
 use crate::names::check_entries;
 use plain::engine::{Engine, WORKERS};
 use plain::script::letter;
@@ -11,12 +12,15 @@ use std::collections::{BTreeMap, HashSet};
 #[derive(Default)]
 pub struct Observer {
     pub engine: Engine,
+    pub guarded: bool,
     buffers: Buffers,
     /// Records that a merge dropped while a worker held their lock.
     pub dropped: HashSet<(u32, usize)>,
     pub ages: Ages,
     /// The latest commit number of each worker.
     pub numbers: [u32; WORKERS],
+    /// What each worker has done since its begin, in a guarded map.
+    pub logs: [Log; WORKERS],
     largest_installed: u32,
 }
 
@@ -24,12 +28,17 @@ pub struct Observer {
 pub type Seen = BTreeMap<String, usize>;
 
 impl Observer {
+    pub fn new(guarded: bool) -> Self {
+        Observer { engine: Engine::new(guarded), guarded, ..Observer::default() }
+    }
+
     pub fn play(&mut self, step: Step, seen: &mut Seen) {
         let meeting = Meeting::of(self, step);
         let answer = run(&mut self.engine, step, &mut self.buffers);
         if !matches!(meeting.facts, Facts::Read { .. } | Facts::Scan { .. } | Facts::Write { .. }) {
             check_entries(&self.engine);
         }
+        self.log(step, answer);
         let mut names = meeting.names(self, answer);
         names.extend(self.edges(step, answer));
         names.extend(self.install_order(step, answer));
@@ -38,6 +47,12 @@ impl Observer {
         names.push(format!("{} {number} {:?}", letter(step) as char, meeting.stage));
         for name in names {
             *seen.entry(name).or_default() += 1;
+        }
+    }
+
+    fn log(&mut self, step: Step, answer: Answer) {
+        if let Some(worker) = step.worker().filter(|_| self.guarded && answer.granted()) {
+            self.logs[worker as usize].note(self.engine.map(), step);
         }
     }
 

@@ -1,10 +1,10 @@
--- `locks::lock` meets its contract: refused by 1, 2 or 4, or what comes of an open worker's lock.
+-- `locks::lock` meets its contract: refused by 1, 2 or 4, by the guard, or what comes of an open worker's lock.
 use mathlib.Core.Path.{subst}
 use borrow.Author.Needs.{needs}
 use Rattle.spec.specs.Steps.{isOpen}
 use Rattle.transactions.specs.Admits.{Admitted}
 use Rattle.transactions.specs.CoreLaws.{ready-writable}
-use Rattle.commits.specs.Locks.{lock-refused, lock-refines}
+use Rattle.commits.specs.Locks.{lock-refused, guardable, lock-barred, lock-refines}
 use Rattle.commits.proofs.locks.lock.Statement.{statement}
 use Rattle.commits.proofs.locks.lock.Tie as tie
 
@@ -14,29 +14,51 @@ open-requires c κs = search needs
 enum-known-r : tie.Need-enum-known-r
 enum-known-r c = search needs
 
+enum-known-x : tie.Need-enum-known-x
+enum-known-x c = search needs
+
+guard-requires : tie.Need-guard-requires
+guard-requires c κs =
+    let e = subst (Admitted isOpen _ _) (c .before .x .given .1) (c .before .before .before .open .ensures) in
+    (e .inside, guardable _ (c .before .before .before .before .before .pre) _ e)
+
+enum-known-r-2 : tie.Need-enum-known-r-2
+enum-known-r-2 c = search needs
+
 enum-told : tie.Need-enum-told
 enum-told c = search needs
 
 lock-open-requires : tie.Need-lock-open-requires
 lock-open-requires c κs =
-    let t = c .before .before in
-    let k = t .before .before .before .before .pre in
-    let e = subst (Admitted isOpen _ _) (t .enum-told .given .1) (t .before .before .open .ensures) in
+    let k = c .before .before .before .before .before .before .before .before .before .before .pre in
+    let e = subst (Admitted isOpen _ _) (c .before .before .before .before .before .before .x .given .1) (c .before .before .before .before .before .before .before .before .open .ensures) in
     (k .stored .map, (e .inside, ready-writable k .set _ (e .inside)))
 
 returns : tie.Need-returns
 returns c =
-    let b = c .before .before .before in
-    lock-refused _ (b .before .before .pre) _ (subst (Admitted isOpen _ _) (c .before .r .given .1) (b .open .ensures))
+    lock-refused _ (c .before .before .before .before .before .pre) _ (subst (Admitted isOpen _ _) (c .before .r .given .1) (c .before .before .before .open .ensures))
 
 returns-2 : tie.Need-returns-2
 returns-2 c =
-    let t = c .before .before .before in
-    lock-refines _ (t .before .before .before .before .pre) _
-    (subst (Admitted isOpen _ _) (t .enum-told .given .1) (t .before .before .open .ensures)) _
-    (c .lock-open .ensures)
+    let e = subst (Admitted isOpen _ _) (c .before .before .before .before .before .x .given .1) (c .before .before .before .before .before .before .before .open .ensures) in
+    lock-barred _ (c .before .before .before .before .before .before .before .before .before .pre) _ e _ _ (c .before .r2 .given .1) (c .before .before .before .guard .ensures)
+
+returns-3 : tie.Need-returns-3
+returns-3 c =
+    let e = subst (Admitted isOpen _ _) (c .before .before .before .before .before .before .before .x .given .1) (c .before .before .before .before .before .before .before .before .before .open .ensures) in
+    lock-refines _ (c .before .before .before .before .before .before .before .before .before .before .before .pre) _ e _ (c .before .before .before .enum-told .given .1) (c .before .before .before .before .before .guard .ensures) _ (c .lock-open .ensures)
 
 pub lock-spec : {M : Type 1} → statement M
 lock-spec =
     tie.close
-    (tie.spec open-requires enum-known-r enum-told lock-open-requires returns returns-2)
+    (tie.spec
+    open-requires
+    enum-known-r
+    enum-known-x
+    guard-requires
+    enum-known-r-2
+    enum-told
+    lock-open-requires
+    returns
+    returns-2
+    returns-3)

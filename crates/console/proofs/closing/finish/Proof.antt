@@ -7,7 +7,7 @@ use Rattle.console.proofs.closing.finish.Statement.{statement}
 use Rattle.console.proofs.closing.finish.Tie as tie
 
 returns : tie.Need-returns
-returns c = finish-stopped _ _ _ _ (c .if1 .taken) (omega (arith, c .before .before .pre .1))
+returns c = finish-stopped _ _ _ _ (c .if1 .taken) (omega (arith, c .before .before .pre .1 .1))
 
 at-line-start-requires : tie.Need-at-line-start-requires
 at-line-start-requires c κs = tt
@@ -16,22 +16,22 @@ put-contents-requires : tie.Need-put-contents-requires
 put-contents-requires c κs =
     let s = c .before .before .before .before .before .before .before in
     let t = s .pre .0 .stored .map .tables in
-    (records-held t, (slots-held t, (records-fit (s .pre .0), s .pre .1)))
+    (records-held t, (slots-held t, (records-fit (s .pre .0), s .pre .1 .1)))
 
 same-length : tie.Need-same-length
 same-length c = wrote-length (c .before .before .put-contents .ensures)
 
 returns-2 : tie.Need-returns-2
-returns-2 c = finish-whole _ _ _ _ _ _ _ (c .before .before .before .before .before .before .before .before .if1 .left) (c .before .before .before .before .before .before .before .at-line-start .ensures) (c .before .before .before .before .before .before .if2 .taken) (c .before .before .put-contents .ensures)
+returns-2 c = finish-whole _ _ _ _ _ _ _ (c .before .before .before .before .before .before .before .before .before .before .pre .1 .0) (c .before .before .before .before .before .before .before .before .if1 .left) (c .before .before .before .before .before .before .before .at-line-start .ensures) (c .before .before .before .before .before .before .if2 .taken) (c .before .before .put-contents .ensures)
 
 put-malformed-requires : tie.Need-put-malformed-requires
-put-malformed-requires c κs = omega (arith, c .before .before .before .before .before .pre .1)
+put-malformed-requires c κs = omega (arith, c .before .before .before .before .before .pre .1 .1)
 
 same-length-2 : tie.Need-same-length-2
 same-length-2 c = wrote-length (c .before .before .put-malformed .ensures)
 
 returns-3 : tie.Need-returns-3
-returns-3 c = finish-inside _ _ _ _ _ _ _ (c .before .before .before .before .before .before .if1 .left) (c .before .before .before .before .before .at-line-start .ensures) (c .before .before .before .before .if2 .left) (c .before .before .put-malformed .ensures)
+returns-3 c = finish-inside _ _ _ _ _ _ _ (c .before .before .before .before .before .before .before .before .pre .1 .0) (c .before .before .before .before .before .before .if1 .left) (c .before .before .before .before .before .at-line-start .ensures) (c .before .before .before .before .if2 .left) (c .before .before .put-malformed .ensures)
 
 pub finish-spec : {M : Type 1} → statement M
 finish-spec =

@@ -2,9 +2,10 @@
 use borrow.Author.Needs.{needs}
 use native.Mathlib.Omega.{arith}
 use Rattle.lists.specs.TextLaws.{wrote-length}
-use Rattle.console.specs.SessionLaws.{goes-true}
+use Rattle.console.specs.SessionLaws.{goes-true, guard-length}
 use Rattle.console.specs.Places.{places-fit}
-use Rattle.console.specs.RunLineLaws.{turn-ended, turn-malformed, turn-line}
+use Rattle.console.specs.RunLineLaws.{turn-ended, turn-malformed, turn-guard, turn-line}
+use Rattle.transactions.specs.StartLaws.{guarded-fresh}
 use Rattle.console.proofs.session.run_line.Statement.{statement}
 use Rattle.console.proofs.session.run_line.Tie as tie
 
@@ -34,14 +35,22 @@ write-reply-requires c κs =
 enum-told : tie.Need-enum-told
 enum-told c = search needs
 
-put-malformed-requires : tie.Need-put-malformed-requires
-put-malformed-requires c κs =
+run-guard-requires : tie.Need-run-guard-requires
+run-guard-requires c κs =
+    let s = c .before .before .before .before .before .before .before in
+    goes-true _ _ _ _ _ (s .pre .1 .1) .2
+
+enum-told-2 : tie.Need-enum-told-2
+enum-told-2 c = search needs
+
+end-malformed-requires : tie.Need-end-malformed-requires
+end-malformed-requires c κs =
     let s = c .before .before .before .before .before .before .before in
     let g = goes-true _ _ _ _ _ (s .pre .1 .1) in
     omega (arith, g .2)
 
-enum-told-2 : tie.Need-enum-told-2
-enum-told-2 c = search needs
+enum-told-3 : tie.Need-enum-told-3
+enum-told-3 c = search needs
 
 same-length : tie.Need-same-length
 same-length c = wrote-length (c .before .before .write-reply .ensures .wrote)
@@ -55,19 +64,28 @@ returns c =
     (c .before .before .before .letter-of .ensures) (c .before .before .write-reply .ensures)
 
 same-length-2 : tie.Need-same-length-2
-same-length-2 c = wrote-length (c .before .before .put-malformed .ensures)
+same-length-2 c = guard-length (c .before .before .run-guard .ensures)
 
 returns-2 : tie.Need-returns-2
 returns-2 c =
     let s = c .before .before .before .before .before .before .before .before .before .before in
     let g = goes-true _ _ _ _ _ (s .pre .1 .1) in
-    turn-malformed _ _ _ _ _ _ (g .0) (g .1) (s .pre .1 .0) (c .before .before .before .before .before .before .parse .ensures) (s .pre .0) (c .before .before .before .before .enum-told .given .1) (c .before .before .put-malformed .ensures)
+    turn-guard _ _ _ _ _ _ (g .0) (g .1) (s .pre .1 .0) (c .before .before .before .before .before .before .parse .ensures) (s .pre .0) (λ e. guarded-fresh (s .pre .0) (s .pre .1 .0 .opening e)) (c .before .before .before .before .enum-told .given .1) (c .before .before .run-guard .ensures)
+
+same-length-3 : tie.Need-same-length-3
+same-length-3 c = wrote-length (c .before .before .end-malformed .ensures .wrote)
 
 returns-3 : tie.Need-returns-3
 returns-3 c =
+    let s = c .before .before .before .before .before .before .before .before .before .before in
+    let g = goes-true _ _ _ _ _ (s .pre .1 .1) in
+    turn-malformed _ _ _ _ _ _ (g .0) (g .1) (s .pre .1 .0) (c .before .before .before .before .before .before .parse .ensures) (s .pre .0) (c .before .before .before .before .enum-told2 .given .1) (c .before .before .end-malformed .ensures)
+
+returns-4 : tie.Need-returns-4
+returns-4 c =
     let s = c .before .before .before .before .before .before in
     let g = goes-true _ _ _ _ _ (s .pre .1 .1) in
-    turn-ended _ _ _ _ _ _ (g .0) (g .1) (s .pre .1 .0) (c .before .before .parse .ensures) (s .pre .0) (omega (arith, g .2)) (c .enum-told2 .given .1)
+    turn-ended _ _ _ _ _ _ (g .0) (g .1) (s .pre .1 .0) (c .before .before .parse .ensures) (s .pre .0) (omega (arith, g .2)) (c .enum-told3 .given .1)
 
 pub run-line-spec : {M : Type 1} → statement M
 run-line-spec =
@@ -80,10 +98,14 @@ run-line-spec =
     letter-of-requires
     write-reply-requires
     enum-told
-    put-malformed-requires
+    run-guard-requires
     enum-told-2
+    end-malformed-requires
+    enum-told-3
     same-length
     returns
     same-length-2
     returns-2
-    returns-3)
+    same-length-3
+    returns-3
+    returns-4)

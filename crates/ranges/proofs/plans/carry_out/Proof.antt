@@ -19,50 +19,54 @@ cast-log-rows c = search needs
 
 log-rows-requires : tie.Need-log-rows-requires
 log-rows-requires c κs =
-    let f = c .before .before .before .before .before .before in
-    let s = f .before .before .before .before .before .before .before .before in
+    let s = c .before .before .before .before .before .before .before .before .before .before .before .before .before .before in
     let p = s .pre .1 .0 in
     (s .pre .1 .1 .0, reads-room (s .pre .0) _ (p .index-ordered) (p .index-within) (p .reads-fit))
+
+cast-t30 : tie.Need-cast-t30
+cast-t30 c = search needs
+
+sub-t22 : tie.Need-sub-t22
+sub-t22 c =
+    let s = c .before .before .before .before .before .before .before .before .before .before .before .before .before .before .before .before .before in
+    s .pre .1 .0 .index-ordered
 
 cast-log-leaves : tie.Need-cast-log-leaves
 cast-log-leaves c = search needs
 
 log-leaves-requires : tie.Need-log-leaves-requires
 log-leaves-requires c κs =
-    let f = c .before .before .before .before .before .before .before .before .before in
-    let s = f .before .before .before .before .before .before .before .before in
+    let s = c .before .before .before .before .before .before .before .before .before .before .before .before .before .before .before .before .before .before .before in
     let p = s .pre .1 .0 in
     (s .pre .1 .1 .1, leaves-room (s .pre .0) _ (p .met-ordered) (p .met-within) (p .leaves-fit))
 
-cast-t26 : tie.Need-cast-t26
-cast-t26 c =
-    let f = c .before .before .before .before .before .before .before .before .before .before in
-    let s = f .before .before .before .before .before .before .before .before in
-    omega (arith, s .pre .1 .0 .reads-fit, c .before .before .before .log-rows .ensures .count)
+cast-t33 : tie.Need-cast-t33
+cast-t33 c =
+    let s = c .before .before .before .before .before .before .before .before .before .before .before .before .before .before .before .before .before .before .before .before in
+    omega (arith, s .pre .1 .0 .reads-fit, c .before .before .before .before .before .log-rows .ensures .count)
 
-cast-t27 : tie.Need-cast-t27
-cast-t27 c =
-    let f = c .before .before .before .before .before .before .before .before .before .before in
-    let s = f .before .before .before .before .before .before .before .before in
+cast-t34 : tie.Need-cast-t34
+cast-t34 c =
+    let s = c .before .before .before .before .before .before .before .before .before .before .before .before .before .before .before .before .before .before .before .before in
     omega (arith, s .pre .1 .0 .leaves-fit, c .log-leaves .ensures .count)
 
 same-length : tie.Need-same-length
 same-length c =
-    let f = c .before .before .before .before .before .before .before .before .before .before in
+    let f = c .before .before .before .before .before .before .before .before .before .before .before .before in
     f .fill .ensures .addresses .size
 
 same-length-2 : tie.Need-same-length-2
 same-length-2 c =
-    let f = c .before .before .before .before .before .before .before .before .before .before in
+    let f = c .before .before .before .before .before .before .before .before .before .before .before .before in
     f .fill .ensures .values .size
 
 returns : tie.Need-returns
 returns c =
-    let f = c .before .before .before .before .before .before .before .before .before .before in
+    let f = c .before .before .before .before .before .before .before .before .before .before .before .before in
     let s = f .before .before .before .before .before .before .before .before in
     record {
       fills = filled _ _ (s .pre .1 .0) _ _ _ (f .fill .ensures);
-      logs-rows = c .before .before .before .log-rows .ensures;
+      logs-rows = c .before .before .before .before .before .log-rows .ensures;
       logs-leaves = c .log-leaves .ensures;
       worker = refl;
     }
@@ -74,10 +78,12 @@ carry-out-spec =
     fill-requires
     cast-log-rows
     log-rows-requires
+    cast-t30
+    sub-t22
     cast-log-leaves
     log-leaves-requires
-    cast-t26
-    cast-t27
+    cast-t33
+    cast-t34
     same-length
     same-length-2
     returns)

@@ -12,14 +12,14 @@ use Rattle.replay.proofs.runs.take_all.Tie as tie
 
 abbrev Inv-loop : tie.InvT-loop
 Inv-loop out₀ addresses₀ values₀ rows₀ leaves₀ slots₀ reads₀ leafsets₀ writes₀ steps count core₀ at₀ i₀ out addresses values rows leaves slots reads leafsets writes core at i =
-    Replaying steps addresses₀ values₀ out₀ (lent rows leaves slots) (logs reads leafsets writes) core addresses values out at i
+    Replaying (core₀ .guarded) steps addresses₀ values₀ out₀ (lent rows leaves slots) (logs reads leafsets writes) core addresses values out at i
 
 abbrev μ-loop : tie.MeasureT-loop
 μ-loop out₀ addresses₀ values₀ rows₀ leaves₀ slots₀ reads₀ leafsets₀ writes₀ steps count core₀ at₀ i₀ out addresses values rows leaves slots reads leafsets writes core at i =
     count - i
 
 loop-holds : tie.Need-loop-holds Inv-loop μ-loop
-loop-holds c = replaying-start _ _ _ _ (c .before .before .before .before .pre)
+loop-holds c = replaying-start _ _ _ _ _ (c .before .before .before .before .pre)
 
 code-at-requires : tie.Need-code-at-requires Inv-loop μ-loop
 code-at-requires c κs = omega (arith, c .loop-test .taken)

@@ -31,6 +31,9 @@ array-read-t18 c = search needs
 array-read-t21 : tie.Need-array-read-t21
 array-read-t21 c = search needs
 
+array-read-t15-2 : tie.Need-array-read-t15-2
+array-read-t15-2 c = search needs
+
 returns : tie.Need-returns
 returns c = core-read _ (c .before .before .before .workers-in .ensures) (c .before .sizes-in .ensures)
 
@@ -47,4 +50,5 @@ load-spec =
     array-read-t15
     array-read-t18
     array-read-t21
+    array-read-t15-2
     returns)

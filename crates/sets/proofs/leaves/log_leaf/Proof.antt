@@ -5,8 +5,11 @@ use borrow.Author.Needs.{needs}
 use Rattle.sets.proofs.leaves.log_leaf.Statement.{statement}
 use Rattle.sets.proofs.leaves.log_leaf.Tie as tie
 
-cast-t5 : tie.Need-cast-t5
-cast-t5 c = search needs
+cast-t7 : tie.Need-cast-t7
+cast-t7 c = search needs
+
+cast-t8 : tie.Need-cast-t8
+cast-t8 c = search needs
 
 mul-row : tie.Need-mul-row
 mul-row c = search needs
@@ -20,7 +23,8 @@ add-result c = search needs
 returns : tie.Need-returns
 returns c =
     let s = c .before in
-    leaf-appended (s .args .leaves .now) (s .args .n) (s .args .leaf) (s .pre .0) (s .pre .1) (omega arith)
+    leaf-appended (s .args .leaves .now) (s .args .n) (s .args .leaf) (s .args .first) (s .args .s) (s .pre .0) (s .pre .1) (omega arith)
 
 pub log-leaf-spec : {M : Type 1} → statement M
-log-leaf-spec = tie.close (tie.spec cast-t5 mul-row element-set-from-row add-result returns)
+log-leaf-spec =
+    tie.close (tie.spec cast-t7 cast-t8 mul-row element-set-from-row add-result returns)

@@ -10,7 +10,7 @@ fresh-map-requires c κs = search needs
 returns : tie.Need-returns
 returns c =
     let m = c .before .before .before .fresh-map in
-    fresh-start (lent (m .last .0) (m .last .1 .0) (m .last .1 .1 .0)) (m .result) (m .ensures)
+    fresh-start (lent (m .last .0) (m .last .1 .0) (m .last .1 .1 .0)) (m .result) _ (m .ensures)
 
 pub fresh-state-spec : {M : Type 1} → statement M
 fresh-state-spec = tie.close (tie.spec fresh-map-requires returns)

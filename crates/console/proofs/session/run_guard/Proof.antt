@@ -1,0 +1,38 @@
+-- `session::run_guard` meets its contract, by whether the line is the first.
+use borrow.Author.Needs.{needs}
+use Rattle.console.specs.SessionLaws.{guard-first, begins-guarded, guard-misplaced}
+use Rattle.console.proofs.session.run_guard.Statement.{statement}
+use Rattle.console.proofs.session.run_guard.Tie as tie
+
+guarded-requires : tie.Need-guarded-requires
+guarded-requires c κs = search needs
+
+put-guarded-requires : tie.Need-put-guarded-requires
+put-guarded-requires c κs = search needs
+
+same-length : tie.Need-same-length
+same-length c = search needs
+
+returns : tie.Need-returns
+returns c = guard-first (c .before .before .before .before .before .if1 .taken) (begins-guarded (c .before .before .before .before .guarded .ensures) (c .before .before .put-guarded .ensures))
+
+end-malformed-requires : tie.Need-end-malformed-requires
+end-malformed-requires c κs = search needs
+
+same-length-2 : tie.Need-same-length-2
+same-length-2 c = search needs
+
+returns-2 : tie.Need-returns-2
+returns-2 c = guard-misplaced (c .before .before .before .before .if1 .left) (c .before .before .end-malformed .ensures)
+
+pub run-guard-spec : {M : Type 1} → statement M
+run-guard-spec =
+    tie.close
+    (tie.spec
+    guarded-requires
+    put-guarded-requires
+    same-length
+    returns
+    end-malformed-requires
+    same-length-2
+    returns-2)

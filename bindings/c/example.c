@@ -63,9 +63,10 @@ int main(void)
     sections_begin(&map, 1);
     look(1);
 
-    /* A read gives a value, or says that there is none. */
+    /* A read gives a value, or says that there is none; and how many slots of the indexlet were examined for it. */
     struct sections_value here = sections_read(&map, 1, 4096), there = sections_read(&map, 1, 0);
     printf("read: %" PRIu64 " bytes at 4096, %s at 0\n", here.value, there.present ? "something" : "nothing");
+    printf("slots examined: %" PRIu32 " and %" PRIu32 "\n", here.examined, there.examined);
 
     /* What a copy of the map goes through, the map does not see. */
     static struct sections trial;
@@ -92,12 +93,12 @@ int main(void)
     fold = sections_fold_oldest(&map);
     printf("fold of the oldest: %zu waiting edit, then %zu\n", fold.count, sections_fold_oldest(&map).count);
 
-    /* A list of steps in one call, from a fresh map: three words for each answer. */
+    /* A list of steps in one call, from a fresh map: four words for each answer. */
     struct sections_code list[] = {sections_code_begin(0), sections_code_put(0, 4096, 32), sections_code_begin(0)};
-    uint64_t answers[9];
-    struct sections_ran ran = sections_run(&trial, list, 3, NULL, answers, 9, false);
+    uint64_t answers[3 * SECTIONS_ANSWER_WORDS];
+    struct sections_ran ran = sections_run(&trial, list, 3, NULL, answers, 3 * SECTIONS_ANSWER_WORDS, false);
     printf("list: %zu of 3 steps taken\n", ran.taken);
-    say("the last", (enum sections_refusal)answers[6]);
+    say("the last", (enum sections_refusal)answers[2 * SECTIONS_ANSWER_WORDS]);
 
     /* In a guarded map no two sections overlap. The job has to look first; refused, it is still open and can move a section. */
     sections_init_guarded(&trial);

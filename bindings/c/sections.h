@@ -119,7 +119,8 @@ static inline const char *sections_word(enum sections_refusal refusal)
 struct sections_value {
     enum sections_refusal refusal;
     bool present;
-    uint64_t value; /* if present */
+    uint64_t value;    /* if present */
+    uint32_t examined; /* slots of the indexlet that the look-up examined; 0 for the job's own edit */
 };
 
 /* Of a scan: how many records; of a fold: how many edits it took into the index. */
@@ -220,8 +221,9 @@ static inline struct sections_code sections_code_fold_oldest(void)
     return sections_code_of(10, 0, 0, 0, 0, 0);
 }
 
-/* A coded answer: a number of enum sections_refusal, one of enum sections_told, and what that says. */
-#define SECTIONS_ANSWER_WORDS 3
+/* A coded answer: a number of enum sections_refusal, one of enum sections_told, what that says, and the slots that a granted read
+ * examined, 0 for all other steps. */
+#define SECTIONS_ANSWER_WORDS 4
 
 enum sections_told {
     SECTIONS_TOLD_NOTHING = 0,
@@ -340,7 +342,8 @@ static inline enum sections_refusal sections_begin(struct sections *map, uint32_
 static inline struct sections_value sections_read(struct sections *map, uint32_t seat, uint32_t address)
 {
     struct sections_answer answer = sections_perform(map, sections_code_read(seat, address), NULL);
-    struct sections_value value = {sections_refusal_of(answer), answer.words[1] == SECTIONS_TOLD_VALUE, answer.words[2]};
+    struct sections_value value = {sections_refusal_of(answer), answer.words[1] == SECTIONS_TOLD_VALUE, answer.words[2],
+                                   (uint32_t)answer.words[3]};
     return value;
 }
 
@@ -423,8 +426,8 @@ static inline bool sections_after(const struct sections *map, struct sections_re
 }
 
 /* Makes it a fresh map, guarded or not, and runs a list of steps on it. For each step the words of its answer go to `answers`,
- * and after those of a scan its addresses and values in pairs. A step is taken if `answers` has room for 3 words, or for a
- * scan's 3 and 2 for each place of its shorter buffer. */
+ * and after those of a scan its addresses and values in pairs. A step is taken if `answers` has room for 4 words, or for a
+ * scan's 4 and 2 for each place of its shorter buffer. */
 static inline struct sections_ran sections_run(struct sections *map, const struct sections_code *steps, size_t count,
                                                const struct sections_buffers *buffers, uint64_t *answers,
                                                size_t answer_places, bool guarded)

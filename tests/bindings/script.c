@@ -41,6 +41,8 @@ static void read(uint32_t seat, uint32_t address)
         printf(" %" PRIu64, read.value);
     else if (!read.refusal)
         printf(" -");
+    if (!read.refusal)
+        printf(" %" PRIu32, read.examined);
 }
 
 static void validate(uint32_t seat)

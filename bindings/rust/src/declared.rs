@@ -33,8 +33,9 @@ pub type Writes = [[[u64; WRITE_WORDS]; WRITE_LIMIT]; SEATS];
 /// A step: its kind, and up to five numbers.
 pub type Code = [u64; 6];
 
-/// An answer: document 01's number, what is told, and the number that tells it.
-pub type Words = [u64; 3];
+/// An answer: document 01's number, what is told, the number that tells it, and the
+/// slots that a granted read examined.
+pub type Words = [u64; 4];
 
 /// What an answer's second word may be.
 pub const VALUE: u64 = 1;
@@ -148,7 +149,7 @@ pub fn fresh(guarded: bool) -> Box<Map> {
 
 /// One step, with the buffers that are lent to it.
 pub fn step(x: &mut Map, code: &Code, addresses: &mut [u32], values: &mut [u64]) -> Words {
-    let mut answer = [0; 3];
+    let mut answer = [0; 4];
     // SAFETY: the arrays are as the last call left them, and no two references overlap.
     unsafe {
         sections_step(
@@ -236,8 +237,8 @@ mod tests {
     const WIDE: u64 = 1 << 32;
 
     fn number(map: &mut Map, code: Code) -> u64 {
-        let [number, told, value] = step(map, &code, &mut [0; 4], &mut [0; 6]);
-        assert!(number == 0 || [told, value] == [0, 0], "{code:?}");
+        let [number, told, value, examined] = step(map, &code, &mut [0; 4], &mut [0; 6]);
+        assert!(number == 0 || [told, value, examined] == [0, 0, 0], "{code:?}");
         number
     }
 
@@ -261,7 +262,7 @@ mod tests {
         assert_eq!(number(map, [10, WIDE, u64::MAX, u64::MAX, u64::MAX, u64::MAX]), 0);
         assert_eq!(number(map, [3, 0, 5, u64::MAX, u64::MAX, u64::MAX]), 0);
         let read = [1, 0, 5, u64::MAX, u64::MAX, u64::MAX];
-        assert_eq!(step(map, &read, &mut [], &mut []), [0, VALUE, u64::MAX]);
+        assert_eq!(step(map, &read, &mut [], &mut []), [0, VALUE, u64::MAX, 0]);
     }
 
     fn run(steps: &[Code], room: usize) -> (u64, u64, u64, Vec<u64>) {
@@ -276,18 +277,31 @@ mod tests {
     fn ends_of_a_list() {
         let steps = [[0; 6], [3, 0, 5, 50, 0, 0], [2, 0, 0, 9, 1, 3]];
         let answered = |words: &[u64], rest: usize| [words.to_vec(), vec![70; rest]].concat();
-        let all = [0, 0, 0, 0, 0, 0, 0, COUNT, 1, 5, 50];
+        let all = [0, 0, 0, 0, 0, 0, 0, 0, 0, COUNT, 1, 0, 5, 50];
         assert_eq!(run(&[], 2), (0, 0, 0, vec![70; 2]));
-        assert_eq!(run(&steps, 12), (3, 11, 0, answered(&all, 1)));
-        assert_eq!(run(&steps, 11), (3, 11, 0, answered(&all, 0)));
-        assert_eq!(run(&steps, 10), (2, 6, 2, answered(&[0; 6], 4)));
-        assert_eq!(run(&steps, 5), (1, 3, 2, answered(&[0; 3], 2)));
+        assert_eq!(run(&steps, 15), (3, 14, 0, answered(&all, 1)));
+        assert_eq!(run(&steps, 14), (3, 14, 0, answered(&all, 0)));
+        assert_eq!(run(&steps, 13), (2, 8, 2, answered(&[0; 8], 5)));
+        assert_eq!(run(&steps, 7), (1, 4, 2, answered(&[0; 4], 3)));
         assert_eq!(run(&[steps[0], [2, 0, 0, 9, 3, 3]], 50).2, 1);
         assert_eq!(run(&[steps[0], [2, 0, 0, 9, 2, 4]], 50).2, 1);
         assert_eq!(run(&[[11, 0, 0, 0, 0, 0]], 10), (0, 0, 1, vec![70; 10]));
         let cut = &steps.concat()[..17];
         let (_, ran) = replay(cut, &mut [0; 2], &mut [0; 3], &mut [0; 50], false);
-        assert_eq!(ran, Ran { taken: 2, written: 6, stop: 1 });
+        assert_eq!(ran, Ran { taken: 2, written: 8, stop: 1 });
+    }
+
+    /// Only a granted read has a fourth word that is not 0, and not of the job's own edit.
+    #[test]
+    fn slots_examined() {
+        const ABSENT: u64 = 2;
+        let map = &mut *fresh(false);
+        let mut words = |code: Code| step(map, &code, &mut [], &mut []);
+        assert_eq!(words([0; 6]), [0; 4]);
+        assert_eq!(words([1, 0, 5, 0, 0, 0]), [0, ABSENT, 0, 1]);
+        assert_eq!(words([4, 0, 5, 0, 0, 0]), [0; 4]);
+        assert_eq!(words([1, 0, 5, 0, 0, 0]), [0, ABSENT, 0, 0]);
+        assert_eq!(words([1, 8, 5, 0, 0, 0]), [1, 0, 0, 0]);
     }
 
     /// The last argument decides, of a fresh map and of a list, after which the map
@@ -301,7 +315,7 @@ mod tests {
             let map = &mut *fresh(guarded);
             assert_eq!([BEGIN, NO_BYTES, LOCK].map(|code| number(map, code)), [0, 0, expected]);
             let list = [BEGIN, NO_BYTES].concat();
-            let (mut map, _) = replay(&list, &mut [], &mut [], &mut [0; 6], guarded);
+            let (mut map, _) = replay(&list, &mut [], &mut [], &mut [0; 8], guarded);
             assert_eq!(number(&mut map, LOCK), expected);
         }
     }

@@ -41,10 +41,11 @@ mod steps;
 
 pub use contents::{Contents, Record};
 pub use refusal::Refusal;
-pub use steps::{Answer, Step};
+pub use steps::{Answer, Reading, Step};
 
-use declared::{Map, COUNT, VALUE};
+use declared::{Map, COUNT};
 use std::fmt;
+use steps::{reading, Told};
 
 /// A seat's number: 0 to 7, any other is refused.
 pub type Seat = u32;
@@ -146,20 +147,19 @@ impl Sections {
     }
 
     /// The value at an address, or absent: the job's own edit, or else the present
-    /// record, which is logged.
+    /// record, which is logged. And how many slots of the indexlet were examined for it.
     ///
     /// ```
-    /// # use sections::{Refusal, Sections};
+    /// # use sections::{Reading, Refusal, Sections};
     /// let mut map = Sections::new();
     /// map.begin(0)?;
     /// map.put(0, 4096, 32)?;
-    /// assert_eq!(map.read(0, 4096)?, Some(32));
-    /// assert_eq!(map.read(0, 8192)?, None);
+    /// assert_eq!(map.read(0, 4096)?, Reading { value: Some(32), examined: 0 });
+    /// assert_eq!(map.read(0, 8192)?, Reading { value: None, examined: 1 });
     /// # Ok::<(), Refusal>(())
     /// ```
-    pub fn read(&mut self, seat: Seat, address: Address) -> Result<Option<Value>, Refusal> {
-        let [told, value] = self.call(Step::Read { seat, address })?;
-        Ok((told == VALUE).then_some(value))
+    pub fn read(&mut self, seat: Seat, address: Address) -> Result<Reading, Refusal> {
+        self.call(Step::Read { seat, address }).map(reading)
     }
 
     /// The records from lo to hi, both included, into two buffers, of which the
@@ -186,7 +186,8 @@ impl Sections {
     ) -> Result<usize, Refusal> {
         let places = (addresses.len(), values.len());
         let step = Step::Scan { seat, lo, hi, addresses: places.0, values: places.1 };
-        let [_, count] = granted(declared::step(&mut self.map, &step.code(), addresses, values))?;
+        let [_, count, _] =
+            granted(declared::step(&mut self.map, &step.code(), addresses, values))?;
         Ok(count as usize)
     }
 
@@ -220,7 +221,7 @@ impl Sections {
 
     /// Compares the log with the map, and takes the next serial number.
     pub fn validate(&mut self, seat: Seat) -> Result<SerialNumber, Refusal> {
-        self.call(Step::Validate { seat }).map(|[_, number]| SerialNumber(number))
+        self.call(Step::Validate { seat }).map(|[_, number, _]| SerialNumber(number))
     }
 
     /// Lets the edits of a validated job into the indexlet, and frees the seat.
@@ -236,7 +237,7 @@ impl Sections {
     /// Takes all waiting edits of the leaf around an address into the index: how
     /// many there were.
     pub fn fold(&mut self, address: Address) -> Result<usize, Refusal> {
-        self.call(Step::Fold { address }).map(|[_, count]| count as usize)
+        self.call(Step::Fold { address }).map(|[_, count, _]| count as usize)
     }
 
     /// The same of the leaf with the edit that has waited longest, counted from the
@@ -256,16 +257,17 @@ impl Sections {
     /// # Ok::<(), Refusal>(())
     /// ```
     pub fn fold_oldest(&mut self) -> Result<usize, Refusal> {
-        self.call(Step::FoldOldest).map(|[_, count]| count as usize)
+        self.call(Step::FoldOldest).map(|[_, count, _]| count as usize)
     }
 
     /// Any step, with buffers of its own for a scan.
     ///
     /// ```
-    /// # use sections::{Answer, Sections, Step};
+    /// # use sections::{Answer, Reading, Sections, Step};
     /// let mut map = Sections::new();
     /// assert_eq!(map.perform(Step::Begin { seat: 0 }), Ok(Answer::Granted));
-    /// assert_eq!(map.perform(Step::Read { seat: 0, address: 9 }), Ok(Answer::Value(None)));
+    /// let absent = Reading { value: None, examined: 1 };
+    /// assert_eq!(map.perform(Step::Read { seat: 0, address: 9 }), Ok(Answer::Read(absent)));
     /// ```
     pub fn perform(&mut self, step: Step) -> Result<Answer, Refusal> {
         let (mut addresses, mut values) = (vec![0; step.places().0], vec![0; step.places().1]);
@@ -276,19 +278,19 @@ impl Sections {
     }
 
     /// A step that needs no buffers.
-    fn call(&mut self, step: Step) -> Result<[u64; 2], Refusal> {
+    fn call(&mut self, step: Step) -> Result<Told, Refusal> {
         granted(declared::step(&mut self.map, &step.code(), &mut [], &mut []))
     }
 }
 
-/// What is told, and by which number, if the step was granted. A coded step of
-/// this crate has a meaning, so any other number is one of the table.
-fn granted([number, told, value]: declared::Words) -> Result<[u64; 2], Refusal> {
+/// What is told, if the step was granted. A coded step of this crate has a meaning, so
+/// any other number is one of the table.
+fn granted([number, told @ ..]: declared::Words) -> Result<Told, Refusal> {
     match Refusal::from_number(number) {
         Some(refusal) => Err(refusal),
         None => {
             assert_eq!(number, 0, "the library answered a number that this crate does not know");
-            Ok([told, value])
+            Ok(told)
         }
     }
 }

@@ -4,7 +4,7 @@ use crate::declared::{self, COUNT};
 use crate::{granted, Address, Answer, Refusal, Sections, Step};
 
 /// Words of an answer, and words of a record after those of a scan.
-const HEAD: usize = 3;
+const HEAD: usize = 4;
 const PAIR: usize = 2;
 
 impl Sections {
@@ -69,10 +69,10 @@ fn run(steps: &[Step], guarded: bool) -> (Sections, Vec<Result<Answer, Refusal>>
 fn answer(step: Step, words: &mut &[u64]) -> Result<Answer, Refusal> {
     let (head, rest) = words.split_first_chunk::<HEAD>().expect("an answer for each step");
     *words = rest;
-    let [told, value] = granted(*head)?;
-    let pairs = if told == COUNT { value as usize } else { 0 };
+    let told = granted(*head)?;
+    let pairs = if told[0] == COUNT { told[1] as usize } else { 0 };
     let (found, rest) = words.split_at(PAIR * pairs);
     *words = rest;
     let found = found.chunks_exact(PAIR).map(|pair| (pair[0] as Address, pair[1])).collect();
-    Ok(step.answer([told, value], found))
+    Ok(step.answer(told, found))
 }

@@ -3,6 +3,9 @@
 use crate::declared::{Code, VALUE};
 use crate::{Address, Seat, SerialNumber, Value};
 
+/// What a granted step tells: which kind of number, that number, and slots examined.
+pub(crate) type Told = [u64; 3];
+
 /// A step with its arguments.
 #[derive(Clone, Copy, PartialEq, Eq, Hash, Debug)]
 #[non_exhaustive]
@@ -51,14 +54,24 @@ pub enum Step {
     FoldOldest,
 }
 
+/// What a granted read tells.
+#[derive(Clone, Copy, PartialEq, Eq, Hash, Debug)]
+pub struct Reading {
+    /// The value, or absent.
+    pub value: Option<Value>,
+    /// How many slots of the indexlet the look-up examined, 1 to 256: many, if it is
+    /// crowded. 0 for the job's own edit.
+    pub examined: usize,
+}
+
 /// What a granted step answers.
 #[derive(Clone, PartialEq, Eq, Hash, Debug)]
 #[non_exhaustive]
 pub enum Answer {
     /// It was done.
     Granted,
-    /// Of a read: the value, or absent.
-    Value(Option<Value>),
+    /// Of a read.
+    Read(Reading),
     /// Of a scan: addresses and values, by rising address.
     Found(Vec<(Address, Value)>),
     /// Of a validate.
@@ -96,14 +109,20 @@ impl Step {
         }
     }
 
-    /// What two words and a scan's records tell, if the step was granted.
-    pub(crate) fn answer(self, [told, value]: [u64; 2], found: Vec<(Address, Value)>) -> Answer {
+    /// What three words and a scan's records tell, if the step was granted.
+    pub(crate) fn answer(self, told: Told, found: Vec<(Address, Value)>) -> Answer {
+        let [_, value, _] = told;
         match self {
-            Step::Read { .. } => Answer::Value((told == VALUE).then_some(value)),
+            Step::Read { .. } => Answer::Read(reading(told)),
             Step::Scan { .. } => Answer::Found(found),
             Step::Validate { .. } => Answer::Serial(SerialNumber(value)),
             Step::Fold { .. } | Step::FoldOldest => Answer::Folded(value as usize),
             _ => Answer::Granted,
         }
     }
+}
+
+/// What they tell of a read.
+pub(crate) fn reading([told, value, examined]: Told) -> Reading {
+    Reading { value: (told == VALUE).then_some(value), examined: examined as usize }
 }

@@ -15,9 +15,10 @@ use Rattle.spec.specs.declared.Refusal.{Refusal}
 use Rattle.spec.specs.declared.Refusal.the-variants.{LogFull}
 use Rattle.spec.specs.Refusals.{ends}
 use Rattle.spec.specs.Records.{standard, Record, Write, written, deleted, ownView, payloadOf}
+use Rattle.spec.specs.Slots.{search}
 use Rattle.spec.specs.Maps.{current}
 use Rattle.spec.specs.Steps as model
-use Rattle.spec.specs.Steps.{State, read, found, isOpen, workerOf, freeWorker, ownWrite, cause, noWorker, workerFree, wrongStage, readLogFull, causes, firstCause, refusal, granted, effect, withWorker, logged, readRows}
+use Rattle.spec.specs.Steps.{State, read, Answer, found, isOpen, workerOf, freeWorker, ownWrite, slotsExamined, cause, noWorker, workerFree, wrongStage, readLogFull, causes, firstCause, refusal, granted, effect, withWorker, logged, readRows}
 use Rattle.laws.specs.WorkerLaws.{mild-cause}
 use Rattle.sets.specs.declared.workers.Worker.{Worker}
 use Rattle.sets.specs.declared.writes.Found.{Found}
@@ -29,7 +30,7 @@ use Rattle.sets.specs.Reads as reads
 use Rattle.sets.specs.Leaves.{LeafSetRows}
 use Rattle.sets.specs.Writes.{WriteRows, foundIn, writesIn}
 use Rattle.sets.specs.SetLaws.{each-set, other-set, length-rows}
-use Rattle.queries.specs.QueryViews.{Sees}
+use Rattle.queries.specs.QueryViews.{Examines}
 use Rattle.map.specs.Views.{leavesIn, byColumns, SlotRows, RecordRows, Lent}
 use Rattle.transactions.specs.declared.Core.{Core}
 use Rattle.accesses.specs.declared.reads.ReadAnswer.{ReadAnswer}
@@ -65,10 +66,10 @@ ready-readable k =
       writable = ready-writable k;
     }
 
--- The current record is the one that was seen, and it is logged.
+-- The current record is the one that was seen, so many slots were examined, and it is logged.
 pub record LogsCurrent (rs : ReadRows) (rows : RecordRows) (slots : SlotRows) (records n a : ℕ) (us : ReadRows) (r : Taken) : Type 0 where
   pub logs : LogsRead rs n a (r .seen) us (r .count)
-  pub sees : Sees rows records slots a (r .seen)
+  pub examines : Examines rows records slots a (record { current = r .seen; examined = r .examined })
 
 -- The step, whatever the other arrays hold: rs are the read sets before it, us those after it.
 pub record Tells (rs : List ReadRows) (rows : RecordRows) (slots : SlotRows) (ws : List WriteRows) (c : Core) (w a : ℕ) (us : List ReadRows) (r : ReadDone) : Type 0 where
@@ -83,15 +84,15 @@ pub record TellsCurrent (rs : List ReadRows) (rows : RecordRows) (slots : SlotRo
 
 -- ---- what was seen
 
-pub shown-there : (s : Current) → s .there ≡ true → readAnswer (Value (s .value)) ≡ found (payloadOf (recordIn s))
+pub shown-there : (s : Current) (n : ℕ) → s .there ≡ true → readAnswer (Value (s .value) n) ≡ found (payloadOf (recordIn s)) n
 unfolding payloadOf
-shown-there s e =
-    ap (λ (b : Bool). found (payloadOf (pick b (some (record { payload = record { value = s .value }; commit = s .commit })) none))) (sym e)
+shown-there s n e =
+    ap (λ (b : Bool). found (payloadOf (pick b (some (record { payload = record { value = s .value }; commit = s .commit })) none)) n) (sym e)
 
-pub shown-none : (s : Current) → s .there ≡ false → readAnswer Absent ≡ found (payloadOf (recordIn s))
+pub shown-none : (s : Current) (n : ℕ) → s .there ≡ false → readAnswer (Absent n) ≡ found (payloadOf (recordIn s)) n
 unfolding payloadOf
-shown-none s e =
-    ap (λ (b : Bool). found (payloadOf (pick b (some (record { payload = record { value = s .value }; commit = s .commit })) none))) (sym e)
+shown-none s n e =
+    ap (λ (b : Bool). found (payloadOf (pick b (some (record { payload = record { value = s .value }; commit = s .commit })) none)) n) (sym e)
 
 -- ---- the refusals
 
@@ -173,10 +174,14 @@ worker-back σ w =
     (set-getD (σ .workers) w freeWorker)
 
 -- the answer and the state, by the worker's write at the address
-granted-is : (σ : State) (w a : ℕ) (o : Option Write) → ownWrite σ w a ≡ o
-    → granted σ (read w a) ≡ found (maybe o (payloadOf (current (σ .map) a)) ownView)
-unfolding granted
-granted-is σ w a o q = ap (λ (p : Option Write). found (maybe p (payloadOf (current (σ .map) a)) ownView)) q
+-- what is told, where the worker has this write at the address
+abbrev toldBy : State → ℕ → Option Write → Answer
+toldBy σ a o =
+    found (maybe o (payloadOf (current (σ .map) a)) ownView) (maybe o (search (σ .settings .bytes) (σ .map .slots) a .examined) (λ (e : Write). 0))
+
+granted-is : (σ : State) (w a : ℕ) (o : Option Write) → ownWrite σ w a ≡ o → granted σ (read w a) ≡ toldBy σ a o
+unfolding granted slotsExamined
+granted-is σ w a o q = ap (toldBy σ a) q
 
 effect-is : (σ : State) (w a : ℕ) (o : Option Write) → ownWrite σ w a ≡ o
     → effect σ (read w a) ≡ withWorker σ w (logged (maybe o (row a (current (σ .map) a) ∷ []) (λ (e : Write). [])) [] [] (workerOf σ w))
@@ -185,14 +190,14 @@ effect-is σ w a o q =
     ap (λ (p : Option Write). withWorker σ w (logged (maybe p (row a (current (σ .map) a) ∷ []) (λ (e : Write). [])) [] [] (workerOf σ w))) q
 
 yields-read : (σ : State) (w a : ℕ) (o : Option Write) → ownWrite σ w a ≡ o → refusal σ (read w a) ≡ none
-    → Yields σ (read w a) (found (maybe o (payloadOf (current (σ .map) a)) ownView))
+    → Yields σ (read w a) (toldBy σ a o)
     (withWorker σ w (logged (maybe o (row a (current (σ .map) a) ∷ []) (λ (e : Write). [])) [] [] (workerOf σ w)))
 yields-read σ w a o q n =
     let k : Yields σ (read w a) (granted σ (read w a)) (effect σ (read w a)) = yields-granted σ (read w a) n in
     record { answers = k .answers ∙ granted-is σ w a o q; leaves = k .leaves ∙ effect-is σ w a o q }
 
 read-own : {rs : List ReadRows} {rows : RecordRows} {slots : SlotRows} {ws : List WriteRows} {c : Core} {w a : ℕ} {x : Worker} (e : Write) (v : ReadAnswer) → Entered isOpen (c .workers) w x
-    → look (writesIn ws w (x .writes)) a ≡ some e → readAnswer v ≡ found (ownView e)
+    → look (writesIn ws w (x .writes)) a ≡ some e → readAnswer v ≡ found (ownView e) 0
     → Tells rs rows slots ws c w a rs (record { core = c; answer = v })
 unfolding firstCause
 read-own {rs} {rows} {slots} {ws} {c} {w} {a} {x} e v t q s =
@@ -208,17 +213,17 @@ read-own {rs} {rows} {slots} {ws} {c} {w} {a} {x} e v t q s =
 
 pub read-put : {rs : List ReadRows} {rows : RecordRows} {slots : SlotRows} {ws : List WriteRows} {c : Core} {w a v : ℕ} {x : Worker} {f : Found}
     → Entered isOpen (c .workers) w x → f ≡ Put v → foundIn f ≡ look (writesIn ws w (x .writes)) a
-    → Tells rs rows slots ws c w a rs (record { core = c; answer = Value v })
+    → Tells rs rows slots ws c w a rs (record { core = c; answer = Value v 0 })
 unfolding ownView
 read-put {v} t e q =
-    read-own (written (record { value = v })) (Value v) t (sym q ∙ ap foundIn e) refl
+    read-own (written (record { value = v })) (Value v 0) t (sym q ∙ ap foundIn e) refl
 
 pub read-deletion : {rs : List ReadRows} {rows : RecordRows} {slots : SlotRows} {ws : List WriteRows} {c : Core} {w a : ℕ} {x : Worker} {f : Found}
     → Entered isOpen (c .workers) w x → f ≡ Deletion → foundIn f ≡ look (writesIn ws w (x .writes)) a
-    → Tells rs rows slots ws c w a rs (record { core = c; answer = Absent })
+    → Tells rs rows slots ws c w a rs (record { core = c; answer = Absent 0 })
 unfolding ownView
 read-deletion t e q =
-    read-own deleted Absent t (sym q ∙ ap foundIn e) refl
+    read-own deleted (Absent 0) t (sym q ∙ ap foundIn e) refl
 
 pub read-nothing : {rs us : List ReadRows} {rows : RecordRows} {slots : SlotRows} {ws : List WriteRows} {c : Core} {w a : ℕ} {x : Worker} {f : Found} {r : ReadDone}
     → f ≡ Nothing → foundIn f ≡ look (writesIn ws w (x .writes)) a
@@ -229,7 +234,7 @@ read-nothing {ws = ws} e q k = k .tells ws (sym q ∙ ap foundIn e)
 
 pub read-logged : {rs : List ReadRows} {rows : RecordRows} {slots : SlotRows} {us : ReadRows} {c o : Core} {w a : ℕ} {x : Worker} {r : Taken} {v : ReadAnswer}
     → Entered isOpen (c .workers) w x → x .reads < standard .readLimit → LogsCurrent (getD rs w []) rows slots (c .sizes .records) (x .reads) a us r
-    → o ≡ coreWith c w (withReads x (r .count)) → readAnswer v ≡ found (payloadOf (recordIn (r .seen)))
+    → o ≡ coreWith c w (withReads x (r .count)) → readAnswer v ≡ found (payloadOf (recordIn (r .seen))) (r .examined)
     → TellsCurrent rs rows slots c w x a (set rs w us) (record { core = o; answer = v })
 unfolding firstCause
 read-logged {rs} {rows} {slots} {us} {c} {o} {w} {a} {x} {r} {v} t h p m s =
@@ -239,7 +244,8 @@ read-logged {rs} {rows} {slots} {us} {c} {o} {w} {a} {x} {r} {v} t h p m s =
             let l = byColumns rows lows versions outside pending slots in
             let g = logs rs ls ws in
             let σ = stateOf l g c in
-            let seen : recordIn (r .seen) ≡ current (σ .map) a = unfold stateOf in p .sees .record-is (leavesIn lows versions (c .sizes .leaves)) in
+            let seen : recordIn (r .seen) ≡ current (σ .map) a = unfold stateOf in p .examines .sees .record-is (leavesIn lows versions (c .sizes .leaves)) in
+            let examined : r .examined ≡ search (σ .settings .bytes) (σ .map .slots) a .examined = unfold stateOf in p .examines .examined in
             let room : refusal σ (read w a) ≡ none
             = refusal-is l g c w x k t a none q
             ∙ cause-fails (not (less (x .reads) (standard .readLimit))) LogFull [] (ap not (less-yes {m = x .reads} {n = standard .readLimit} h)) in
@@ -247,7 +253,7 @@ read-logged {rs} {rows} {slots} {us} {c} {o} {w} {a} {x} {r} {v} t h p m s =
             let b : Within x = within isOpen l g c w x k t in
             subst (λ (z : Core). Refines l g c (read w a) l (logs (set rs w us) ls ws) z (readAnswer v)) (sym m)
             (subst (Refines l g c (read w a) l (logs (set rs w us) ls ws) (coreWith c w (withReads x (r .count))))
-            (sym (s ∙ ap (λ (z : Option Record). found (payloadOf z)) seen))
+            (sym (s ∙ ap (λ (z : Option Record). found (payloadOf z) (r .examined)) seen ∙ ap (found (payloadOf (current (σ .map) a))) examined))
             (refines k (yields-read σ w a none (own-is l g c w x k t a ∙ q) room)
             (state-with l g (logs (set rs w us) ls ws) c w (withReads x (r .count))
             (record { reads = λ u m d. other-set (λ (z : ReadRows). readsOf z m) rs w us u d; leaves = λ u m d. refl; scans = λ u m d. refl; writes = λ u m d. refl })

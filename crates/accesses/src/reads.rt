@@ -31,10 +31,10 @@ ghost use Rattle.transactions.specs.Admits.{Entered};
 ghost use Rattle.accesses.specs.ReadSteps.{Loggable, Readable, LogsCurrent, Tells, TellsCurrent};
 ghost use Rattle.accesses.specs.Answers.{readAnswer};
 
-// The answer of a read: a value, or none there, or the refusal.
+// The answer of a read: a value, or none there, each with how many slots the look-up examined, or the refusal.
 pub enum ReadAnswer {
-    Value(u64),
-    Absent,
+    Value(u64, usize),
+    Absent(usize),
     Refused(Refusal),
 }
 
@@ -44,20 +44,21 @@ pub struct ReadDone {
     pub answer: ReadAnswer,
 }
 
-// How many reads are logged now, and what the last one saw.
+// How many reads are logged now, what the last one saw, and how many slots it examined.
 struct Taken {
     count: usize,
     seen: Current,
+    examined: usize,
 }
 
 // The answer that tells a record.
-fn shown(seen: Current) -> ReadAnswer
-    ensures { λ r. ⌜ readAnswer r ≡ found (payloadOf (recordIn seen)) ⌝ }
+fn shown(seen: Current, examined: usize) -> ReadAnswer
+    ensures { λ r. ⌜ readAnswer r ≡ found (payloadOf (recordIn seen)) examined ⌝ }
 {
     if seen.there {
-        return ReadAnswer::Value(seen.value);
+        return ReadAnswer::Value(seen.value, examined);
     }
-    ReadAnswer::Absent
+    ReadAnswer::Absent(examined)
 }
 
 // Logs the current record of an address, after the n rows of a read set.
@@ -75,9 +76,14 @@ fn take(
     requires { ⌜ n < standard .readLimit ⌝ }
     ensures { λ r. ⌜ LogsCurrent (now (reads .entry)) (now (rows .entry)) (now (slots .entry)) records n a (now (reads .exit)) r ⌝ }
 {
-    let seen = queries::current_record(rows, slots, records, a);
+    let looked = queries::see(rows, slots, records, a);
+    let seen = looked.current;
     let count = reads::log_read(reads, n, a, seen);
-    Taken { count, seen }
+    Taken {
+        count,
+        seen,
+        examined: looked.examined,
+    }
 }
 
 // The read of a worker that has no write at the address.
@@ -114,7 +120,7 @@ fn read_current(
     };
     let core = cores::with_worker(c, v, y);
     let seen = taken.seen;
-    let answer = shown(seen);
+    let answer = shown(seen, taken.examined);
     ReadDone { core, answer }
 }
 
@@ -143,11 +149,11 @@ fn tell(
             match own {
                 Found::Put(value) => ReadDone {
                     core: c,
-                    answer: ReadAnswer::Value(value),
+                    answer: ReadAnswer::Value(value, 0),
                 },
                 Found::Deletion => ReadDone {
                     core: c,
-                    answer: ReadAnswer::Absent,
+                    answer: ReadAnswer::Absent(0),
                 },
                 Found::Nothing => read_current(reads, rows, slots, c, w, x, a),
             }
@@ -155,7 +161,8 @@ fn tell(
     }
 }
 
-// Worker w reads an address. Its own write is told as it stands; else the current record is, and it is logged.
+// Worker w reads an address. Its own write is told as it stands, with no slot examined; else the current record is, and it is
+// logged.
 pub fn read(
     reads: &mut ReadSets,
     rows: &Records,

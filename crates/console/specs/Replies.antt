@@ -104,13 +104,13 @@ module _ {c at j : ℕ} {p : Reply} {ks vs l m : List ℕ} where
   unfolding replyText answerText
   wrote-granted e w = named reply.Granted _ e refl w
 
-  pub wrote-value : (v : ℕ) → p ≡ reply.Value v → Wrote l at ((c ∷ field 0 ++ field v) ++ (10 ∷ [])) m j → Replies c p ks vs l at m j
+  pub wrote-value : (v x : ℕ) → p ≡ reply.Value v x → Wrote l at ((c ∷ field 0 ++ field v ++ field x) ++ (10 ∷ [])) m j → Replies c p ks vs l at m j
   unfolding replyText answerText
-  wrote-value v e w = named (reply.Value v) _ e refl w
+  wrote-value v x e w = named (reply.Value v x) _ e refl w
 
-  pub wrote-absent : p ≡ reply.Absent → Wrote l at ((c ∷ field 0 ++ absent) ++ (10 ∷ [])) m j → Replies c p ks vs l at m j
+  pub wrote-absent : (x : ℕ) → p ≡ reply.Absent x → Wrote l at ((c ∷ field 0 ++ absent ++ field x) ++ (10 ∷ [])) m j → Replies c p ks vs l at m j
   unfolding replyText answerText
-  wrote-absent e w = named reply.Absent _ e refl w
+  wrote-absent x e w = named (reply.Absent x) _ e refl w
 
   pub wrote-numbered : (n : ℕ) → p ≡ reply.Numbered n → Wrote l at ((c ∷ field 0 ++ field n) ++ (10 ∷ [])) m j → Replies c p ks vs l at m j
   unfolding replyText answerText

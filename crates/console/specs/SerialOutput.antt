@@ -42,7 +42,7 @@ opening input = pick (startsGuarded input) guardedAnswer []
 pub data Answers : Step → Answer → Type 0 where
   not-granted : (s : Step) (r : Refusal) → Answers s (refused r)
   begun : (w : ℕ) → Answers (begin w) done
-  value : (w k : ℕ) (o : Option Payload) → Answers (read w k) (found o)
+  value : (w k : ℕ) (o : Option Payload) (n : ℕ) → Answers (read w k) (found o n)
   records : (w lo hi m n : ℕ) (rs : List (Row Payload)) → Answers (scan w lo hi m n) (listed rs)
   written : (w k : ℕ) (p : Payload) → Answers (put w k p) done
   removed : (w k : ℕ) → Answers (remove w k) done

@@ -25,7 +25,7 @@ use Rattle.console.specs.SerialOutput.{linesFrom, linesOf, opening, Answ
 granted-answers : (σ : State) (s : Step) → Answers s (granted σ s)
 unfolding granted
 granted-answers σ (begin w) = begun w
-granted-answers σ (read w k) = value w k _
+granted-answers σ (read w k) = value w k _ _
 granted-answers σ (scan w lo hi m n) = records w lo hi m n _
 granted-answers σ (put w k p) = written w k p
 granted-answers σ (remove w k) = removed w k

@@ -5,7 +5,7 @@ use mathlib.Core.Path.{_≡_, refl, sym, ap, _∙_}
 use mathlib.Core.Logic.{⊎-elim}
 use mathlib.Core.Bool.{false}
 use mathlib.Core.List.{List, [], _∷_, _++_, append-assoc, append-nil}
-use mathlib.Core.Option.{none, some}
+use mathlib.Core.Option.{Option, none, some}
 use lib.ListN.{length}
 use Rattle.lists.specs.Tests.{pick, same, less, atMost, within}
 use Rattle.lists.specs.TestLaws.{atMost-yes, less-true, less-false, cases}
@@ -120,7 +120,7 @@ refusal-back Overlap = refl
 abbrev kindOf : Answer → ℕ
 kindOf (refused r) = 0
 kindOf done = 1
-kindOf (found o) = 2
+kindOf (found o x) = 2
 kindOf (listed rs) = 3
 kindOf (numbered n) = 4
 kindOf (counted n) = 5
@@ -143,7 +143,7 @@ grantedKind mergeOldest = 5
 abbrev answerNumber : Answer → ℕ
 answerNumber (refused r) = numberOf r
 answerNumber done = 0
-answerNumber (found o) = 0
+answerNumber (found o x) = 0
 answerNumber (listed rs) = 0
 answerNumber (numbered n) = 0
 answerNumber (counted n) = 0
@@ -173,7 +173,7 @@ kind-told (not-granted s r) = go r
     go Uncovered = refl
     go Overlap = refl
 kind-told (begun w) = refl
-kind-told (value w k o) = refl
+kind-told (value w k o x) = refl
 kind-told (records w lo hi m n rs) = refl
 kind-told (written w k p) = refl
 kind-told (removed w k) = refl
@@ -188,8 +188,8 @@ kind-told (oldest-count n) = refl
 abbrev more : Answer → List ℕ
 more (refused r) = []
 more done = []
-more (found none) = absent
-more (found (some p)) = field (p .value)
+more (found none x) = absent ++ field x
+more (found (some p) x) = field (p .value) ++ field x
 more (listed rs) = field (length rs) ++ pairs (λ (p : Payload). p .value) rs
 more (numbered n) = field n
 more (counted n) = field n
@@ -198,8 +198,8 @@ text-is : (a : Answer) → answerText a ≡ field (answerNumber a) ++ more a
 unfolding answerText
 text-is (refused r) = sym (append-nil (field (numberOf r)))
 text-is done = sym (append-nil (field 0))
-text-is (found none) = refl
-text-is (found (some p)) = refl
+text-is (found none x) = append-assoc (field 0) absent (field x)
+text-is (found (some p) x) = append-assoc (field 0) (field (p .value)) (field x)
 text-is (listed rs) = append-assoc (field 0) (field (length rs)) (pairs (λ (p : Payload). p .value) rs)
 text-is (numbered n) = refl
 text-is (counted n) = refl
@@ -245,9 +245,15 @@ abbrev head : List ℕ → ℕ
 head [] = 0
 head (b ∷ t) = b
 
+-- what a read found, and the slots examined
+abbrev examinedFront : Option Payload → Front ℕ → Front Answer
+examinedFront o f = got (found o (f .read)) (f .rest)
+
 -- a value, or `-`
 abbrev valueFront : Front ℕ → Front Answer
-valueFront f = pick (same (head (f .rest)) 45) (got (found none) (tail (f .rest))) (got (found (some (record { value = f .read }))) (f .rest))
+valueFront f =
+    pick (same (head (f .rest)) 45) (examinedFront none (fieldIn (tail (f .rest))))
+    (examinedFront (some (record { value = f .read })) (fieldIn (f .rest)))
 
 abbrev recordsFront : Front ℕ → Front Answer
 recordsFront f = let g = rowsFront (f .read) (f .rest) in got (listed (g .read)) (g .rest)
@@ -266,11 +272,15 @@ unfolding isDigit within atMost
 stops-feed t = refl
 
 answer-front : (a : Answer) (t : List ℕ) → answerFront (kindOf a) (answerNumber a) (more a ++ (10 ∷ t)) ≡ got a (10 ∷ t)
-unfolding same front isDigit within atMost
+unfolding same front field isDigit within atMost
 answer-front (refused r) t = ap (λ (x : Refusal). got (refused x) (10 ∷ t)) (refusal-back r)
 answer-front done t = refl
-answer-front (found none) t = refl
-answer-front (found (some p)) t = ap valueFront (field-in (p .value) (10 ∷ t) (stops-feed t))
+answer-front (found none x) t = ap (examinedFront none) (field-in x (10 ∷ t) (stops-feed t))
+answer-front (found (some p) x) t =
+    let after = field x ++ (10 ∷ t) in
+    ap (λ (y : List ℕ). valueFront (fieldIn y)) (append-assoc (field (p .value)) (field x) (10 ∷ t))
+    ∙ ap valueFront (field-in (p .value) after (stops-field x (10 ∷ t)))
+    ∙ ap (examinedFront (some p)) (field-in x (10 ∷ t) (stops-feed t))
 answer-front (listed rs) t =
     let after = pairs (λ (p : Payload). p .value) rs ++ (10 ∷ t) in
     ap (λ (x : List ℕ). recordsFront (fieldIn x)) (append-assoc (field (length rs)) (pairs (λ (p : Payload). p .value) rs) (10 ∷ t))
@@ -283,8 +293,8 @@ stops-more : (a : Answer) (t : List ℕ) → Stops (more a ++ (10 ∷ t))
 unfolding field isDigit within atMost
 stops-more (refused r) t = refl
 stops-more done t = refl
-stops-more (found none) t = refl
-stops-more (found (some p)) t = refl
+stops-more (found none x) t = refl
+stops-more (found (some p) x) t = refl
 stops-more (listed rs) t = refl
 stops-more (numbered n) t = refl
 stops-more (counted n) t = refl

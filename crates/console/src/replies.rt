@@ -11,13 +11,25 @@ ghost use Rattle.engine.specs.Performs.{placesIn};
 ghost use Rattle.console.specs.Program.{places, longestLine};
 ghost use Rattle.console.specs.Replies.{Replies};
 
-// A read that finds nothing.
-fn put_absent_line(out: &mut [u8], at: usize, letter: u8) -> usize
-    requires { ⌜ at + 25 ≤ length (now out) ⌝ }
-    ensures { λ r. ⌜ Wrote (now (out .entry)) at ((letter ∷ field 0 ++ absent) ++ (10 ∷ [])) (now (out .exit)) r ⌝ }
+// A read that finds a value: the value, and the slots examined.
+fn put_value_line(out: &mut [u8], at: usize, letter: u8, v: u64, examined: usize) -> usize
+    requires { ⌜ at + 65 ≤ length (now out) ⌝ }
+    ensures { λ r. ⌜ Wrote (now (out .entry)) at ((letter ∷ field 0 ++ field v ++ field examined) ++ (10 ∷ [])) (now (out .exit)) r ⌝ }
 {
     let next = text::put_answer(out, at, letter, 0);
-    let last = text::put_absent(out, next);
+    let count = text::put_field(out, next, v);
+    let last = text::put_field(out, count, examined as u64);
+    text::put_byte(out, last, b'\n')
+}
+
+// A read that finds nothing.
+fn put_absent_line(out: &mut [u8], at: usize, letter: u8, examined: usize) -> usize
+    requires { ⌜ at + 46 ≤ length (now out) ⌝ }
+    ensures { λ r. ⌜ Wrote (now (out .entry)) at ((letter ∷ field 0 ++ absent ++ field examined) ++ (10 ∷ [])) (now (out .exit)) r ⌝ }
+{
+    let next = text::put_answer(out, at, letter, 0);
+    let count = text::put_absent(out, next);
+    let last = text::put_field(out, count, examined as u64);
     text::put_byte(out, last, b'\n')
 }
 
@@ -55,8 +67,8 @@ pub fn write_reply(
 {
     match reply {
         Reply::Granted => text::put_line(out, at, letter, 0),
-        Reply::Value(v) => text::put_granted_line(out, at, letter, v),
-        Reply::Absent => put_absent_line(out, at, letter),
+        Reply::Value(v, x) => put_value_line(out, at, letter, v, x),
+        Reply::Absent(x) => put_absent_line(out, at, letter, x),
         Reply::Listed(n) => put_listed_line(out, at, addresses, values, letter, n),
         Reply::Numbered(n) => text::put_granted_line(out, at, letter, n),
         Reply::Counted(n) => text::put_granted_line(out, at, letter, n as u64),

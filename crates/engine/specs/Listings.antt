@@ -24,7 +24,7 @@ use Rattle.engine.specs.Performs.{stepIn, replyIn, placesIn}
 abbrev countIn : Answer → ℕ
 countIn (refused r) = 0
 countIn done = 0
-countIn (found p) = 0
+countIn (found p n) = 0
 countIn (listed rs) = length rs
 countIn (numbered n) = 0
 countIn (counted n) = 0
@@ -73,8 +73,8 @@ listed-fits σ op.MergeOldest m n = none-listed σ model.mergeOldest (min m n) r
 
 places-count : (p : Reply) (ks vs : List ℕ) → placesIn p ≡ countIn (replyIn p ks vs)
 places-count reply.Granted ks vs = refl
-places-count (reply.Value v) ks vs = refl
-places-count reply.Absent ks vs = refl
+places-count (reply.Value v n) ks vs = refl
+places-count (reply.Absent n) ks vs = refl
 places-count (reply.Listed n) ks vs = sym (length-rows n ks vs)
 places-count (reply.Numbered n) ks vs = refl
 places-count (reply.Counted n) ks vs = refl

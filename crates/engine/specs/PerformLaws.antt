@@ -89,13 +89,13 @@ quiet-plain {t} s d i e f h =
     quiet s t (d .core) (plainReply (d .answer)) (plainIn (d .answer)) i e f h (plain-answer (d .answer)) (plain-places (d .answer))
 
 read-answer : (p : ReadAnswer) (ks vs : List ℕ) → replyIn (readReply p) ks vs ≡ readAnswer p
-read-answer (reading.Value v) ks vs = refl
-read-answer reading.Absent ks vs = refl
+read-answer (reading.Value v n) ks vs = refl
+read-answer (reading.Absent n) ks vs = refl
 read-answer (reading.Refused r) ks vs = refl
 
 read-places : (p : ReadAnswer) → placesIn (readReply p) ≡ 0
-read-places (reading.Value v) = refl
-read-places reading.Absent = refl
+read-places (reading.Value v n) = refl
+read-places (reading.Absent n) = refl
 read-places (reading.Refused r) = refl
 
 pub quiet-read : {l l' : Lent} {g g' : Logs} {c : Core} {o : Op} {r : Performed} {t : Step} (s : Op) (d : ReadDone) → ((m n : ℕ) → stepIn s m n ≡ t) → o ≡ s

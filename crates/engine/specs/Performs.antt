@@ -52,8 +52,8 @@ stepIn op.MergeOldest m n = model.mergeOldest
 -- document 01's answer: of a scan, the first places of the buffers after it
 abbrev pub replyIn : Reply → List ℕ → List ℕ → Answer
 replyIn reply.Granted ks vs = model.done
-replyIn (reply.Value v) ks vs = model.found (some (record { value = v }))
-replyIn reply.Absent ks vs = model.found none
+replyIn (reply.Value v n) ks vs = model.found (some (record { value = v })) n
+replyIn (reply.Absent n) ks vs = model.found none n
 replyIn (reply.Listed n) ks vs = model.listed (rowsIn n ks vs)
 replyIn (reply.Numbered n) ks vs = model.numbered n
 replyIn (reply.Counted n) ks vs = model.counted n
@@ -62,8 +62,8 @@ replyIn (reply.Refused r) ks vs = model.refused r
 -- how many places of each buffer a step may write
 abbrev pub placesIn : Reply → ℕ
 placesIn reply.Granted = 0
-placesIn (reply.Value v) = 0
-placesIn reply.Absent = 0
+placesIn (reply.Value v n) = 0
+placesIn (reply.Absent n) = 0
 placesIn (reply.Listed n) = n
 placesIn (reply.Numbered n) = 0
 placesIn (reply.Counted n) = 0
@@ -89,8 +89,8 @@ plainReply plain.Granted = reply.Granted
 plainReply (plain.Refused r) = reply.Refused r
 
 abbrev pub readReply : ReadAnswer → Reply
-readReply (reading.Value v) = reply.Value v
-readReply reading.Absent = reply.Absent
+readReply (reading.Value v n) = reply.Value v n
+readReply (reading.Absent n) = reply.Absent n
 readReply (reading.Refused r) = reply.Refused r
 
 abbrev pub scanReply : ScanAnswer → Reply

@@ -57,11 +57,12 @@ pub enum Op {
     MergeOldest,
 }
 
-// Its answer. A scan tells how many places of the buffers it filled.
+// Its answer. A read tells a value, or none there, and how many slots it examined; a scan how many places of the buffers it
+// filled.
 pub enum Reply {
     Granted,
-    Value(u64),
-    Absent,
+    Value(u64, usize),
+    Absent(usize),
     Listed(usize),
     Numbered(u64),
     Counted(usize),
@@ -97,13 +98,13 @@ fn of_read(d: ReadDone) -> Performed
     let core = d.core;
     let answer = d.answer;
     match answer {
-        ReadAnswer::Value(v) => Performed {
+        ReadAnswer::Value(v, n) => Performed {
             core,
-            reply: Reply::Value(v),
+            reply: Reply::Value(v, n),
         },
-        ReadAnswer::Absent => Performed {
+        ReadAnswer::Absent(n) => Performed {
             core,
-            reply: Reply::Absent,
+            reply: Reply::Absent(n),
         },
         ReadAnswer::Refused(r) => Performed {
             core,

@@ -3,6 +3,7 @@ pub mod SlotCounts
 pub mod SlotChanges
 pub mod Searches
 pub mod Entering
+pub mod DenseSlots
 pub mod SlotLaws
 pub mod LeafParts
 pub mod LeafCuts

@@ -40,7 +40,7 @@ changed-tally {ss} {ts} {p} {old} {new} r g =
     omega arith
 
 module _ (f : ℕ → ℕ) (ss : List Slot) (h d : ℕ) (full : length ss ≡ slotCount) (hb : h < slotCount) (db : d < slotCount) (e : Option (Row Content)) where
-  moved-changed : Changed ss (withEntry (countPassed f ss h d) (h + d) e) ((h + d) % slotCount) (entryAt ss ((h + d) % slotCount)) e
+  pub moved-changed : Changed ss (withEntry (countPassed f ss h d) (h + d) e) ((h + d) % slotCount) (entryAt ss ((h + d) % slotCount)) e
   unfolding withEntry setSlot slotAt
   moved-changed =
       record {
@@ -67,7 +67,7 @@ module _ (f : ℕ → ℕ) (ss : List Slot) (h d : ℕ) (full : length ss ≡ sl
           ap (λ (s : Slot). s .entry) (at-countPassed f ss h d i full hb (let z : d < slotCount = db in omega arith) q)
           ∙ ⊎-elim (λ t. rw t) (λ t. rw t) (cases (less (gap h i) d))
 
-  moved-count : (i : ℕ) → i < slotCount
+  pub moved-count : (i : ℕ) → i < slotCount
       → getD (withEntry (countPassed f ss h d) (h + d) e) i emptySlot .overflow
       ≡ pick (less (gap h i) d) (f (getD ss i emptySlot .overflow)) (getD ss i emptySlot .overflow)
   unfolding withEntry setSlot slotAt
@@ -126,7 +126,7 @@ vacant-none s t = go (s .entry) t
     go none t = refl
     go (some e) t = clash {b = false} t refl
 
-none-vacant : (s : Slot) → s .entry ≡ none → vacant s ≡ true
+pub none-vacant : (s : Slot) → s .entry ≡ none → vacant s ≡ true
 unfolding vacant
 none-vacant s q = ap (λ (o : Option (Row Content)). not (present o)) q
 
@@ -162,6 +162,11 @@ pub take-at : (bytes : ℕ) (ss : List Slot) (k : ℕ) (c : Content) (d : ℕ) �
     → take bytes ss k c ≡ withEntry (countPassed suc ss (homeSlot bytes k) d) (homeSlot bytes k + d) (some (row k c))
 unfolding take
 take-at bytes ss k c d q =
+    ap (λ (o : Option ℕ). maybe o ss (λ (d : ℕ). withEntry (countPassed suc ss (homeSlot bytes k) d) (homeSlot bytes k + d) (some (row k c)))) q
+
+pub take-none : (bytes : ℕ) (ss : List Slot) (k : ℕ) (c : Content) → distance vacant ss (homeSlot bytes k) slotCount 0 ≡ none → take bytes ss k c ≡ ss
+unfolding take
+take-none bytes ss k c q =
     ap (λ (o : Option ℕ). maybe o ss (λ (d : ℕ). withEntry (countPassed suc ss (homeSlot bytes k) d) (homeSlot bytes k + d) (some (row k c)))) q
 
 pub release-at : (bytes : ℕ) (ss : List Slot) (k d : ℕ) → distance (holds k) ss (homeSlot bytes k) slotCount 0 ≡ some d

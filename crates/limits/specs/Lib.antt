@@ -11,3 +11,4 @@ pub mod Validating
 pub mod LoggedVersions
 pub mod Aging
 pub mod BoundedWaiting
+pub mod WorstLookups

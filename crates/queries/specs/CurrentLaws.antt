@@ -9,18 +9,20 @@ use lib.Dec.{eqb}
 use borrow.Author.Tests.{ne-eqb}
 use Rattle.lists.specs.Tests.{maybe}
 use Rattle.lists.specs.Rows.{look}
-use Rattle.spec.specs.Records.{Record, outcome}
-use Rattle.spec.specs.Slots.{Pending, Content, contentOf}
+use Rattle.spec.specs.Records.{standard, Record, outcome}
+use Rattle.spec.specs.Slots.{Pending, Content, contentOf, Searched, search}
 use Rattle.spec.specs.Maps.{outcomeOf, current}
 use Rattle.indexlet.specs.declared.Content.{Content as ContentWords}
+use Rattle.indexlet.specs.declared.Looked.{Looked}
 use Rattle.indexlet.specs.Words.{pendingIn, contentIn, slotsOf}
+use Rattle.indexlet.specs.Promises.{lookedIn, Looks}
 use Rattle.index.specs.declared.records.Found.{Found}
 use Rattle.index.specs.declared.records.Found.the-variants.{At, Nothing}
 use Rattle.index.specs.Views.{foundOf, recordsOf}
 use Rattle.spec.specs.declared.Current.{Current}
 use Rattle.sets.specs.Reads.{recordIn}
 use Rattle.queries.specs.QueryViews.{Sees}
-use Rattle.map.specs.Views.{SlotRows, RecordRows}
+use Rattle.map.specs.Views.{SlotRows, RecordRows, slotsIn}
 
 -- a pending write, if there is one, in the words of the indexlet
 pending-of : (c : ContentWords) → contentIn c .pending ≡ pendingIn (c .kind) (c .value) (c .commit) (c .since)
@@ -67,3 +69,8 @@ module _ (rows : RecordRows) (n : ℕ) (slots : SlotRows) (a : ℕ) (c : Content
             pending-seen (c .kind) (c .value) (c .commit) (c .since) (look (recordsOf rows n) a) k
             ∙ sym (ap (λ (p : Option Pending). maybe p (look (recordsOf rows n) a) outcomeOf) pending-here);
       }
+
+-- how many slots were examined
+pub examined-is : {slots : SlotRows} {a : ℕ} {r : Looked} → Looks slots a r → r .examined ≡ search (standard .bytes) (slotsIn slots) a .examined
+unfolding lookedIn
+examined-is l = sym (ap (λ (q : Searched). q .examined) (l .searched))

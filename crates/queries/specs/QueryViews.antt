@@ -5,7 +5,8 @@ use mathlib.Core.List.{List, [], _∷_}
 use mathlib.Core.Option.{Option}
 use lib.ListN.{length, take, drop, getD}
 use Rattle.lists.specs.Rows.{Row, row, between}
-use Rattle.spec.specs.Records.{Record}
+use Rattle.spec.specs.Records.{standard, Record}
+use Rattle.spec.specs.Slots.{search}
 use Rattle.spec.specs.Leaves.{Leaf, firstLeaf, leafOf, meeting}
 use Rattle.spec.specs.Maps.{MapState, current, indexedBetween}
 use Rattle.laws.specs.LeafVersions.{GoodLeaves}
@@ -14,10 +15,11 @@ use Rattle.index.specs.Views.{noRow, recordsOf}
 use Rattle.sets.specs.Reads.{recordIn, observedIn}
 use Rattle.spec.specs.declared.Current.{Current}
 use Rattle.queries.specs.declared.Range.{Range}
+use Rattle.queries.specs.declared.Seen.{Seen}
 use Rattle.sets.specs.declared.reads.Observed.{Observed}
 use Rattle.sets.specs.declared.leaves.LoggedLeaf.{LoggedLeaf}
 use Rattle.map.specs.MapHeld.{perLeaf}
-use Rattle.map.specs.Views.{SlotRows, RecordRows, leavesIn}
+use Rattle.map.specs.Views.{SlotRows, RecordRows, leavesIn, slotsIn}
 
 -- the map of these rows and slots, with any leaves
 abbrev pub mapWith : RecordRows → ℕ → SlotRows → List Leaf → MapState
@@ -26,6 +28,11 @@ mapWith rows n slots ls = record { records = recordsOf rows n; leaves = ls; slot
 -- r is the current record of a
 pub record Sees (rows : RecordRows) (n : ℕ) (slots : SlotRows) (a : ℕ) (r : Current) : Type 0 where
   pub record-is : (ls : List Leaf) → recordIn r ≡ current (mapWith rows n slots ls) a
+
+-- and so many slots are examined to find it
+pub record Examines (rows : RecordRows) (n : ℕ) (slots : SlotRows) (a : ℕ) (r : Seen) : Type 0 where
+  pub sees : Sees rows n slots a (r .current)
+  pub examined : r .examined ≡ search (standard .bytes) (slotsIn slots) a .examined
 
 -- ---- what a scan walks over
 

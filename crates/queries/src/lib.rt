@@ -24,7 +24,7 @@ ghost use Rattle.index.specs.LeafPlaces.{Listed};
 ghost use Rattle.map.specs.Views.{lowsOf, versionsOf, lent, mapOf};
 ghost use Rattle.map.specs.Parts.{RecordsHeld, SlotsHeld, LeavesListed, LeafListed};
 ghost use Rattle.map.specs.WriteWalks.{Writing};
-ghost use Rattle.queries.specs.QueryViews.{Sees, Spans, SeenAt, Meets, LeafAt, LoggedAt};
+ghost use Rattle.queries.specs.QueryViews.{Sees, Examines, Spans, SeenAt, Meets, LeafAt, LoggedAt};
 ghost use Rattle.queries.specs.NextViews.{IndexFrom, Nearer, SlotFrom, Follows, Numbers};
 ghost use Rattle.queries.specs.PhantomViews.{Holding, phantomAt, Owns, Logged, lockOnlyIn, lockOnlyCount};
 
@@ -32,6 +32,12 @@ ghost use Rattle.queries.specs.PhantomViews.{Holding, phantomAt, Owns, L
 pub struct Range {
     pub from: usize,
     pub to: usize,
+}
+
+// The current record of an address, and how many slots of the indexlet the look-up examined (request 103).
+pub struct Seen {
+    pub current: Current,
+    pub examined: usize,
 }
 
 // The next record of the contents.
@@ -44,11 +50,12 @@ pub enum Next {
     Done,
 }
 
-// The current record of an address: what a pending write leaves there, else what the index has.
-pub fn current_record(rows: &Records, slots: &Slots, n: usize, a: Address) -> Current
+// The current record of an address: what a pending write leaves there, else what the index has; and how many slots were
+// examined.
+pub fn see(rows: &Records, slots: &Slots, n: usize, a: Address) -> Seen
     requires { ⌜ RecordsHeld (now rows) n ⌝ }
     requires { ⌜ SlotsHeld (now slots) ⌝ }
-    ensures { λ r. ⌜ Sees (now (rows .entry)) n (now (slots .entry)) a r ⌝ }
+    ensures { λ r. ⌜ Examines (now (rows .entry)) n (now (slots .entry)) a r ⌝ }
 {
     let looked = indexlet::look_up(slots, a);
     let c = looked.content;
@@ -56,26 +63,48 @@ pub fn current_record(rows: &Records, slots: &Slots, n: usize, a: Address) -> Cu
         let found = records::find(rows, n, a);
         match found {
             Found::At { value, commit } => {
-                return Current {
+                let current = Current {
                     there: true,
                     value,
                     commit,
                 };
+                return Seen {
+                    current,
+                    examined: looked.examined,
+                };
             }
             Found::Nothing => {
-                return Current {
+                let current = Current {
                     there: false,
                     value: 0,
                     commit: 0,
                 };
+                return Seen {
+                    current,
+                    examined: looked.examined,
+                };
             }
         }
     }
-    Current {
+    let current = Current {
         there: c.kind == 1,
         value: c.value,
         commit: c.commit,
+    };
+    Seen {
+        current,
+        examined: looked.examined,
     }
+}
+
+// The current record alone.
+pub fn current_record(rows: &Records, slots: &Slots, n: usize, a: Address) -> Current
+    requires { ⌜ RecordsHeld (now rows) n ⌝ }
+    requires { ⌜ SlotsHeld (now slots) ⌝ }
+    ensures { λ r. ⌜ Sees (now (rows .entry)) n (now (slots .entry)) a r ⌝ }
+{
+    let seen = see(rows, slots, n, a);
+    seen.current
 }
 
 // The places of the records from lo to hi.

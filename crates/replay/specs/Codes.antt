@@ -64,37 +64,38 @@ decoded m n k = pick (same (k .kind) 10) (Meant op.MergeOldest 0 0) (decodedNumb
 
 -- ---- answers
 
-abbrev pub codedAs : ℕ → ℕ → ℕ → Coded
-codedAs n t v = record { number = n; told = t; value = v }
+abbrev pub codedAs : ℕ → ℕ → ℕ → ℕ → Coded
+codedAs n t v x = record { number = n; told = t; value = v; examined = x }
 
 -- a reply in numbers; the places of a scan stand in its buffers
 abbrev pub codedOf : Reply → Coded
-codedOf reply.Granted = codedAs 0 0 0
-codedOf (reply.Value v) = codedAs 0 1 v
-codedOf reply.Absent = codedAs 0 2 0
-codedOf (reply.Listed n) = codedAs 0 3 n
-codedOf (reply.Numbered n) = codedAs 0 4 n
-codedOf (reply.Counted n) = codedAs 0 5 n
-codedOf (reply.Refused r) = codedAs (numberOf r) 0 0
+codedOf reply.Granted = codedAs 0 0 0 0
+codedOf (reply.Value v x) = codedAs 0 1 v x
+codedOf (reply.Absent x) = codedAs 0 2 0 x
+codedOf (reply.Listed n) = codedAs 0 3 n 0
+codedOf (reply.Numbered n) = codedAs 0 4 n 0
+codedOf (reply.Counted n) = codedAs 0 5 n 0
+codedOf (reply.Refused r) = codedAs (numberOf r) 0 0 0
 
 -- the answer to a code with no meaning
 abbrev pub noMeaning : Coded
-noMeaning = codedAs 99 0 0
+noMeaning = codedAs 99 0 0 0
 
 -- addresses and values, one after the other
 unfoldable pub pairWords : List (Row Payload) → List ℕ
 pairWords [] = []
 pairWords (r ∷ rs) = r .key ∷ r .item .value ∷ pairWords rs
 
--- document 01's answer in numbers: its number, what is told beside it, that number, and a scan's records
+-- document 01's answer in numbers: its number, what is told beside it, that number, how many slots a read examined, and a
+-- scan's records
 unfoldable pub wordsOf : Answer → List ℕ
-wordsOf (refused r) = numberOf r ∷ 0 ∷ 0 ∷ []
-wordsOf done = 0 ∷ 0 ∷ 0 ∷ []
-wordsOf (found (some p)) = 0 ∷ 1 ∷ p .value ∷ []
-wordsOf (found none) = 0 ∷ 2 ∷ 0 ∷ []
-wordsOf (listed rs) = 0 ∷ 3 ∷ length rs ∷ pairWords rs
-wordsOf (numbered n) = 0 ∷ 4 ∷ n ∷ []
-wordsOf (counted n) = 0 ∷ 5 ∷ n ∷ []
+wordsOf (refused r) = numberOf r ∷ 0 ∷ 0 ∷ 0 ∷ []
+wordsOf done = 0 ∷ 0 ∷ 0 ∷ 0 ∷ []
+wordsOf (found (some p) x) = 0 ∷ 1 ∷ p .value ∷ x ∷ []
+wordsOf (found none x) = 0 ∷ 2 ∷ 0 ∷ x ∷ []
+wordsOf (listed rs) = 0 ∷ 3 ∷ length rs ∷ 0 ∷ pairWords rs
+wordsOf (numbered n) = 0 ∷ 4 ∷ n ∷ 0 ∷ []
+wordsOf (counted n) = 0 ∷ 5 ∷ n ∷ 0 ∷ []
 
 -- ---- a step
 

@@ -105,7 +105,7 @@ ran-rest m n σ room (k ∷ a ∷ b ∷ c ∷ d ∷ e ∷ ws) h = absurd (let z 
 listed-length : (f : Row Payload → ℕ) (a : Answer) (ks : List ℕ) → length (listedIn f a ks) ≡ length ks
 listed-length f (refused r) ks = refl
 listed-length f done ks = refl
-listed-length f (found p) ks = refl
+listed-length f (found p x) ks = refl
 listed-length f (listed rs) ks = length-sets ks 0 (map f rs)
 listed-length f (numbered n) ks = refl
 listed-length f (counted n) ks = refl

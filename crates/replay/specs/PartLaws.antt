@@ -74,8 +74,8 @@ rows-part i m n ks vs h k =
 
 reply-part : (p : Reply) (m n : ℕ) (ks vs : List ℕ) → placesIn p ≤ m → placesIn p ≤ n → replyIn p (take m ks) (take n vs) ≡ replyIn p ks vs
 reply-part reply.Granted m n ks vs h k = refl
-reply-part (reply.Value v) m n ks vs h k = refl
-reply-part reply.Absent m n ks vs h k = refl
+reply-part (reply.Value v x) m n ks vs h k = refl
+reply-part (reply.Absent x) m n ks vs h k = refl
 reply-part (reply.Listed i) m n ks vs h k = ap listed (rows-part i m n ks vs h k)
 reply-part (reply.Numbered i) m n ks vs h k = refl
 reply-part (reply.Counted i) m n ks vs h k = refl

@@ -57,7 +57,7 @@ codeOf k a b c d e = record { kind = k; a = a; b = b; c = c; d = d; e = e }
 
 -- the longest answer of a step that wants so many places, in words
 abbrev pub longestAnswer : ℕ → ℕ → ℕ
-longestAnswer p q = 3 + 2 * min p q
+longestAnswer p q = 4 + 2 * min p q
 
 -- The run of a list of words, so many to a step, from a state, with lent scan buffers of m and n places and room for so many
 -- words of answers. It stops at a code with no meaning, where the longest answer of a step would find no room, or at the end;
@@ -86,7 +86,7 @@ allWords (e ∷ es) = wordsOf (e .answer) ++ allWords es
 abbrev pub listedIn : (Row Payload → ℕ) → Answer → List ℕ → List ℕ
 listedIn f (refused r) ks = ks
 listedIn f done ks = ks
-listedIn f (found p) ks = ks
+listedIn f (found p x) ks = ks
 listedIn f (listed rs) ks = sets ks 0 (map f rs)
 listedIn f (numbered n) ks = ks
 listedIn f (counted n) ks = ks

@@ -22,7 +22,7 @@ roomy p m n ks vs ks' vs' out at h b e f i r =
     record {
       addresses = let k : placesIn p ≤ length ks' = omega arith in k;
       values = let k : placesIn p ≤ length vs' = omega arith in k;
-      words = let k : at + 3 + 2 * placesIn p ≤ length out = omega arith in k;
+      words = let k : at + 4 + 2 * placesIn p ≤ length out = omega arith in k;
     }
 
 -- ---- the buffers
@@ -64,8 +64,8 @@ rows-values n ks vs h = map-tabFrom valueOf (λ (i : ℕ). row (getD ks i 0) (re
 
 pub shown-addresses : (p : Reply) (ks ks' vs' : List ℕ) → placesIn p ≤ length ks → Beyond (placesIn p) ks ks' → ks' ≡ listedIn addressOf (replyIn p ks' vs') ks
 shown-addresses reply.Granted ks ks' vs' h b = unwritten ks ks' b
-shown-addresses (reply.Value v) ks ks' vs' h b = unwritten ks ks' b
-shown-addresses reply.Absent ks ks' vs' h b = unwritten ks ks' b
+shown-addresses (reply.Value v x) ks ks' vs' h b = unwritten ks ks' b
+shown-addresses (reply.Absent x) ks ks' vs' h b = unwritten ks ks' b
 shown-addresses (reply.Listed n) ks ks' vs' h b =
     filled ks ks' n h b
     ∙ ap (sets ks 0) (sym (rows-addresses n ks' vs' (let s : length ks' ≡ length ks = b .size in let k : n ≤ length ks' = omega arith in k)))
@@ -75,8 +75,8 @@ shown-addresses (reply.Refused r) ks ks' vs' h b = unwritten ks ks' b
 
 pub shown-values : (p : Reply) (vs ks' vs' : List ℕ) → placesIn p ≤ length vs → Beyond (placesIn p) vs vs' → vs' ≡ listedIn valueOf (replyIn p ks' vs') vs
 shown-values reply.Granted vs ks' vs' h b = unwritten vs vs' b
-shown-values (reply.Value v) vs ks' vs' h b = unwritten vs vs' b
-shown-values reply.Absent vs ks' vs' h b = unwritten vs vs' b
+shown-values (reply.Value v x) vs ks' vs' h b = unwritten vs vs' b
+shown-values (reply.Absent x) vs ks' vs' h b = unwritten vs vs' b
 shown-values (reply.Listed n) vs ks' vs' h b =
     filled vs vs' n h b
     ∙ ap (sets vs 0) (sym (rows-values n ks' vs' (let s : length vs' ≡ length vs = b .size in let k : n ≤ length vs' = omega arith in k)))

@@ -75,18 +75,18 @@ putting-end {ks} {vs} {l} {m} {at} {j} i n p h k =
 
 -- ---- a reply
 
--- its words are its three and its records'
+-- its words are its four and its records'
 reply-words : (p : Reply) (ks vs : List ℕ) → wordsOf (replyIn p ks vs) ≡ headWords (codedOf p) ++ rowWords p ks vs
 unfolding wordsOf
 reply-words reply.Granted ks vs = refl
-reply-words (reply.Value v) ks vs = refl
-reply-words reply.Absent ks vs = refl
-reply-words (reply.Listed n) ks vs = ap (λ (m : ℕ). 0 ∷ 3 ∷ m ∷ pairWords (rowsIn n ks vs)) (length-rows n ks vs)
+reply-words (reply.Value v x) ks vs = refl
+reply-words (reply.Absent x) ks vs = refl
+reply-words (reply.Listed n) ks vs = ap (λ (m : ℕ). 0 ∷ 3 ∷ m ∷ 0 ∷ pairWords (rowsIn n ks vs)) (length-rows n ks vs)
 reply-words (reply.Numbered n) ks vs = refl
 reply-words (reply.Counted n) ks vs = refl
 reply-words (reply.Refused r) ks vs = refl
 
--- three words, and no records
+-- four words, and no records
 pub wrote-short : {l m : List ℕ} {at j : ℕ} {a : Coded} (ks vs : List ℕ) (p q : Reply) → p ≡ q → rowWords q ks vs ≡ [] → a ≡ codedOf p → Wrote l at (headWords a) m j
     → Wrote l at (wordsOf (replyIn p ks vs)) m j
 wrote-short {l} {m} {at} {j} {a} ks vs p q e z f w =
@@ -97,7 +97,7 @@ wrote-short {l} {m} {at} {j} {a} ks vs p q e z f w =
     ∙ sym (reply-words p ks vs))
     w
 
--- three words, and records
+-- four words, and records
 pub wrote-long : {l m n : List ℕ} {at j k i : ℕ} {a : Coded} (ks vs : List ℕ) (p : Reply) → p ≡ reply.Listed i → a ≡ codedOf p → Wrote l at (headWords a) m j
     → Wrote m j (pairWords (rowsIn i ks vs)) n k → Wrote l at (wordsOf (replyIn p ks vs)) n k
 wrote-long {l} {m} {n} {at} {j} {k} {i} {a} ks vs p e f w u =

@@ -1,4 +1,4 @@
--- What is asked and promised of putting an answer into words: its three, and a scan's records.
+-- What is asked and promised of putting an answer into words: its four, and a scan's records.
 use Prim.Native.Nat.{ℕ, _+_, _*_, _≤_}
 use mathlib.Core.List.{List, [], _∷_}
 use lib.ListN.{length}
@@ -9,15 +9,15 @@ use Rattle.engine.specs.Performs.{placesIn}
 use Rattle.replay.specs.declared.codes.Coded.{Coded}
 use Rattle.replay.specs.Codes.{pairWords}
 
--- the three words of every answer
+-- the four words of every answer
 abbrev pub headWords : Coded → List ℕ
-headWords a = a .number ∷ a .told ∷ a .value ∷ []
+headWords a = a .number ∷ a .told ∷ a .value ∷ a .examined ∷ []
 
 -- the words of a scan's records
 abbrev pub rowWords : Reply → List ℕ → List ℕ → List ℕ
 rowWords reply.Granted ks vs = []
-rowWords (reply.Value v) ks vs = []
-rowWords reply.Absent ks vs = []
+rowWords (reply.Value v x) ks vs = []
+rowWords (reply.Absent x) ks vs = []
 rowWords (reply.Listed n) ks vs = pairWords (rowsIn n ks vs)
 rowWords (reply.Numbered n) ks vs = []
 rowWords (reply.Counted n) ks vs = []
@@ -27,4 +27,4 @@ rowWords (reply.Refused r) ks vs = []
 pub record Roomy (p : Reply) (ks vs out : List ℕ) (at : ℕ) : Type 0 where
   pub addresses : placesIn p ≤ length ks
   pub values : placesIn p ≤ length vs
-  pub words : at + 3 + 2 * placesIn p ≤ length out
+  pub words : at + 4 + 2 * placesIn p ≤ length out

@@ -33,11 +33,12 @@ pub struct Code {
 }
 
 // An answer: document 01's number, 0 if granted; what is told beside it (0 nothing, 1 a value, 2 absence, 3 the count of
-// a scan, 4 a serial number, 5 the count of a fold); and that number.
+// a scan, 4 a serial number, 5 the count of a fold); that number; and how many slots a read examined.
 pub struct Coded {
     pub number: u64,
     pub told: u64,
     pub value: u64,
+    pub examined: u64,
 }
 
 // The core after a step, and its answer.
@@ -97,6 +98,7 @@ pub fn step(
                 number: MEANINGLESS,
                 told: 0,
                 value: 0,
+                examined: 0,
             },
         },
     }

@@ -52,10 +52,10 @@ struct AfterCode {
 fn fits(room: usize, m: usize, n: usize) -> bool
     ensures { λ r. ⌜ r ≡ not (less room (longestAnswer m n)) ⌝ }
 {
-    if room < 3 {
+    if room < 4 {
         return false;
     }
-    let half = (room - 3) / 2;
+    let half = (room - 4) / 2;
     if m < n {
         return m <= half;
     }

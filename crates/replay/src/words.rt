@@ -21,36 +21,43 @@ pub fn encode(p: Reply) -> Coded
             number: 0,
             told: 0,
             value: 0,
+            examined: 0,
         },
-        Reply::Value(v) => Coded {
+        Reply::Value(v, x) => Coded {
             number: 0,
             told: 1,
             value: v,
+            examined: x as u64,
         },
-        Reply::Absent => Coded {
+        Reply::Absent(x) => Coded {
             number: 0,
             told: 2,
             value: 0,
+            examined: x as u64,
         },
         Reply::Listed(n) => Coded {
             number: 0,
             told: 3,
             value: n as u64,
+            examined: 0,
         },
         Reply::Numbered(n) => Coded {
             number: 0,
             told: 4,
             value: n,
+            examined: 0,
         },
         Reply::Counted(n) => Coded {
             number: 0,
             told: 5,
             value: n as u64,
+            examined: 0,
         },
         Reply::Refused(r) => Coded {
             number: number_of(r),
             told: 0,
             value: 0,
+            examined: 0,
         },
     }
 }
@@ -64,21 +71,13 @@ fn put_two(out: &mut [u64], at: usize, a: u64, b: u64) -> usize
     at + 2
 }
 
-fn put_one(out: &mut [u64], at: usize, a: u64) -> usize
-    requires { ⌜ at + 1 ≤ length (now out) ⌝ }
-    ensures { λ r. ⌜ Wrote (now (out .entry)) at (a ∷ []) (now (out .exit)) r ⌝ }
-{
-    out[at] = a;
-    at + 1
-}
-
-// The three words of every answer.
+// The four words of every answer.
 fn put_head(out: &mut [u64], at: usize, a: Coded) -> usize
-    requires { ⌜ at + 3 ≤ length (now out) ⌝ }
+    requires { ⌜ at + 4 ≤ length (now out) ⌝ }
     ensures { λ r. ⌜ Wrote (now (out .entry)) at (headWords a) (now (out .exit)) r ⌝ }
 {
     let next = put_two(out, at, a.number, a.told);
-    put_one(out, next, a.value)
+    put_two(out, next, a.value, a.examined)
 }
 
 // The first n places of a scan's buffers.
@@ -96,7 +95,7 @@ fn put_rows(out: &mut [u64], at: usize, addresses: &[u32], values: &[u64], n: us
     next
 }
 
-// The words of an answer: its three, and a scan's records.
+// The words of an answer: its four, and a scan's records.
 pub fn put_answer_words(
     out: &mut [u64],
     at: usize,
@@ -111,8 +110,8 @@ pub fn put_answer_words(
     let next = put_head(out, at, a);
     match p {
         Reply::Granted => next,
-        Reply::Value(_) => next,
-        Reply::Absent => next,
+        Reply::Value(_, _) => next,
+        Reply::Absent(_) => next,
         Reply::Listed(n) => put_rows(out, next, addresses, values, n),
         Reply::Numbered(_) => next,
         Reply::Counted(_) => next,

@@ -57,11 +57,11 @@ run =
 abbrev pub oldest : List Case
 oldest = case "T" MergeOldest (counted 2) "T 0 2\n" ∷ case "T" MergeOldest (counted 0) "T 0 0\n" ∷ []
 
--- more lines: the other letters, leading zeros, the widest numbers, and a read's two answers
+-- more lines: the other letters, leading zeros, the widest numbers, and a read's two answers, with the slots examined
 abbrev pub more : List Case
 more =
-    case "R 0007 0" (Read 7 0) (found (some (value 18446744073709551615))) "R 0 18446744073709551615\n"
-    ∷ case "R 1 4294967295" (Read 1 4294967295) (found none) "R 0 -\n"
+    case "R 0007 0" (Read 7 0) (found (some (value 18446744073709551615)) 1) "R 0 18446744073709551615 1\n"
+    ∷ case "R 1 4294967295" (Read 1 4294967295) (found none 256) "R 0 - 256\n"
     ∷ case "D 8 10" (Remove 8 10) (refused NoWorker) "D 1\n"
     ∷ case "A 3" (Abort 3) done "A 0\n"
     ∷ case "P 4294967295 1 18446744073709551615" (Put 4294967295 1 18446744073709551615) done "P 0\n"

@@ -81,8 +81,8 @@ pairsOf (k ∷ ks) (v ∷ vs) = pair k v ++ pairsOf ks vs
 unfoldable pub answerText : Answer → List ℕ
 answerText (refused r) = field (numberOf r)
 answerText done = field 0
-answerText (found none) = field 0 ++ absent
-answerText (found (some p)) = field 0 ++ field (p .value)
+answerText (found none x) = field 0 ++ absent ++ field x
+answerText (found (some p) x) = field 0 ++ field (p .value) ++ field x
 answerText (listed rs) = field 0 ++ field (length rs) ++ pairs (λ (p : Payload). p .value) rs
 answerText (numbered n) = field 0 ++ field n
 answerText (counted n) = field 0 ++ field n

@@ -118,7 +118,7 @@ pub fn put_line(out: &mut [u8], at: usize, letter: u8, number: u64) -> usize
     put_byte(out, next, b'\n')
 }
 
-// A whole line of a granted step that adds a number: a read's value, a validation's number, a merge's count.
+// A whole line of a granted step that adds a number: a validation's number, a merge's count.
 pub fn put_granted_line(out: &mut [u8], at: usize, letter: u8, n: u64) -> usize
     requires { ⌜ at + 44 ≤ length (now out) ⌝ }
     ensures { λ r. ⌜ Wrote (now (out .entry)) at ((letter ∷ Output·field 0 ++ Output·field n) ++ (10 ∷ [])) (now (out .exit)) r ⌝ }

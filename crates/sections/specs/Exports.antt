@@ -28,9 +28,9 @@ use Rattle.sections.specs.Saved.{savedCore}
 abbrev pub codeIn : List ℕ → Code
 codeIn ws = codeOf (getD ws 0 0) (getD ws 1 0) (getD ws 2 0) (getD ws 3 0) (getD ws 4 0) (getD ws 5 0)
 
--- an answer in three words
+-- an answer in four words
 abbrev pub codedIn : List ℕ → Coded
-codedIn ws = codedAs (getD ws 0 0) (getD ws 1 0) (getD ws 2 0)
+codedIn ws = codedAs (getD ws 0 0) (getD ws 1 0) (getD ws 2 0) (getD ws 3 0)
 
 abbrev pub steppedIn : List (List ℕ) → List ℕ → Stepped
 steppedIn core answer = record { core = savedCore core; answer = codedIn answer }

@@ -28,7 +28,7 @@ ghost use Rattle.sections.specs.Saved.{savedCore};
 ghost use Rattle.sections.specs.Exports.{codeIn, codedIn, ExportedStep, stopNumber, CountsAre, replayedIn, NextRecord};
 
 // An answer in words.
-pub const ANSWER_WORDS: usize = 3;
+pub const ANSWER_WORDS: usize = 4;
 
 pub type AnswerWords = [u64; ANSWER_WORDS];
 
@@ -63,7 +63,7 @@ pub extern "C" fn sections_fresh(
 fn put_answer(answer: &mut AnswerWords, a: Coded)
     ensures { λ _. ⌜ codedIn (now (answer .exit)) ≡ a ⌝ }
 {
-    let all = [a.number, a.told, a.value];
+    let all = [a.number, a.told, a.value, a.examined];
     *answer = all;
 }
 
@@ -80,7 +80,7 @@ fn code_in(step: &StepWords) -> Code
     }
 }
 
-// One step in coded form (`replay::codes::Code`), its answer in three numbers (`Coded`), and a scan's records in the first
+// One step in coded form (`replay::codes::Code`), its answer in four numbers (`Coded`), and a scan's records in the first
 // places of its buffers.
 #[no_mangle]
 pub extern "C" fn sections_step(

@@ -18,7 +18,7 @@ use Rattle.spec.specs.Leaves.{Leaf, versionAt}
 use Rattle.spec.specs.Slots.{contentOf}
 use Rattle.spec.specs.Guards.{Scan}
 use Rattle.spec.specs.Maps.{MapState, current, indexedBetween}
-use Rattle.spec.specs.Steps.{Worker, State, workerOf, Step, read, scan, put, remove, Answer, done, found, listed, Event, isFree, isOpen, isChecked, ownWrite, scanned, scanReads, scanVersions, remembered, withWorker, withMap, logged, writing, readRows}
+use Rattle.spec.specs.Steps.{Worker, State, workerOf, Step, read, scan, put, remove, Answer, done, found, listed, Event, isFree, isOpen, isChecked, ownWrite, slotsExamined, scanned, scanReads, scanVersions, remembered, withWorker, withMap, logged, writing, readRows}
 use Rattle.spec.specs.Sequential.{Agrees}
 use Rattle.spec.specs.Claim.{Reading, runningNow, extended, goesOn}
 use Rattle.laws.specs.ContentLaws.{look-indexedBetween}
@@ -223,12 +223,12 @@ module _ {σ : State} {ρ : Reading} {w : ℕ} (h : Sound σ ρ) (o : IsOpen σ 
   unfolding ownWrite x
   own-is k = ap (λ (ws : List (Row Write)). look ws k) (g .wrote)
 
-  read-by : (k : ℕ) (y : Option Write) → ownWrite σ w k ≡ y
+  read-by : (k n : ℕ) (y : Option Write) → ownWrite σ w k ≡ y
       → Sound (withWorker σ w (logged (maybe y (row k (current (σ .map) k) ∷ []) (λ (e : Write). [])) [] [] x))
-      (goesOn ρ w (record { step = read w k; answer = found (maybe y (payloadOf (current (σ .map) k)) ownView) }))
-  read-by k none q =
-      observes (row k (current (σ .map) k) ∷ []) [] [] (read w k) (found (payloadOf (current (σ .map) k))) (readOf k (current (σ .map) k) ∷ g .os)
-      (explain-read (g .os) (g .t .events) w k (current (σ .map) k) (own-is k ∙ q) (g .explains))
+      (goesOn ρ w (record { step = read w k; answer = found (maybe y (payloadOf (current (σ .map) k)) ownView) n }))
+  read-by k n none q =
+      observes (row k (current (σ .map) k) ∷ []) [] [] (read w k) (found (payloadOf (current (σ .map) k)) n) (readOf k (current (σ .map) k) ∷ g .os)
+      (explain-read (g .os) (g .t .events) w k n (current (σ .map) k) (own-is k ∙ q) (g .explains))
       (unfold wrote in refl)
       (λ o' m j lo hi. ⊎-elim (λ e. new o' e j lo hi) (λ e. backed-logged _ _ _ j (o' .seen j) (g-backed o' e j lo hi)) (List·Memᴰ·cases-cons m))
       (λ o' m. List·Memᴰ·tail m)
@@ -247,9 +247,9 @@ module _ {σ : State} {ρ : Reading} {w : ℕ} (h : Sound σ ρ) (o : IsOpen σ 
       new o' e j lo hi =
           subst (λ (r : Option Record). Backed (facts σ) (logged rs [] [] x) j r) (sym (ap (λ (y : Observation). y .seen j) e))
           (seen-k j (subst (λ (y : Observation). y .lo ≤ j) e lo) (subst (λ (y : Observation). j ≤ y .hi) e hi))
-  read-by k (some e) q =
-      observes [] [] [] (read w k) (found (ownView e)) (g .os)
-      (explain-own-read (g .os) (g .t .events) w k e (own-is k ∙ q) (g .explains))
+  read-by k n (some e) q =
+      observes [] [] [] (read w k) (found (ownView e) n) (g .os)
+      (explain-own-read (g .os) (g .t .events) w k n e (own-is k ∙ q) (g .explains))
       (unfold wrote in refl)
       (λ o' m j lo hi. backed-logged [] [] [] j (o' .seen j) (g-backed o' m j lo hi))
       (λ o' m. m)
@@ -257,9 +257,9 @@ module _ {σ : State} {ρ : Reading} {w : ℕ} (h : Sound σ ρ) (o : IsOpen σ 
 
   pub read-sound : (k : ℕ)
       → Sound (withWorker σ w (logged (readRows σ w k) [] [] (workerOf σ w)))
-      (goesOn ρ w (record { step = read w k; answer = found (maybe (ownWrite σ w k) (payloadOf (current (σ .map) k)) ownView) }))
+      (goesOn ρ w (record { step = read w k; answer = found (maybe (ownWrite σ w k) (payloadOf (current (σ .map) k)) ownView) (slotsExamined σ w k) }))
   unfolding readRows x
-  read-sound k = read-by k (ownWrite σ w k) refl
+  read-sound k = read-by k (slotsExamined σ w k) (ownWrite σ w k) refl
 
   scan-is : (lo hi : ℕ) → ScanOf (facts σ .indexed) (facts σ .current) lo hi (scanReads σ lo hi)
   unfolding scanReads

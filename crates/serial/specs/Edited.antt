@@ -16,12 +16,12 @@ use Rattle.spec.specs.Records.{standard, Payload}
 use Rattle.spec.specs.Leaves.{live}
 use Rattle.spec.specs.Slots.{Content, entries}
 use Rattle.spec.specs.Maps.{contents, hiddenIn}
-use Rattle.spec.specs.Steps.{State, fresh, workerOf, Step, begin, read, scan, put, remove, lock, validate, install, abort, merge, mergeOldest, refused, found, listed, Cause, cause, causes, firstCause, granted, effect, afterRefusal, writeKeys, Event}
+use Rattle.spec.specs.Steps.{State, fresh, workerOf, Step, begin, read, scan, put, remove, lock, validate, install, abort, merge, mergeOldest, refused, listed, Cause, cause, causes, firstCause, granted, effect, afterRefusal, writeKeys, Event}
 use Rattle.spec.specs.Claim.{SerialRun}
 use Rattle.spec.specs.Computing.{claim}
 use Rattle.spec.specs.Runs.{value}
 
-found-differ : {p : Payload} → found none ≡ found (some p) → ⊥
+found-differ : {p : Payload} → some none ≡ some (some p) → ⊥
 found-differ e = let z : _≡_ {A = ℕ} 0 1 = cc in omega arith
 
 listed-differ : {r : Row Payload} {rs : List (Row Payload)} → listed [] ≡ listed (r ∷ rs) → ⊥

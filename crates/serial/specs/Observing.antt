@@ -12,7 +12,7 @@ use Rattle.lists.specs.Rows.{Row, look, Rising, lay, between, mapItems}
 use Rattle.lists.specs.RowLaws.{rows-equal, look-lay, look-nil, look-mapItems, look-between, rising-lay, rising-nil, rising-mapItems, rising-between}
 use Rattle.spec.specs.Records.{Payload, Record, Write, written, deleted, outcome, ownView, payloadOf}
 use Rattle.spec.specs.Steps.{Step, read, scan, Answer, found, listed, Event}
-use Rattle.spec.specs.Sequential.{Agrees, afterSteps, listScan}
+use Rattle.spec.specs.Sequential.{valueTold, Agrees, afterSteps, listScan}
 use Rattle.serial.specs.Feeding.{eventWrites, laid, look-afterAll, rising-afterAll, allAgree-snoc}
 use Rattle.serial.specs.Invariant.{Observation, Matches, Explains}
 
@@ -47,26 +47,26 @@ payload-map (some r) = refl
 -- ---- a read
 
 -- a read that the own write answered
-pub explain-own-read : (os : List Observation) (es : List Event) (w k : ℕ) (e : Write) → look (eventWrites es) k ≡ some e
-    → Explains os es → Explains os (es ++ (record { step = read w k; answer = found (ownView e) } ∷ []))
-unfolding Agrees
-explain-own-read os es w k e q h =
-    explain os os es (read w k) (found (ownView e)) h (λ l m. m)
+pub explain-own-read : (os : List Observation) (es : List Event) (w k x : ℕ) (e : Write) → look (eventWrites es) k ≡ some e
+    → Explains os es → Explains os (es ++ (record { step = read w k; answer = found (ownView e) x } ∷ []))
+unfolding Agrees valueTold
+explain-own-read os es w k x e q h =
+    explain os os es (read w k) (found (ownView e) x) h (λ l m. m)
     (λ n l l' r o m.
-    ap found (sym (own-outcome n e) ∙ ap payloadOf (sym (o k ∙ ap (λ (x : Option Write). maybe x (look l k) (outcome n)) q))))
+    ap some (sym (own-outcome n e) ∙ ap payloadOf (sym (o k ∙ ap (λ (x : Option Write). maybe x (look l k) (outcome n)) q))))
 
 -- a read of what stands at the key
 abbrev pub readOf : ℕ → Option Record → Observation
 readOf k r = record { lo = k; hi = k; seen = λ (j : ℕ). r }
 
-pub explain-read : (os : List Observation) (es : List Event) (w k : ℕ) (r : Option Record) → look (eventWrites es) k ≡ none
+pub explain-read : (os : List Observation) (es : List Event) (w k x : ℕ) (r : Option Record) → look (eventWrites es) k ≡ none
     → Explains os es
-    → Explains (readOf k r ∷ os) (es ++ (record { step = read w k; answer = found (payloadOf r) } ∷ []))
-unfolding Agrees
-explain-read os es w k r q h =
-    explain os (readOf k r ∷ os) es (read w k) (found (payloadOf r)) h (λ l m o mem. m o (List·Memᴰ·tail mem))
+    → Explains (readOf k r ∷ os) (es ++ (record { step = read w k; answer = found (payloadOf r) x } ∷ []))
+unfolding Agrees valueTold
+explain-read os es w k x r q h =
+    explain os (readOf k r ∷ os) es (read w k) (found (payloadOf r) x) h (λ l m o mem. m o (List·Memᴰ·tail mem))
     (λ n l l' s o m.
-    ap (λ (x : Option Record). found (payloadOf x))
+    ap (λ (y : Option Record). some (payloadOf y))
     (sym (o k ∙ ap (λ (x : Option Write). maybe x (look l k) (outcome n)) q ∙ m (readOf k r) (List·Memᴰ·head refl) k (le-refl k) (le-refl k))))
 
 -- ---- a scan

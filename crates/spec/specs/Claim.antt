@@ -40,7 +40,7 @@ nothingRead = record { place = 0; given = 0; running = []; installed = [] }
 unfoldable pub isGranted : Answer → Bool
 isGranted (refused r) = false
 isGranted done = true
-isGranted (found p) = true
+isGranted (found p n) = true
 isGranted (listed l) = true
 isGranted (numbered n) = true
 isGranted (counted n) = true
@@ -76,7 +76,7 @@ goesOn ρ w e = maybe (look (ρ .running) w) (passed ρ) (λ (t : Transaction). 
 unfoldable pub numberIn : Answer → ℕ
 numberIn (refused r) = 0
 numberIn done = 0
-numberIn (found p) = 0
+numberIn (found p x) = 0
 numberIn (listed l) = 0
 numberIn (numbered n) = n
 numberIn (counted n) = 0

@@ -6,8 +6,10 @@ pub mod Maps
 pub mod Guards
 pub mod Steps
 pub mod Waiting
+pub mod Examined
 pub mod Sequential
 pub mod Claim
 pub mod Runs
 pub mod Computing
+pub mod Crowded
 pub mod Lies

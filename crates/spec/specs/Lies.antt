@@ -44,7 +44,7 @@ missed-lies s =
 abbrev pub byInstall : List Event
 byInstall =
     event (begin 0) done
-    ∷ event (read 0 2) (found none)
+    ∷ event (read 0 2) (found none 1)
     ∷ event (put 0 1 (value 10)) done
     ∷ event (lock 0) done
     ∷ event (validate 0) (numbered 2)
@@ -59,7 +59,7 @@ byInstall =
 pub byInstall-lies : SerialRun byInstall (entryOf 1 10 2 ∷ entryOf 2 20 1 ∷ []) → ⊥
 unfolding claim
 byInstall-lies s =
-    let e : found none ≡ found (some (value 20)) = s .answers 1 _ refl .0 in
+    let e : some none ≡ some (some (value 20)) = s .answers 1 _ refl .0 in
     let z : _≡_ {A = ℕ} 0 1 = cc in
     omega arith
 

@@ -65,9 +65,9 @@ abbrev pub crossing : List Event
 crossing =
     event (begin 0) done
     ∷ event (begin 1) done
-    ∷ event (read 0 1) (found none)
+    ∷ event (read 0 1) (found none 1)
     ∷ event (put 0 2 (value 20)) done
-    ∷ event (read 1 2) (found none)
+    ∷ event (read 1 2) (found none 1)
     ∷ event (put 1 1 (value 10)) done
     ∷ event (lock 0) done
     ∷ event (lock 1) done
@@ -80,7 +80,7 @@ crossing =
 abbrev pub installedLater : List Event
 installedLater =
     event (begin 0) done
-    ∷ event (read 0 2) (found none)
+    ∷ event (read 0 2) (found none 1)
     ∷ event (put 0 1 (value 10)) done
     ∷ event (lock 0) done
     ∷ event (validate 0) (numbered 1)
@@ -127,7 +127,7 @@ sameValueAgain =
     ∷ event (validate 0) (numbered 1)
     ∷ event (install 0) done
     ∷ event (begin 1) done
-    ∷ event (read 1 9) (found (some (value 90)))
+    ∷ event (read 1 9) (found (some (value 90)) 1)
     ∷ event (begin 0) done
     ∷ event (put 0 9 (value 90)) done
     ∷ event (lock 0) done
@@ -143,9 +143,9 @@ abbrev pub ownWrites : List Event
 ownWrites =
     event (begin 0) done
     ∷ event (put 0 3 (value 30)) done
-    ∷ event (read 0 3) (found (some (value 30)))
+    ∷ event (read 0 3) (found (some (value 30)) 0)
     ∷ event (remove 0 5) done
-    ∷ event (read 0 5) (found none)
+    ∷ event (read 0 5) (found none 0)
     ∷ event (scan 0 0 9 1 2) (listed (row 3 (value 30) ∷ []))
     ∷ event (scan 0 0 9 0 2) (refused ShortBuffer)
     ∷ event (begin 1) done
@@ -296,6 +296,40 @@ guardedOrder =
     ∷ event (validate 2) (refused Changed)
     ∷ []
 
+-- Request 103. 0, 425 and 726 share a home slot, which 0 takes and 425 passes. Both the slot of an entry and the one whose
+-- count of 0 ends a search are counted. Once 0 gives its slot back, that is empty and its count is not 0: a search passes
+-- it, and 726 takes it.
+abbrev pub slotsPassed : List Event
+slotsPassed =
+    event (begin 0) done
+    ∷ event (put 0 0 (value 10)) done
+    ∷ event (lock 0) done
+    ∷ event (begin 1) done
+    ∷ event (put 1 425 (value 20)) done
+    ∷ event (lock 1) done
+    ∷ event (validate 1) (numbered 1)
+    ∷ event (install 1) done
+    ∷ event (begin 2) done
+    ∷ event (read 2 0) (found none 1)
+    ∷ event (read 2 425) (found (some (value 20)) 2)
+    ∷ event (read 2 726) (found none 2)
+    ∷ event (read 2 1) (found none 1)
+    ∷ event (abort 0) done
+    ∷ event (read 2 0) (found none 2)
+    ∷ event (read 2 425) (found (some (value 20)) 2)
+    ∷ event (put 2 425 (value 21)) done
+    ∷ event (read 2 425) (found (some (value 21)) 0)
+    ∷ event (remove 2 726) done
+    ∷ event (read 2 726) (found none 0)
+    ∷ event (lock 2) done
+    ∷ event (validate 2) (numbered 2)
+    ∷ event (merge 0) (counted 1)
+    ∷ event (install 2) done
+    ∷ event (begin 3) done
+    ∷ event (read 3 425) (found (some (value 21)) 2)
+    ∷ event (read 3 726) (found none 1)
+    ∷ []
+
 -- Document 01's starred runs, in its order.
 abbrev pub starred : List Run
 starred =
@@ -331,11 +365,12 @@ further =
     ++ (entryOf 900 900 6 ∷ entryOf 901 901 7 ∷ entryOf 902 902 7 ∷ [])))
     ∷ script true guardedDay (entryOf 4100 28 3 ∷ entryOf 4128 8 2 ∷ [])
     ∷ script true guardedOrder []
+    ∷ script false slotsPassed (entryOf 425 21 2 ∷ [])
     ∷ []
 
 pub further-hold : AllHold further
 unfolding model
-further-hold = ((refl, refl), ((refl, refl), ((refl, refl), ((refl, refl), ((refl, refl), tt)))))
+further-hold = ((refl, refl), ((refl, refl), ((refl, refl), ((refl, refl), ((refl, refl), ((refl, refl), tt))))))
 
 pub starred-hold : AllHold starred
 unfolding model

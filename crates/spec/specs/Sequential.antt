@@ -4,9 +4,10 @@
 use Prim.Native.Nat.{ℕ}
 use mathlib.Core.Path.{_≡_}
 use mathlib.Core.List.{List, [], _∷_}
+use mathlib.Core.Option.{Option, none, some}
 use Rattle.lists.specs.Rows.{Row, look, assign, between, mapItems}
 use Rattle.spec.specs.Records.{Payload, Record, written, deleted, outcome, payloadOf}
-use Rattle.spec.specs.Steps.{Step, begin, read, scan, put, remove, lock, validate, install, abort, merge, mergeOldest, Answer, found, listed, Event}
+use Rattle.spec.specs.Steps.{Step, begin, read, scan, put, remove, lock, validate, install, abort, merge, mergeOldest, Answer, refused, done, found, listed, numbered, counted, Event}
 
 -- the list after a step of the transaction numbered n
 unfoldable pub afterStep : ℕ → List (Row Record) → Step → List (Row Record)
@@ -26,10 +27,20 @@ afterStep n l mergeOldest = l
 unfoldable pub listScan : List (Row Record) → ℕ → ℕ → List (Row Payload)
 listScan l lo hi = mapItems (λ (r : Record). r .payload) (between lo hi l)
 
+-- The value or the absence that a read tells; no other answer tells one. How many slots it examined (request 103) is the
+-- indexlet's, of which the list knows nothing.
+unfoldable pub valueTold : Answer → Option (Option Payload)
+valueTold (refused r) = none
+valueTold done = none
+valueTold (found p n) = some p
+valueTold (listed l) = none
+valueTold (numbered n) = none
+valueTold (counted n) = none
+
 -- the list answers a step as it was answered. Compared are a read's value or absence and a scan's count and places.
 unfoldable pub Agrees : List (Row Record) → Step → Answer → Type 0
 Agrees l (begin w) a = Unit {0}
-Agrees l (read w k) a = a ≡ found (payloadOf (look l k))
+Agrees l (read w k) a = valueTold a ≡ some (payloadOf (look l k))
 Agrees l (scan w lo hi m n) a = a ≡ listed (listScan l lo hi)
 Agrees l (put w k p) a = Unit {0}
 Agrees l (remove w k) a = Unit {0}

@@ -14,7 +14,7 @@ use Rattle.spec.specs.declared.Stage.the-variants.{Free, Open, Locked, C
 use Rattle.spec.specs.Refusals.{ends}
 use Rattle.spec.specs.Records.{Settings, Payload, Record, Write, written, deleted, ownView, payloadOf, sameRecord}
 use Rattle.spec.specs.Leaves.{live, meeting}
-use Rattle.spec.specs.Slots.{contentOf}
+use Rattle.spec.specs.Slots.{contentOf, search}
 use Rattle.spec.specs.Guards.{Scan, unfit, uncovered, overlapped, anyPut}
 use Rattle.spec.specs.Maps.{MapState, freshMap, current, indexedBetween, heldByOther, hides, waitingWith, addressesWith, merging, lockAll, unlockAll, installAll, Merged, mergeAt, oldest}
 
@@ -93,7 +93,7 @@ stepWorker mergeOldest = none
 pub data Answer : Type 0 where
   refused : Refusal → Answer
   done : Answer  -- granted, nothing more to tell
-  found : Option Payload → Answer  -- a read: the value, or absent
+  found : Option Payload → ℕ → Answer  -- a read: the value, or absent, and how many slots its look-up examined
   listed : List (Row Payload) → Answer  -- a scan: the first places of its buffers, as many as it counts
   numbered : ℕ → Answer  -- a validation: the commit number
   counted : ℕ → Answer  -- a merge: how many writes entered the index
@@ -127,6 +127,11 @@ isChecked Checked = true
 -- the worker's own write at an address
 unfoldable pub ownWrite : State → ℕ → ℕ → Option Write
 ownWrite σ w k = look (workerOf σ w .writes) k
+
+-- how many slots the look-up of a read examines (request 103): none, where the worker's own write answers it
+unfoldable pub slotsExamined : State → ℕ → ℕ → ℕ
+slotsExamined σ w k =
+    maybe (ownWrite σ w k) (search (σ .settings .bytes) (σ .map .slots) k .examined) (λ (e : Write). 0)
 
 -- the records a scan shows: index addresses with their present records, and the worker's own writes laid over
 unfoldable pub scanned : State → ℕ → ℕ → ℕ → List (Row Payload)
@@ -266,7 +271,7 @@ mergeCount σ a = counted (length (merging (σ .map) a))
 
 unfoldable pub granted : State → Step → Answer
 granted σ (begin w) = done
-granted σ (read w k) = found (maybe (ownWrite σ w k) (payloadOf (current (σ .map) k)) ownView)
+granted σ (read w k) = found (maybe (ownWrite σ w k) (payloadOf (current (σ .map) k)) ownView) (slotsExamined σ w k)
 granted σ (scan w lo hi m n) = listed (scanned σ w lo hi)
 granted σ (put w k p) = done
 granted σ (remove w k) = done

@@ -3,6 +3,7 @@
 pub mod abi;
 pub mod subjects;
 
+use plain::engine::Reading;
 use plain::map::Commit;
 use plain::step::{self, Answer, Buffers, PLACES};
 use sections::{Refusal, Sections, SerialNumber, Step};
@@ -51,6 +52,10 @@ fn commit(serial: SerialNumber) -> Commit {
     serial.get().try_into().expect("a serial number is at most a million")
 }
 
+fn reading(read: sections::Reading) -> Reading {
+    Reading { value: read.value, examined: Some(read.examined) }
+}
+
 fn refused(refusal: Refusal) -> Answer {
     Answer::Refused(refusal.number() as u8)
 }
@@ -64,7 +69,7 @@ pub fn answer_of(
     match answer {
         Err(refusal) => refused(refusal),
         Ok(sections::Answer::Granted) => Answer::Granted,
-        Ok(sections::Answer::Value(value)) => Answer::Value(value),
+        Ok(sections::Answer::Read(read)) => Answer::Read(reading(read)),
         Ok(sections::Answer::Found(found)) => {
             for (place, &(address, value)) in found.iter().enumerate() {
                 addresses[place] = address;
@@ -82,7 +87,9 @@ pub fn answer_of(
 pub fn by_method(map: &mut Sections, step: step::Step, buffers: &mut Buffers) -> Answer {
     let answer = match step {
         step::Step::Begin { worker } => map.begin(worker).map(|()| Answer::Granted),
-        step::Step::Read { worker, address } => map.read(worker, address).map(Answer::Value),
+        step::Step::Read { worker, address } => {
+            map.read(worker, address).map(|read| Answer::Read(reading(read)))
+        }
         step::Step::Scan { worker, lo, hi } => {
             map.scan(worker, lo, hi, &mut buffers.addresses, &mut buffers.values).map(Answer::Found)
         }

@@ -82,18 +82,40 @@ fn guarded_or_not() {
     }
     int main(void) {
         struct sections_code steps[] = {sections_code_begin(1), sections_code_put(1, 7, 0), sections_code_lock(1)};
-        uint64_t answers[9];
+        uint64_t answers[12];
         sections_init_guarded(&map);
         printf(\"%d\\n\", lock());
-        sections_run(&map, steps, 3, NULL, answers, 9, false);
-        printf(\"%d\\n%d\\n\", (int)answers[6], lock());
-        sections_run(&map, steps, 3, NULL, answers, 9, true);
-        printf(\"%d\\n%d\\n\", (int)answers[6], lock());
+        sections_run(&map, steps, 3, NULL, answers, 12, false);
+        printf(\"%d\\n%d\\n\", (int)answers[8], lock());
+        sections_run(&map, steps, 3, NULL, answers, 12, true);
+        printf(\"%d\\n%d\\n\", (int)answers[8], lock());
         sections_init(&map);
         printf(\"%d\\n\", lock());
         return 0;
     }\n";
     assert_eq!(numbers(&printed("guarded", text, &C)), [16, 0, 0, 16, 16, 0]);
+}
+
+/// A read of nothing examines the home slot, one of the job's own edit none; other
+/// answers have a 0 there.
+#[test]
+fn words_of_a_list() {
+    let text = "static struct sections map;
+    int main(void) {
+        struct sections_code steps[] = {sections_code_begin(0), sections_code_read(0, 5), sections_code_put(0, 5, 9),
+                                        sections_code_read(0, 5), sections_code_read(1, 5)};
+        uint64_t answers[20];
+        sections_run(&map, steps, 5, NULL, answers, 20, false);
+        for (int i = 0; i < 20; i++)
+            printf(\"%d\\n\", (int)answers[i]);
+        struct sections_value read[] = {sections_read(&map, 0, 6), sections_read(&map, 0, 5), sections_read(&map, 1, 5)};
+        for (int i = 0; i < 3; i++)
+            printf(\"%d\\n\", (int)read[i].examined);
+        return 0;
+    }\n";
+    let answers = [[0, 0, 0, 0], [0, 2, 0, 1], [0, 0, 0, 0], [0, 1, 9, 0], [2, 0, 0, 0]];
+    let (words, examined) = (answers.concat(), [1, 0, 0]);
+    assert_eq!(numbers(&printed("list", text, &C)), [&words[..], &examined[..]].concat());
 }
 
 /// The header's functions pass no null pointer on.

@@ -116,12 +116,14 @@ fn check_numbers(history: &[Event], by_number: &[Installed]) -> Result<(), Strin
     }
 }
 
-/// One step of the list. Gives the number of answers compared.
+/// One step of the list. Gives the number of answers compared. Of a read it is the
+/// value or absence: how many slots were examined, the list does not say.
 fn feed(list: &mut SequentialList, number: u32, event: &Event) -> Result<usize, String> {
     match (event.step, event.answer) {
         (Step::Read { address, .. }, answer) => {
-            let expected = Answer::Value(list.read(address));
-            compare(answer == expected, || format!("{answer:?}, the list reads {expected:?}"))
+            let expected = list.read(address);
+            let same = matches!(answer, Answer::Read(reading) if reading.value == expected);
+            compare(same, || format!("{answer:?}, the list reads {expected:?}"))
         }
         (Step::Scan { lo, hi, .. }, answer) => {
             let expected: Vec<(u32, u64)> = list.scan(lo, hi).collect();

@@ -44,6 +44,16 @@ pub enum Stage {
     Checked,
 }
 
+/// What a granted read tells.
+#[derive(Clone, Copy, PartialEq, Eq, Debug)]
+pub struct Reading {
+    /// `None` if absent.
+    pub value: Option<u64>,
+    /// Request 103's slots that the look-up examined: 0 for an own write, and `None`
+    /// where no slots are kept.
+    pub examined: Option<usize>,
+}
+
 /// A granted scan: its range, and where in the read set its log stands.
 pub struct Scan {
     pub lo: u32,
@@ -107,6 +117,11 @@ impl Engine {
         Engine { guarded, ..Engine::default() }
     }
 
+    /// One whose map keeps no slots.
+    pub fn without_slots(guarded: bool) -> Self {
+        Engine { map: Map::without_slots(), ..Engine::new(guarded) }
+    }
+
     pub fn map(&self) -> &Map {
         &self.map
     }
@@ -155,22 +170,25 @@ impl Engine {
         Ok(())
     }
 
-    /// An own write is answered without a log entry, so a full log lets it be.
-    pub fn read(&mut self, worker: u32, address: u32) -> Result<Option<u64>, Refusal> {
+    /// An own write is answered without a log entry, so a full log lets it be, and
+    /// without a look-up.
+    pub fn read(&mut self, worker: u32, address: u32) -> Result<Reading, Refusal> {
         let at = self.at_stage(worker, Stage::Open)?;
         let worker = &mut self.workers[at];
         if let Ok(own) = worker.write_at(address) {
-            return Ok(match worker.write_set[own].1 {
+            let value = match worker.write_set[own].1 {
                 Write::Put(value) => Some(value),
                 Write::Delete => None,
-            });
+            };
+            return Ok(Reading { value, examined: self.map.slots().map(|_| 0) });
         }
         if worker.read_set.len() == READ_LIMIT {
             return Err(ReadSetFull);
         }
         let current = self.map.current(address);
         worker.read_set.push((address, current));
-        Ok(current.map(|stored| stored.value))
+        let value = current.map(|stored| stored.value);
+        Ok(Reading { value, examined: self.map.slots().map(|slots| slots.examined(address)) })
     }
 
     /// Shows only what the index holds and what the transaction wrote: a

@@ -16,4 +16,5 @@ pub mod random;
 pub mod rounds;
 pub mod scenarios;
 pub mod script;
+pub mod slots;
 pub mod step;

@@ -10,6 +10,7 @@ use std::process::ExitCode;
 
 const USAGE: &str = "\
 usage: plain answer                     answers to the script on standard input
+       plain fast                       the same without slots examined, which it does not keep
        plain claim                      checks the claim on that script's history
        plain script SEED STEPS PROFILE  a random script; PROFILE may be `any`
        plain profiles                   the names of the profiles
@@ -34,6 +35,7 @@ fn main() -> ExitCode {
 fn command(words: &[&str]) -> io::Result<ExitCode> {
     match words {
         ["answer"] => script::answer(&input()?, &mut io::stdout().lock())?,
+        ["fast"] => script::answer_without_slots(&input()?, &mut io::stdout().lock())?,
         ["claim"] => return check_claim(&input()?),
         ["script", seed, steps, profile] => {
             let seed = number(seed)?;

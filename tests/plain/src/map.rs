@@ -1,7 +1,8 @@
 //! The map under the workers: the index with its leaves, and the indexlet with
 //! pending writes and locks. It knows nothing of transactions.
 
-use std::collections::HashMap;
+use crate::slots::Slots;
+use std::collections::{hash_map, HashMap};
 
 pub const MAP_LIMIT: usize = 1024;
 pub const INDEXLET_LIMIT: usize = 192;
@@ -74,15 +75,25 @@ pub struct Map {
     index: Vec<Record>,
     leaves: Vec<Leaf>,
     indexlet: HashMap<u32, Entry>,
+    /// A slot for each entry of the indexlet, unless none are kept.
+    slots: Option<Slots>,
     last_version: u64,
 }
 
 impl Default for Map {
     fn default() -> Self {
+        Map { slots: Some(Slots::default()), ..Map::without_slots() }
+    }
+}
+
+impl Map {
+    /// The same in all but how many slots a look-up examines, which it cannot tell.
+    pub fn without_slots() -> Self {
         Map {
             index: Vec::new(),
             leaves: vec![Leaf { low: 0, version: 0 }],
             indexlet: HashMap::new(),
+            slots: None,
             last_version: 0,
         }
     }
@@ -144,6 +155,10 @@ impl Map {
         &self.indexlet
     }
 
+    pub fn slots(&self) -> Option<&Slots> {
+        self.slots.as_ref()
+    }
+
     pub fn pending(&self, address: u32) -> Option<Pending> {
         self.indexlet.get(&address)?.pending
     }
@@ -174,15 +189,31 @@ impl Map {
     }
 
     pub fn lock(&mut self, address: u32, worker: usize) {
-        self.indexlet.entry(address).or_default().lock = Some(worker);
+        let entry = match self.indexlet.entry(address) {
+            hash_map::Entry::Occupied(old) => old.into_mut(),
+            hash_map::Entry::Vacant(new) => {
+                if let Some(slots) = &mut self.slots {
+                    slots.take(address);
+                }
+                new.insert(Entry::default())
+            }
+        };
+        entry.lock = Some(worker);
     }
 
     pub fn unlock(&mut self, address: u32) {
         if let Some(entry) = self.indexlet.get_mut(&address) {
             entry.lock = None;
             if entry.pending.is_none() {
-                self.indexlet.remove(&address);
+                self.drop_entry(address);
             }
+        }
+    }
+
+    fn drop_entry(&mut self, address: u32) {
+        self.indexlet.remove(&address);
+        if let Some(slots) = &mut self.slots {
+            slots.release(address);
         }
     }
 
@@ -191,7 +222,10 @@ impl Map {
     pub fn install(&mut self, address: u32, pending: Pending) {
         let since = self.pending(address).map_or(pending.since, |earlier| earlier.since);
         let pending = Some(Pending { since, ..pending });
-        self.indexlet.insert(address, Entry { pending, lock: None });
+        let old = self.indexlet.insert(address, Entry { pending, lock: None });
+        if let (None, Some(slots)) = (old, &mut self.slots) {
+            slots.take(address);
+        }
     }
 }
 
@@ -264,7 +298,7 @@ impl Map {
         }
         for (address, _) in &taken {
             if self.holder(*address).is_none() {
-                self.indexlet.remove(address);
+                self.drop_entry(*address);
             }
         }
         taken.sort_unstable_by_key(|&(address, _)| address);

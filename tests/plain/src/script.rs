@@ -1,6 +1,6 @@
 //! The text of scripts: lines into steps, and steps and answers into lines.
 
-use crate::engine::Engine;
+use crate::engine::{Engine, Reading};
 use crate::map::Record;
 use crate::step::{run, Answer, Buffers, Step};
 use std::io::{self, Write};
@@ -94,8 +94,17 @@ pub fn steps(script: &[u8]) -> Vec<Step> {
 
 /// Prints what `mapscript` must print.
 pub fn answer(script: &[u8], out: &mut impl Write) -> io::Result<()> {
+    answer_by(Engine::new(guarded(script)), script, out)
+}
+
+/// The same but for the slots examined, which a granted R line then does not end
+/// with.
+pub fn answer_without_slots(script: &[u8], out: &mut impl Write) -> io::Result<()> {
+    answer_by(Engine::without_slots(guarded(script)), script, out)
+}
+
+fn answer_by(mut engine: Engine, script: &[u8], out: &mut impl Write) -> io::Result<()> {
     let mut parser = Parser::new(script);
-    let mut engine = Engine::new(parser.guarded);
     let mut buffers = Buffers::default();
     let mut text = Vec::with_capacity(2 * CHUNK);
     write_start(&mut text, parser.guarded);
@@ -130,8 +139,13 @@ pub fn write_answer(text: &mut Vec<u8>, step: Step, answer: Answer, buffers: &Bu
     }
     match answer {
         Answer::Refused(_) | Answer::Granted => {}
-        Answer::Value(Some(value)) => field(text, value),
-        Answer::Value(None) => text.extend(b" -"),
+        Answer::Read(Reading { value, examined }) => {
+            match value {
+                Some(value) => field(text, value),
+                None => text.extend(b" -"),
+            }
+            examined.iter().for_each(|&count| field(text, count as u64));
+        }
         Answer::Commit(commit) => field(text, commit.into()),
         Answer::Merged(count) => field(text, count as u64),
         Answer::Found(count) => {

@@ -1,6 +1,6 @@
 //! Steps and their answers as plain data, and the engine run by them.
 
-use crate::engine::{Engine, Refusal};
+use crate::engine::{Engine, Reading, Refusal};
 use crate::map::Commit;
 
 pub const PLACES: usize = 64;
@@ -44,7 +44,7 @@ impl Step {
 pub enum Answer {
     Refused(u8),
     Granted,
-    Value(Option<u64>),
+    Read(Reading),
     Found(usize),
     Commit(Commit),
     Merged(usize),
@@ -84,7 +84,7 @@ impl Buffers {
 pub fn run(engine: &mut Engine, step: Step, buffers: &mut Buffers) -> Answer {
     let answer = match step {
         Step::Begin { worker } => engine.begin(worker).map(|()| Answer::Granted),
-        Step::Read { worker, address } => engine.read(worker, address).map(Answer::Value),
+        Step::Read { worker, address } => engine.read(worker, address).map(Answer::Read),
         Step::Scan { worker, lo, hi } => engine
             .scan(worker, lo, hi, &mut buffers.addresses, &mut buffers.values)
             .map(Answer::Found),

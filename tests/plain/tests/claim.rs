@@ -2,7 +2,7 @@
 //! break the claim is found.
 
 use plain::claim::{check, record, Event, Holds, Run};
-use plain::engine::Engine;
+use plain::engine::{Engine, Reading};
 use plain::list::Item;
 use plain::script;
 use plain::step::{Answer, Step};
@@ -14,13 +14,15 @@ fn event(line: &str) -> Event {
     let numbers: Vec<u64> = words.iter().map(|word| word.parse().unwrap_or(0)).collect();
     let answer = match step {
         _ if numbers[0] > 0 => Answer::Refused(numbers[0] as u8),
-        Step::Read { .. } => Answer::Value(words[1].parse().ok()),
+        Step::Read { .. } => {
+            Answer::Read(Reading { value: words[1].parse().ok(), examined: words[2].parse().ok() })
+        }
         Step::Scan { .. } => Answer::Found(numbers[1] as usize),
         Step::Validate { .. } => Answer::Commit(numbers[1] as u32),
         Step::Merge { .. } | Step::MergeOldest => Answer::Merged(numbers[1] as usize),
         _ => Answer::Granted,
     };
-    let pairs = numbers.get(2..).unwrap_or(&[]).chunks(2);
+    let pairs = numbers.get(2..).unwrap_or(&[]).chunks_exact(2);
     Event { step, answer, found: pairs.map(|pair| (pair[0] as u32, pair[1])).collect() }
 }
 
@@ -54,7 +56,7 @@ fn full_run_holds() {
            M 4096 -> M 0 1
            B 1 -> B 0
            S 1 4000 5000 -> S 0 1 4096 32
-           R 1 4096 -> R 0 32
+           R 1 4096 -> R 0 32 1
            L 1 -> L 0
            V 1 -> V 0 2
            I 1 -> I 0";
@@ -77,7 +79,7 @@ fn scan_that_misses_a_pending_section() {
 fn two_orders(first: u32, second: u32) -> String {
     format!(
         "B 0 -> B 0
-         R 0 2 -> R 0 -
+         R 0 2 -> R 0 - 1
          P 0 1 10 -> P 0
          L 0 -> L 0
          B 1 -> B 0
@@ -132,9 +134,12 @@ fn wrong_value_read() {
         put(0, 5, 6, 1)
             + &format!("B 1 -> B 0\nR 1 5 -> R 0 {answer}\nL 1 -> L 0\nV 1 -> V 0 2\nI 1 -> I 0")
     };
-    judge(&read("6"), &[(5, 6, 1)]).unwrap();
-    refused(&read("7"), &[(5, 6, 1)], "the list reads");
-    refused(&read("-"), &[(5, 6, 1)], "the list reads");
+    judge(&read("6 1"), &[(5, 6, 1)]).unwrap();
+    refused(&read("7 1"), &[(5, 6, 1)], "the list reads");
+    refused(&read("- 1"), &[(5, 6, 1)], "the list reads");
+    // How many slots were examined takes no part in it.
+    judge(&read("6 0"), &[(5, 6, 1)]).unwrap();
+    judge(&read("6 256"), &[(5, 6, 1)]).unwrap();
 }
 
 #[test]

@@ -13,7 +13,7 @@ use std::process::{Command, Stdio};
 fn good_lines() {
     let zeros = "0".repeat(100_000);
     let text = format!("B {zeros}7\nP 7 4294967295 18446744073709551615\nR 7 {zeros}4294967295\n");
-    assert_eq!(answers(text.as_bytes()), "B 0\nP 0\nR 0 18446744073709551615\nE 0\n");
+    assert_eq!(answers(text.as_bytes()), "B 0\nP 0\nR 0 18446744073709551615 0\nE 0\n");
     assert_eq!(answers(b"B 4294967295\nR 8 1\n"), "B 1\nR 1\nE 0\n");
     assert_eq!(answers(b"T\nT\n"), "T 0 0\nT 0 0\nE 0\n");
     assert_eq!(answers(b"G\nT\n"), "G 0\nT 0 0\nE 0\n");
@@ -145,6 +145,9 @@ fn commands() {
     assert_eq!(run(&["script", "3", "300", "any"], b"").1, script);
     let (code, answer) = run(&["answer"], script.as_bytes());
     assert_eq!((code, answer), (Some(0), answers(script.as_bytes())));
+    let read = b"B 0\nR 0 5\n";
+    assert_eq!(run(&["answer"], read), (Some(0), "B 0\nR 0 - 1\nE 0\n".into()));
+    assert_eq!(run(&["fast"], read), (Some(0), "B 0\nR 0 -\nE 0\n".into()));
     let (code, claim) = run(&["claim"], script.as_bytes());
     assert_eq!(code, Some(0));
     assert!(claim.starts_with("claim holds: "), "{claim}");

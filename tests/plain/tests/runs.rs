@@ -3,7 +3,7 @@
 mod common;
 
 use common::agrees;
-use plain::engine::{Engine, Refusal};
+use plain::engine::{Engine, Reading, Refusal};
 use plain::map::{Map, Pending, Write};
 
 #[test]
@@ -52,10 +52,10 @@ fn last_worker() {
 fn crossing_transactions() {
     agrees(
         "B 0 -> B 0
-         R 0 1 -> R 0 -
+         R 0 1 -> R 0 - 1
          P 0 2 5 -> P 0
          B 1 -> B 0
-         R 1 2 -> R 0 -
+         R 1 2 -> R 0 - 1
          P 1 1 6 -> P 0
          L 0 -> L 0
          L 1 -> L 0
@@ -71,7 +71,7 @@ fn crossing_transactions() {
 fn commit_number_before_install() {
     agrees(
         "B 0 -> B 0
-         R 0 2 -> R 0 -
+         R 0 2 -> R 0 - 1
          P 0 1 10 -> P 0
          L 0 -> L 0
          V 0 -> V 0 1
@@ -142,7 +142,7 @@ fn same_value_is_a_change() {
          V 0 -> V 0 1
          I 0 -> I 0
          B 1 -> B 0
-         R 1 7 -> R 0 1
+         R 1 7 -> R 0 1 1
          B 0 -> B 0
          P 0 7 1 -> P 0
          L 0 -> L 0
@@ -258,9 +258,10 @@ fn full_read_set() {
     let mut engine = Engine::default();
     engine.begin(0).unwrap();
     engine.put(0, 100, 5).unwrap();
-    (0..64).for_each(|_| assert_eq!(engine.read(0, 1), Ok(None)));
+    let absent = Reading { value: None, examined: Some(1) };
+    (0..64).for_each(|_| assert_eq!(engine.read(0, 1), Ok(absent)));
     assert_eq!(engine.read(0, 1), Err(Refusal::ReadSetFull));
-    assert_eq!(engine.read(0, 100), Ok(Some(5)));
+    assert_eq!(engine.read(0, 100), Ok(Reading { value: Some(5), examined: Some(0) }));
     let mut scan = || engine.scan(0, 0, 50, &mut [], &mut []);
     (0..32).for_each(|_| assert_eq!(scan(), Ok(0)));
     assert_eq!(scan(), Err(Refusal::ReadSetFull));

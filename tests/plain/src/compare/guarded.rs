@@ -120,7 +120,7 @@ fn only_at_lock() -> Script {
              L 0 -> L 2
              B 0 -> B 0
              P 0 5 0 -> P 0
-             R 0 5 -> R 0 0
+             R 0 5 -> R 0 0 0
              P 0 6 99999 -> P 0
              L 0 -> L 16
              V 0 -> V 4
@@ -534,7 +534,7 @@ fn no_scans() -> Script {
     guarded()
         .lines(
             "B 0 -> B 0
-             R 0 10 -> R 0 -
+             R 0 10 -> R 0 - 1
              P 0 10 1 -> P 0
              L 0 -> L 17
              S 0 10 0 -> S 5

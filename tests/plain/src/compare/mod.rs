@@ -6,6 +6,7 @@ mod guarded;
 pub mod program;
 pub mod runs;
 mod script;
+mod slots;
 pub mod suite;
 
 pub use difference::{first_difference, Difference};

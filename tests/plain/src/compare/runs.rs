@@ -1,8 +1,8 @@
 //! Runs with their answers written down by hand: those of document 01 that are
-//! not starred, as far as a script can show them, folds of the oldest, guarded maps
-//! and the edges of a script.
+//! not starred, as far as a script can show them, folds of the oldest, guarded maps,
+//! slots examined and the edges of a script.
 
-use super::{guarded, Script};
+use super::{guarded, slots, Script};
 
 /// Lines with their answers, in the order in which they are run.
 #[derive(Default)]
@@ -23,12 +23,12 @@ impl Run {
     }
 
     /// A whole job of puts, with its serial number.
-    fn job(self, seat: u32, number: u32, addresses: impl IntoIterator<Item = u32>) -> Self {
+    pub fn job(self, seat: u32, number: u32, addresses: impl IntoIterator<Item = u32>) -> Self {
         self.puts(seat, number, addresses).lines(&format!("I {seat} -> I 0"))
     }
 
     /// The same but for its install.
-    fn puts(self, seat: u32, number: u32, addresses: impl IntoIterator<Item = u32>) -> Self {
+    pub fn puts(self, seat: u32, number: u32, addresses: impl IntoIterator<Item = u32>) -> Self {
         let mut run = self.lines(&format!("B {seat} -> B 0"));
         for address in addresses {
             run = run.lines(&format!("P {seat} {address} {} -> P 0", value_at(address)));
@@ -63,11 +63,11 @@ impl Run {
     }
 }
 
-fn value_at(address: u32) -> u64 {
+pub(super) fn value_at(address: u32) -> u64 {
     u64::from(address) + 7
 }
 
-fn as_put(address: u32) -> (u32, u64) {
+pub(super) fn as_put(address: u32) -> (u32, u64) {
     (address, value_at(address))
 }
 
@@ -75,6 +75,7 @@ pub fn all() -> Vec<Script> {
     let mut scripts = vec![full_indexlet(), full_write_set(), short_buffer(), zeros()];
     scripts.extend([install_order(), age_of_an_address(), ages_in_one_install(), last_of_192()]);
     scripts.extend(guarded::all());
+    scripts.extend(slots::all());
     let edges = [
         ("empty input", "", "E 0\n"),
         ("a last line without its line feed", "B 0\nB 1", "B 0\n?\n"),
@@ -168,8 +169,8 @@ fn zeros() -> Script {
     Run::default()
         .lines(&format!("B {zeros}2 -> B 0"))
         .lines(&format!("P {zeros}2 {zeros}4294967295 {zeros}18446744073709551615 -> P 0"))
-        .lines(&format!("R 2 {zeros}4294967295 -> R 0 18446744073709551615"))
-        .lines(&format!("R 2 {zeros} -> R 0 -"))
+        .lines(&format!("R 2 {zeros}4294967295 -> R 0 18446744073709551615 0"))
+        .lines(&format!("R 2 {zeros} -> R 0 - 1"))
         .lines("L 2 -> L 0\nV 2 -> V 0 1\nI 2 -> I 0")
         .end("200,000 leading zeros", [(u32::MAX, u64::MAX)].into_iter())
 }

@@ -3,6 +3,7 @@
 
 use crate::guard::Guard;
 use crate::observe::Observer;
+use crate::slots::Look;
 use plain::engine::{Stage, Worker, WORKERS};
 use plain::map::{Leaf, Map, Write};
 use plain::step::Step;
@@ -19,6 +20,10 @@ pub enum Facts {
     Read {
         own: bool,
         reads: usize,
+        look: Look,
+        /// Whether an edit waits at the address, and whether the index has it.
+        pending: bool,
+        indexed: bool,
     },
     Scan {
         backward: bool,
@@ -73,20 +78,25 @@ impl Meeting {
             (Step::Install { .. }, Some(at), Some(Stage::Checked)) => install_facts(observer, at),
             (Step::Validate { .. }, Some(at), Some(Stage::Locked)) => validate_facts(observer, at),
             (Step::Lock { .. }, Some(at), Some(Stage::Open)) => lock_facts(observer, at),
-            (_, Some(at), Some(Stage::Open)) => open_facts(engine.map(), engine.worker(at), step),
+            (_, Some(at), Some(Stage::Open)) => open_facts(observer, engine.worker(at), step),
             _ => Facts::Plain,
         };
         Meeting { stage, facts }
     }
 }
 
-fn open_facts(map: &Map, worker: &Worker, step: Step) -> Facts {
+fn open_facts(observer: &Observer, worker: &Worker, step: Step) -> Facts {
+    let map = observer.engine.map();
     let own = |address: u32| worker.write_set.iter().any(|&(at, _)| at == address);
     let count = worker.write_set.len();
     match step {
-        Step::Read { address, .. } => {
-            Facts::Read { own: own(address), reads: worker.read_set.len() + 1 }
-        }
+        Step::Read { address, .. } => Facts::Read {
+            own: own(address),
+            reads: worker.read_set.len() + 1,
+            look: observer.table.look_up(address),
+            pending: map.pending(address).is_some(),
+            indexed: map.index().iter().any(|record| record.address == address),
+        },
         Step::Scan { lo, hi, .. } if lo > hi => Facts::Scan {
             backward: true,
             reads: worker.read_set.len(),

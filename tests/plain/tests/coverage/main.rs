@@ -6,6 +6,7 @@ mod facts;
 mod guard;
 mod names;
 mod observe;
+mod slots;
 
 use observe::{Observer, Seen};
 use plain::profiles::{find, Profile, PROFILES};
@@ -174,8 +175,26 @@ const GUARDED: [&str; 47] = [
     "put with an own put that touches it",
 ];
 
+/// What request 103 adds: the ways in which a look-up goes, and ends.
+const LOOK_UPS: [&str; 14] = [
+    "own write at an entry",
+    "own write at no entry",
+    "entry at home",
+    "empty home",
+    "another at home",
+    "entry past an empty slot",
+    "no entry past an empty slot",
+    "no entry away from home",
+    "entry of a lock",
+    "no entry of an index record",
+    "past the last slot",
+    "entry past 100 slots",
+    "no entry past 100 slots",
+    "all slots",
+];
+
 fn required() -> Vec<String> {
-    let names = MEETINGS.iter().chain(&GUARDED);
+    let names = MEETINGS.iter().chain(&GUARDED).chain(&LOOK_UPS);
     let mut names: Vec<String> = names.map(|name| name.to_string()).collect();
     for (letter, numbers) in REFUSALS {
         names.extend(numbers.iter().map(|number| format!("{letter} {number}")));
@@ -269,6 +288,17 @@ fn guarded_has_every_cause() {
     }
     assert!(5 * times("I 0") > 2 * times("B 0"), "{seen:?}");
     assert!(4 * times("install of puts") > times("B 0"), "{seen:?}");
+}
+
+/// Where one home slot is crowded, look-ups go every way often.
+#[test]
+fn crowd_has_every_look_up() {
+    let profile = find("crowd", 0).unwrap();
+    let mut seen = Seen::new();
+    observe(profile, &generate::script(1, 45_000, profile), &mut seen);
+    for name in LOOK_UPS {
+        assert!(seen.get(name).is_some_and(|&times| times >= 20), "{name}: {seen:?}");
+    }
 }
 
 #[test]

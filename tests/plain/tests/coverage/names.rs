@@ -4,6 +4,7 @@
 use crate::facts::{Facts, Meeting};
 use crate::guard::Guard;
 use crate::observe::Observer;
+use crate::slots::Look;
 use plain::engine::{Engine, Stage, LEAF_LIMIT, READ_LIMIT, WORKERS, WRITE_LIMIT};
 use plain::map::{Leaf, Map, Write, INDEXLET_LIMIT, MAP_LIMIT};
 use plain::step::{Answer, PLACES};
@@ -23,14 +24,7 @@ impl Meeting {
         let granted = answer.granted();
         match &self.facts {
             Facts::Plain => Vec::new(),
-            &Facts::Read { own, reads } => {
-                expect(answer, &[(!own && reads > READ_LIMIT, 6)]);
-                chosen(&[
-                    (granted && !own && reads == READ_LIMIT, "read fills the read set"),
-                    (!granted && reads == READ_LIMIT + 1, "read beyond the read set"),
-                    (own && reads > READ_LIMIT, "own read at a full read set"),
-                ])
-            }
+            Facts::Read { .. } => self.read_names(answer),
             Facts::Scan { .. } => self.scan_names(answer),
             &Facts::Write { old, count, removal } => {
                 expect(answer, &[(!old && count == WRITE_LIMIT, 7)]);
@@ -51,6 +45,23 @@ impl Meeting {
             }
             Facts::Merge { .. } => self.merge_names(observer, answer),
         }
+    }
+
+    fn read_names(&self, answer: Answer) -> Vec<String> {
+        let &Facts::Read { own, reads, ref look, pending, indexed } = &self.facts else {
+            return vec![];
+        };
+        expect(answer, &[(!own && reads > READ_LIMIT, 6)]);
+        let mut names = chosen(&[
+            (!own && reads == READ_LIMIT, "read fills the read set"),
+            (!own && reads == READ_LIMIT + 1, "read beyond the read set"),
+            (own && reads > READ_LIMIT, "own read at a full read set"),
+        ]);
+        if let Answer::Read(reading) = answer {
+            assert_eq!(reading.examined, Some(if own { 0 } else { look.examined }));
+            names.extend(look_names(look, own, pending, indexed));
+        }
+        names
     }
 
     fn scan_names(&self, answer: Answer) -> Vec<String> {
@@ -182,6 +193,28 @@ impl Meeting {
         observer.dropped.extend(under_lock);
         names
     }
+}
+
+/// How a granted read was looked up.
+fn look_names(look: &Look, own: bool, pending: bool, indexed: bool) -> Vec<String> {
+    let &Look { examined, found, past_empty, empty, zero, wraps } = look;
+    if own {
+        return chosen(&[(found, "own write at an entry"), (!found, "own write at no entry")]);
+    }
+    chosen(&[
+        (found && examined == 1, "entry at home"),
+        (zero && examined == 1 && empty, "empty home"),
+        (zero && examined == 1 && !empty, "another at home"),
+        (found && past_empty, "entry past an empty slot"),
+        (zero && past_empty, "no entry past an empty slot"),
+        (zero && examined > 1, "no entry away from home"),
+        (found && !pending, "entry of a lock"),
+        (!found && indexed, "no entry of an index record"),
+        (wraps, "past the last slot"),
+        (found && examined > 100, "entry past 100 slots"),
+        (zero && examined > 100, "no entry past 100 slots"),
+        (!found && !zero, "all slots"),
+    ])
 }
 
 /// Why the guard refused, and what it went before.

@@ -4,7 +4,8 @@ use crate::ages::Ages;
 use crate::facts::{Facts, Meeting};
 use crate::guard::Log;
 use crate::names::check_entries;
-use plain::engine::{Engine, WORKERS};
+use crate::slots::Table;
+use plain::engine::{Engine, Reading, WORKERS};
 use plain::script::letter;
 use plain::step::{run, Answer, Buffers, Step};
 use std::collections::{BTreeMap, HashSet};
@@ -17,6 +18,7 @@ pub struct Observer {
     /// Records that a merge dropped while a worker held their lock.
     pub dropped: HashSet<(u32, usize)>,
     pub ages: Ages,
+    pub table: Table,
     /// The latest commit number of each worker.
     pub numbers: [u32; WORKERS],
     /// What each worker has done since its begin, in a guarded map.
@@ -37,6 +39,7 @@ impl Observer {
         let answer = run(&mut self.engine, step, &mut self.buffers);
         if !matches!(meeting.facts, Facts::Read { .. } | Facts::Scan { .. } | Facts::Write { .. }) {
             check_entries(&self.engine);
+            self.table.follow(self.engine.map());
         }
         self.log(step, answer);
         let mut names = meeting.names(self, answer);
@@ -66,7 +69,9 @@ impl Observer {
         let (letter, addresses): (char, Vec<u32>) = match (step, answer) {
             (Step::Put { address, .. }, Answer::Granted) => ('P', vec![address]),
             (Step::Remove { address, .. }, Answer::Granted) => ('D', vec![address]),
-            (Step::Read { address, .. }, Answer::Value(Some(_))) => ('R', vec![address]),
+            (Step::Read { address, .. }, Answer::Read(Reading { value: Some(_), .. })) => {
+                ('R', vec![address])
+            }
             (Step::Merge { address }, Answer::Merged(1..)) => ('M', vec![address]),
             (Step::Scan { .. }, Answer::Found(count)) => {
                 ('S', self.buffers.first(count).map(|(address, _)| address).collect())

@@ -4,10 +4,10 @@ use Rattle.accesses.proofs.reads.shown.Statement.{statement}
 use Rattle.accesses.proofs.reads.shown.Tie as tie
 
 returns : tie.Need-returns
-returns c = shown-there _ (c .if1 .taken)
+returns c = shown-there _ _ (c .if1 .taken)
 
 returns-2 : tie.Need-returns-2
-returns-2 c = shown-none _ (c .if1 .left)
+returns-2 c = shown-none _ _ (c .if1 .left)
 
 pub shown-spec : {M : Type 1} → statement M
 shown-spec = tie.close (tie.spec returns returns-2)

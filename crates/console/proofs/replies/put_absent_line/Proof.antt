@@ -1,4 +1,4 @@
--- `replies::put_absent_line` meets its contract: an answer, the mark of absence and a byte.
+-- `replies::put_absent_line` meets its contract: an answer, the mark of absence, a field and a byte.
 use native.Mathlib.Omega.{arith}
 use borrow.Author.Needs.{needs}
 use Rattle.lists.specs.TextLaws.{wrote-join}
@@ -12,9 +12,23 @@ put-answer-requires c κs = search needs
 put-absent-requires : tie.Need-put-absent-requires
 put-absent-requires c κs = omega (arith, c .before .before .before .put-answer .ensures, field-most 0 (omega arith))
 
+put-field-requires : tie.Need-put-field-requires
+put-field-requires c κs =
+    let s = c .before .before .before .before .before .before .before .before .before .before in
+    omega (arith, s .pre, c .before .before .before .before .before .before .before .put-answer .ensures, c .before .before .before .put-absent .ensures, field-most 0 (omega arith))
+
 put-byte-requires : tie.Need-put-byte-requires
 put-byte-requires c κs =
-    omega (arith, c .before .before .before .before .before .before .before .put-answer .ensures, c .before .before .before .put-absent .ensures, field-most 0 (omega arith))
+    let s = c .before .before .before .before .before .before .before .before .before .before .before .before .before .before in
+    omega (
+      arith,
+      s .pre,
+      c .before .before .before .before .before .before .before .before .before .before .before .put-answer .ensures,
+      c .before .before .before .before .before .before .before .put-absent .ensures,
+      c .before .before .before .put-field .ensures,
+      field-most 0 (omega arith),
+      field-most (s .args .examined) (s .fits .examined .fits),
+    )
 
 same-length : tie.Need-same-length
 same-length c = search needs
@@ -22,8 +36,12 @@ same-length c = search needs
 returns : tie.Need-returns
 returns c =
     wrote-join
-    (wrote-join (c .before .before .before .before .before .before .before .before .before .before .put-answer .ensures) (c .before .before .before .before .before .before .put-absent .ensures))
+    (wrote-join
+    (wrote-join (c .before .before .before .before .before .before .before .before .before .before .before .before .before .before .put-answer .ensures) (c .before .before .before .before .before .before .before .before .before .before .put-absent .ensures))
+    (c .before .before .before .before .before .before .put-field .ensures))
     (c .before .before .put-byte .ensures)
 
 pub put-absent-line-spec : {M : Type 1} → statement M
-put-absent-line-spec = tie.close (tie.spec put-answer-requires put-absent-requires put-byte-requires same-length returns)
+put-absent-line-spec =
+    tie.close
+    (tie.spec put-answer-requires put-absent-requires put-field-requires put-byte-requires same-length returns)

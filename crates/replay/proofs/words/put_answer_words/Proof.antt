@@ -1,4 +1,4 @@
--- `words::put_answer_words` meets its contract: three words, and a scan's records.
+-- `words::put_answer_words` meets its contract: four words, and a scan's records.
 use native.Mathlib.Omega.{arith}
 use mathlib.Core.Path.{refl}
 use Rattle.lists.specs.TextLaws.{wrote-length}

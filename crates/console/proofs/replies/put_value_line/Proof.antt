@@ -1,0 +1,48 @@
+-- `replies::put_value_line` meets its contract: an answer, two fields and a byte.
+use native.Mathlib.Omega.{arith}
+use borrow.Author.Needs.{needs}
+use Rattle.lists.specs.TextLaws.{wrote-join}
+use Rattle.script.specs.OutputLaws.{field-most}
+use Rattle.console.proofs.replies.put_value_line.Statement.{statement}
+use Rattle.console.proofs.replies.put_value_line.Tie as tie
+
+put-answer-requires : tie.Need-put-answer-requires
+put-answer-requires c κs = search needs
+
+put-field-requires : tie.Need-put-field-requires
+put-field-requires c κs = omega (arith, c .before .before .before .put-answer .ensures, field-most 0 (omega arith))
+
+put-field-requires-2 : tie.Need-put-field-requires-2
+put-field-requires-2 c κs =
+    let s = c .before .before .before .before .before .before .before .before .before .before in
+    omega (arith, s .pre, c .before .before .before .before .before .before .before .put-answer .ensures, c .before .before .before .put-field .ensures, field-most 0 (omega arith), field-most (s .args .v) (s .fits .v .fits))
+
+put-byte-requires : tie.Need-put-byte-requires
+put-byte-requires c κs =
+    let s = c .before .before .before .before .before .before .before .before .before .before .before .before .before .before in
+    omega (
+      arith,
+      s .pre,
+      c .before .before .before .before .before .before .before .before .before .before .before .put-answer .ensures,
+      c .before .before .before .before .before .before .before .put-field .ensures,
+      c .before .before .before .put-field2 .ensures,
+      field-most 0 (omega arith),
+      field-most (s .args .v) (s .fits .v .fits),
+      field-most (s .args .examined) (s .fits .examined .fits),
+    )
+
+same-length : tie.Need-same-length
+same-length c = search needs
+
+returns : tie.Need-returns
+returns c =
+    wrote-join
+    (wrote-join
+    (wrote-join (c .before .before .before .before .before .before .before .before .before .before .before .before .before .before .put-answer .ensures) (c .before .before .before .before .before .before .before .before .before .before .put-field .ensures))
+    (c .before .before .before .before .before .before .put-field2 .ensures))
+    (c .before .before .put-byte .ensures)
+
+pub put-value-line-spec : {M : Type 1} → statement M
+put-value-line-spec =
+    tie.close
+    (tie.spec put-answer-requires put-field-requires put-field-requires-2 put-byte-requires same-length returns)

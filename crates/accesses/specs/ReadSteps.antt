@@ -58,8 +58,8 @@ pub record Readable (rs : List ReadRows) (rows : RecordRows) (slots : SlotRows) 
   pub loggable : Loggable rs rows slots c
   pub writable : Writable ws c
 
-pub ready-readable : {rs : List ReadRows} {ls : List LeafSetRows} {ws : List WriteRows} {rows : RecordRows} {lows versions outside pending : List ℕ} {slots : SlotRows} {c : Core}
-    → Ready (byColumns rows lows versions outside pending slots) (logs rs ls ws) c → Readable rs rows slots ws c
+pub ready-readable : {rs : List ReadRows} {ls : List LeafSetRows} {ws : List WriteRows} {rows : RecordRows} {lows versions hidden pending : List ℕ} {slots : SlotRows} {c : Core}
+    → Ready (byColumns rows lows versions hidden pending slots) (logs rs ls ws) c → Readable rs rows slots ws c
 ready-readable k =
     record {
       loggable = record { reads = k .stored .reads; records = records-held (k .stored .map .tables); entries = slots-held (k .stored .map .tables) };
@@ -73,10 +73,10 @@ pub record LogsCurrent (rs : ReadRows) (rows : RecordRows) (slots : SlotRows) (r
 
 -- The step, whatever the other arrays hold: rs are the read sets before it, us those after it.
 pub record Tells (rs : List ReadRows) (rows : RecordRows) (slots : SlotRows) (ws : List WriteRows) (c : Core) (w a : ℕ) (us : List ReadRows) (r : ReadDone) : Type 0 where
-  pub refines-so : (lows versions outside pending : List ℕ) (ls : List LeafSetRows)
-      → Ready (byColumns rows lows versions outside pending slots) (logs rs ls ws) c
-      → Refines (byColumns rows lows versions outside pending slots) (logs rs ls ws) c (read w a)
-      (byColumns rows lows versions outside pending slots) (logs us ls ws) (r .core) (readAnswer (r .answer))
+  pub refines-so : (lows versions hidden pending : List ℕ) (ls : List LeafSetRows)
+      → Ready (byColumns rows lows versions hidden pending slots) (logs rs ls ws) c
+      → Refines (byColumns rows lows versions hidden pending slots) (logs rs ls ws) c (read w a)
+      (byColumns rows lows versions hidden pending slots) (logs us ls ws) (r .core) (readAnswer (r .answer))
 
 -- The step of a worker that has no write at the address.
 pub record TellsCurrent (rs : List ReadRows) (rows : RecordRows) (slots : SlotRows) (c : Core) (w : ℕ) (x : Worker) (a : ℕ) (us : List ReadRows) (r : ReadDone) : Type 0 where
@@ -111,8 +111,8 @@ pub read-refused : {rs : List ReadRows} {rows : RecordRows} {slots : SlotRows} {
     → Tells rs rows slots ws c w a rs (record { core = c; answer = Refused r })
 read-refused {rs} {rows} {slots} {ws} {c} {w} {a} {r} t =
     record {
-      refines-so = λ lows versions outside pending ls k.
-          let l = byColumns rows lows versions outside pending slots in
+      refines-so = λ lows versions hidden pending ls k.
+          let l = byColumns rows lows versions hidden pending slots in
           let σ = stateOf l (logs rs ls ws) c in
           let q : refusal σ (read w a) ≡ some r = refusal-front σ w a (some r) (t .front-is l (logs rs ls ws) c refl) in
           refines-refused k q (mild σ w a r q);
@@ -145,9 +145,9 @@ pub read-full : {rs : List ReadRows} {rows : RecordRows} {slots : SlotRows} {c :
 read-full {rs} {rows} {slots} {c} {w} {a} {x} t h =
     record {
       tells = λ ws q. record {
-        refines-so = λ lows versions outside pending ls k.
+        refines-so = λ lows versions hidden pending ls k.
             refines-refused k
-            (refusal-is (byColumns rows lows versions outside pending slots) (logs rs ls ws) c w x k t a none q
+            (refusal-is (byColumns rows lows versions hidden pending slots) (logs rs ls ws) c w x k t a none q
             ∙ cause-holds (not (less (x .reads) (standard .readLimit))) LogFull [] (ap not (less-no {m = x .reads} {n = standard .readLimit} h)))
             refl;
       };
@@ -202,8 +202,8 @@ read-own : {rs : List ReadRows} {rows : RecordRows} {slots : SlotRows} {ws : Lis
 unfolding firstCause
 read-own {rs} {rows} {slots} {ws} {c} {w} {a} {x} e v t q s =
     record {
-      refines-so = λ lows versions outside pending ls k.
-          let l = byColumns rows lows versions outside pending slots in
+      refines-so = λ lows versions hidden pending ls k.
+          let l = byColumns rows lows versions hidden pending slots in
           let g = logs rs ls ws in
           let σ = stateOf l g c in
           subst (Refines l g c (read w a) l g c) (sym s)
@@ -240,8 +240,8 @@ unfolding firstCause
 read-logged {rs} {rows} {slots} {us} {c} {o} {w} {a} {x} {r} {v} t h p m s =
     record {
       tells = λ ws q. record {
-        refines-so = λ lows versions outside pending ls k.
-            let l = byColumns rows lows versions outside pending slots in
+        refines-so = λ lows versions hidden pending ls k.
+            let l = byColumns rows lows versions hidden pending slots in
             let g = logs rs ls ws in
             let σ = stateOf l g c in
             let seen : recordIn (r .seen) ≡ current (σ .map) a = unfold stateOf in p .examines .sees .record-is (leavesIn lows versions (c .sizes .leaves)) in

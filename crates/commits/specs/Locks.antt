@@ -10,7 +10,8 @@ use mathlib.Core.Option.{Option, none, some}
 use lib.ListN.{getD}
 use Rattle.lists.specs.Tests.{pick, both, maybe, present, less}
 use Rattle.lists.specs.TestLaws.{clash, less-yes, less-no, less-false}
-use Rattle.lists.specs.Rows.{Row, keys, any}
+use Rattle.lists.specs.Rows.{Row, keys, any, Rising}
+use Rattle.lists.specs.RowLaws.{rising-different}
 use Rattle.spec.specs.declared.Refusal.{Refusal}
 use Rattle.spec.specs.declared.Refusal.the-variants.{Held, IndexletFull, MapFull, Unfit, Uncovered, Overlap}
 use Rattle.spec.specs.declared.Stage.the-variants.{Locked}
@@ -49,7 +50,7 @@ use Rattle.transactions.specs.Ready.{workerAt, Stored, Ready, Refines}
 use Rattle.transactions.specs.ReadyLaws.{refines, refines-refused}
 use Rattle.transactions.specs.CoreLaws.{worker-is, within, ready-writable, worker-writable}
 use Rattle.transactions.specs.Begins.{plainIn}
-use Rattle.commits.specs.Commits.{Reaches, reached, worker-inside, keys-are}
+use Rattle.commits.specs.Commits.{Reaches, reached, worker-inside, writes-are, keys-are}
 use Rattle.commits.specs.Finishes.{mild}
 
 -- the refusal that is answered
@@ -112,21 +113,22 @@ module _ (rows : RecordRows) (slots : SlotRows) (us : WriteRows) (z : Sizes) (n 
           }
 
 -- the tests are passed
-tested-lockable : (m : MapState) (ks : List ℕ) (w : ℕ) → lockTests m ks w ≡ none → Lockable m ks
+tested-lockable : (m : MapState) (us : List (Row Write)) (w : ℕ) → lockTests m (keys us) w ≡ none → Rising us → Lockable m us
 unfolding lockTests
-tested-lockable m ks w e =
+tested-lockable m us w e f =
     let a = cause-passed _ _ e in
     let b = cause-passed _ _ (a .1) in
     let c = cause-passed _ _ (b .1) in
     record {
-      waiting = less-false (standard .waitingLimit) (waitingWith m ks) (b .0);
-      addresses = less-false (standard .mapLimit) (addressesWith m ks) (c .0);
+      waiting = less-false (standard .waitingLimit) (waitingWith m (keys us)) (b .0);
+      addresses = less-false (standard .mapLimit) (addressesWith m (keys us)) (c .0);
+      once = rising-different us f;
     }
 
-pub tested-can : (rows : RecordRows) (slots : SlotRows) (us : WriteRows) (z : Sizes) (n w : ℕ) (ls : List Leaf) (a : Plain) → Tested rows slots us z n w a → present (refusalIn a) ≡ false
-    → Lockable (record { records = recordsIn rows (z .records); leaves = ls; slots = slotsIn slots }) (keys (writesOf us n))
-tested-can rows slots us z n w ls Granted t p = tested-lockable _ (keys (writesOf us n)) w (t .is _ refl refl)
-tested-can rows slots us z n w ls (Refused r) t p = clash refl p
+pub tested-can : (rows : RecordRows) (slots : SlotRows) (us : WriteRows) (z : Sizes) (n w : ℕ) (ls : List Leaf) (a : Plain) → Tested rows slots us z n w a → Rising (writesOf us n)
+    → present (refusalIn a) ≡ false → Lockable (record { records = recordsIn rows (z .records); leaves = ls; slots = slotsIn slots }) (writesOf us n)
+tested-can rows slots us z n w ls Granted t f p = tested-lockable _ (writesOf us n) w (t .is _ refl refl) f
+tested-can rows slots us z n w ls (Refused r) t f p = clash refl p
 
 -- a worker's number and one more is a word
 pub worker-fits : (w : ℕ) → w < standard .workers → w + 1 < 2 ^ 64
@@ -149,25 +151,25 @@ locks-refused l ws c w Granted t p = clash p refl
 locks-refused l ws c w (Refused r) t p =
     record { tests = same-tests l ws c w (Refused r) t; reaches = record { state = λ rs ls s. refl; stored = λ rs ls s. s } }
 
-lock-leaves : (w : ℕ) (m : MapState) (ks : List ℕ) → lockAll standard w m ks .leaves ≡ m .leaves
+lock-leaves : (w : ℕ) (m : MapState) (us : List (Row Write)) → lockAll standard w m us .leaves ≡ m .leaves
 unfolding lockAll withSlots
-lock-leaves w m ks = refl
+lock-leaves w m us = refl
 
 -- y the worker after it
 locks : (l l' : Lent) (ws : List WriteRows) (c : Core) (w : ℕ) (y : Worker) (z : Sizes) → w < standard .workers → y ≡ atLock (workerAt c w)
-    → MapBecomes l' z (c .counters .version) (lockAll standard w (mapOf l (c .sizes)) (keys (writesIn ws w (workerAt c w .writes))))
+    → MapBecomes l' z (c .counters .version) (lockAll standard w (mapOf l (c .sizes)) (writesIn ws w (workerAt c w .writes)))
     → Reaches (λ (σ : State). effect σ (lock w)) l ws c l' (withBoth c w y z)
 locks l l' ws c w y z h q b =
     subst (λ (u : Worker). Reaches (λ (σ : State). effect σ (lock w)) l ws c l' (withBoth c w u z)) (sym q)
     (reached (λ (σ : State). effect σ (lock w)) l l' ws c w (atLock (workerAt c w)) z _ h b
-    (lock-leaves w (mapOf l (c .sizes)) (keys (writesIn ws w (workerAt c w .writes)))) (inl refl)
+    (lock-leaves w (mapOf l (c .sizes)) (writesIn ws w (workerAt c w .writes))) (inl refl)
     (λ rs ls t. record { reads = t .counts w h .reads; leaves = t .counts w h .leaves; writes = t .counts w h .writes })
     (λ rs ls t.
-    (λ i. withWorker (withMap (stateOf l (logs rs ls ws) c) (lockAll standard w (mapOf l (c .sizes)) (ks rs ls t i))) w (worker rs ls t i))
+    (λ i. withWorker (withMap (stateOf l (logs rs ls ws) c) (lockAll standard w (mapOf l (c .sizes)) (us rs ls t i))) w (worker rs ls t i))
     ∙ (unfold effect stateOf in refl)))
   where
-    ks : (rs : List ReadRows) (ls : List LeafSetRows) → Stored l (logs rs ls ws) c → keys (writesIn ws w (workerAt c w .writes)) ≡ writeKeys (stateOf l (logs rs ls ws) c) w
-    ks rs ls t = sym (keys-are l (logs rs ls ws) c w (worker-inside t w h))
+    us : (rs : List ReadRows) (ls : List LeafSetRows) → Stored l (logs rs ls ws) c → writesIn ws w (workerAt c w .writes) ≡ workerOf (stateOf l (logs rs ls ws) c) w .writes
+    us rs ls t = sym (writes-are l (logs rs ls ws) c w (worker-inside t w h))
 
     worker : (rs : List ReadRows) (ls : List LeafSetRows) → Stored l (logs rs ls ws) c
         → workerIn (atLock (workerAt c w)) rs ls ws w ≡ atStage Locked (workerOf (stateOf l (logs rs ls ws) c) w)
@@ -175,7 +177,7 @@ locks l l' ws c w y z h q b =
 
 pub locks-granted : (l l' : Lent) (ws : List WriteRows) (c : Core) (w : ℕ) (y : Worker) (z : Sizes) (a : Plain) → w < standard .workers
     → Tested (l .rows) (l .slots) (getD ws w []) (c .sizes) (workerAt c w .writes) w a → present (refusalIn a) ≡ false → y ≡ atLock (workerAt c w)
-    → MapBecomes l' z (c .counters .version) (lockAll standard w (mapOf l (c .sizes)) (keys (writesIn ws w (workerAt c w .writes))))
+    → MapBecomes l' z (c .counters .version) (lockAll standard w (mapOf l (c .sizes)) (writesIn ws w (workerAt c w .writes)))
     → LocksOpen l ws c w l' (withBoth c w y z) a
 locks-granted l l' ws c w y z Granted h t p q b = record { tests = same-tests l ws c w Granted t; reaches = locks l l' ws c w y z h q b }
 locks-granted l l' ws c w y z (Refused r) h t p q b = clash refl p

@@ -8,12 +8,12 @@ use lib.Dec.{eqb}
 use lib.ListN.{getD, set}
 use Rattle.lists.specs.Tests.{pick, both, same, less}
 use Rattle.lists.specs.TestLaws.{same-yes, same-no, less-yes, less-no}
-use Rattle.lists.specs.Rows.{Row, keys, has, any}
+use Rattle.lists.specs.Rows.{Row, look, keys, has, any}
 use Rattle.spec.specs.declared.Current.{Current}
 use Rattle.spec.specs.declared.Refusal.{Refusal}
 use Rattle.spec.specs.declared.Refusal.the-variants.{Changed, UnderLock, Phantom, Spent}
 use Rattle.spec.specs.Steps.{numbered, cause, firstCause}
-use Rattle.spec.specs.Records.{standard, Record, samePayload, sameRecord}
+use Rattle.spec.specs.Records.{standard, Record, Write, isPut, samePayload, sameRecord}
 use Rattle.spec.specs.Slots.{contentOf}
 use Rattle.spec.specs.Maps.{MapState, current, heldByOther}
 use Rattle.counters.specs.declared.Counters.{Counters}
@@ -59,9 +59,10 @@ pub record Examinable (l : Lent) (reads : ReadRows) (leaves : LeafSetRows) (writ
   pub leaves-held : LeafSetHeld leaves
   pub writes-set : WriteSetOrdered writes (x .writes)
   pub logged-all : LoggedAll l leaves z (x .leaves)
-  -- the worker's locks are the addresses of its write set
+  -- the worker's locks are the addresses of its write set, each for the write that it has there
   pub mine : (k : ℕ) → has k (keys (writesOf writes (x .writes))) ≡ true → contentOf (slotsIn (l .slots)) k .holder ≡ some w
   pub only : (k : ℕ) → contentOf (slotsIn (l .slots)) k .holder ≡ some w → has k (keys (writesOf writes (x .writes))) ≡ true
+  pub kinds : (k : ℕ) (e : Write) → look (writesOf writes (x .writes)) k ≡ some e → contentOf (slotsIn (l .slots)) k .forPut ≡ isPut e
 
 -- ---- answers
 

@@ -9,7 +9,7 @@ use mathlib.Core.Option.{Option, none, some}
 use lib.ListN.{getD}
 use Rattle.lists.specs.Tests.{pick, maybe, less}
 use Rattle.lists.specs.TestLaws.{cases, less-true, less-false}
-use Rattle.lists.specs.Rows.{Row, keys, has, any}
+use Rattle.lists.specs.Rows.{Row, look, keys, has, any}
 use Rattle.spec.specs.declared.Refusal.{Refusal}
 use Rattle.spec.specs.declared.Refusal.the-variants.{Changed, UnderLock, Phantom, Spent}
 use Rattle.spec.specs.declared.Stage.{Stage}
@@ -27,7 +27,7 @@ use Rattle.sets.specs.Reads.{ReadRows, readsOf, readsIn}
 use Rattle.sets.specs.Leaves.{LeafSetRows, versionsOf, versionsIn}
 use Rattle.sets.specs.Writes.{WriteRows, writesIn}
 use Rattle.map.specs.declared.Sizes.{Sizes}
-use Rattle.map.specs.Views.{slotsIn, mapOf, SlotRows, RecordRows, Lent}
+use Rattle.map.specs.Views.{slotsIn, mapOf, Lent}
 use Rattle.queries.specs.PhantomViews.{phantomAt, Owns}
 use Rattle.transactions.specs.declared.Core.{Core}
 use Rattle.commits.specs.declared.validates.Verdict.{Verdict}
@@ -150,7 +150,7 @@ module _ (l : Lent) (reads : ReadRows) (leaves : LeafSetRows) (z : Sizes) (x : W
 -- the worker's locks are the addresses of its write set
 pub examined-owns : {l : Lent} {reads : ReadRows} {leaves : LeafSetRows} {writes : WriteRows} {z : Sizes} {x : Worker} {w : ℕ}
     → Examinable l reads leaves writes z x w → Owns (l .slots) writes (x .writes) w
-examined-owns e = record { fitting = writing (e .writes-set); rising = e .writes-set .rising; mine = e .mine; only = e .only }
+examined-owns e = record { fitting = writing (e .writes-set); rising = e .writes-set .rising; mine = e .mine; only = e .only; kinds = e .kinds }
 
 -- ---- the worker in the locked stage
 
@@ -196,10 +196,14 @@ module _ {l : Lent} {rs : List ReadRows} {ls : List LeafSetRows} {ws : List Writ
               (record { at = λ i h. record { stays = k .stored .lows w (t .inside) i h } });
           mine = λ a h. slots-are a (k .kept .holds w a locks (subst (λ (us : List (Row Write)). has a (keys us) ≡ true) (sym writes-of) h));
           only = λ a h. subst (λ (us : List (Row Write)). has a (keys us) ≡ true) writes-of (k .kept .held-by w a (slots-from a h) .1);
+          kinds = λ a e h. kind-from a (k .kept .kinds w a e locks (ap (λ (us : List (Row Write)). look us a) writes-of ∙ h));
         }
       where
         slots-are : (a : ℕ) → contentOf (now .map .slots) a .holder ≡ some w → contentOf (slotsIn (l .slots)) a .holder ≡ some w
         slots-are a h = unfold stateOf in h
+
+        kind-from : (a : ℕ) {b : Bool} → contentOf (now .map .slots) a .forPut ≡ b → contentOf (slotsIn (l .slots)) a .forPut ≡ b
+        kind-from a h = unfold stateOf in h
 
         slots-from : (a : ℕ) → contentOf (slotsIn (l .slots)) a .holder ≡ some w → contentOf (now .map .slots) a .holder ≡ some w
         slots-from a h = unfold stateOf in h

@@ -8,7 +8,7 @@ use Rattle.lists.specs.Tabulation.{tab}
 use Rattle.lists.specs.Shifts.{over, moved}
 use Rattle.lists.specs.Mapped.{mapped-set, mapped-over, mapped-moved, mapped-tab}
 use Rattle.index.specs.Views.{leafPlaces}
-use Rattle.index.specs.LeafColumns.{LeafRows, column, leafAt, lowsOf, outsideOf, pendingOf, versionsOf}
+use Rattle.index.specs.LeafColumns.{LeafRows, column, leafAt, lowsOf, hiddenOf, pendingOf, versionsOf}
 
 -- ---- a column of leaves that change
 
@@ -46,11 +46,11 @@ module _ (k : ℕ) (leaves : LeafRows) where
 
 pub leaf-read : (leaves : LeafRows) (i : ℕ)
     → leafAt leaves i
-    ≡ record { low = getD (lowsOf leaves) i 0; version = getD (versionsOf leaves) i 0; outside = getD (outsideOf leaves) i 0; pending = getD (pendingOf leaves) i 0 }
+    ≡ record { low = getD (lowsOf leaves) i 0; version = getD (versionsOf leaves) i 0; hidden = getD (hiddenOf leaves) i 0; pending = getD (pendingOf leaves) i 0 }
 leaf-read leaves i =
     λ x. record {
       low = sym (column-getD 0 leaves i) x;
       version = sym (column-getD 1 leaves i) x;
-      outside = sym (column-getD 2 leaves i) x;
+      hidden = sym (column-getD 2 leaves i) x;
       pending = sym (column-getD 3 leaves i) x;
     }

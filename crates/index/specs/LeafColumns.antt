@@ -19,9 +19,9 @@ lowsOf leaves = column 0 leaves
 abbrev pub versionsOf : LeafRows → List ℕ
 versionsOf leaves = column 1 leaves
 
--- the numbers of entries at addresses that the index lacks
-abbrev pub outsideOf : LeafRows → List ℕ
-outsideOf leaves = column 2 leaves
+-- the numbers of keys that a leaf hides from somebody
+abbrev pub hiddenOf : LeafRows → List ℕ
+hiddenOf leaves = column 2 leaves
 
 -- the numbers of pending writes
 abbrev pub pendingOf : LeafRows → List ℕ
@@ -29,7 +29,7 @@ pendingOf leaves = column 3 leaves
 
 -- what a row of words says
 abbrev pub leafIn : List ℕ → LeafWords
-leafIn ws = record { low = getD ws 0 0; version = getD ws 1 0; outside = getD ws 2 0; pending = getD ws 3 0 }
+leafIn ws = record { low = getD ws 0 0; version = getD ws 1 0; hidden = getD ws 2 0; pending = getD ws 3 0 }
 
 -- the leaf at place i
 abbrev pub leafAt : LeafRows → ℕ → LeafWords
@@ -37,7 +37,7 @@ leafAt leaves i = leafIn (getD leaves i [])
 
 -- the words of a leaf
 abbrev pub leafWords : LeafWords → List ℕ
-leafWords l = l .low ∷ l .version ∷ l .outside ∷ l .pending ∷ []
+leafWords l = l .low ∷ l .version ∷ l .hidden ∷ l .pending ∷ []
 
 -- the leaves with another one at place i
 abbrev pub leafPut : LeafRows → ℕ → LeafWords → LeafRows

@@ -18,13 +18,13 @@ use Rattle.cuts.specs.declared.Leaf.{Leaf as Run}
 use Rattle.cuts.specs.Making.{mostRuns, leaf}
 use Rattle.index.specs.declared.leaves.Leaf.{Leaf as LeafWords}
 use Rattle.index.specs.Views.{recordPlaces, leafPlaces, RecordRows, keysBetween}
-use Rattle.index.specs.LeafColumns.{LeafRows, column, lowsOf, versionsOf, outsideOf, pendingOf, leafAt, leafWords, leafPut}
+use Rattle.index.specs.LeafColumns.{LeafRows, column, lowsOf, versionsOf, hiddenOf, pendingOf, leafAt, leafWords, leafPut}
 use Rattle.index.specs.LeafColumnLaws.{column-places, column-getD, column-set, column-kept, column-moved, column-filled}
 use Rattle.index.specs.Settles.{fresh, runLow, SettledAs, kept, joined, cut}
 
 -- a leaf as a merge makes it
 abbrev pub madeLeaf : ℕ → ℕ → LeafWords
-madeLeaf low version = record { low = low; version = version; outside = 0; pending = 0 }
+madeLeaf low version = record { low = low; version = version; hidden = 0; pending = 0 }
 
 -- the row of run x + 1 of the records from row i on; v is the last version given before it
 abbrev pub runRow : RecordRows → ℕ → ℕ → ℕ → List ℕ
@@ -44,7 +44,7 @@ keptRows leaves p v = leafPut leaves p (madeLeaf (leafAt leaves p .low) (v + 1))
 
 -- another version at place p
 abbrev pub renewed : LeafRows → ℕ → ℕ → LeafRows
-renewed leaves p v = leafPut leaves p (record { low = leafAt leaves p .low; version = v; outside = leafAt leaves p .outside; pending = leafAt leaves p .pending })
+renewed leaves p v = leafPut leaves p (record { low = leafAt leaves p .low; version = v; hidden = leafAt leaves p .hidden; pending = leafAt leaves p .pending })
 
 -- the leaf at place p joined to its left neighbour
 abbrev pub joinedRows : LeafRows → ℕ → ℕ → ℕ → LeafRows
@@ -187,7 +187,7 @@ module _ (xs xs' : List ℕ) (m p : ℕ) (h : p < m) where
 -- What settling the leaf at place p, left with the addresses `ks`, leaves in the rows.
 pub record SettledRows (leaves : LeafRows) (m p v : ℕ) (ks : List ℕ) (leaves' : LeafRows) (m' v' : ℕ) : Type 0 where
   pub settled : SettledAs (lowsOf leaves) (versionsOf leaves) m p v ks (lowsOf leaves') (versionsOf leaves') m' v'
-  pub outside : Shifted (outsideOf leaves) (outsideOf leaves') m p m'
+  pub hidden : Shifted (hiddenOf leaves) (hiddenOf leaves') m p m'
   pub pending : Shifted (pendingOf leaves) (pendingOf leaves') m p m'
 
 module _ (leaves : LeafRows) (m p v : ℕ) (ks : List ℕ) (all : length leaves ≡ leafPlaces) (mr : m ≤ leafPlaces) (h : p < m) (leaves' : LeafRows) where
@@ -202,7 +202,7 @@ module _ (leaves : LeafRows) (m p v : ℕ) (ks : List ℕ) (all : length leaves 
         settled =
             kept (lowsOf leaves) (versionsOf leaves) m p v ks (column-places 0 leaves all) (column-places 1 leaves all) mr h
             (lowsOf leaves') (versionsOf leaves') c k (ap (column 0) e ∙ column-kept 0 leaves p row refl) (ap (column 1) e ∙ column-set 1 leaves p row);
-        outside = shifted-kept (outsideOf leaves) (outsideOf leaves') m p h (long 2) (ap (column 2) e ∙ column-set 2 leaves p row);
+        hidden = shifted-kept (hiddenOf leaves) (hiddenOf leaves') m p h (long 2) (ap (column 2) e ∙ column-set 2 leaves p row);
         pending = shifted-kept (pendingOf leaves) (pendingOf leaves') m p h (long 3) (ap (column 3) e ∙ column-set 3 leaves p row);
       }
 
@@ -212,7 +212,7 @@ module _ (leaves : LeafRows) (m p v : ℕ) (ks : List ℕ) (all : length leaves 
         settled =
             joined (lowsOf leaves) (versionsOf leaves) m p v ks (column-places 0 leaves all) (column-places 1 leaves all) mr h
             (lowsOf leaves') (versionsOf leaves') i k (shifts 0 refl) (ap (column 1) e ∙ column-set 1 M (p - 1) row ∙ ap (λ (zs : List ℕ). set zs (p - 1) (v + 1)) (column-moved 1 leaves (p + 1) p (m - p - 1)));
-        outside = shifted-joined (outsideOf leaves) (outsideOf leaves') m p h (long 2) (shifts 2 refl);
+        hidden = shifted-joined (hiddenOf leaves) (hiddenOf leaves') m p h (long 2) (shifts 2 refl);
         pending = shifted-joined (pendingOf leaves) (pendingOf leaves') m p h (long 3) (shifts 3 refl);
       }
     where
@@ -220,7 +220,7 @@ module _ (leaves : LeafRows) (m p v : ℕ) (ks : List ℕ) (all : length leaves 
       M = moved leaves (p + 1) p (m - p - 1)
 
       row : List ℕ
-      row = leafAt M (p - 1) .low ∷ (v + 1) ∷ leafAt M (p - 1) .outside ∷ leafAt M (p - 1) .pending ∷ []
+      row = leafAt M (p - 1) .low ∷ (v + 1) ∷ leafAt M (p - 1) .hidden ∷ leafAt M (p - 1) .pending ∷ []
 
       -- a column whose word the left neighbour keeps
       shifts : (k : ℕ) → getD row k 0 ≡ getD (getD M (p - 1) []) k 0 → column k leaves' ≡ moved (column k leaves) (p + 1) p (m - p - 1)
@@ -237,7 +237,7 @@ module _ (leaves : LeafRows) (m p v : ℕ) (ks : List ℕ) (all : length leaves 
             ∙ ap (λ (n : ℕ). set (over (M 0) n (tab (runLow rows i) (t - 1))) p (getD (lowsOf leaves) p 0)) next
             ∙ over-cons (M 0) p (getD (lowsOf leaves) p 0) (tab (runLow rows i) (t - 1)) fits)
             (filled 1 (fresh v) (λ x w. omega arith) (omega arith));
-        outside = shifted-cut (outsideOf leaves) (outsideOf leaves') m p h t some (room 2) (filled 2 (λ (x : ℕ). 0) (λ x w. refl) refl);
+        hidden = shifted-cut (hiddenOf leaves) (hiddenOf leaves') m p h t some (room 2) (filled 2 (λ (x : ℕ). 0) (λ x w. refl) refl);
         pending = shifted-cut (pendingOf leaves) (pendingOf leaves') m p h t some (room 3) (filled 3 (λ (x : ℕ). 0) (λ x w. refl) refl);
       }
     where

@@ -13,12 +13,12 @@ ghost use Rattle.index.specs.Nearing.{Nearing};
 ghost use Rattle.index.specs.LeafPlaces.{Listed, AtLeaf, lowPlace, probedLow};
 ghost use Rattle.index.specs.LeafColumns.{lowsOf, leafAt, leafPut};
 
-// A leaf in words: its low and its version (document 01: mark), and the phantomlet's numbers of the entries outside of the
-// index and of the pending writes in it, which only move along with their leaf here.
+// A leaf in words: its low and its version (document 01: mark), and the phantomlet's numbers of the keys that it hides from somebody
+// and of the pending writes in it, which only move along with their leaf here.
 pub struct Leaf {
     pub low: u64,
     pub version: u64,
-    pub outside: u64,
+    pub hidden: u64,
     pub pending: u64,
 }
 
@@ -43,7 +43,7 @@ pub fn leaf_at(leaves: &Leaves, i: usize) -> Leaf
     Leaf {
         low: leaves[i][0],
         version: leaves[i][1],
-        outside: leaves[i][2],
+        hidden: leaves[i][2],
         pending: leaves[i][3],
     }
 }
@@ -53,7 +53,7 @@ pub fn put_leaf(leaves: &mut Leaves, i: usize, l: Leaf)
     requires { ⌜ i < leafPlaces ⌝ }
     ensures { λ _. ⌜ now (leaves .exit) ≡ leafPut (now (leaves .entry)) i l ⌝ }
 {
-    let row = [l.low, l.version, l.outside, l.pending];
+    let row = [l.low, l.version, l.hidden, l.pending];
     leaves[i] = row;
 }
 

@@ -31,7 +31,7 @@ fn made_leaf(low: u64, version: u64) -> Leaf
     Leaf {
         low,
         version,
-        outside: 0,
+        hidden: 0,
         pending: 0,
     }
 }
@@ -94,7 +94,7 @@ fn join(leaves: &mut Leaves, m: usize, p: usize, v: u64) -> Settled
     let l = Leaf {
         low: left.low,
         version: v + 1,
-        outside: left.outside,
+        hidden: left.hidden,
         pending: left.pending,
     };
     leaves::put_leaf(leaves, p - 1, l);

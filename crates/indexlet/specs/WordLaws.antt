@@ -116,12 +116,6 @@ holds-same a s e = go (isIdle (contentIn (s .content)))
     go true = refl
     go false = same-yes {m = s .key} {n = a} e
 
-pub idle-zero : isIdle (contentIn (record { kind = 0; value = 0; commit = 0; since = 0; lock = 0 })) ≡ true
+pub idle-zero : isIdle (contentIn (record { kind = 0; value = 0; commit = 0; since = 0; lock = 0; forput = 0 })) ≡ true
 unfolding isIdle contentIn pendingIn holderIn
 idle-zero = refl
-
--- ---- what a row says, for callers that go by its kind and its lock
-
-pub pending-none : (c : ContentWords) → c .kind ≡ 0 → contentIn c .pending ≡ none
-unfolding contentIn pendingIn
-pending-none c e = ap (λ (k : ℕ). pendingIn k (c .value) (c .commit) (c .since)) e

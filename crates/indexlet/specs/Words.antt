@@ -1,8 +1,9 @@
 -- How the indexlet's slots stand in rows of words: its key, the kind of the pending write, its value, its commit
--- number, the install since which it waits, the lock, the overflow count.
+-- number, the install since which it waits, the lock, whether that is for a put, the overflow count.
 use Prim.Native.Nat.{ℕ, zero, suc}
 use mathlib.Core.List.{List, [], _∷_}
 use mathlib.Core.Option.{Option, none, some}
+use lib.Dec.{eqb}
 use lib.ListN.{getD, set}
 use Rattle.lists.specs.Tabulation.{tab}
 use Rattle.spec.specs.Records.{written, deleted}
@@ -16,7 +17,7 @@ SlotRows = List (List ℕ)
 
 -- how many words a row has
 abbrev pub slotWords : ℕ
-slotWords = 7
+slotWords = 8
 
 -- the pending write with this kind, value and commit number, which waits since install t
 unfoldable pub pendingIn : ℕ → ℕ → ℕ → ℕ → Option Pending
@@ -31,7 +32,12 @@ holderIn (suc w) = some w
 
 -- what is said
 unfoldable pub contentIn : ContentWords → Content
-contentIn c = record { pending = pendingIn (c .kind) (c .value) (c .commit) (c .since); holder = holderIn (c .lock) }
+contentIn c =
+    record {
+      pending = pendingIn (c .kind) (c .value) (c .commit) (c .since);
+      holder = holderIn (c .lock);
+      forPut = eqb (c .forput) 1;
+    }
 
 -- the slot that a row stands for
 unfoldable pub slotIn : SlotWords → Slot
@@ -42,8 +48,8 @@ abbrev pub rowIn : List ℕ → SlotWords
 rowIn ws =
     record {
       key = getD ws 0 0;
-      content = record { kind = getD ws 1 0; value = getD ws 2 0; commit = getD ws 3 0; since = getD ws 4 0; lock = getD ws 5 0 };
-      overflow = getD ws 6 0;
+      content = record { kind = getD ws 1 0; value = getD ws 2 0; commit = getD ws 3 0; since = getD ws 4 0; lock = getD ws 5 0; forput = getD ws 6 0 };
+      overflow = getD ws 7 0;
     }
 
 -- the row of slot i
@@ -52,7 +58,9 @@ rowAt ts i = rowIn (getD ts i [])
 
 -- the words of a row
 abbrev pub wordsOf : SlotWords → List ℕ
-wordsOf s = s .key ∷ s .content .kind ∷ s .content .value ∷ s .content .commit ∷ s .content .since ∷ s .content .lock ∷ s .overflow ∷ []
+wordsOf s =
+    s .key ∷ s .content .kind ∷ s .content .value ∷ s .content .commit ∷ s .content .since ∷ s .content .lock ∷ s .content .forput
+    ∷ s .overflow ∷ []
 
 -- the rows with another one at slot i
 abbrev pub store : SlotRows → ℕ → SlotWords → SlotRows

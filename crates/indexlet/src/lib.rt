@@ -14,19 +14,20 @@ ghost use Rattle.indexlet.specs.Promises.{SlotsHeld, SlotsBecome, SlotsF
 // How many slots there are, and how many words a slot has.
 pub const SLOTS: usize = 256;
 
-pub const SLOT_WORDS: usize = 7;
+pub const SLOT_WORDS: usize = 8;
 
 // The slots, a row each.
 pub type Slots = [[u64; SLOT_WORDS]; SLOTS];
 
 // What is said of a key: a pending write (kind 0: none, 1: a put, else a deletion), its value and commit number, the install
-// since which the key waits, and the lock (0: free, else its holder and one more).
+// since which the key waits, the lock (0: free, else its holder and one more), and whether the lock is for a put (1) or not.
 pub struct Content {
     pub kind: u64,
     pub value: u64,
     pub commit: u64,
     pub since: u64,
     pub lock: u64,
+    pub forput: u64,
 }
 
 // A row of words. It has an entry if it says anything.
@@ -355,11 +356,12 @@ fn get(t: &Slots, i: usize) -> Slot
         commit: t[i][3],
         since: t[i][4],
         lock: t[i][5],
+        forput: t[i][6],
     };
     Slot {
         key: t[i][0],
         content,
-        overflow: t[i][6],
+        overflow: t[i][7],
     }
 }
 
@@ -376,6 +378,7 @@ fn put(t: &mut Slots, i: usize, s: Slot)
         c.commit,
         c.since,
         c.lock,
+        c.forput,
         s.overflow,
     ];
     t[i] = row;
@@ -450,6 +453,7 @@ pub fn look_up(t: &Slots, a: Address) -> Looked
         commit: 0,
         since: 0,
         lock: 0,
+        forput: 0,
     };
     Looked {
         content,
@@ -518,6 +522,7 @@ fn release(t: &mut Slots, a: Address, h: usize, passed: usize)
         commit: 0,
         since: 0,
         lock: 0,
+        forput: 0,
     };
     let none = Slot {
         key: 0,

@@ -10,7 +10,7 @@ use Rattle.lists.specs.Rows.{Row, look, has}
 use Rattle.spec.specs.Records.{Settings, Record, Write, outcome}
 use Rattle.spec.specs.Slots.{Pending, Content, contentOf}
 use Rattle.spec.specs.Maps.{MapState, outcomeOf, current, withSlots, lockAll, unlockAll, installAll}
-use Rattle.laws.specs.MapLaws.{GoodMap, LockRoom, Installable, unlocked-pending, writtenBy, lock-says, unlock-says, install-says}
+use Rattle.laws.specs.MapLaws.{GoodMap, LockRoom, Installable, locked-pending, unlocked-pending, writtenBy, lock-says, unlock-says, install-says}
 
 -- the same index, and the same pending write at the address
 pub current-by : (m m' : MapState) → m' .records ≡ m .records → (k : ℕ) → contentOf (m' .slots) k .pending ≡ contentOf (m .slots) k .pending
@@ -20,11 +20,11 @@ current-by m m' r k e =
     ap (λ (rs : List (Row Record)). maybe (contentOf (m' .slots) k .pending) (look rs k) outcomeOf) r
     ∙ ap (λ (p : Option Pending). maybe p (look (m .records) k) outcomeOf) e
 
-pub lock-current : (s : Settings) (w : ℕ) (m : MapState) (ks : List ℕ) → GoodMap s m → LockRoom (m .slots) ks
-    → (k : ℕ) → current (lockAll s w m ks) k ≡ current m k
-lock-current s w m ks g r k =
-    current-by m (lockAll s w m ks) (unfold lockAll withSlots in refl) k
-    (ap (λ (c : Content). c .pending) (lock-says s w m ks g r k) ∙ ⊎-elim (λ t. rw t) (λ t. rw t) (cases (has k ks)))
+pub lock-current : (s : Settings) (w : ℕ) (m : MapState) (ws : List (Row Write)) → GoodMap s m → LockRoom (m .slots) ws
+    → (k : ℕ) → current (lockAll s w m ws) k ≡ current m k
+lock-current s w m ws g r k =
+    current-by m (lockAll s w m ws) (unfold lockAll withSlots in refl) k
+    (ap (λ (c : Content). c .pending) (lock-says s w m ws g r k) ∙ locked-pending w (look ws k) (contentOf (m .slots) k))
 
 pub unlock-current : (s : Settings) (w : ℕ) (m : MapState) (ks : List ℕ) → GoodMap s m → (k : ℕ) → current (unlockAll s w m ks) k ≡ current m k
 unlock-current s w m ks g k =

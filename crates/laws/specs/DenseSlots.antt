@@ -15,13 +15,14 @@ use Rattle.lists.specs.Options.{options}
 use Rattle.lists.specs.Rows.{Row, row, look}
 use Rattle.lists.specs.Sums.{total-set}
 use Rattle.spec.specs.Records.{Write}
-use Rattle.spec.specs.Slots.{slotCount, homeSlot, Pending, Content, isIdle, Slot, emptySlot, emptySlots, entries, contentOf, slotAt, vacant, holds, distance, countPassed, withEntry, Searched, searchFrom, search, take, rewrite, enter}
-use Rattle.spec.specs.Maps.{writtenOver, lockKey, installRow, each}
+use Rattle.spec.specs.Slots.{slotCount, homeSlot, Content, isIdle, Slot, emptySlot, emptySlots, entries, contentOf, slotAt, vacant, holds, distance, countPassed, withEntry, Searched, searchFrom, search, take, rewrite, enter}
+use Rattle.spec.specs.Maps.{writtenOver, lockedFor, lockRow, installRow, each}
 use Rattle.laws.specs.Probes.{gap, gap-back, home-less, First, distance-some}
 use Rattle.laws.specs.SlotCounts.{entryAt, tally, count, filled, length-entries, holds-entry}
 use Rattle.laws.specs.SlotChanges.{Changed, moved-changed, moved-count, none-vacant, take-at, take-none}
 use Rattle.laws.specs.Searches.{search-here, search-stops, search-on}
 use Rattle.laws.specs.Entering.{enter-present, enter-absent}
+use Rattle.laws.specs.MapLaws.{locked-busy}
 
 -- slot i has an entry
 abbrev Occupied : List Slot → ℕ → Type 0
@@ -159,13 +160,11 @@ unfolding each
 each-dense f h d [] = d
 each-dense f h d (x ∷ xs) = each-dense f h (h _ x d) xs
 
-pub lock-dense : {ss : List Slot} → Dense ss → (bytes w : ℕ) (ks : List ℕ) → Dense (each (lockKey bytes w) ss ks)
-unfolding lockKey
-lock-dense d bytes w ks = each-dense (lockKey bytes w) (λ ss k h. enter-dense h bytes k _ (held (contentOf ss k .pending))) d ks
-  where
-    held : (p : Option Pending) → isIdle (record { pending = p; holder = some w }) ≡ false
-    held none = unfold isIdle in refl
-    held (some x) = unfold isIdle in refl
+pub lock-dense : {ss : List Slot} → Dense ss → (bytes w : ℕ) (ws : List (Row Write)) → Dense (each (lockRow bytes w) ss ws)
+unfolding lockRow
+lock-dense d bytes w ws =
+    each-dense (lockRow bytes w)
+    (λ ss r h. enter-dense h bytes (r .key) (lockedFor w (r .item) (contentOf ss (r .key))) (locked-busy w (r .item) (contentOf ss (r .key)))) d ws
 
 pub install-dense : {ss : List Slot} → Dense ss → (bytes n t : ℕ) (ws : List (Row Write)) → Dense (each (installRow bytes n t) ss ws)
 unfolding installRow

@@ -13,7 +13,7 @@ use mathlib.Core.Option.{Option, none, some}
 use lib.ListN.{length}
 use Rattle.lists.specs.Tests.{pick, both, maybe, present, same}
 use Rattle.lists.specs.TestLaws.{cases, clash, same-false}
-use Rattle.lists.specs.Rows.{Row, look, keys, has, filter, distinct, Rising}
+use Rattle.lists.specs.Rows.{Row, look, keys, has, filter, distinct, Different, Rising}
 use Rattle.lists.specs.RowLaws.{has-keys, length-keys, rising-nil, rising-different}
 use Rattle.lists.specs.Ascending.{mem-filter, mem-keys, keys-mem}
 use Rattle.lists.specs.Counting.{distinct-within, different-count, different-within}
@@ -21,13 +21,13 @@ use Rattle.lists.specs.Memberships.{member-has, has-member, has-left, has-right
 use Rattle.spec.specs.Records.{Settings, standard, Record, Write}
 use Rattle.spec.specs.Leaves.{Leaf, versionAt, settle}
 use Rattle.spec.specs.Slots.{slotCount, Slot, Pending, Content, isIdle, entries, contentOf}
-use Rattle.spec.specs.Maps.{MapState, freshMap, waitingWith, addressesWith, each, withSlots, lockAll, unlockAll, installAll, mergesAt, merging, mergeEntry, recordsIn, settleMap, mergeAll, mergeAt}
+use Rattle.spec.specs.Maps.{MapState, freshMap, waitingWith, addressesWith, withoutLock, each, withSlots, lockAll, unlockAll, installAll, mergesAt, merging, mergeEntry, recordsIn, settleMap, mergeAll, mergeAt}
 use Rattle.laws.specs.SlotLaws.{Good, fresh-good, present-content, keys-differ}
 use Rattle.laws.specs.LeafCuts.{GoodCut}
 use Rattle.laws.specs.LeafLaws.{GoodLeaves, fresh-leaves}
 use Rattle.laws.specs.SettleLaws.{records-in-leaf}
 use Rattle.laws.specs.LeafFills.{Filled, fresh-filled, settle-filled, leaf-count}
-use Rattle.laws.specs.MapLaws.{idle-holder, idle-pending, unlocked, writtenBy, LockRoom, Installable, lock-good, lock-says, unlock-good, unlock-says, install-good, install-says}
+use Rattle.laws.specs.MapLaws.{idle-holder, idle-pending, lockedBy, unlocked, writtenBy, LockRoom, Installable, lock-good, lock-says, unlock-good, unlock-says, install-good, install-says}
 use Rattle.laws.specs.MergeLaws.{Merges, merges, merging-leaf, merged-good, merged-rising, merged-holder, merged-leaves, merged-look, merged-pending}
 
 -- What holds of a map with the limits s, v the last version given.
@@ -137,31 +137,32 @@ fewer-bounded {s} {v} {m} b ss g h =
 
 -- ---- lock, unlock, install
 
-pub lock-room : (s : Settings) (m : MapState) (ks : List ℕ) → s .waitingLimit < slotCount → waitingWith m ks ≤ s .waitingLimit → LockRoom (m .slots) ks
+pub lock-room : (s : Settings) (m : MapState) (ws : List (Row Write)) → s .waitingLimit < slotCount → Different (keys ws)
+    → waitingWith m (keys ws) ≤ s .waitingLimit → LockRoom (m .slots) ws
 unfolding waitingWith
-lock-room s m ks r p = lt-of-le-of-lt p r
+lock-room s m ws r d p = record { room = lt-of-le-of-lt p r; once = d }
 
 -- under the tests of refusals 10 and 11
-pub lock-bounded : {s : Settings} {v : ℕ} {m : MapState} → Bounded s v m → s .waitingLimit < slotCount → (w : ℕ) (ks : List ℕ)
-    → waitingWith m ks ≤ s .waitingLimit → addressesWith m ks ≤ s .mapLimit → Bounded s v (lockAll s w m ks)
+pub lock-bounded : {s : Settings} {v : ℕ} {m : MapState} → Bounded s v m → s .waitingLimit < slotCount → (w : ℕ) (ws : List (Row Write)) → Different (keys ws)
+    → waitingWith m (keys ws) ≤ s .waitingLimit → addressesWith m (keys ws) ≤ s .mapLimit → Bounded s v (lockAll s w m ws)
 unfolding waitingWith addressesWith lockAll withSlots
-lock-bounded {s} {v} {m} b r w ks p q =
-    slots-bounded b _ (keys (entries (m .slots)) ++ ks) (lock-good s w m ks (b .slots) room) busy p q
+lock-bounded {s} {v} {m} b r w ws d p q =
+    slots-bounded b _ (keys (entries (m .slots)) ++ keys ws) (lock-good s w m ws (b .slots) room) (λ k e. busy k e (look ws k) refl) p q
   where
-    room : LockRoom (m .slots) ks
-    room = lock-room s m ks r p
+    room : LockRoom (m .slots) ws
+    room = lock-room s m ws r d p
 
-    busy : (k : ℕ) → Busy (lockAll s w m ks .slots) k → has k (keys (entries (m .slots)) ++ ks) ≡ true
-    busy k e =
-        ⊎-elim
-        (λ t. has-right k (keys (entries (m .slots))) ks t)
-        (λ t. has-left k (keys (entries (m .slots))) ks (busy-has (b .slots) k (sym (ap isIdle (lock-says s w m ks (b .slots) room k ∙ (rw t))) ∙ e)))
-        (cases (has k ks))
+    busy : (k : ℕ) → Busy (lockAll s w m ws .slots) k → (o : Option Write) → look ws k ≡ o → has k (keys (entries (m .slots)) ++ keys ws) ≡ true
+    busy k e none t =
+        has-left k (keys (entries (m .slots))) (keys ws)
+        (busy-has (b .slots) k
+        (sym (ap isIdle (lock-says s w m ws (b .slots) room k ∙ ap (λ (x : Option Write). lockedBy w x (contentOf (m .slots) k)) t)) ∙ e))
+    busy k e (some x) t = has-right k (keys (entries (m .slots))) (keys ws) (has-keys ws k ∙ ap present t)
 
 unlocked-idle : (w : ℕ) (c : Content) → isIdle c ≡ true → unlocked w c ≡ c
 unfolding unlocked
 unlocked-idle w c e =
-    ap (λ (o : Option ℕ). maybe o c (λ (h : ℕ). pick (same h w) (record { pending = c .pending; holder = none }) c)) (idle-holder c e)
+    ap (λ (o : Option ℕ). maybe o c (λ (h : ℕ). pick (same h w) (withoutLock c) c)) (idle-holder c e)
 
 pub unlock-bounded : {s : Settings} {v : ℕ} {m : MapState} → Bounded s v m → (w : ℕ) (ks : List ℕ) → Bounded s v (unlockAll s w m ks)
 unfolding unlockAll withSlots

@@ -14,10 +14,10 @@ use Rattle.lists.specs.Rows.{Row, look, keys, has, distinct, Different}
 use Rattle.lists.specs.RowLaws.{has-keys, length-keys, look-here, look-there}
 use Rattle.lists.specs.Counting.{has-nil, has-cons, has-append, Within, distinct-within, different-within}
 use Rattle.spec.specs.Records.{Settings, Write}
-use Rattle.spec.specs.Slots.{Pending, Content, idle, isIdle, Slot, slotCount, entries, contentOf, enter}
-use Rattle.spec.specs.Maps.{MapState, lockKey, unlockKey, writtenOver, installRow, each, withSlots, lockAll, unlockAll, installAll}
+use Rattle.spec.specs.Slots.{Pending, Content, isIdle, Slot, slotCount, entries, contentOf, enter}
+use Rattle.spec.specs.Maps.{MapState, lockedFor, lockRow, withoutLock, unlockKey, writtenOver, installRow, each, withSlots, lockAll, unlockAll, installAll}
 use Rattle.laws.specs.SlotCounts.{Good}
-use Rattle.laws.specs.SlotLaws.{Room, goes, stands, fits, enter-good, content-enter, present-content, keys-differ}
+use Rattle.laws.specs.SlotLaws.{Room, goes, stands, fits, enter-good, content-said, content-enter, present-content, keys-differ}
 
 -- ---- contents by cases
 
@@ -85,15 +85,13 @@ module _ {bytes : ℕ} {X : Type 0} {f : List Slot → X → List Slot} {key : X
 
 -- ---- lock
 
-abbrev pub withHolder : ℕ → Content → Content
-withHolder w c = record { pending = c .pending; holder = some w }
+abbrev pub rowKey : Row Write → ℕ
+rowKey r = r .key
 
-abbrev pub ident : ℕ → ℕ
-ident k = k
-
--- the entries, with one more for each address that has none, fit the slots
-abbrev pub LockRoom : List Slot → List ℕ → Type 0
-LockRoom ss ks = distinct (keys (entries ss) ++ ks) < slotCount
+-- the entries, with one more for each address that has none, fit the slots, and each address stands once
+pub record LockRoom (ss : List Slot) (ws : List (Row Write)) : Type 0 where
+  pub room : distinct (keys (entries ss) ++ keys ws) < slotCount
+  pub once : Different (keys ws)
 
 -- a change at k gives no other address an entry
 entries-after : {bytes : ℕ} {ss : List Slot} → Good bytes ss → (k : ℕ) (c : Content) → Room ss k c
@@ -104,7 +102,7 @@ entries-after {bytes} {ss} a k c r j e =
     (λ t.
     inl
     (has-keys (entries ss) j ∙ present-content a j
-    ∙ ap (λ (x : Content). not (isIdle x)) (sym (content-enter a r j ∙ (rw t)))
+    ∙ ap (λ (x : Content). not (isIdle x)) (sym (content-said a r j ∙ (rw t)))
     ∙ sym (present-content (enter-good a r) j)
     ∙ sym (has-keys (entries (enter bytes ss k c)) j)
     ∙ e))
@@ -116,8 +114,8 @@ entry-count {ss = ss} a ks =
     (different-within (keys (entries ss)) (keys (entries ss) ++ ks) (keys-differ a) (λ j e. has-append j (keys (entries ss)) ks ∙ (rw e)))
 
 -- room stays for the addresses that are left
-lock-rest : {bytes : ℕ} {ss : List Slot} → Good bytes ss → (k : ℕ) (ks : List ℕ) (c : Content) → Room ss k c → LockRoom ss (k ∷ ks)
-    → LockRoom (enter bytes ss k c) ks
+lock-rest : {bytes : ℕ} {ss : List Slot} → Good bytes ss → (k : ℕ) (ks : List ℕ) (c : Content) → Room ss k c
+    → distinct (keys (entries ss) ++ (k ∷ ks)) < slotCount → distinct (keys (entries (enter bytes ss k c)) ++ ks) < slotCount
 lock-rest {bytes} {ss} a k ks c r l =
     lt-of-le-of-lt
     (distinct-within (keys (entries (enter bytes ss k c)) ++ ks) (keys (entries ss) ++ (k ∷ ks)) inside)
@@ -142,8 +140,82 @@ lock-rest {bytes} {ss} a k ks c r l =
         (λ t. right j (later j (sym (ap (λ (b : Bool). either b (has j ks)) t) ∙ sym (has-append j (keys (entries (enter bytes ss k c))) ks) ∙ e)))
         (cases (has j (keys (entries (enter bytes ss k c)))))
 
-lock-room : {bytes : ℕ} {ss : List Slot} → Good bytes ss → (k : ℕ) (ks : List ℕ) (c : Content) → LockRoom ss (k ∷ ks) → Room ss k c
-lock-room a k ks c l = fits (lt-of-le-of-lt (entry-count a (k ∷ ks)) l)
+lock-room : {bytes : ℕ} {ss : List Slot} → Good bytes ss → (c : Content) (r : Row Write) (ws : List (Row Write)) → LockRoom ss (r ∷ ws)
+    → Room ss (r .key) c
+lock-room a c r ws l = fits (lt-of-le-of-lt (entry-count a (keys (r ∷ ws))) (l .room))
+
+at-own : {A : Type 0} (P : ℕ → A) (Q : ℕ → A) (k : ℕ) (j : ℕ) → ((e : k ≡ j) → P k ≡ P j) → pick (same k j) (P k) (Q j) ≡ pick (same k j) (P j) (Q j)
+at-own P Q k j h = ⊎-elim (λ e. rw e (h (same-true k j e))) (λ e. rw e) (cases (same k j))
+
+first-once : (r : Row Write) (ws : List (Row Write)) → Different (keys (r ∷ ws)) → look ws (r .key) ≡ none
+unfolding keys Different
+first-once r ws d = go (look ws (r .key)) refl
+  where
+    go : (o : Option Write) → look ws (r .key) ≡ o → look ws (r .key) ≡ none
+    go none e = e
+    go (some x) e = clash (has-keys ws (r .key) ∙ ap present e) (d .0)
+
+rest-once : (r : Row Write) (ws : List (Row Write)) → Different (keys (r ∷ ws)) → Different (keys ws)
+unfolding keys Different
+rest-once r ws d = d .1
+
+-- the first write of an address stands: a write set has one
+updated-rows : (g : Write → Content → Content) (ws : List (Row Write)) (j : ℕ) (c : Content)
+    → updated rowKey (λ (r : Row Write). g (r .item)) ws j c ≡ maybe (look ws j) c (λ (e : Write). g e c)
+updated-rows g [] j c = unfold look in refl
+updated-rows g (r ∷ ws) j c =
+    ⊎-elim
+    (λ e. (rw e) ∙ sym (ap (λ (o : Option Write). maybe o c (λ (x : Write). g x c)) (look-here r ws j (same-true (r .key) j e))))
+    (λ e. (rw e (updated-rows g ws j c)) ∙ sym (ap (λ (o : Option Write). maybe o c (λ (x : Write). g x c)) (look-there r ws j (same-false (r .key) j e))))
+    (cases (same (r .key) j))
+
+-- so a second change at the address of the first row undoes nothing
+rows-once : (g : Write → Content → Content) (r : Row Write) (ws : List (Row Write)) → Different (keys (r ∷ ws))
+    → (j : ℕ) (c : Content) → r .key ≡ j → updated rowKey (λ (x : Row Write). g (x .item)) ws j (g (r .item) c) ≡ g (r .item) c
+rows-once g r ws d j c e =
+    updated-rows g ws j (g (r .item) c)
+    ∙ ap (λ (o : Option Write). maybe o (g (r .item) c) (λ (x : Write). g x (g (r .item) c))) (ap (look ws) (sym e) ∙ first-once r ws d)
+
+pub locked-busy : (w : ℕ) (e : Write) (c : Content) → isIdle (lockedFor w e c) ≡ false
+unfolding isIdle
+locked-busy w e c = go (c .pending)
+  where
+    go : (p : Option Pending) → both (not (present p)) false ≡ false
+    go none = refl
+    go (some p) = refl
+
+-- what a lock says of an address
+abbrev pub lockedBy : ℕ → Option Write → Content → Content
+lockedBy w o c = maybe o c (λ (e : Write). lockedFor w e c)
+
+pub locked-pending : (w : ℕ) (o : Option Write) (c : Content) → lockedBy w o c .pending ≡ c .pending
+locked-pending w none c = refl
+locked-pending w (some e) c = refl
+
+pub locking : (bytes w : ℕ) → Changes bytes (Row Write) (lockRow bytes w) rowKey (λ (r : Row Write). lockedFor w (r .item)) LockRoom
+unfolding lockRow
+locking bytes w =
+    record {
+      good = λ ss r ws a i. enter-good a (lock-room a (lockedFor w (r .item) (contentOf ss (r .key))) r ws i);
+      says =
+          λ ss r ws a i j.
+          content-enter a (lock-room a (lockedFor w (r .item) (contentOf ss (r .key))) r ws i) (inl (locked-busy w (r .item) (contentOf ss (r .key)))) j
+          ∙ at-own (λ (x : ℕ). lockedFor w (r .item) (contentOf ss x)) (contentOf ss) (r .key) j (λ e. ap (λ (x : ℕ). lockedFor w (r .item) (contentOf ss x)) e);
+      rest =
+          λ ss r ws a i.
+          record {
+            room =
+                lock-rest a (r .key) (keys ws) (lockedFor w (r .item) (contentOf ss (r .key)))
+                (lock-room a (lockedFor w (r .item) (contentOf ss (r .key))) r ws i) (unfold keys in i .room);
+            once = rest-once r ws (i .once);
+          };
+      once = λ ss r ws i j c e. rows-once (lockedFor w) r ws (i .once) j c e;
+    }
+
+-- ---- unlock
+
+abbrev pub ident : ℕ → ℕ
+ident k = k
 
 updated-keys : (g : Content → Content) (ks : List ℕ) (j : ℕ) (c : Content)
     → updated ident (λ (k : ℕ). g) ks j c ≡ pick (has j ks) (g c) c
@@ -155,30 +227,9 @@ updated-keys g (k ∷ ks) j c =
     (λ e. (rw e) ∙ sym (ap (λ (b : Bool). pick b (g c) c) (has-cons j k ks ∙ ap (λ (b : Bool). pick b true (has j ks)) (same-no {m = j} {n = k} (λ q. same-false k j e (sym q))))))
     (cases (same k j))
 
-at-own : {A : Type 0} (P : ℕ → A) (Q : ℕ → A) (k : ℕ) (j : ℕ) → ((e : k ≡ j) → P k ≡ P j) → pick (same k j) (P k) (Q j) ≡ pick (same k j) (P j) (Q j)
-at-own P Q k j h = ⊎-elim (λ e. rw e (h (same-true k j e))) (λ e. rw e) (cases (same k j))
-
-pub locking : (bytes w : ℕ) → Changes bytes ℕ (lockKey bytes w) ident (λ (k : ℕ). withHolder w) LockRoom
-unfolding lockKey
-locking bytes w =
-    record {
-      good = λ ss k ks a i. enter-good a (lock-room a k ks _ i);
-      says =
-          λ ss k ks a i j.
-          content-enter a (lock-room a k ks _ i) j
-          ∙ at-own (λ (x : ℕ). withHolder w (contentOf ss x)) (contentOf ss) k j (λ e. ap (λ (x : ℕ). withHolder w (contentOf ss x)) e);
-      rest = λ ss k ks a i. lock-rest a k ks _ (lock-room a k ks _ i) i;
-      once = λ ss k ks i j c e. updated-keys (withHolder w) ks j (withHolder w c) ∙ ⊎-elim (λ t. rw t) (λ t. rw t) (cases (has j ks));
-    }
-
--- ---- unlock
-
-abbrev pub withoutHolder : Content → Content
-withoutHolder c = record { pending = c .pending; holder = none }
-
 -- the lock goes if worker w has it
 unfoldable pub unlocked : ℕ → Content → Content
-unlocked w c = maybe (c .holder) c (λ (h : ℕ). pick (same h w) (withoutHolder c) c)
+unlocked w c = maybe (c .holder) c (λ (h : ℕ). pick (same h w) (withoutLock c) c)
 
 abbrev pub Always : {X : Type 0} → List Slot → List X → Type 0
 Always ss xs = Unit {0}
@@ -186,39 +237,41 @@ Always ss xs = Unit {0}
 abbrev UnlockCases : ℕ → ℕ → List Slot → ℕ → Type 0
 UnlockCases bytes w ss k =
     ((unlockKey bytes w ss k ≡ ss) × (unlocked w (contentOf ss k) ≡ contentOf ss k))
-    ⊎ ((unlockKey bytes w ss k ≡ enter bytes ss k (withoutHolder (contentOf ss k))) × (unlocked w (contentOf ss k) ≡ withoutHolder (contentOf ss k)))
+    ⊎ ((unlockKey bytes w ss k ≡ enter bytes ss k (withoutLock (contentOf ss k))) × (unlocked w (contentOf ss k) ≡ withoutLock (contentOf ss k)))
 
 unlock-cases : (bytes w : ℕ) (ss : List Slot) (k : ℕ) → UnlockCases bytes w ss k
 unfolding unlockKey unlocked
 unlock-cases bytes w ss k = go (contentOf ss k .holder) refl
   where
     slots : Option ℕ → List Slot
-    slots o = maybe o ss (λ (h : ℕ). pick (same h w) (enter bytes ss k (withoutHolder (contentOf ss k))) ss)
+    slots o = maybe o ss (λ (h : ℕ). pick (same h w) (enter bytes ss k (withoutLock (contentOf ss k))) ss)
 
     says : Option ℕ → Content
-    says o = maybe o (contentOf ss k) (λ (h : ℕ). pick (same h w) (withoutHolder (contentOf ss k)) (contentOf ss k))
+    says o = maybe o (contentOf ss k) (λ (h : ℕ). pick (same h w) (withoutLock (contentOf ss k)) (contentOf ss k))
 
     go : (o : Option ℕ) → contentOf ss k .holder ≡ o → UnlockCases bytes w ss k
     go none e = inl (ap slots e, ap says e)
     go (some h) e =
         ⊎-elim
-        (λ t. inr (ap slots e ∙ ap (λ (b : Bool). pick b (enter bytes ss k (withoutHolder (contentOf ss k))) ss) t, ap says e ∙ ap (λ (b : Bool). pick b (withoutHolder (contentOf ss k)) (contentOf ss k)) t))
-        (λ t. inl (ap slots e ∙ ap (λ (b : Bool). pick b (enter bytes ss k (withoutHolder (contentOf ss k))) ss) t, ap says e ∙ ap (λ (b : Bool). pick b (withoutHolder (contentOf ss k)) (contentOf ss k)) t))
+        (λ t. inr (ap slots e ∙ ap (λ (b : Bool). pick b (enter bytes ss k (withoutLock (contentOf ss k))) ss) t, ap says e ∙ ap (λ (b : Bool). pick b (withoutLock (contentOf ss k)) (contentOf ss k)) t))
+        (λ t. inl (ap slots e ∙ ap (λ (b : Bool). pick b (enter bytes ss k (withoutLock (contentOf ss k))) ss) t, ap says e ∙ ap (λ (b : Bool). pick b (withoutLock (contentOf ss k)) (contentOf ss k)) t))
         (cases (same h w))
 
-unlocked-mine : (w : ℕ) (c : Content) (h : ℕ) → c .holder ≡ some h → same h w ≡ true → unlocked w c ≡ withoutHolder c
+unlocked-mine : (w : ℕ) (c : Content) (h : ℕ) → c .holder ≡ some h → same h w ≡ true → unlocked w c ≡ withoutLock c
 unfolding unlocked
 unlocked-mine w c h e t =
-    ap (λ (o : Option ℕ). maybe o c (λ (x : ℕ). pick (same x w) (withoutHolder c) c)) e ∙ ap (λ (b : Bool). pick b (withoutHolder c) c) t
+    ap (λ (o : Option ℕ). maybe o c (λ (x : ℕ). pick (same x w) (withoutLock c) c)) e ∙ ap (λ (b : Bool). pick b (withoutLock c) c) t
 
-unlocked-other : (w : ℕ) (c : Content) (h : ℕ) → c .holder ≡ some h → same h w ≡ false → unlocked w c ≡ c
+-- a lock of another stays, for what it is
+pub unlocked-other : (w : ℕ) (c : Content) (v : ℕ) → (v ≡ w → ⊥) → c .holder ≡ some v → unlocked w c ≡ c
 unfolding unlocked
-unlocked-other w c h e t =
-    ap (λ (o : Option ℕ). maybe o c (λ (x : ℕ). pick (same x w) (withoutHolder c) c)) e ∙ ap (λ (b : Bool). pick b (withoutHolder c) c) t
+unlocked-other w c v d e =
+    ap (λ (o : Option ℕ). maybe o c (λ (x : ℕ). pick (same x w) (withoutLock c) c)) e
+    ∙ ap (λ (b : Bool). pick b (withoutLock c) c) (same-no {m = v} {n = w} d)
 
 unlocked-none : (w : ℕ) (c : Content) → c .holder ≡ none → unlocked w c ≡ c
 unfolding unlocked
-unlocked-none w c e = ap (λ (o : Option ℕ). maybe o c (λ (x : ℕ). pick (same x w) (withoutHolder c) c)) e
+unlocked-none w c e = ap (λ (o : Option ℕ). maybe o c (λ (x : ℕ). pick (same x w) (withoutLock c) c)) e
 
 unlocked-twice : (w : ℕ) (c : Content) → unlocked w (unlocked w c) ≡ unlocked w c
 unlocked-twice w c = go (c .holder) refl
@@ -227,11 +280,11 @@ unlocked-twice w c = go (c .holder) refl
     go none e = ap (unlocked w) (unlocked-none w c e)
     go (some h) e =
         ⊎-elim
-        (λ t. ap (unlocked w) (unlocked-mine w c h e t) ∙ unlocked-none w (withoutHolder c) refl ∙ sym (unlocked-mine w c h e t))
-        (λ t. ap (unlocked w) (unlocked-other w c h e t))
+        (λ t. ap (unlocked w) (unlocked-mine w c h e t) ∙ unlocked-none w (withoutLock c) refl ∙ sym (unlocked-mine w c h e t))
+        (λ t. ap (unlocked w) (unlocked-other w c h (same-false h w t) e))
         (cases (same h w))
 
--- of the pending write nothing is said, and a lock of another stays
+-- of the pending write nothing is said
 pub unlocked-pending : (w : ℕ) (c : Content) → unlocked w c .pending ≡ c .pending
 unlocked-pending w c = go (c .holder) refl
   where
@@ -240,15 +293,12 @@ unlocked-pending w c = go (c .holder) refl
     go (some h) e =
         ⊎-elim
         (λ t. ap (λ (x : Content). x .pending) (unlocked-mine w c h e t))
-        (λ t. ap (λ (x : Content). x .pending) (unlocked-other w c h e t))
+        (λ t. ap (λ (x : Content). x .pending) (unlocked-other w c h (same-false h w t) e))
         (cases (same h w))
 
-pub unlocked-holder : (w : ℕ) (c : Content) (v : ℕ) → (v ≡ w → ⊥) → c .holder ≡ some v → unlocked w c .holder ≡ some v
-unlocked-holder w c v d e = ap (λ (x : Content). x .holder) (unlocked-other w c v e (same-no {m = v} {n = w} d)) ∙ e
-
-unlock-room : {bytes : ℕ} {ss : List Slot} → Good bytes ss → (k : ℕ) → Room ss k (withoutHolder (contentOf ss k))
+unlock-room : {bytes : ℕ} {ss : List Slot} → Good bytes ss → (k : ℕ) → Room ss k (withoutLock (contentOf ss k))
 unlock-room {ss = ss} a k =
-    room-old a k (withoutHolder (contentOf ss k)) (λ e. unfold isIdle in rw (idle-pending (contentOf ss k) e))
+    room-old a k (withoutLock (contentOf ss k)) (λ e. unfold isIdle in rw (idle-pending (contentOf ss k) e))
 
 pub unlocking : (bytes w : ℕ) → Changes bytes ℕ (unlockKey bytes w) ident (λ (k : ℕ). unlocked w) Always
 unlocking bytes w =
@@ -271,7 +321,7 @@ unlocking bytes w =
         (λ c. ap (λ (s : List Slot). contentOf s j) (c .0)
         ∙ ⊎-elim (λ t. sym (ap (λ (b : Bool). pick b (unlocked w (contentOf ss j)) (contentOf ss j)) t ∙ subst (λ (x : ℕ). unlocked w (contentOf ss x) ≡ contentOf ss x) (same-true k j t) (c .1))) (λ t. sym (ap (λ (b : Bool). pick b (unlocked w (contentOf ss j)) (contentOf ss j)) t)) (cases (same k j)))
         (λ c. ap (λ (s : List Slot). contentOf s j) (c .0)
-        ∙ content-enter a (unlock-room a k) j
+        ∙ content-enter a (unlock-room a k) (inr refl) j
         ∙ ap (λ (x : Content). pick (same k j) x (contentOf ss j)) (sym (c .1))
         ∙ at-own (λ (x : ℕ). unlocked w (contentOf ss x)) (contentOf ss) k j (λ e. ap (λ (x : ℕ). unlocked w (contentOf ss x)) e))
         (unlock-cases bytes w ss k)
@@ -280,9 +330,6 @@ unlocking bytes w =
 
 abbrev pub installedAs : ℕ → ℕ → Row Write → Content → Content
 installedAs n t r c = writtenOver n t (r .item) c
-
-abbrev pub rowKey : Row Write → ℕ
-rowKey r = r .key
 
 -- each address has an entry, and stands once
 pub record Installable (ss : List Slot) (ws : List (Row Write)) : Type 0 where
@@ -297,30 +344,9 @@ installed-busy n t r c = refl
 abbrev pub writtenBy : ℕ → ℕ → Option Write → Content → Content
 writtenBy n t o c = maybe o c (λ (e : Write). writtenOver n t e c)
 
--- the first write of an address stands: a write set has one
-updated-rows : (n t : ℕ) (ws : List (Row Write)) (j : ℕ) (c : Content) → updated rowKey (installedAs n t) ws j c ≡ writtenBy n t (look ws j) c
-updated-rows n t [] j c = unfold look in refl
-updated-rows n t (r ∷ ws) j c =
-    ⊎-elim
-    (λ e. (rw e) ∙ sym (ap (λ (o : Option Write). writtenBy n t o c) (look-here r ws j (same-true (r .key) j e))))
-    (λ e. (rw e (updated-rows n t ws j c)) ∙ sym (ap (λ (o : Option Write). writtenBy n t o c) (look-there r ws j (same-false (r .key) j e))))
-    (cases (same (r .key) j))
-
 install-room : {bytes : ℕ} {ss : List Slot} → Good bytes ss → (c : Content) (r : Row Write) (ws : List (Row Write)) → Installable ss (r ∷ ws)
     → Room ss (r .key) c
 install-room a c r ws i = stands (has-entry a (r .key) (i .held (r .key) (ap present (look-here r ws (r .key) refl))))
-
-first-once : (r : Row Write) (ws : List (Row Write)) → Different (keys (r ∷ ws)) → look ws (r .key) ≡ none
-unfolding keys Different
-first-once r ws d = go (look ws (r .key)) refl
-  where
-    go : (o : Option Write) → look ws (r .key) ≡ o → look ws (r .key) ≡ none
-    go none e = e
-    go (some x) e = clash (has-keys ws (r .key) ∙ ap present e) (d .0)
-
-rest-once : (r : Row Write) (ws : List (Row Write)) → Different (keys (r ∷ ws)) → Different (keys ws)
-unfolding keys Different
-rest-once r ws d = d .1
 
 pub installing : (bytes n t : ℕ) → Changes bytes (Row Write) (installRow bytes n t) rowKey (installedAs n t) Installable
 unfolding installRow
@@ -329,19 +355,16 @@ installing bytes n t =
       good = λ ss r ws a i. enter-good a (install-room a (installedAs n t r (contentOf ss (r .key))) r ws i);
       says =
           λ ss r ws a i j.
-          content-enter a (install-room a (installedAs n t r (contentOf ss (r .key))) r ws i) j
+          content-enter a (install-room a (installedAs n t r (contentOf ss (r .key))) r ws i) (inr refl) j
           ∙ at-own (λ (x : ℕ). installedAs n t r (contentOf ss x)) (contentOf ss) (r .key) j (λ e. ap (λ (x : ℕ). installedAs n t r (contentOf ss x)) e);
       rest = λ ss r ws a i. record { held = held ss r ws a i; once = rest-once r ws (i .once) };
-      once =
-          λ ss r ws i j c e.
-          updated-rows n t ws j (installedAs n t r c)
-          ∙ ap (λ (o : Option Write). writtenBy n t o (installedAs n t r c)) (ap (look ws) (sym e) ∙ first-once r ws (i .once));
+      once = λ ss r ws i j c e. rows-once (writtenOver n t) r ws (i .once) j c e;
     }
   where
     held : (ss : List Slot) (r : Row Write) (ws : List (Row Write)) → Good bytes ss → Installable ss (r ∷ ws)
         → (k : ℕ) → present (look ws k) ≡ true → isIdle (contentOf (enter bytes ss (r .key) (installedAs n t r (contentOf ss (r .key)))) k) ≡ false
     held ss r ws a i k p =
-        ap isIdle (content-enter a (install-room a (installedAs n t r (contentOf ss (r .key))) r ws i) k)
+        ap isIdle (content-enter a (install-room a (installedAs n t r (contentOf ss (r .key))) r ws i) (inr refl) k)
         ∙ ⊎-elim
         (λ e. ap (λ (b : Bool). isIdle (pick b (installedAs n t r (contentOf ss (r .key))) (contentOf ss k))) e ∙ installed-busy n t r (contentOf ss (r .key)))
         (λ e. ap (λ (b : Bool). isIdle (pick b (installedAs n t r (contentOf ss (r .key))) (contentOf ss k))) e
@@ -353,15 +376,15 @@ installing bytes n t =
 abbrev pub GoodMap : Settings → MapState → Type 0
 GoodMap s m = Good (s .bytes) (m .slots)
 
-pub lock-good : (s : Settings) (w : ℕ) (m : MapState) (ks : List ℕ) → GoodMap s m → LockRoom (m .slots) ks → GoodMap s (lockAll s w m ks)
+pub lock-good : (s : Settings) (w : ℕ) (m : MapState) (ws : List (Row Write)) → GoodMap s m → LockRoom (m .slots) ws → GoodMap s (lockAll s w m ws)
 unfolding lockAll withSlots
-lock-good s w m ks a r = each-good (locking (s .bytes) w) (m .slots) ks a r
+lock-good s w m ws a r = each-good (locking (s .bytes) w) (m .slots) ws a r
 
-pub lock-says : (s : Settings) (w : ℕ) (m : MapState) (ks : List ℕ) → GoodMap s m → LockRoom (m .slots) ks
-    → (j : ℕ) → contentOf (lockAll s w m ks .slots) j ≡ pick (has j ks) (withHolder w (contentOf (m .slots) j)) (contentOf (m .slots) j)
+pub lock-says : (s : Settings) (w : ℕ) (m : MapState) (ws : List (Row Write)) → GoodMap s m → LockRoom (m .slots) ws
+    → (j : ℕ) → contentOf (lockAll s w m ws .slots) j ≡ lockedBy w (look ws j) (contentOf (m .slots) j)
 unfolding lockAll withSlots
-lock-says s w m ks a r j =
-    each-says (locking (s .bytes) w) (m .slots) ks a r j ∙ updated-keys (withHolder w) ks j (contentOf (m .slots) j)
+lock-says s w m ws a r j =
+    each-says (locking (s .bytes) w) (m .slots) ws a r j ∙ updated-rows (lockedFor w) ws j (contentOf (m .slots) j)
 
 pub unlock-good : (s : Settings) (w : ℕ) (m : MapState) (ks : List ℕ) → GoodMap s m → GoodMap s (unlockAll s w m ks)
 unfolding unlockAll withSlots
@@ -381,4 +404,4 @@ pub install-says : (s : Settings) (n t : ℕ) (m : MapState) (ws : List (Row Wri
     → (j : ℕ) → contentOf (installAll s n t m ws .slots) j ≡ writtenBy n t (look ws j) (contentOf (m .slots) j)
 unfolding installAll withSlots
 install-says s n t m ws a i j =
-    each-says (installing (s .bytes) n t) (m .slots) ws a i j ∙ updated-rows n t ws j (contentOf (m .slots) j)
+    each-says (installing (s .bytes) n t) (m .slots) ws a i j ∙ updated-rows (writtenOver n t) ws j (contentOf (m .slots) j)

@@ -6,7 +6,7 @@ use mathlib.Core.Path.{_≡_, refl, sym, ap, _∙_, subst}
 use mathlib.Core.Logic.{⊎-elim}
 use mathlib.Core.Bool.{Bool, true, false}
 use mathlib.Core.List.{List, [], _∷_}
-use mathlib.Core.Option.{Option, none}
+use mathlib.Core.Option.{Option, none, some}
 use Rattle.lists.specs.Tests.{pick, both, maybe, present, same}
 use Rattle.lists.specs.TestLaws.{cases, clash, same-true, same-false, same-yes, same-no}
 use Rattle.lists.specs.Rows.{Row, look, keys, has, filter, Rising}
@@ -15,9 +15,9 @@ use Rattle.lists.specs.Counting.{has-nil, has-cons}
 use Rattle.spec.specs.Records.{Settings, Record}
 use Rattle.spec.specs.Leaves.{Leaf, versionAt, settle, versionsTaken}
 use Rattle.spec.specs.Slots.{Pending, Content, isIdle, entries, contentOf}
-use Rattle.spec.specs.Maps.{MapState, outcomeOf, current, each, mergesAt, merging, mergeEntry, recordsIn, Merged, settleMap, mergeAll, mergeAt}
+use Rattle.spec.specs.Maps.{MapState, outcomeOf, current, each, mergesAt, merging, takenIn, mergeEntry, recordsIn, Merged, settleMap, mergeAll, mergeAt}
 use Rattle.laws.specs.SlotCounts.{Good}
-use Rattle.laws.specs.SlotLaws.{Room, enter-good, content-enter}
+use Rattle.laws.specs.SlotLaws.{Room, enter-good, said, said-pending, said-holder, said-kind, content-said}
 use Rattle.laws.specs.MapLaws.{idle-holder, room-old}
 use Rattle.laws.specs.LeafLaws.{GoodLeaves}
 use Rattle.laws.specs.LeafCuts.{GoodCut}
@@ -26,13 +26,10 @@ use Rattle.laws.specs.SettleLaws.{InLeaf, records-in-leaf, settle-good, 
 
 -- ---- one entry enters the index
 
-abbrev pub withoutPending : Content → Content
-withoutPending c = record { pending = none; holder = c .holder }
-
 module _ (bytes : ℕ) (m : MapState) (e : Row Content) (a : Good bytes (m .slots)) where
-  room : Room (m .slots) (e .key) (withoutPending (contentOf (m .slots) (e .key)))
+  room : Room (m .slots) (e .key) (takenIn (contentOf (m .slots) (e .key)))
   room =
-      room-old a (e .key) (withoutPending (contentOf (m .slots) (e .key)))
+      room-old a (e .key) (takenIn (contentOf (m .slots) (e .key)))
       (λ i. unfold isIdle in rw (idle-holder (contentOf (m .slots) (e .key)) i))
 
   merge-entry-good : Good bytes (mergeEntry bytes m e .slots)
@@ -40,13 +37,13 @@ module _ (bytes : ℕ) (m : MapState) (e : Row Content) (a : Good bytes (m .slot
   merge-entry-good = enter-good a room
 
   merge-entry-says : (j : ℕ)
-      → contentOf (mergeEntry bytes m e .slots) j ≡ pick (same (e .key) j) (withoutPending (contentOf (m .slots) j)) (contentOf (m .slots) j)
+      → contentOf (mergeEntry bytes m e .slots) j ≡ pick (same (e .key) j) (said (takenIn (contentOf (m .slots) j))) (contentOf (m .slots) j)
   unfolding mergeEntry
   merge-entry-says j =
-      content-enter a room j
+      content-said a room j
       ∙ ⊎-elim
-      (λ t. (rw t) ∙ ap (λ (x : ℕ). withoutPending (contentOf (m .slots) x)) (same-true (e .key) j t) ∙ sym (ap (λ (b : Bool). pick b (withoutPending (contentOf (m .slots) j)) (contentOf (m .slots) j)) t))
-      (λ t. (rw t) ∙ sym (ap (λ (b : Bool). pick b (withoutPending (contentOf (m .slots) j)) (contentOf (m .slots) j)) t))
+      (λ t. (rw t) ∙ ap (λ (x : ℕ). said (takenIn (contentOf (m .slots) x))) (same-true (e .key) j t) ∙ sym (ap (λ (b : Bool). pick b (said (takenIn (contentOf (m .slots) j))) (contentOf (m .slots) j)) t))
+      (λ t. (rw t) ∙ sym (ap (λ (b : Bool). pick b (said (takenIn (contentOf (m .slots) j))) (contentOf (m .slots) j)) t))
       (cases (same (e .key) j))
 
   merge-entry-look : (j : ℕ) → look (mergeEntry bytes m e .records) j ≡ pick (same (e .key) j) (current m j) (look (m .records) j)
@@ -65,13 +62,23 @@ module _ (bytes : ℕ) (m : MapState) (e : Row Content) (a : Good bytes (m .slot
   merge-entry-holder : (j : ℕ) → contentOf (mergeEntry bytes m e .slots) j .holder ≡ contentOf (m .slots) j .holder
   merge-entry-holder j =
       ap (λ (c : Content). c .holder) (merge-entry-says j)
-      ∙ ⊎-elim (λ t. rw t) (λ t. rw t) (cases (same (e .key) j))
+      ∙ ⊎-elim (λ t. rw t (said-holder (takenIn (contentOf (m .slots) j)))) (λ t. rw t) (cases (same (e .key) j))
+
+  merge-entry-kind : (j w : ℕ) → contentOf (m .slots) j .holder ≡ some w → contentOf (mergeEntry bytes m e .slots) j .forPut ≡ contentOf (m .slots) j .forPut
+  merge-entry-kind j w q =
+      ap (λ (c : Content). c .forPut) (merge-entry-says j)
+      ∙ ⊎-elim (λ t. rw t (said-kind (takenIn (contentOf (m .slots) j)) w q)) (λ t. rw t) (cases (same (e .key) j))
+
+  merge-entry-pending : (j : ℕ) → contentOf (mergeEntry bytes m e .slots) j .pending ≡ pick (same (e .key) j) none (contentOf (m .slots) j .pending)
+  merge-entry-pending j =
+      ap (λ (c : Content). c .pending) (merge-entry-says j)
+      ∙ ⊎-elim (λ t. rw t (said-pending (takenIn (contentOf (m .slots) j)))) (λ t. rw t) (cases (same (e .key) j))
 
   merge-entry-current : (j : ℕ) → current (mergeEntry bytes m e) j ≡ current m j
   merge-entry-current j =
       unfold current in
-      ap (λ (p : Option Pending). maybe p (look (mergeEntry bytes m e .records) j) outcomeOf) (ap (λ (c : Content). c .pending) (merge-entry-says j))
-      ∙ ap (λ (r : Option Record). maybe (pick (same (e .key) j) (withoutPending (contentOf (m .slots) j)) (contentOf (m .slots) j) .pending) r outcomeOf) (merge-entry-look j)
+      ap (λ (p : Option Pending). maybe p (look (mergeEntry bytes m e .records) j) outcomeOf) (merge-entry-pending j)
+      ∙ ap (λ (r : Option Record). maybe (pick (same (e .key) j) none (contentOf (m .slots) j .pending)) r outcomeOf) (merge-entry-look j)
       ∙ ⊎-elim (λ t. rw t) (λ t. rw t) (cases (same (e .key) j))
 
 -- ---- all entries of a leaf
@@ -100,6 +107,14 @@ module _ (bytes : ℕ) where
   merged-holder m [] a j = refl
   merged-holder m (e ∷ es) a j =
       merged-holder (mergeEntry bytes m e) es (merge-entry-good bytes m e a) j ∙ merge-entry-holder bytes m e a j
+
+  -- a lock stays for what it is
+  merged-kind : (m : MapState) (es : List (Row Content)) → Good bytes (m .slots)
+      → (j w : ℕ) → contentOf (m .slots) j .holder ≡ some w → contentOf (each (mergeEntry bytes) m es .slots) j .forPut ≡ contentOf (m .slots) j .forPut
+  unfolding each
+  merged-kind m [] a j w q = refl
+  merged-kind m (e ∷ es) a j w q =
+      merged-kind (mergeEntry bytes m e) es (merge-entry-good bytes m e a) j w (merge-entry-holder bytes m e a j ∙ q) ∙ merge-entry-kind bytes m e a j w q
 
   pub merged-leaves : (m : MapState) (es : List (Row Content)) → each (mergeEntry bytes) m es .leaves ≡ m .leaves
   unfolding each mergeEntry
@@ -132,7 +147,7 @@ module _ (bytes : ℕ) where
   merged-pending m [] a j = sym (ap (λ (b : Bool). pick b none (contentOf (m .slots) j .pending)) (has-nil j))
   merged-pending m (e ∷ es) a j =
       merged-pending (mergeEntry bytes m e) es (merge-entry-good bytes m e a) j
-      ∙ ap (λ (c : Content). pick (has j (keys es)) none (c .pending)) (merge-entry-says bytes m e a j)
+      ∙ ap (pick (has j (keys es)) none) (merge-entry-pending bytes m e a j)
       ∙ ⊎-elim
       (λ t.
       (rw t (⊎-elim (λ q. rw q) (λ q. rw q) (cases (has j (keys es)))))
@@ -188,6 +203,7 @@ pub record Merges (s : Settings) (v : ℕ) (m : MapState) (r : Merged) : Type 0 
   pub later : v ≤ r .version
   pub same-current : (k : ℕ) → current (r .map) k ≡ current m k
   pub same-holder : (k : ℕ) → contentOf (r .map .slots) k .holder ≡ contentOf (m .slots) k .holder
+  pub same-kind : (k w : ℕ) → contentOf (m .slots) k .holder ≡ some w → contentOf (r .map .slots) k .forPut ≡ contentOf (m .slots) k .forPut
   pub gone : ℕ → Bool
   pub renewed : (k : ℕ) → gone (versionAt (m .leaves) k) ≡ true → v < versionAt (r .map .leaves) k
   pub kept-version : (k : ℕ) → gone (versionAt (m .leaves) k) ≡ false → versionAt (r .map .leaves) k ≡ versionAt (m .leaves) k
@@ -205,6 +221,7 @@ module _ {s : Settings} {v : ℕ} {m : MapState} (a : ℕ) (c : GoodCut s) (g : 
         later = le-add-right v (versionsTaken s ks);
         same-current = λ k. merged-current (s .bytes) m es g k;
         same-holder = λ k. merged-holder (s .bytes) m es g k;
+        same-kind = λ k w q. merged-kind (s .bytes) m es g k w q;
         gone = kept .gone;
         renewed = λ k e. kept .renewed k (subst (λ (ls : List Leaf). kept .gone (versionAt ls k) ≡ true) (sym same-leaves) e);
         kept-version =
@@ -251,6 +268,7 @@ module _ {s : Settings} {v : ℕ} {m : MapState} (a : ℕ) (c : GoodCut s) (g : 
             later = le-refl v;
             same-current = λ k. refl;
             same-holder = λ k. refl;
+            same-kind = λ k w q. refl;
             gone = λ u. false;
             renewed = λ k e. clash e refl;
             kept-version = λ k e. refl;

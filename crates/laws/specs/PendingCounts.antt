@@ -18,7 +18,7 @@ use Rattle.spec.specs.Records.{Settings, Record, Write}
 use Rattle.spec.specs.Slots.{Slot, Pending, Content, idle, emptySlots, entries, contentOf}
 use Rattle.spec.specs.Maps.{MapState, outcomeOf, pendingRows, each, lockAll, unlockAll, installAll, mergeEntry}
 use Rattle.laws.specs.SlotLaws.{Good, keys-differ}
-use Rattle.laws.specs.MapLaws.{unlocked-pending, writtenBy, LockRoom, Installable, GoodMap, lock-good, lock-says, unlock-good, unlock-says, install-good, install-says}
+use Rattle.laws.specs.MapLaws.{locked-pending, unlocked-pending, writtenBy, LockRoom, Installable, GoodMap, lock-good, lock-says, unlock-good, unlock-says, install-good, install-says}
 use Rattle.laws.specs.MergeLaws.{merged-good, merged-pending}
 use Rattle.laws.specs.ContentLaws.{leaving, look-pendingRows}
 
@@ -43,7 +43,7 @@ leaving-pending : (o : Option Content) → present (leaving o) ≡ present (Opti
 leaving-pending none = refl
 leaving-pending (some c) = go (c .pending)
   where
-    go : (p : Option Pending) → present (leaving (some (record { pending = p; holder = c .holder }))) ≡ present p
+    go : (p : Option Pending) → present (leaving (some (record { pending = p; holder = c .holder; forPut = c .forPut }))) ≡ present p
     go none = refl
     go (some p) = refl
 
@@ -92,15 +92,15 @@ pending-fewer {bytes} {ss} {ts} g h i =
 
 -- ---- lock, unlock, install
 
-pub lock-pending : (s : Settings) (w : ℕ) (m : MapState) (ks : List ℕ) → GoodMap s m → LockRoom (m .slots) ks
-    → pendingCount (lockAll s w m ks .slots) ≤ pendingCount (m .slots)
-lock-pending s w m ks g r =
-    pending-fewer g (lock-good s w m ks g r) (λ k e. sym (says k) ∙ e)
+pub lock-pending : (s : Settings) (w : ℕ) (m : MapState) (ws : List (Row Write)) → GoodMap s m → LockRoom (m .slots) ws
+    → pendingCount (lockAll s w m ws .slots) ≤ pendingCount (m .slots)
+lock-pending s w m ws g r =
+    pending-fewer g (lock-good s w m ws g r) (λ k e. sym (says k) ∙ e)
   where
-    says : (k : ℕ) → pendingAt (lockAll s w m ks .slots) k ≡ pendingAt (m .slots) k
+    says : (k : ℕ) → pendingAt (lockAll s w m ws .slots) k ≡ pendingAt (m .slots) k
     says k =
-        ap (λ (c : Content). present (c .pending)) (lock-says s w m ks g r k)
-        ∙ ⊎-elim (λ t. rw t) (λ t. rw t) (cases (has k ks))
+        ap (λ (c : Content). present (c .pending)) (lock-says s w m ws g r k)
+        ∙ ap present (locked-pending w (look ws k) (contentOf (m .slots) k))
 
 pub unlock-pending : (s : Settings) (w : ℕ) (m : MapState) (ks : List ℕ) → GoodMap s m
     → pendingCount (unlockAll s w m ks .slots) ≤ pendingCount (m .slots)

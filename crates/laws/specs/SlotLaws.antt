@@ -3,17 +3,17 @@
 use Prim.Native.Nat.{ℕ, _+_, _<_, _≤_}
 use native.Mathlib.Omega.{arith}
 use mathlib.Core.Path.{_≡_, refl, sym, ap, _∙_, subst}
-use mathlib.Core.Logic.{⊎-elim}
+use mathlib.Core.Logic.{_⊎_, ⊎-elim}
 use mathlib.Core.Bool.{Bool, true, false, not}
 use mathlib.Core.List.{List, [], _∷_, List·Memᴰ}
 use mathlib.Core.Option.{Option, none, some, Option·getD}
 use lib.ListN.{length}
-use Rattle.lists.specs.Tests.{pick, both, maybe, present, same}
+use Rattle.lists.specs.Tests.{pick, maybe, present, same}
 use Rattle.lists.specs.TestLaws.{cases, clash, same-true, same-false, same-no}
 use Rattle.lists.specs.Rows.{Row, row, look, keys, any, has}
 use Rattle.lists.specs.Members.{look-member}
 use Rattle.lists.specs.Sums.{total}
-use Rattle.lists.specs.Options.{options}
+use Rattle.lists.specs.Options.{options, both-options}
 use Rattle.spec.specs.Slots.{Pending, Content, idle, isIdle, Slot, entries, contentOf, enter, kept}
 use Rattle.lists.specs.Rows.{Different}
 use Rattle.laws.specs.SlotChanges.{changed-tally, Entered}
@@ -25,15 +25,52 @@ pub use Rattle.laws.specs.Entering.{Room, goes, stands, fits, enter-idle
 
 -- ---- what the indexlet says of an address
 
-idle-content : (c : Content) → isIdle c ≡ true → c ≡ idle
+-- what is said of an address once `c` has entered: nothing, if that is neither waiting nor locked
+abbrev pub said : Content → Content
+said c = pick (isIdle c) idle c
+
+said-busy : (c : Content) → isIdle c ≡ false → said c ≡ c
+said-busy c t = ap (λ (b : Bool). pick b idle c) t
+
+-- what is pending and who has the lock is said in any case
+pub said-pending : (c : Content) → said c .pending ≡ c .pending
 unfolding isIdle
-idle-content c t = go (c .pending) (c .holder) t
+said-pending c = go (c .pending) (c .holder)
   where
-    go : (p : Option Pending) (h : Option ℕ) → both (not (present p)) (not (present h)) ≡ true → _≡_ {A = Content}
-        (record { pending = p; holder = h }) idle
-    go none none t = refl
-    go none (some w) t = clash {b = false} t refl
-    go (some x) h t = clash {b = false} t refl
+    go : (p : Option Pending) (h : Option ℕ) → said (record { pending = p; holder = h; forPut = c .forPut }) .pending ≡ p
+    go none none = refl
+    go none (some w) = refl
+    go (some x) h = refl
+
+pub said-holder : (c : Content) → said c .holder ≡ c .holder
+unfolding isIdle
+said-holder c = go (c .pending) (c .holder)
+  where
+    go : (p : Option Pending) (h : Option ℕ) → said (record { pending = p; holder = h; forPut = c .forPut }) .holder ≡ h
+    go none none = refl
+    go none (some w) = refl
+    go (some x) h = refl
+
+-- and of a lock what it is for
+pub said-kind : (c : Content) (w : ℕ) → c .holder ≡ some w → said c .forPut ≡ c .forPut
+unfolding isIdle
+said-kind c w e = go (c .pending) (c .holder) e
+  where
+    go : (p : Option Pending) (h : Option ℕ) → h ≡ some w → said (record { pending = p; holder = h; forPut = c .forPut }) .forPut ≡ c .forPut
+    go none none e = both-options e refl
+    go none (some w) e = refl
+    go (some x) h e = refl
+
+said-plain : (c : Content) → c .forPut ≡ false → said c ≡ c
+unfolding isIdle
+said-plain c e = go (c .pending) (c .holder) (c .forPut) e
+  where
+    go : (p : Option Pending) (h : Option ℕ) (b : Bool) → b ≡ false → _≡_ {A = Content}
+        (said (record { pending = p; holder = h; forPut = b })) (record { pending = p; holder = h; forPut = b })
+    go none none true e = clash refl e
+    go none none false e = refl
+    go none (some w) b e = refl
+    go (some x) h b e = refl
 
 idle-idle : isIdle idle ≡ true
 unfolding isIdle
@@ -72,13 +109,13 @@ look-other {bytes} {ss} {k} {c} {ts} good good' r j n =
         let b : keyed j (r .old) ≡ 0 = r .foreign j n in
         omega arith
 
-content-own : {bytes : ℕ} {ss : List Slot} {k : ℕ} {c : Content} {ts : List Slot} → Good bytes ts → Entered bytes ss k c ts → contentOf ts k ≡ c
+content-own : {bytes : ℕ} {ss : List Slot} {k : ℕ} {c : Content} {ts : List Slot} → Good bytes ts → Entered bytes ss k c ts → contentOf ts k ≡ said c
 content-own {bytes} {ss} {k} {c} {ts} good r =
     ⊎-elim
-    (λ t. content-none ts k (look-absent ts k (gone t)) ∙ sym (idle-content c t))
+    (λ t. content-none ts k (look-absent ts k (gone t)) ∙ sym (ap (λ (b : Bool). pick b idle c) t))
     (λ t. content-some ts k c (look-held ts (r .at) k (row k c) (good .once k)
     (let z : length ts ≡ length ss = r .changed .size in let y : r .at < length ss = r .changed .inside in omega arith)
-    (r .changed .after ∙ ap (λ (t : Bool). pick t none (some (row k c))) t) refl))
+    (r .changed .after ∙ ap (λ (t : Bool). pick t none (some (row k c))) t) refl) ∙ sym (said-busy c t))
     (cases (isIdle c))
   where
     gone : isIdle c ≡ true → count (keyed k) ts ≡ 0
@@ -88,35 +125,38 @@ content-own {bytes} {ss} {k} {c} {ts} good r =
         let b : keyed k (kept k c) ≡ 0 = ap (λ (t : Bool). keyed k (pick t none (some (row k c)))) t in
         omega arith
 
-pub content-enter : {bytes : ℕ} {ss : List Slot} {k : ℕ} {c : Content} → Good bytes ss → Room ss k c
-    → (j : ℕ) → contentOf (enter bytes ss k c) j ≡ pick (same k j) c (contentOf ss j)
+pub content-said : {bytes : ℕ} {ss : List Slot} {k : ℕ} {c : Content} → Good bytes ss → Room ss k c
+    → (j : ℕ) → contentOf (enter bytes ss k c) j ≡ pick (same k j) (said c) (contentOf ss j)
 unfolding contentOf Entering
-content-enter {bytes} {ss} {k} {c} good room j =
+content-said {bytes} {ss} {k} {c} good room j =
     ⊎-elim changed unchanged (entering good room)
   where
     ts : List Slot
     ts = enter bytes ss k c
 
-    changed : Entered bytes ss k c ts → contentOf ts j ≡ pick (same k j) c (contentOf ss j)
+    changed : Entered bytes ss k c ts → contentOf ts j ≡ pick (same k j) (said c) (contentOf ss j)
     changed r =
         let good' : Good bytes ts = entered-good good r in
         ⊎-elim
-        (λ t. ap (contentOf ts) (sym (same-true k j t)) ∙ content-own good' r ∙ ap (λ (t : Bool). pick t c (contentOf ss j)) (sym t))
+        (λ t. ap (contentOf ts) (sym (same-true k j t)) ∙ content-own good' r ∙ ap (λ (t : Bool). pick t (said c) (contentOf ss j)) (sym t))
         (λ t. ap (λ (o : Option Content). Option·getD o idle) (look-other good good' r j (λ q. same-false k j t (sym q)))
-        ∙ ap (λ (t : Bool). pick t c (contentOf ss j)) (sym t))
+        ∙ ap (λ (t : Bool). pick t (said c) (contentOf ss j)) (sym t))
         (cases (same k j))
 
-    unchanged : (ts ≡ ss) × (count (keyed k) ss ≡ 0) × (isIdle c ≡ true) → contentOf ts j ≡ pick (same k j) c (contentOf ss j)
+    unchanged : (ts ≡ ss) × (count (keyed k) ss ≡ 0) × (isIdle c ≡ true) → contentOf ts j ≡ pick (same k j) (said c) (contentOf ss j)
     unchanged r =
         ap (λ (l : List Slot). contentOf l j) (r .0)
         ∙ ⊎-elim
-        (λ t. ap (contentOf ss) (sym (same-true k j t)) ∙ content-none ss k (look-absent ss k (r .1)) ∙ sym (idle-content c (r .2))
-        ∙ ap (λ (t : Bool). pick t c (contentOf ss j)) (sym t))
-        (λ t. ap (λ (t : Bool). pick t c (contentOf ss j)) (sym t))
+        (λ t. ap (contentOf ss) (sym (same-true k j t)) ∙ content-none ss k (look-absent ss k (r .1)) ∙ sym (ap (λ (b : Bool). pick b idle c) (r .2))
+        ∙ ap (λ (t : Bool). pick t (said c) (contentOf ss j)) (sym t))
+        (λ t. ap (λ (t : Bool). pick t (said c) (contentOf ss j)) (sym t))
         (cases (same k j))
 
-pub not-idle : {bytes : ℕ} {ss : List Slot} → Good bytes ss → (e : Row Content) → List·Memᴰ e (entries ss) → isIdle (e .item) ≡ false
-not-idle {bytes} {ss} good e m = let r = member-slot ss e m in good .lively (r .0) e (r .2)
+-- all of it is said, if there is something to say or it is not for a put
+pub content-enter : {bytes : ℕ} {ss : List Slot} {k : ℕ} {c : Content} → Good bytes ss → Room ss k c → (isIdle c ≡ false) ⊎ (c .forPut ≡ false)
+    → (j : ℕ) → contentOf (enter bytes ss k c) j ≡ pick (same k j) c (contentOf ss j)
+content-enter {ss = ss} {k} {c} good room p j =
+    content-said good room j ∙ ap (λ (x : Content). pick (same k j) x (contentOf ss j)) (⊎-elim (said-busy c) (said-plain c) p)
 
 pub member-content : {bytes : ℕ} {ss : List Slot} {e : Row Content} → Good bytes ss → List·Memᴰ e (entries ss) → contentOf ss (e .key) ≡ e .item
 member-content {bytes} {ss} {e} good m =

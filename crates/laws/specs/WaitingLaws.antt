@@ -1,5 +1,5 @@
 -- Since when addresses wait: what lock, unlock, install and merge do to it, and how many have waited longer than one.
-use Prim.Native.Nat.{ℕ, zero, suc, _<_, _≤_}
+use Prim.Native.Nat.{ℕ, _<_, _≤_}
 use native.Mathlib.Nat.{le-trans, le-of-eq}
 use mathlib.Core.Path.{_≡_, refl, sym, ap, _∙_, subst}
 use mathlib.Core.Logic.{⊎-elim}
@@ -17,11 +17,11 @@ use Rattle.lists.specs.Memberships.{different-length}
 use Rattle.lists.specs.Filters.{has-filter, different-filter, filter-has}
 use Rattle.spec.specs.Records.{Settings, Write}
 use Rattle.spec.specs.Leaves.{versionAt}
-use Rattle.spec.specs.Slots.{Slot, Pending, Content, isIdle, entries, contentOf}
-use Rattle.spec.specs.Maps.{MapState, lockAll, unlockAll, installAll, waitingSince, mergesAt, merging, mergeEntry, each, settleMap, mergeAll, mergeAt, ages, older, oldestOf, oldestKey, oldest}
+use Rattle.spec.specs.Slots.{Pending, Content, isIdle, entries, contentOf}
+use Rattle.spec.specs.Maps.{MapState, lockAll, unlockAll, installAll, waitingSince, mergesAt, merging, settleMap, mergeAll, mergeAt, ages, older, oldestOf, oldestKey, oldest}
 use Rattle.spec.specs.Waiting.{waitsSince}
 use Rattle.laws.specs.SlotLaws.{Good, member-content, content-member, content-some, keys-differ, present-content}
-use Rattle.laws.specs.MapLaws.{GoodMap, LockRoom, Installable, writtenBy, unlocked-pending, lock-says, unlock-says, install-says, idle-pending}
+use Rattle.laws.specs.MapLaws.{GoodMap, LockRoom, Installable, writtenBy, locked-pending, unlocked-pending, lock-says, unlock-says, install-says, idle-pending}
 use Rattle.laws.specs.MergeLaws.{merged-pending}
 use Rattle.laws.specs.OldestLaws.{AtLeastAsOld, old-refl, oldest-one, oldest-least, ages-from, ages-to}
 
@@ -108,10 +108,10 @@ module _ {bytes : ℕ} (m : MapState) (g : Good bytes (m .slots)) where
 -- ---- the four changes
 
 module _ (s : Settings) (m : MapState) (g : GoodMap s m) where
-  pub lock-waits : (w : ℕ) (ks : List ℕ) → LockRoom (m .slots) ks → (k : ℕ) → waitsSince (lockAll s w m ks) k ≡ waitsSince m k
-  lock-waits w ks r k =
-      waits-by m (lockAll s w m ks) k
-      (ap (λ (c : Content). c .pending) (lock-says s w m ks g r k) ∙ ⊎-elim (λ t. rw t) (λ t. rw t) (cases (has k ks)))
+  pub lock-waits : (w : ℕ) (ws : List (Row Write)) → LockRoom (m .slots) ws → (k : ℕ) → waitsSince (lockAll s w m ws) k ≡ waitsSince m k
+  lock-waits w ws r k =
+      waits-by m (lockAll s w m ws) k
+      (ap (λ (c : Content). c .pending) (lock-says s w m ws g r k) ∙ locked-pending w (look ws k) (contentOf (m .slots) k))
 
   pub unlock-waits : (w : ℕ) (ks : List ℕ) (k : ℕ) → waitsSince (unlockAll s w m ks) k ≡ waitsSince m k
   unlock-waits w ks k =

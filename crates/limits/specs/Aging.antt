@@ -1,29 +1,26 @@
 -- What a step does to the addresses that wait and to how long they have waited: most steps nothing; an install adds younger
 -- ones; a merge takes some in.
-use Prim.Native.Nat.{ℕ, suc, _<_, _≤_}
-use native.Mathlib.Nat.{le-trans, le-of-eq, le-refl, le-step}
-use native.Mathlib.Omega.{arith}
-use mathlib.Core.Path.{_≡_, refl, sym, ap, _∙_, subst}
+use Prim.Native.Nat.{ℕ, suc}
+use mathlib.Core.Path.{_≡_, refl, sym, subst}
 use mathlib.Core.Logic.{_⊎_, inl, inr, ⊎-elim}
-use mathlib.Core.Bool.{Bool, true, false}
-use mathlib.Core.List.{List, []}
+use mathlib.Core.Bool.{true, false}
+use mathlib.Core.List.{List}
 use mathlib.Core.Option.{Option, none, some}
 use Rattle.lists.specs.Tests.{pick, maybe}
 use Rattle.lists.specs.TestLaws.{cases, clash}
-use Rattle.lists.specs.Options.{both-options, some-same}
+use Rattle.lists.specs.Options.{both-options}
 use Rattle.lists.specs.Rows.{Row, look, keys, has}
 use Rattle.spec.specs.declared.Refusal.{Refusal}
-use Rattle.spec.specs.Records.{Settings, Write}
+use Rattle.spec.specs.Records.{Write}
 use Rattle.spec.specs.Refusals.{ends}
-use Rattle.spec.specs.Slots.{emptySlots, entries, contentOf}
-use Rattle.spec.specs.Maps.{MapState, merging, oldest}
-use Rattle.spec.specs.Steps.{State, fresh, workerOf, Step, begin, read, scan, put, remove, lock, validate, install, abort, merge, mergeOldest, writeKeys, refusal, withWorker, withMap, withCounters, installCounted, dropped, merged, mergedAt, effect, causes, firstCause, next}
+use Rattle.spec.specs.Maps.{merging, oldest}
+use Rattle.spec.specs.Steps.{State, workerOf, Step, begin, read, scan, put, remove, lock, validate, install, abort, merge, mergeOldest, writeKeys, refusal, withWorker, withMap, withCounters, installCounted, dropped, merged, mergedAt, effect, causes, firstCause, next}
 use Rattle.spec.specs.Waiting.{waitsSince, isMergeOldest, takesIn}
-use Rattle.laws.specs.MapBounds.{lock-room}
 use Rattle.laws.specs.WaitingLaws.{lock-waits, unlock-waits, install-waits, merge-waits}
 use Rattle.limits.specs.Invariant.{Kept}
 use Rattle.limits.specs.Granting.{lock-passed, install-passed}
 use Rattle.limits.specs.Refusing.{ends-validation, next-granted, refused-same, refused-ends}
+use Rattle.limits.specs.Locking.{lockable}
 use Rattle.limits.specs.Finishing.{installable}
 
 -- Nothing that waits changes.
@@ -102,8 +99,7 @@ module _ {σ : State} (h : Kept σ) where
       (record {
         waits =
             λ k.
-            lock-waits (σ .settings) (σ .map) (h .map .slots) w (writeKeys σ w)
-            (lock-room (σ .settings) (σ .map) (writeKeys σ w) (h .settings .roomy) (lock-passed σ w e .1 .waiting)) k;
+            lock-waits (σ .settings) (σ .map) (h .map .slots) w (workerOf σ w .writes) (lockable h w (lock-passed σ w e .1)) k;
         installs = refl;
         other = refl;
       })

@@ -13,11 +13,11 @@ use Rattle.spec.specs.Records.{outcome}
 use Rattle.spec.specs.Maps.{current, oldest}
 use Rattle.spec.specs.Steps.{State, workerOf, Step, begin, read, scan, put, remove, lock, validate, install, abort, merge, mergeOldest, writeKeys, causes, firstCause, refusal, withWorker, withMap, withCounters, installCounted, dropped, merged, effect, next}
 use Rattle.laws.specs.MergeLaws.{merges}
-use Rattle.laws.specs.MapBounds.{lock-room}
 use Rattle.laws.specs.CurrentLaws.{lock-current, unlock-current, install-current}
 use Rattle.limits.specs.Invariant.{Kept}
 use Rattle.limits.specs.Granting.{lock-passed, install-passed}
 use Rattle.limits.specs.Refusing.{ends-validation, next-granted, refused-same, refused-ends}
+use Rattle.limits.specs.Locking.{lockable}
 use Rattle.limits.specs.Finishing.{installable}
 
 -- the step is an install, and granted
@@ -43,8 +43,7 @@ module _ {σ : State} (h : Kept σ) where
   granted-current (put w j p) e n k = refl
   granted-current (remove w j) e n k = refl
   granted-current (lock w) e n k =
-      lock-current (σ .settings) w (σ .map) (writeKeys σ w) (h .map .slots)
-      (lock-room (σ .settings) (σ .map) (writeKeys σ w) (h .settings .roomy) (lock-passed σ w e .1 .waiting)) k
+      lock-current (σ .settings) w (σ .map) (workerOf σ w .writes) (h .map .slots) (lockable h w (lock-passed σ w e .1)) k
   granted-current (validate w) e n k = refl
   granted-current (install w) e n k = absurd (n (record { worker = w; is = refl; granted = e }))
   granted-current (abort w) e n k = dropped-current w k

@@ -45,10 +45,11 @@ module _ {σ : State} (h : Kept σ) where
               unchecked = λ e. clash refl e;
               checked = λ e. (suc-le-suc zero-le, le-refl (suc (σ .counters .number)));
             };
-        others-keep = λ v k d e. e;
+        others-keep = λ v k d e. refl;
         others-get = λ v k d e. e;
         holds = λ k t e. h .holds w k (locked-locks (workerOf σ w .stage) (a .stage)) e;
         held-by = λ k e. (unfold hasLocks isLocked in refl, h .held-by w k e .1);
+        kinds = λ k e t. h .kinds w k e (locked-locks (workerOf σ w .stage) (a .stage));
         later = le-step (le-refl (σ .counters .number));
         numbers = l;
         installs =
@@ -89,6 +90,7 @@ module _ {σ : State} (h : Kept σ) where
         others-get = λ v k d e. get v k e (look (workerOf σ w .writes) k) refl;
         holds = λ k t e. clash t (unfold hasLocks isLocked isChecked in refl);
         held-by = λ k e. absurd (gone k (get w k e (look (workerOf σ w .writes) k) refl) e (look (workerOf σ w .writes) k) refl);
+        kinds = λ k e t. clash t (unfold hasLocks isLocked isChecked in refl);
         later = le-refl (σ .counters .number);
         numbers = h .numbers;
         installs =
@@ -107,17 +109,22 @@ module _ {σ : State} (h : Kept σ) where
       after : MapState
       after = installedMap σ w
 
+      says : (k : ℕ) (o : Option Write) → look (workerOf σ w .writes) k ≡ o
+          → contentOf (after .slots) k ≡ writtenBy (workerOf σ w .number) (suc (σ .counters .installs)) o (contentOf (σ .map .slots) k)
+      says k o q =
+          install-says (σ .settings) (workerOf σ w .number) (suc (σ .counters .installs)) (σ .map) (workerOf σ w .writes) (h .map .slots) can k
+          ∙ ap (λ (x : Option Write). writtenBy (workerOf σ w .number) (suc (σ .counters .installs)) x (contentOf (σ .map .slots) k)) q
+
       holder : (k : ℕ) (o : Option Write) → look (workerOf σ w .writes) k ≡ o
           → holderOf after k ≡ writtenBy (workerOf σ w .number) (suc (σ .counters .installs)) o (contentOf (σ .map .slots) k) .holder
-      holder k o q =
-          ap (λ (c : Content). c .holder) (install-says (σ .settings) (workerOf σ w .number) (suc (σ .counters .installs)) (σ .map) (workerOf σ w .writes) (h .map .slots) can k)
-          ∙ ap (λ (x : Option Write). writtenBy (workerOf σ w .number) (suc (σ .counters .installs)) x (contentOf (σ .map .slots) k) .holder) q
+      holder k o q = ap (λ (c : Content). c .holder) (says k o q)
 
       own : (k : ℕ) → present (look (workerOf σ w .writes) k) ≡ true → holderOf (σ .map) k ≡ some w
       own k e = h .holds w k (checked-locks (workerOf σ w .stage) (a .stage)) (has-keys (workerOf σ w .writes) k ∙ e)
 
-      keep : (v k : ℕ) → (v ≡ w → ⊥) → holderOf (σ .map) k ≡ some v → (o : Option Write) → look (workerOf σ w .writes) k ≡ o → holderOf after k ≡ some v
-      keep v k d e none q = holder k none q ∙ e
+      keep : (v k : ℕ) → (v ≡ w → ⊥) → holderOf (σ .map) k ≡ some v → (o : Option Write) → look (workerOf σ w .writes) k ≡ o
+          → contentOf (after .slots) k ≡ contentOf (σ .map .slots) k
+      keep v k d e none q = says k none q
       keep v k d e (some x) q = absurd (d (some-same (sym e ∙ own k (ap present q))))
 
       get : (v k : ℕ) → holderOf after k ≡ some v → (o : Option Write) → look (workerOf σ w .writes) k ≡ o → holderOf (σ .map) k ≡ some v
@@ -141,6 +148,7 @@ module _ {σ : State} (h : Kept σ) where
         worker = h .worker;
         holds = λ w k t e. r .same-holder k ∙ h .holds w k t e;
         held-by = λ w k e. h .held-by w k (sym (r .same-holder k) ∙ e);
+        kinds = λ w k e t q. r .same-kind k w (h .holds w k t (has-keys (workerOf σ w .writes) k ∙ ap present q)) ∙ h .kinds w k e t q;
         numbers = h .numbers;
         installs = h .installs;
         versions =

@@ -1,6 +1,7 @@
 -- What holds of the state after every step (`Kept`): the map is within its limits, a worker's sets are within theirs, a
--- lock is held by exactly the locked and checked workers that have its address in their write sets, commit numbers are
--- within their limit, and the installs and the leaf versions given are bounded by the commit numbers given. So no counter wraps.
+-- lock is held by exactly the locked and checked workers that have its address in their write sets, for what they have there,
+-- commit numbers are within their limit, and the installs and the leaf versions given are bounded by the commit numbers given.
+-- So no counter wraps.
 --
 -- The bound of the versions is a potential. A merge takes at most `versionsPerMerge` versions and uses up a pending write;
 -- an install turns a checked worker into at most `writeLimit` pending writes; a validation makes a checked worker and
@@ -19,7 +20,7 @@ use Rattle.lists.specs.Options.{both-options}
 use Rattle.lists.specs.Rows.{look, has, Rising}
 use Rattle.lists.specs.RowLaws.{rising-nil}
 use Rattle.lists.specs.Sums.{total}
-use Rattle.spec.specs.Records.{Settings, standard, Write}
+use Rattle.spec.specs.Records.{Settings, standard, Write, isPut}
 use Rattle.spec.specs.Slots.{emptySlots, entries, contentOf}
 use Rattle.spec.specs.Steps.{Worker, freeWorker, State, fresh, workerOf, writeKeys, isFree, isLocked, isChecked}
 use Rattle.laws.specs.MapBounds.{Bounded, fresh-bounded}
@@ -56,6 +57,10 @@ pub record Kept (σ : State) : Type 0 where
   pub holds : (w k : ℕ) → hasLocks (workerOf σ w .stage) ≡ true → has k (writeKeys σ w) ≡ true → contentOf (σ .map .slots) k .holder ≡ some w
   -- and there are no other locks
   pub held-by : (w k : ℕ) → contentOf (σ .map .slots) k .holder ≡ some w → (hasLocks (workerOf σ w .stage) ≡ true) × (has k (writeKeys σ w) ≡ true)
+  -- a lock is for what its holder's write set has there
+  pub kinds :
+      (w k : ℕ) (e : Write) → hasLocks (workerOf σ w .stage) ≡ true → look (workerOf σ w .writes) k ≡ some e
+      → contentOf (σ .map .slots) k .forPut ≡ isPut e
   pub numbers : σ .counters .number ≤ σ .settings .lastNumber
   -- an install uses up a checked transaction, which took a commit number
   pub installs : σ .counters .installs + checkedCount (σ .workers) ≤ σ .counters .number
@@ -121,6 +126,7 @@ fresh-kept s g h =
       worker = λ w. subst (GoodWorker s 0) (sym (worker-fresh s g w)) (free-good s 0);
       holds = λ w k t. clash t (unlocked w);
       held-by = λ w k e. both-options e (unfold contentOf entries look in refl);
+      kinds = λ w k e t. clash t (unlocked w);
       numbers = zero-le;
       installs = at-most-none _ (none-checked (s .workers));
       versions = nothing;

@@ -8,6 +8,7 @@ pub mod Finishing
 pub mod Keeping
 pub mod Currents
 pub mod Validating
+pub mod FewerPhantoms
 pub mod LoggedVersions
 pub mod Aging
 pub mod BoundedWaiting

@@ -7,12 +7,13 @@ use mathlib.Core.Logic.{⊎-elim}
 use mathlib.Core.Bool.{true, false}
 use mathlib.Core.Option.{Option, some}
 use lib.ListN.{length, getD, set, length-set}
-use Rattle.lists.specs.Tests.{pick, same}
+use Rattle.lists.specs.Tests.{pick, present, same}
 use Rattle.lists.specs.TestLaws.{cases, same-true, same-false}
-use Rattle.lists.specs.Rows.{keys, has}
+use Rattle.lists.specs.Rows.{look, keys, has}
+use Rattle.lists.specs.RowLaws.{has-keys}
 use Rattle.lists.specs.Sums.{total-set}
-use Rattle.spec.specs.Records.{Settings}
-use Rattle.spec.specs.Slots.{contentOf}
+use Rattle.spec.specs.Records.{Settings, Write, isPut}
+use Rattle.spec.specs.Slots.{Content, contentOf}
 use Rattle.spec.specs.Maps.{MapState}
 use Rattle.spec.specs.Steps.{Worker, freeWorker, Counters, State, workerOf, writeKeys, isChecked}
 use Rattle.laws.specs.MapBounds.{Bounded}
@@ -35,10 +36,11 @@ pub record Moves (σ : State) (w : ℕ) (x : Worker) (m : MapState) (c : Counter
   pub map : Bounded (σ .settings) (c .version) m
   pub worker : GoodWorker (σ .settings) (c .number) x
   -- the locks of the others stay, and they get none
-  pub others-keep : (v k : ℕ) → (v ≡ w → ⊥) → holderOf (σ .map) k ≡ some v → holderOf m k ≡ some v
+  pub others-keep : (v k : ℕ) → (v ≡ w → ⊥) → holderOf (σ .map) k ≡ some v → contentOf (m .slots) k ≡ contentOf (σ .map .slots) k
   pub others-get : (v k : ℕ) → (v ≡ w → ⊥) → holderOf m k ≡ some v → holderOf (σ .map) k ≡ some v
   pub holds : (k : ℕ) → hasLocks (x .stage) ≡ true → has k (keys (x .writes)) ≡ true → holderOf m k ≡ some w
   pub held-by : (k : ℕ) → holderOf m k ≡ some w → (hasLocks (x .stage) ≡ true) × (has k (keys (x .writes)) ≡ true)
+  pub kinds : (k : ℕ) (e : Write) → hasLocks (x .stage) ≡ true → look (x .writes) k ≡ some e → contentOf (m .slots) k .forPut ≡ isPut e
   pub later : σ .counters .number ≤ c .number
   pub numbers : c .number ≤ σ .settings .lastNumber
   pub installs : c .installs + checkedCount (set (σ .workers) w x) ≤ c .number
@@ -69,11 +71,16 @@ moved-kept {σ} {w} {x} {m} {c} h g =
       holds = λ v k.
           at v (λ (y : Worker). hasLocks (y .stage) ≡ true → has k (keys (y .writes)) ≡ true → holderOf m k ≡ some v)
           (λ e t i. g .holds k t i ∙ ap some (sym e))
-          (λ d t i. g .others-keep v k d (h .holds v k t i));
+          (λ d t i. let s = h .holds v k t i in ap (λ (c : Content). c .holder) (g .others-keep v k d s) ∙ s);
       held-by = λ v k.
           at v (λ (y : Worker). holderOf m k ≡ some v → (hasLocks (y .stage) ≡ true) × (has k (keys (y .writes)) ≡ true))
           (λ e t. g .held-by k (t ∙ ap some e))
           (λ d t. h .held-by v k (g .others-get v k d t));
+      kinds = λ v k e.
+          at v (λ (y : Worker). hasLocks (y .stage) ≡ true → look (y .writes) k ≡ some e → contentOf (m .slots) k .forPut ≡ isPut e)
+          (λ q t i. g .kinds k e t i)
+          (λ d t i.
+          ap (λ (c : Content). c .forPut) (g .others-keep v k d (h .holds v k t (has-keys (workerOf σ v .writes) k ∙ ap present i))) ∙ h .kinds v k e t i);
       numbers = g .numbers;
       installs = g .installs;
       versions = g .versions;

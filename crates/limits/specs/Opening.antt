@@ -77,10 +77,11 @@ module _ {σ : State} (h : Kept σ) where
         inside = inside w i;
         map = h .map;
         worker = g;
-        others-keep = λ v k d e. e;
+        others-keep = λ v k d e. refl;
         others-get = λ v k d e. e;
         holds = λ k t e. clash t n;
         held-by = λ k e. clash (h .held-by w k e .0) o;
+        kinds = λ k e t. clash t n;
         later = le-refl (σ .counters .number);
         numbers = h .numbers;
         installs = installs-less (σ .counters .installs) _ _ _ (count-fewer σ w x (inside w i) (no-locks-unchecked (x .stage) n)) (h .installs);

@@ -6,29 +6,34 @@ use mathlib.Core.Logic.{_⊎_, inl, inr, ⊎-elim, _↔_}
 use mathlib.Core.Bool.{Bool, true, false, not}
 use mathlib.Core.List.{[], List·Memᴰ}
 use mathlib.Core.Option.{Option, none, some}
-use Rattle.lists.specs.Tests.{either, maybe, present, same, less}
+use Rattle.lists.specs.Tests.{both, either, maybe, present, same, less}
 use Rattle.lists.specs.TestLaws.{cases, clash, same-true, same-refl, same-yes, same-no, less-true, less-yes}
 use Rattle.lists.specs.Options.{both-options}
 use Rattle.lists.specs.Rows.{Row, row, look, keys, any}
 use Rattle.lists.specs.RowLaws.{any-false, any-true, none-any, some-any}
 use Rattle.lists.specs.Ascending.{mem-keys, keys-mem}
 use Rattle.spec.specs.declared.Stage.the-variants.{Locked, Checked}
-use Rattle.spec.specs.Records.{Record, sameRecord}
+use Rattle.spec.specs.Records.{Record, isPut, sameRecord}
 use Rattle.spec.specs.Leaves.{Leaf, versionAt, live}
 use Rattle.spec.specs.Slots.{Pending, Content, isIdle, entries, contentOf}
-use Rattle.spec.specs.Maps.{MapState, current, heldByOther, hiding, hiddenIn, hides}
+use Rattle.spec.specs.Maps.{MapState, current, heldByOther, putPending, hiding, hiddenIn, hides}
 use Rattle.spec.specs.Steps.{State, workerOf, validate, install, isFree, isLocked, isChecked, lockedByOther, changedSince, phantomIn, causes, refusal}
 use Rattle.laws.specs.SlotLaws.{Good, member-content, content-member}
 use Rattle.laws.specs.MapLaws.{idle-holder, idle-pending}
 use Rattle.laws.specs.RecordLaws.{both-left, both-right, sameRecord-true, sameRecord-refl}
 use Rattle.laws.specs.WorkerLaws.{locked-stage, not-false, cause-passed, cause-passes, no-causes, stage-passed, stage-passes}
 
+-- a put is pending there, or another worker has a lock for a put
+abbrev UnseenPut : ℕ → Content → Type 0
+UnseenPut w c =
+    ((p : Pending) × (c .pending ≡ some p) × (isPut (p .write) ≡ true)) ⊎ ((u : ℕ) × (c .holder ≡ some u) × (u ≡ w → ⊥) × (c .forPut ≡ true))
+
 -- Worker w is hidden the address k, of which the indexlet says c, in the leaf with version v: the index does not hold it,
--- and a write of any kind is pending there or another worker has a lock.
+-- and a put is pending there or another worker has a lock for a put.
 pub record Hidden (m : MapState) (w v k : ℕ) (c : Content) : Type 0 where
   pub in-leaf : versionAt (m .leaves) k ≡ v
   pub unindexed : look (m .records) k ≡ none
-  pub why : ((p : Pending) × (c .pending ≡ some p)) ⊎ ((u : ℕ) × (c .holder ≡ some u) × (u ≡ w → ⊥))
+  pub why : UnseenPut w c
 
 -- What a validation asks, of every member of the log.
 pub record Valid (σ : State) (w : ℕ) : Type 0 where
@@ -71,33 +76,37 @@ held-by-other w c e = go (c .holder) e
     go none t = clash t refl
     go (some u) t = (u, refl, λ q. clash t (ap not (same-yes {m = u} {n = w} q)))
 
-present-some : {A : Type 0} (o : Option A) → present o ≡ true → (a : A) × (o ≡ some a)
-present-some none e = clash e refl
-present-some (some a) e = (a, refl)
-
 absent-none : {A : Type 0} (o : Option A) → present o ≡ false → o ≡ none
 absent-none none e = refl
 absent-none (some a) e = clash refl e
 
-why-hiding : (w : ℕ) (c : Content) → hiding w c ≡ true → ((p : Pending) × (c .pending ≡ some p)) ⊎ ((u : ℕ) × (c .holder ≡ some u) × (u ≡ w → ⊥))
+put-pending : (c : Content) → putPending c ≡ true → (p : Pending) × (c .pending ≡ some p) × (isPut (p .write) ≡ true)
+unfolding putPending
+put-pending c e = go (c .pending) e
+  where
+    go : (o : Option Pending) → maybe o false (λ (p : Pending). isPut (p .write)) ≡ true → (p : Pending) × (o ≡ some p) × (isPut (p .write) ≡ true)
+    go none t = clash t refl
+    go (some p) t = (p, refl, t)
+
+why-hiding : (w : ℕ) (c : Content) → hiding w c ≡ true → UnseenPut w c
 unfolding hiding
 why-hiding w c e =
     ⊎-elim
-    (λ t. inl (present-some (c .pending) t))
-    (λ t. inr (held-by-other w c (sym (ap (λ (b : Bool). either b (heldByOther w c)) t) ∙ e)))
-    (cases (present (c .pending)))
+    (λ t. inl (put-pending c t))
+    (λ t.
+    let q : both (c .forPut) (heldByOther w c) ≡ true = sym (ap (λ (b : Bool). either b (both (c .forPut) (heldByOther w c))) t) ∙ e in
+    let r = held-by-other w c (both-right (c .forPut) _ q) in
+    inr (r .0, r .1, r .2, both-left (c .forPut) _ q))
+    (cases (putPending c))
 
-hiding-why : (w : ℕ) (c : Content) → ((p : Pending) × (c .pending ≡ some p)) ⊎ ((u : ℕ) × (c .holder ≡ some u) × (u ≡ w → ⊥)) → hiding w c ≡ true
-unfolding hiding heldByOther
-hiding-why w c (inl r) = ap (λ (o : Option Pending). either (present o) (heldByOther w c)) (r .1)
-hiding-why w c (inr r) = other (cases (present (c .pending)))
+hiding-why : (w : ℕ) (c : Content) → UnseenPut w c → hiding w c ≡ true
+unfolding hiding putPending heldByOther
+hiding-why w c (inl r) = rw (r .1, r .2)
+hiding-why w c (inr r) = other (cases (putPending c))
   where
-    held : maybe (c .holder) false (λ (h : ℕ). not (same h w)) ≡ true
-    held = ap (λ (o : Option ℕ). maybe o false (λ (h : ℕ). not (same h w))) (r .1) ∙ ap not (same-no {m = r .0} {n = w} (r .2))
-
-    other : (present (c .pending) ≡ true) ⊎ (present (c .pending) ≡ false) → either (present (c .pending)) (maybe (c .holder) false (λ (h : ℕ). not (same h w))) ≡ true
+    other : (putPending c ≡ true) ⊎ (putPending c ≡ false) → hiding w c ≡ true
     other (inl t) = rw t
-    other (inr t) = rw t held
+    other (inr t) = rw (t, r .3, r .1, same-no {m = r .0} {n = w} (r .2))
 
 hidden-test : (m : MapState) (w v : ℕ) (e : Row Content) → hiddenIn m w v e ≡ true → Hidden m w v (e .key) (e .item)
 unfolding hiddenIn

@@ -17,7 +17,7 @@ use Rattle.spec.specs.declared.Refusal.{Refusal}
 use Rattle.spec.specs.Records.{Settings, standard}
 use Rattle.spec.specs.Slots.{Content, entries, search}
 use Rattle.spec.specs.Maps.{MapState, withSlots, lockAll, installAll, merging, mergeAll, mergeAt, oldest}
-use Rattle.spec.specs.Steps.{State, fresh, Step, begin, read, scan, put, remove, lock, validate, install, abort, merge, mergeOldest, refused, writeKeys, refusal, granted, withWorker, withMap, withCounters, installCounted, merged, mergedAt, effect, answer, next, final, history, stepsOf}
+use Rattle.spec.specs.Steps.{State, fresh, Step, begin, read, scan, put, remove, lock, validate, install, abort, merge, mergeOldest, refused, refusal, granted, withWorker, withMap, withCounters, installCounted, merged, mergedAt, effect, answer, next, final, history, stepsOf}
 use Rattle.spec.specs.Examined.{isAbort, takesOutBy, takesOut}
 use Rattle.spec.specs.Computing.{model}
 use Rattle.spec.specs.Crowded.{homedAt, crowdedAddress, crowdedAddresses, crowdedFrom, crowded}
@@ -46,7 +46,7 @@ module _ (σ : State) (d : Dense (σ .map .slots)) where
   granted-dense (scan w lo hi m n) t = d
   granted-dense (put w k p) t = d
   granted-dense (remove w k) t = d
-  granted-dense (lock w) t = lock-dense d (σ .settings .bytes) w (writeKeys σ w)
+  granted-dense (lock w) t = lock-dense d _ _ _
   granted-dense (validate w) t = d
   granted-dense (install w) t = install-dense d _ _ _ _
   granted-dense (abort w) t = clash refl t

@@ -1,6 +1,6 @@
 -- The laws of rows: what a look-up finds after each change, that keys go on rising, and that two lists of rows with
 -- rising keys are equal if every look-up finds the same in both.
-use Prim.Native.Nat.{ℕ, suc, _<_, _≤_, zero-le}
+use Prim.Native.Nat.{ℕ, suc, _+_, _<_, _≤_, zero-le}
 use native.Mathlib.Nat.{le-refl, le-trans, le-step}
 use native.Mathlib.Omega.{arith}
 use mathlib.Core.Path.{_≡_, refl, sym, ap, _∙_, subst}
@@ -129,6 +129,64 @@ from-assign k (some a) rs h f = from-insert k a rs h f
 pub rising-assign : {A : Type 0} (k : ℕ) (o : Option A) (rs : List (Row A)) → Rising rs → Rising (assign k o rs)
 unfolding Rising
 rising-assign k o rs f = from-assign k o rs zero-le f
+
+-- how many rows there are then: one comes if the key had none, and one goes if it had
+look-one : {A : Type 0} (r : Row A) (rs : List (Row A)) (k : ℕ) → r .key ≡ k → _≡_ {A = ℕ} (pick (present (look (r ∷ rs) k)) 1 0) 1
+look-one r rs k e = ap (λ (o : Option _). pick {A = ℕ} (present o) 1 0) (look-here r rs k e)
+
+look-rest : {A : Type 0} (r : Row A) (rs : List (Row A)) (k : ℕ) → (r .key ≡ k → ⊥)
+    → _≡_ {A = ℕ} (pick (present (look (r ∷ rs) k)) 1 0) (pick (present (look rs k)) 1 0)
+look-rest r rs k n = ap (λ (o : Option _). pick {A = ℕ} (present o) 1 0) (look-there r rs k n)
+
+none-low : {A : Type 0} (rs : List (Row A)) (lo k : ℕ) → k < lo → From lo rs → _≡_ {A = ℕ} (pick (present (look rs k)) 1 0) 0
+none-low rs lo k h f = ap (λ (o : Option _). pick {A = ℕ} (present o) 1 0) (look-low rs k h f)
+
+length-insert : {A : Type 0} (k : ℕ) (a : A) (rs : List (Row A)) (lo : ℕ) → From lo rs
+    → length (insert k a rs) + pick (present (look rs k)) 1 0 ≡ length rs + 1
+unfolding From insert
+length-insert k a [] lo f = unfold look in refl
+length-insert k a (r ∷ rs) lo f =
+    ⊎-elim
+    (λ e. let l : k < r .key = less-true k (r .key) e in
+    let n : length (insert k a (r ∷ rs)) ≡ suc (suc (length rs)) = rw e in
+    let z : pick (present (look (r ∷ rs) k)) 1 0 ≡ 0 = look-rest r rs k (λ q. omega arith) ∙ none-low rs (suc (r .key)) k (omega arith) (f .1) in
+    omega arith)
+    (λ e. let l : less k (r .key) ≡ false = e in
+    ⊎-elim
+    (λ g. let q : k ≡ r .key = same-true k (r .key) g in
+    let n : length (insert k a (r ∷ rs)) ≡ suc (length rs) = rw (l, g) in
+    let z : pick (present (look (r ∷ rs) k)) 1 0 ≡ 1 = look-one r rs k (sym q) in
+    omega arith)
+    (λ g. let q : k ≡ r .key → ⊥ = same-false k (r .key) g in
+    let n : length (insert k a (r ∷ rs)) ≡ suc (length (insert k a rs)) = rw (l, g) in
+    let z : pick (present (look (r ∷ rs) k)) 1 0 ≡ pick (present (look rs k)) 1 0 = look-rest r rs k (λ y. q (sym y)) in
+    let i : length (insert k a rs) + pick (present (look rs k)) 1 0 ≡ length rs + 1 = length-insert k a rs (suc (r .key)) (f .1) in
+    omega arith)
+    (cases (same k (r .key))))
+    (cases (less k (r .key)))
+
+length-delete : {A : Type 0} (k : ℕ) (rs : List (Row A)) (lo : ℕ) → From lo rs
+    → length (delete k rs) + pick (present (look rs k)) 1 0 ≡ length rs
+unfolding From delete
+length-delete k [] lo f = unfold look in refl
+length-delete k (r ∷ rs) lo f =
+    let i : length (delete k rs) + pick (present (look rs k)) 1 0 ≡ length rs = length-delete k rs (suc (r .key)) (f .1) in
+    ⊎-elim
+    (λ e. let q : r .key ≡ k = same-true (r .key) k e in
+    let n : length (delete k (r ∷ rs)) ≡ length (delete k rs) = rw e in
+    let z : pick (present (look rs k)) 1 0 ≡ 0 = none-low rs (suc (r .key)) k (omega arith) (f .1) in
+    let y : pick (present (look (r ∷ rs) k)) 1 0 ≡ 1 = look-one r rs k q in
+    omega arith)
+    (λ e. let n : length (delete k (r ∷ rs)) ≡ suc (length (delete k rs)) = rw e in
+    let y : pick (present (look (r ∷ rs) k)) 1 0 ≡ pick (present (look rs k)) 1 0 = look-rest r rs k (same-false (r .key) k e) in
+    omega arith)
+    (cases (same (r .key) k))
+
+pub length-assign : {A : Type 0} (k : ℕ) (o : Option A) (rs : List (Row A)) → Rising rs
+    → length (assign k o rs) + pick (present (look rs k)) 1 0 ≡ length rs + pick (present o) 1 0
+unfolding assign Rising
+length-assign k none rs f = let i : length (delete k rs) + pick (present (look rs k)) 1 0 ≡ length rs = length-delete k rs 0 f in omega arith
+length-assign k (some a) rs f = length-insert k a rs 0 f
 
 pub rising-lay : {A : Type 0} (es : List (Row (Option A))) (rs : List (Row A)) → Rising rs → Rising (lay es rs)
 unfolding lay

@@ -119,6 +119,22 @@ module _ {A : Type 0} where
       = total-change (λ (n : ℕ). f (suc n)) xs ys i d (omega arith) (le-of-suc-le-suc h) (λ j q n. o (suc j) (suc-le-suc q) (λ z. n (omega arith))) in
       omega arith
 
+  -- sums of one list whose terms differ at one place differ by that place's terms
+  pub total-except : (f g : ℕ → A → ℕ) (xs : List A) (i : ℕ) (d : A) → i < length xs
+      → ((j : ℕ) → j < length xs → (j ≡ i → ⊥) → g j (getD xs j d) ≡ f j (getD xs j d))
+      → total g xs + f i (getD xs i d) ≡ total f xs + g i (getD xs i d)
+  unfolding total
+  total-except f g [] i d h o = absurd (not-suc-le-zero h)
+  total-except f g (x ∷ xs) zero d h o =
+      let b : total (λ (n : ℕ). g (suc n)) xs ≡ total (λ (n : ℕ). f (suc n)) xs
+      = total-same (λ (n : ℕ). g (suc n)) (λ (n : ℕ). f (suc n)) xs xs d refl (λ j q. o (suc j) (suc-le-suc q) (λ z. omega arith)) in
+      omega arith
+  total-except f g (x ∷ xs) (suc i) d h o =
+      let a : g 0 x ≡ f 0 x = o 0 (omega arith) (λ z. omega arith) in
+      let b : total (λ (n : ℕ). g (suc n)) xs + f (suc i) (getD xs i d) ≡ total (λ (n : ℕ). f (suc n)) xs + g (suc i) (getD xs i d)
+      = total-except (λ (n : ℕ). f (suc n)) (λ (n : ℕ). g (suc n)) xs i d (le-of-suc-le-suc h) (λ j q n. o (suc j) (suc-le-suc q) (λ z. n (omega arith))) in
+      omega arith
+
   -- a sum of terms that are at most 1 is at most the length
   pub total-most : (f : ℕ → A → ℕ) (xs : List A) → ((i : ℕ) (x : A) → f i x ≤ 1) → total f xs ≤ length xs
   unfolding total

@@ -10,17 +10,19 @@ use mathlib.Core.List.{List, [], _∷_, map}
 use mathlib.Core.Option.{Option, none, some}
 use lib.ListN.{set, length, take, getD, length-set}
 use lib.Seq.{length-take-le, getD-set-same, getD-set-other}
-use Rattle.lists.specs.Tests.{pick, both, present, same}
+use Rattle.lists.specs.Tests.{pick, both, either, maybe, present, same}
 use Rattle.lists.specs.TestLaws.{cases, clash, same-true, same-false, same-yes, same-no}
 use Rattle.lists.specs.Rows.{Row, row, look}
 use Rattle.lists.specs.Sums.{total-most}
+use Rattle.spec.specs.Records.{isPut}
 use Rattle.spec.specs.Leaves.{Leaf, firstLeaf, versionAt, live}
 use Rattle.spec.specs.Slots.{slotCount, Pending, Content, isIdle, Slot, entries, contentOf, enter, kept}
-use Rattle.spec.specs.Maps.{MapState, withSlots}
+use Rattle.spec.specs.Maps.{MapState, putPending, withSlots}
 use Rattle.laws.specs.SlotCounts.{Good, tally}
 use Rattle.laws.specs.SlotLaws.{Room}
 use Rattle.laws.specs.LeafParts.{Apart, live-head, live-later}
-use Rattle.laws.specs.MapLaws.{idle-pending}
+use Rattle.laws.specs.RecordLaws.{both-left, both-right}
+use Rattle.laws.specs.MapLaws.{idle-holder, idle-pending}
 use Rattle.indexlet.specs.declared.Content.{Content as ContentWords}
 use Rattle.indexlet.specs.Words.{contentIn, slotsOf}
 use Rattle.indexlet.specs.Words as words
@@ -30,13 +32,14 @@ use Rattle.index.specs.LeafPlaces.{AtLeaf, lowPlace}
 use Rattle.index.specs.LeafViews.{paired-length, paired-lows, parted, parted-leaf}
 use Rattle.map.specs.declared.Sizes.{Sizes}
 use Rattle.map.specs.declared.entries.Change.{Change}
-use Rattle.index.specs.LeafColumns.{lowsOf, versionsOf, outsideOf, pendingOf, leafAt}
+use Rattle.index.specs.LeafColumns.{lowsOf, versionsOf, hiddenOf, pendingOf, leafAt}
 use Rattle.index.specs.LeafColumnLaws.{column-getD}
-use Rattle.phantomlet.specs.LeafWrites.{Renumbered, numbered, numbered-same, numbered-outside, numbered-pending}
+use Rattle.phantomlet.specs.LeafWrites.{Renumbered, numbered, numbered-same, numbered-hidden, numbered-pending}
 use Rattle.map.specs.Views.{RecordRows, LeafRows, SlotRows, Lent, byColumns, mapOf}
-use Rattle.phantomlet.specs.Phantoms.{weigh, howMany, outsideAny, outsideIn, pendingIn, versionOf, Phantomlet, many-change, weigh-kept}
+use Rattle.phantomlet.specs.Phantoms.{weigh, howMany, outsideAny, hidesSome, hidingIn, pendingIn, versionOf, Phantomlet, many-change, weigh-kept}
+use Rattle.phantomlet.specs.MergeCounts.{counts-silent, counts-lacking, counts-indexed}
 use Rattle.map.specs.MapHeld.{perLeaf, Tables}
-use Rattle.map.specs.Entries.{Adjusts, ContentSet, Adjustable, adjusted, pendingTerm, outsideTerm, Terms}
+use Rattle.map.specs.Entries.{Adjusts, ContentSet, Adjustable, adjusted, pendingTerm, hiddenTerm, outsideTerm, stillAs, Terms}
 
 -- ---- counts
 
@@ -113,6 +116,29 @@ pending-idle x =
     (λ e. ap (λ (b : Bool). pick b 0 (pick (present (x .pending)) 1 0)) e)
     (cases (isIdle x))
 
+-- what says nothing hides nothing
+idle-silent : (x : Content) → isIdle x ≡ true → hidesSome x ≡ false
+unfolding hidesSome putPending
+idle-silent x e =
+    ap (λ (o : Option Pending). either (maybe o false (λ (p : Pending). isPut (p .write))) (both (x .forPut) (present (x .holder)))) (idle-pending x e)
+    ∙ ap (λ (o : Option ℕ). both (x .forPut) (present o)) (idle-holder x e) ∙ nothing (x .forPut)
+  where
+    nothing : (b : Bool) → both b false ≡ false
+    nothing true = refl
+    nothing false = refl
+
+hidden-idle : (b : Bool) (x : Content) → pick (isIdle x) 0 (hiddenTerm b x) ≡ hiddenTerm b x
+unfolding hiddenTerm
+hidden-idle b x =
+    ⊎-elim
+    (λ e. ap (λ (i : Bool). pick i 0 (hiddenTerm b x)) e ∙ sym (ap (λ (h : Bool). pick (both b h) 1 0) (idle-silent x e) ∙ nothing b))
+    (λ e. ap (λ (i : Bool). pick i 0 (hiddenTerm b x)) e)
+    (cases (isIdle x))
+  where
+    nothing : (k : Bool) → _≡_ {A = ℕ} (pick (both k false) 1 0) 0
+    nothing true = refl
+    nothing false = refl
+
 module _ (m : MapState) (a u : ℕ) (x : Content) where
   pending-own : same (versionAt (m .leaves) a) u ≡ true → weigh (pendingIn m u) (kept a x) ≡ pendingTerm x
   unfolding pendingIn
@@ -125,29 +151,49 @@ module _ (m : MapState) (a u : ℕ) (x : Content) where
   unfolding pendingIn
   pending-other e = weigh-none (pendingIn m u) a x (ap (λ (b : Bool). both b (present (x .pending))) e)
 
-  outside-own : same (versionAt (m .leaves) a) u ≡ true → weigh (outsideIn m u) (kept a x) ≡ outsideTerm (not (present (look (m .records) a))) x
-  unfolding outsideIn outsideAny outsideTerm
-  outside-own e =
-      weigh-kept (outsideIn m u) a x
-      ∙ ap (λ (b : Bool). pick (isIdle x) 0 (pick (both b (not (present (look (m .records) a)))) 1 0)) e
+  hidden-own : same (versionAt (m .leaves) a) u ≡ true → weigh (hidingIn m u) (kept a x) ≡ hiddenTerm (not (present (look (m .records) a))) x
+  unfolding hidingIn outsideAny hiddenTerm
+  hidden-own e =
+      weigh-kept (hidingIn m u) a x
+      ∙ ap (λ (b : Bool). pick (isIdle x) 0 (pick (both b (both (not (present (look (m .records) a))) (hidesSome x))) 1 0)) e
+      ∙ hidden-idle (not (present (look (m .records) a))) x
 
-  outside-other : same (versionAt (m .leaves) a) u ≡ false → weigh (outsideIn m u) (kept a x) ≡ 0
-  unfolding outsideIn outsideAny
-  outside-other e = weigh-none (outsideIn m u) a x (ap (λ (b : Bool). both b (not (present (look (m .records) a)))) e)
+  hidden-other : same (versionAt (m .leaves) a) u ≡ false → weigh (hidingIn m u) (kept a x) ≡ 0
+  unfolding hidingIn outsideAny
+  hidden-other e = weigh-none (hidingIn m u) a x (ap (λ (b : Bool). both b (both (not (present (look (m .records) a))) (hidesSome x))) e)
 
 outside-any : (m : MapState) (a : ℕ) (x : Content) → weigh (outsideAny m) (kept a x) ≡ outsideTerm (not (present (look (m .records) a))) x
 unfolding outsideAny outsideTerm
 outside-any m a x = weigh-kept (outsideAny m) a x
 
-pub same-truth : (a b : Bool) → Bool·beq a b ≡ true → a ≡ b
+same-truth : (a b : Bool) → Bool·beq a b ≡ true → a ≡ b
 same-truth true true e = refl
 same-truth true false e = sym e
 same-truth false true e = e
 same-truth false false e = refl
 
+still-parts : (old c : Content) → stillAs old c ≡ true → (isIdle old ≡ isIdle c) × (hidesSome old ≡ hidesSome c)
+unfolding stillAs
+still-parts old c e = (
+  same-truth (isIdle old) (isIdle c) (both-left (Bool·beq (isIdle old) (isIdle c)) (Bool·beq (hidesSome old) (hidesSome c)) e),
+  same-truth (hidesSome old) (hidesSome c) (both-right (Bool·beq (isIdle old) (isIdle c)) (Bool·beq (hidesSome old) (hidesSome c)) e),
+)
+
+-- what hides as before, and what does not
+pub hide-still : (b : Bool) (old c : Content) → stillAs old c ≡ true → 0 + hiddenTerm b old ≡ 0 + hiddenTerm b c
+unfolding hiddenTerm
+hide-still b old c e = ap (λ (h : Bool). 0 + pick (both b h) 1 0) (still-parts old c e .1)
+
+pub hide-moved : (b : Bool) (old c : Content) (hide unhide : ℕ) → hide ≡ hiddenTerm b c → unhide ≡ hiddenTerm b old → hide + hiddenTerm b old ≡ unhide + hiddenTerm b c
+hide-moved b old c hide unhide e f = omega arith
+
+pub hide-most : (b : Bool) (c : Content) (hide : ℕ) → hide ≡ hiddenTerm b c → hide ≤ 1
+unfolding hiddenTerm
+hide-most b c hide e = le-trans (le-of-eq e) (⊎-elim (λ i. rw i (omega arith)) (λ i. rw i (omega arith)) (cases (both b (hidesSome c))))
+
 -- an entry that neither comes nor goes, and one that does
-pub balance-still : (b : Bool) (old c : Content) → isIdle old ≡ isIdle c → 0 + outsideTerm b old ≡ 0 + outsideTerm b c
-balance-still b old c e = ap (λ (n : ℕ). 0 + n) (unfold outsideTerm in ap (λ (i : Bool). pick i 0 (pick b 1 0)) e)
+pub balance-still : (b : Bool) (old c : Content) → stillAs old c ≡ true → 0 + outsideTerm b old ≡ 0 + outsideTerm b c
+balance-still b old c e = ap (λ (n : ℕ). 0 + n) (unfold outsideTerm in ap (λ (i : Bool). pick i 0 (pick b 1 0)) (still-parts old c e .0))
 
 pub balance-moved : (b : Bool) (old c : Content) (join leave : ℕ) → join ≡ outsideTerm b c → leave ≡ outsideTerm b old → join + outsideTerm b old ≡ leave + outsideTerm b c
 balance-moved b old c join leave e f = omega arith
@@ -240,8 +286,8 @@ module _ (l : Lent) (z : Sizes) (v : ℕ) (t : Tables l z v) (a : ℕ) (c : Cont
   pendingHere : Row Content → Bool
   pendingHere = pendingIn (mapOf l z) (versionOf (mapOf l z) (r .at))
 
-  outsideHere : Row Content → Bool
-  outsideHere = outsideIn (mapOf l z) (versionOf (mapOf l z) (r .at))
+  hiddenHere : Row Content → Bool
+  hiddenHere = hidingIn (mapOf l z) (versionOf (mapOf l z) (r .at))
 
   pend-balance : Balanced pendingHere (r .pend) (r .unpend)
   unfolding pendingHere Balanced
@@ -258,21 +304,24 @@ module _ (l : Lent) (z : Sizes) (v : ℕ) (t : Tables l z v) (a : ℕ) (c : Cont
       let w : weigh pendingHere (kept a c) ≤ 1 = weigh-most pendingHere (kept a c) in
       omega arith
 
-  -- a count of entries outside of the index, to which the address adds its own term
-  outside-balance : (p : Row Content → Bool) → ((x : Content) → weigh p (kept a x) ≡ outsideTerm (not (present (look (mapOf l z .records) a))) x) → Balanced p (r .join) (r .leave)
+  any-balance : Balanced (outsideAny (mapOf l z)) (r .join) (r .leave)
   unfolding Balanced
-  outside-balance p e =
-      let u : weigh p (kept a c) ≡ outsideTerm (not (present (look (mapOf l z .records) a))) c = e c in
-      let d : weigh p (kept a (contentOf (slotsOf (l .slots)) a)) ≡ outsideTerm (not (present (look (mapOf l z .records) a))) (contentOf (slotsOf (l .slots)) a) = e (contentOf (slotsOf (l .slots)) a) in
+  any-balance =
+      let u : weigh (outsideAny (mapOf l z)) (kept a c) ≡ outsideTerm (not (present (look (mapOf l z .records) a))) c = outside-any (mapOf l z) a c in
+      let d : weigh (outsideAny (mapOf l z)) (kept a (contentOf (slotsOf (l .slots)) a)) ≡ outsideTerm (not (present (look (mapOf l z .records) a))) (contentOf (slotsOf (l .slots)) a)
+      = outside-any (mapOf l z) a (contentOf (slotsOf (l .slots)) a) in
       let b : r .join + outsideTerm (not (present (look (mapOf l z .records) a))) (contentOf (slotsOf (l .slots)) a) ≡ r .leave + outsideTerm (not (present (look (mapOf l z .records) a))) c = q .balance in
       omega arith
 
-  here-balance : Balanced outsideHere (r .join) (r .leave)
-  unfolding outsideHere
-  here-balance = outside-balance outsideHere (λ x. outside-own (mapOf l z) a (versionOf (mapOf l z) (r .at)) x own)
-
-  any-balance : Balanced (outsideAny (mapOf l z)) (r .join) (r .leave)
-  any-balance = outside-balance (outsideAny (mapOf l z)) (outside-any (mapOf l z) a)
+  here-balance : Balanced hiddenHere (r .hide) (r .unhide)
+  unfolding hiddenHere Balanced
+  here-balance =
+      let u : weigh (hidingIn (mapOf l z) (versionOf (mapOf l z) (r .at))) (kept a c) ≡ hiddenTerm (not (present (look (mapOf l z .records) a))) c
+      = hidden-own (mapOf l z) a (versionOf (mapOf l z) (r .at)) c own in
+      let d : weigh (hidingIn (mapOf l z) (versionOf (mapOf l z) (r .at))) (kept a (contentOf (slotsOf (l .slots)) a)) ≡ hiddenTerm (not (present (look (mapOf l z .records) a))) (contentOf (slotsOf (l .slots)) a)
+      = hidden-own (mapOf l z) a (versionOf (mapOf l z) (r .at)) (contentOf (slotsOf (l .slots)) a) own in
+      let b : r .hide + hiddenTerm (not (present (look (mapOf l z .records) a))) (contentOf (slotsOf (l .slots)) a) ≡ r .unhide + hiddenTerm (not (present (look (mapOf l z .records) a))) c = q .hide-balance in
+      omega arith
 
   pub pending-adjusts : Adjustable (l .pending) (r .at) (r .pend) (r .unpend)
   unfolding pendingHere
@@ -280,11 +329,11 @@ module _ (l : Lent) (z : Sizes) (v : ℕ) (t : Tables l z v) (a : ℕ) (c : Cont
       let m = movable pendingHere (getD (l .pending) (r .at) 0) (r .pend) (r .unpend) (t .phantoms .pending-is (r .at) inside) pend-most pend-balance in
       record { inside = inside-words; size = t .pending-size; fits = m .0; enough = m .1 }
 
-  pub outside-adjusts : Adjustable (l .outside) (r .at) (r .join) (r .leave)
-  unfolding outsideHere
-  outside-adjusts =
-      let m = movable outsideHere (getD (l .outside) (r .at) 0) (r .join) (r .leave) (t .phantoms .outside-is (r .at) inside) (q .join-most) here-balance in
-      record { inside = inside-words; size = t .outside-size; fits = m .0; enough = m .1 }
+  pub hidden-adjusts : Adjustable (l .hidden) (r .at) (r .hide) (r .unhide)
+  unfolding hiddenHere
+  hidden-adjusts =
+      let m = movable hiddenHere (getD (l .hidden) (r .at) 0) (r .hide) (r .unhide) (t .phantoms .hidden-is (r .at) inside) (q .hide-most) here-balance in
+      record { inside = inside-words; size = t .hidden-size; fits = m .0; enough = m .1 }
 
   pub outside-moves : (z .outside + r .join < 2 ^ 64) × (r .leave ≤ z .outside + r .join)
   outside-moves = movable (outsideAny (mapOf l z)) (z .outside) (r .join) (r .leave) (t .outside-are) (q .join-most) any-balance
@@ -311,34 +360,34 @@ module _ (l : Lent) (z : Sizes) (v : ℕ) (t : Tables l z v) (a : ℕ) (c : Cont
       = moves (pendingIn (mapOf l z) (versionOf (mapOf l z) j)) 0 0 (still (pendingIn (mapOf l z) (versionOf (mapOf l z) j)) (λ x. pending-other (mapOf l z) a (versionOf (mapOf l z) j) x o)) in
       omega arith)
 
-  outside-in-now : (j : ℕ) → j < length (mapOf l z .leaves)
-      → getD (adjusted (l .outside) (r .at) (r .join) (r .leave)) j 0 ≡ howMany (outsideIn (mapOf l z) (versionOf (mapOf l z) j)) after
-  unfolding outsideHere
-  outside-in-now =
-      adjusted-counts (l .outside) (r .at) (r .join) (r .leave) (length (mapOf l z .leaves))
-      (λ (j : ℕ). howMany (outsideIn (mapOf l z) (versionOf (mapOf l z) j)) (slotsOf (l .slots)))
-      (λ (j : ℕ). howMany (outsideIn (mapOf l z) (versionOf (mapOf l z) j)) after)
-      (let e = t .outside-size in let h = inside-words in omega arith) inside (t .phantoms .outside-is)
-      (moves outsideHere (r .join) (r .leave) here-balance)
+  hidden-now : (j : ℕ) → j < length (mapOf l z .leaves)
+      → getD (adjusted (l .hidden) (r .at) (r .hide) (r .unhide)) j 0 ≡ howMany (hidingIn (mapOf l z) (versionOf (mapOf l z) j)) after
+  unfolding hiddenHere
+  hidden-now =
+      adjusted-counts (l .hidden) (r .at) (r .hide) (r .unhide) (length (mapOf l z .leaves))
+      (λ (j : ℕ). howMany (hidingIn (mapOf l z) (versionOf (mapOf l z) j)) (slotsOf (l .slots)))
+      (λ (j : ℕ). howMany (hidingIn (mapOf l z) (versionOf (mapOf l z) j)) after)
+      (let e = t .hidden-size in let h = inside-words in omega arith) inside (t .phantoms .hidden-is)
+      (moves hiddenHere (r .hide) (r .unhide) here-balance)
       (λ j h n.
       let o : same (versionAt (mapOf l z .leaves) a) (versionOf (mapOf l z) j) ≡ false = other-version l z v t a (r .at) j (q .place) h n in
-      let e : howMany (outsideIn (mapOf l z) (versionOf (mapOf l z) j)) after + 0 ≡ howMany (outsideIn (mapOf l z) (versionOf (mapOf l z) j)) (slotsOf (l .slots)) + 0
-      = moves (outsideIn (mapOf l z) (versionOf (mapOf l z) j)) 0 0 (still (outsideIn (mapOf l z) (versionOf (mapOf l z) j)) (λ x. outside-other (mapOf l z) a (versionOf (mapOf l z) j) x o)) in
+      let e : howMany (hidingIn (mapOf l z) (versionOf (mapOf l z) j)) after + 0 ≡ howMany (hidingIn (mapOf l z) (versionOf (mapOf l z) j)) (slotsOf (l .slots)) + 0
+      = moves (hidingIn (mapOf l z) (versionOf (mapOf l z) j)) 0 0 (still (hidingIn (mapOf l z) (versionOf (mapOf l z) j)) (λ x. hidden-other (mapOf l z) a (versionOf (mapOf l z) j) x o)) in
       omega arith)
 
   -- the map with these slots
   among : List Slot → MapState
   among ss = record { records = mapOf l z .records; leaves = mapOf l z .leaves; slots = ss }
 
-  phantoms-now : Phantomlet (among after) (adjusted (l .outside) (r .at) (r .join) (r .leave)) (adjusted (l .pending) (r .at) (r .pend) (r .unpend))
-  unfolding among outsideIn outsideAny pendingIn
-  phantoms-now = record { outside-is = outside-in-now; pending-is = pending-now }
+  phantoms-now : Phantomlet (among after) (adjusted (l .hidden) (r .at) (r .hide) (r .unhide)) (adjusted (l .pending) (r .at) (r .pend) (r .unpend))
+  unfolding among hidingIn outsideAny pendingIn
+  phantoms-now = record { hidden-is = hidden-now; pending-is = pending-now }
 
   any-among : (ss ts : List Slot) → howMany (outsideAny (among ss)) ts ≡ howMany (outsideAny (mapOf l z)) ts
   unfolding among outsideAny
   any-among ss ts = refl
 
-  module _ (os ps : List ℕ) (us : SlotRows) (n : ℕ) (ox : os ≡ adjusted (l .outside) (r .at) (r .join) (r .leave)) (px : ps ≡ adjusted (l .pending) (r .at) (r .pend) (r .unpend)) (held : indexlet.SlotsHeld us) (view : slotsOf us ≡ enter 4 (slotsOf (l .slots)) a c) (number : n ≡ length (entries (slotsOf us))) where
+  module _ (os ps : List ℕ) (us : SlotRows) (n : ℕ) (ox : os ≡ adjusted (l .hidden) (r .at) (r .hide) (r .unhide)) (px : ps ≡ adjusted (l .pending) (r .at) (r .pend) (r .unpend)) (held : indexlet.SlotsHeld us) (view : slotsOf us ≡ enter 4 (slotsOf (l .slots)) a c) (number : n ≡ length (entries (slotsOf us))) where
     tables-now : Tables (byColumns (l .rows) (l .lows) (l .versions) os ps us) (sizesWith z n (z .outside + r .join - r .leave)) v
     unfolding among
     tables-now =
@@ -352,7 +401,7 @@ module _ (l : Lent) (z : Sizes) (v : ℕ) (t : Tables l z v) (a : ℕ) (c : Cont
           leaves = t .leaves;
           words = held;
           entries-are = number;
-          outside-size = ap length ox ∙ adjusted-size (l .outside) (r .at) (r .join) (r .leave) ∙ t .outside-size;
+          hidden-size = ap length ox ∙ adjusted-size (l .hidden) (r .at) (r .hide) (r .unhide) ∙ t .hidden-size;
           pending-size = ap length px ∙ adjusted-size (l .pending) (r .at) (r .pend) (r .unpend) ∙ t .pending-size;
           outside-are =
               outside-now
@@ -360,7 +409,7 @@ module _ (l : Lent) (z : Sizes) (v : ℕ) (t : Tables l z v) (a : ℕ) (c : Cont
           phantoms =
               subst (λ (ss : List Slot). Phantomlet (among ss) os ps) (sym seen)
               (subst (λ (xs : List ℕ). Phantomlet (among after) xs ps) (sym ox)
-              (subst (λ (xs : List ℕ). Phantomlet (among after) (adjusted (l .outside) (r .at) (r .join) (r .leave)) xs) (sym px) phantoms-now));
+              (subst (λ (xs : List ℕ). Phantomlet (among after) (adjusted (l .hidden) (r .at) (r .hide) (r .unhide)) xs) (sym px) phantoms-now));
         }
       where
         seen : slotsOf us ≡ after
@@ -388,16 +437,16 @@ said-rows {l} {rows} {ls} {ls'} {os} {ps} {us} {z} {r} {v} {ss} e s =
 
 -- one leaf's numbers written
 pub adjusts : (ls : LeafRows) (t : Change) (ls' : LeafRows)
-    → ls' ≡ numbered ls (t .at) (leafAt ls (t .at) .outside + t .join - t .leave) (leafAt ls (t .at) .pending + t .pend - t .unpend) → Adjusts ls t ls'
+    → ls' ≡ numbered ls (t .at) (leafAt ls (t .at) .hidden + t .hide - t .unhide) (leafAt ls (t .at) .pending + t .pend - t .unpend) → Adjusts ls t ls'
 unfolding adjusted
 adjusts ls t ls' e =
     record {
-      same = subst (Renumbered ls) (sym e) (numbered-same ls (t .at) (leafAt ls (t .at) .outside + t .join - t .leave) (leafAt ls (t .at) .pending + t .pend - t .unpend));
-      outside =
-          ap outsideOf e ∙ numbered-outside ls (t .at) (leafAt ls (t .at) .outside + t .join - t .leave) (leafAt ls (t .at) .pending + t .pend - t .unpend)
-          ∙ ap (λ (n : ℕ). set (outsideOf ls) (t .at) (n + t .join - t .leave)) (sym (column-getD 2 ls (t .at)));
+      same = subst (Renumbered ls) (sym e) (numbered-same ls (t .at) (leafAt ls (t .at) .hidden + t .hide - t .unhide) (leafAt ls (t .at) .pending + t .pend - t .unpend));
+      hidden =
+          ap hiddenOf e ∙ numbered-hidden ls (t .at) (leafAt ls (t .at) .hidden + t .hide - t .unhide) (leafAt ls (t .at) .pending + t .pend - t .unpend)
+          ∙ ap (λ (n : ℕ). set (hiddenOf ls) (t .at) (n + t .hide - t .unhide)) (sym (column-getD 2 ls (t .at)));
       pending =
-          ap pendingOf e ∙ numbered-pending ls (t .at) (leafAt ls (t .at) .outside + t .join - t .leave) (leafAt ls (t .at) .pending + t .pend - t .unpend)
+          ap pendingOf e ∙ numbered-pending ls (t .at) (leafAt ls (t .at) .hidden + t .hide - t .unhide) (leafAt ls (t .at) .pending + t .pend - t .unpend)
           ∙ ap (λ (n : ℕ). set (pendingOf ls) (t .at) (n + t .pend - t .unpend)) (sym (column-getD 3 ls (t .at)));
     }
 
@@ -415,3 +464,27 @@ module _ (b lacks : Bool) (c : ContentWords) (e : b ≡ isIdle (contentIn c)) wh
   pub term-inside : b ≡ false → lacks ≡ false → 0 ≡ outsideTerm lacks (contentIn c)
   unfolding outsideTerm
   term-inside t f = sym (ap (λ (x : Bool). pick x 0 (pick lacks 1 0)) (sym e ∙ t) ∙ ap (λ (x : Bool). pick x 1 0) f)
+
+module _ (b lacks : Bool) (c : ContentWords) (e : b ≡ hidesSome (contentIn c)) where
+  pub hidden-silent : not b ≡ true → 0 ≡ hiddenTerm lacks (contentIn c)
+  unfolding hiddenTerm
+  hidden-silent t = counts-silent b (hidesSome (contentIn c)) lacks e t
+
+  pub hidden-lacking : not b ≡ false → lacks ≡ true → 1 ≡ hiddenTerm lacks (contentIn c)
+  unfolding hiddenTerm
+  hidden-lacking t f = counts-lacking b (hidesSome (contentIn c)) lacks lacks e t refl f
+
+  pub hidden-indexed : lacks ≡ false → 0 ≡ hiddenTerm lacks (contentIn c)
+  unfolding hiddenTerm
+  hidden-indexed f = counts-indexed (hidesSome (contentIn c)) lacks lacks refl f
+
+-- the code's test of an entry that stays as it is
+module _ {i i' : Bool} (old c : Content) (e : i ≡ isIdle old) (e' : i' ≡ isIdle c) where
+  pub still-same : {h h' : Bool} → h ≡ hidesSome old → h' ≡ hidesSome c → Bool·beq i i' ≡ true → Bool·beq h h' ≡ stillAs old c
+  unfolding stillAs
+  still-same f f' t =
+      (λ x. Bool·beq (f x) (f' x)) ∙ sym (ap (λ (b : Bool). both b (Bool·beq (hidesSome old) (hidesSome c))) ((λ x. Bool·beq (sym e x) (sym e' x)) ∙ t))
+
+  pub still-not : Bool·beq i i' ≡ false → false ≡ stillAs old c
+  unfolding stillAs
+  still-not t = sym (ap (λ (b : Bool). both b (Bool·beq (hidesSome old) (hidesSome c))) ((λ x. Bool·beq (sym e x) (sym e' x)) ∙ t))

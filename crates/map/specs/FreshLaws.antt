@@ -60,8 +60,8 @@ at-first : (xs : List ℕ) (i : ℕ) → Emptied xs → i < 1 → getD xs i 0 �
 at-first xs zero p h = p .first
 at-first xs (suc i) p h = absurd (omega arith)
 
-module _ (rows : RecordRows) (lows versions outside pending : List ℕ) (slots : SlotRows) (lows-empty : Emptied lows) (versions-empty : Emptied versions) (outside-empty : Emptied outside) (pending-empty : Emptied pending) (words : indexlet.SlotsFresh slots) where
-  fresh-view : mapOf (byColumns rows lows versions outside pending slots) freshSizes ≡ freshMap
+module _ (rows : RecordRows) (lows versions hidden pending : List ℕ) (slots : SlotRows) (lows-empty : Emptied lows) (versions-empty : Emptied versions) (hidden-empty : Emptied hidden) (pending-empty : Emptied pending) (words : indexlet.SlotsFresh slots) where
+  fresh-view : mapOf (byColumns rows lows versions hidden pending slots) freshSizes ≡ freshMap
   fresh-view = λ i. record { records = no-records rows i; leaves = first-leaf lows versions lows-empty versions-empty i; slots = words .view i }
 
   one-leaf : length (leavesOf lows versions 1) ≡ 1
@@ -70,7 +70,7 @@ module _ (rows : RecordRows) (lows versions outside pending : List ℕ) (slots :
   nothing : (p : Row Content → Bool) → howMany p (slotsOf slots) ≡ 0
   nothing p = ap (howMany p) (words .view) ∙ none-many p slotCount
 
-  fresh-tables : Tables (byColumns rows lows versions outside pending slots) freshSizes 0
+  fresh-tables : Tables (byColumns rows lows versions hidden pending slots) freshSizes 0
   fresh-tables =
       record {
         rows = record { room = zero-le; rising = subst Rising (sym (no-records rows)) (rising-nil Record) };
@@ -82,17 +82,17 @@ module _ (rows : RecordRows) (lows versions outside pending : List ℕ) (slots :
         leaves = subst (GoodLeaves 0) (sym (first-leaf lows versions lows-empty versions-empty)) fresh-leaves;
         words = words .held;
         entries-are = sym (ap (λ (ss : List Slot). length (entries ss)) (words .view) ∙ (unfold entries in refl));
-        outside-size = outside-empty .size;
+        hidden-size = hidden-empty .size;
         pending-size = pending-empty .size;
-        outside-are = sym (nothing (outsideAny (mapOf (byColumns rows lows versions outside pending slots) freshSizes)));
+        outside-are = sym (nothing (outsideAny (mapOf (byColumns rows lows versions hidden pending slots) freshSizes)));
         phantoms =
             record {
-              outside-is = λ i h. at-first outside i outside-empty (let e = one-leaf in omega arith) ∙ sym (nothing _);
+              hidden-is = λ i h. at-first hidden i hidden-empty (let e = one-leaf in omega arith) ∙ sym (nothing _);
               pending-is = λ i h. at-first pending i pending-empty (let e = one-leaf in omega arith) ∙ sym (nothing _);
             };
       }
 
-  pub fresh-becomes : MapBecomes (byColumns rows lows versions outside pending slots) freshSizes 0 freshMap
+  pub fresh-becomes : MapBecomes (byColumns rows lows versions hidden pending slots) freshSizes 0 freshMap
   fresh-becomes =
       record {
         map = fresh-view;

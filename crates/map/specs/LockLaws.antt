@@ -10,14 +10,14 @@ use mathlib.Core.Option.{Option, none, some}
 use lib.ListN.{length}
 use lib.Dec.{eqb}
 use Rattle.lists.specs.Tests.{pick, maybe, present, same}
-use Rattle.lists.specs.Rows.{Row, look, keys, any}
+use Rattle.lists.specs.Rows.{Row, look, keys, any, Different}
 use Rattle.lists.specs.RowLaws.{look-here}
-use Rattle.spec.specs.Records.{standard, Write}
+use Rattle.spec.specs.Records.{standard, Write, written, deleted, isPut}
 use Rattle.spec.specs.Slots.{slotCount, Pending, Content, isIdle, Slot, entries, contentOf, enter}
-use Rattle.spec.specs.Maps.{MapState, heldByOther, waitingWith, addressesWith, lockKey, unlockKey, waitingSince, installRow, each, withSlots, lockAll, unlockAll, installAll}
+use Rattle.spec.specs.Maps.{MapState, heldByOther, waitingWith, addressesWith, lockedFor, lockRow, withoutLock, unlockKey, waitingSince, installRow, each, withSlots, lockAll, unlockAll, installAll}
 use Rattle.laws.specs.SlotCounts.{Good}
 use Rattle.laws.specs.SlotLaws.{Room, stands}
-use Rattle.laws.specs.MapLaws.{Changes, LockRoom, Installable, Always, withHolder, withoutHolder, installedAs, idle-pending, has-entry, room-old, entry-count, locking, unlocking, installing}
+use Rattle.laws.specs.MapLaws.{Changes, LockRoom, Installable, Always, installedAs, idle-pending, has-entry, room-old, entry-count, locking, unlocking, installing}
 use Rattle.laws.specs.MapBounds.{Bounded, lock-room, lock-bounded, unlock-bounded, install-bounded}
 use Rattle.indexlet.specs.declared.Content.{Content as ContentWords}
 use Rattle.indexlet.specs.Words.{contentIn, holderIn, slotsOf}
@@ -68,19 +68,30 @@ said-nothing {l} {z} {v} t ss e =
 
 -- ---- the words of a content
 
--- the content with the lock that a word says
-unfoldable pub holding : ℕ → Content → Content
-holding lock c = record { pending = c .pending; holder = holderIn lock }
+-- the content with the lock that a word says, for a write of this kind
+unfoldable pub holding : ℕ → ℕ → Content → Content
+holding lock kind c = record { pending = c .pending; holder = holderIn lock; forPut = eqb kind 1 }
 
-pub holding-words : (c : ContentWords) (lock : ℕ) → contentIn (record { kind = c .kind; value = c .value; commit = c .commit; since = c .since; lock = lock }) ≡ holding lock (contentIn c)
+pub holding-words : (c : ContentWords) (lock kind : ℕ)
+    → contentIn (record { kind = c .kind; value = c .value; commit = c .commit; since = c .since; lock = lock; forput = kind }) ≡ holding lock kind (contentIn c)
 unfolding contentIn holding
-holding-words c lock = refl
+holding-words c lock kind = refl
 
-holding-own : (c : Content) (w : ℕ) → holding (w + 1) c ≡ withHolder w c
+-- a write of kind 1 is a put
+put-is : (kind value : ℕ) → eqb kind 1 ≡ isPut (writeOf kind value)
+unfolding writeOf same isPut
+put-is kind value = go (eqb kind 1)
+  where
+    go : (b : Bool) → b ≡ isPut (pick b (written (record { value = value })) deleted)
+    go true = refl
+    go false = refl
+
+holding-own : (c : Content) (w kind value : ℕ) → holding (w + 1) kind c ≡ lockedFor w (writeOf kind value) c
 unfolding holding holderIn
-holding-own c w = ap (λ (o : Option ℕ). record { pending = c .pending; holder = o }) (ap holderIn (add-one w))
+holding-own c w kind value =
+    λ i. record { pending = c .pending; holder = ap holderIn (add-one w) i; forPut = put-is kind value i }
 
-holding-none : (c : Content) → holding 0 c ≡ withoutHolder c
+holding-none : (c : Content) → holding 0 0 c ≡ withoutLock c
 unfolding holding holderIn
 holding-none c = refl
 
@@ -122,33 +133,37 @@ module _ (ss : List Slot) (a b : ℕ) (old c : Content) (e : a ≡ b) (o : conte
   there : contentOf ss b ≡ old
   there = ap (contentOf ss) (sym e) ∙ o
 
-  pub lock-said : (w : ℕ) → c ≡ holding (w + 1) old → enter 4 ss a c ≡ lockKey 4 w ss b
-  unfolding lockKey
-  lock-said w q = entered-as ss e (q ∙ holding-own old w ∙ ap (withHolder w) (sym there))
-
-  unlock-picks : (w : ℕ) → unlockKey 4 w ss b ≡ pick (heldBy w old) (enter 4 ss b (withoutHolder old)) ss
+  unlock-picks : (w : ℕ) → unlockKey 4 w ss b ≡ pick (heldBy w old) (enter 4 ss b (withoutLock old)) ss
   unfolding unlockKey heldBy
   unlock-picks w =
-      ap (λ (x : Content). maybe (x .holder) ss (λ (h : ℕ). pick (same h w) (enter 4 ss b (withoutHolder x)) ss)) there ∙ go (old .holder)
+      ap (λ (x : Content). maybe (x .holder) ss (λ (h : ℕ). pick (same h w) (enter 4 ss b (withoutLock x)) ss)) there ∙ go (old .holder)
     where
       go : (h : Option ℕ)
-          → maybe h ss (λ (x : ℕ). pick (same x w) (enter 4 ss b (withoutHolder old)) ss)
-          ≡ pick (maybe h false (λ (x : ℕ). same x w)) (enter 4 ss b (withoutHolder old)) ss
+          → maybe h ss (λ (x : ℕ). pick (same x w) (enter 4 ss b (withoutLock old)) ss)
+          ≡ pick (maybe h false (λ (x : ℕ). same x w)) (enter 4 ss b (withoutLock old)) ss
       go none = refl
       go (some x) = refl
 
-  pub unlock-said : (w : ℕ) → true ≡ heldBy w old → c ≡ holding 0 old → enter 4 ss a c ≡ unlockKey 4 w ss b
+  pub unlock-said : (w : ℕ) → true ≡ heldBy w old → c ≡ holding 0 0 old → enter 4 ss a c ≡ unlockKey 4 w ss b
   unlock-said w t q =
-      entered-as ss e (q ∙ holding-none old) ∙ sym (unlock-picks w ∙ ap (λ (x : Bool). pick x (enter 4 ss b (withoutHolder old)) ss) (sym t))
+      entered-as ss e (q ∙ holding-none old) ∙ sym (unlock-picks w ∙ ap (λ (x : Bool). pick x (enter 4 ss b (withoutLock old)) ss) (sym t))
 
   pub unlock-other : (w : ℕ) → false ≡ heldBy w old → unlockKey 4 w ss b ≡ ss
-  unlock-other w t = unlock-picks w ∙ ap (λ (x : Bool). pick x (enter 4 ss b (withoutHolder old)) ss) (sym t)
+  unlock-other w t = unlock-picks w ∙ ap (λ (x : Bool). pick x (enter 4 ss b (withoutLock old)) ss) (sym t)
 
   -- an entry that loses its lock has room
-  pub unlock-room : Good 4 ss → c ≡ holding 0 old → Room ss a c
+  pub unlock-room : Good 4 ss → c ≡ holding 0 0 old → Room ss a c
   unlock-room g q =
       room-old g a c
-      (λ t. ap isIdle (q ∙ holding-none old ∙ ap withoutHolder (sym o)) ∙ (unfold isIdle in rw (idle-pending (contentOf ss a) t)))
+      (λ t. ap isIdle (q ∙ holding-none old ∙ ap withoutLock (sym o)) ∙ (unfold isIdle in rw (idle-pending (contentOf ss a) t)))
+
+pub lock-said : (ss : List Slot) (w : ℕ) (x : Row Write) (r : Entry) (old c : Content) → entryIn r ≡ x → contentOf ss (r .address) ≡ old
+    → c ≡ holding (w + 1) (r .kind) old → enter 4 ss (r .address) c ≡ lockRow 4 w ss x
+unfolding lockRow
+lock-said ss w x r old c e o q =
+    entered-as ss (ap (λ (y : Row Write). y .key) e)
+    (q ∙ holding-own old w (r .kind) (r .value) ∙ ap (lockedFor w (entryIn r .item)) (sym o)
+    ∙ ap (λ (y : Row Write). lockedFor w (y .item) (contentOf ss (y .key))) e)
 
 pub install-said : (ss : List Slot) (n t : ℕ) (x : Row Write) (r : Entry) (old c : Content) → entryIn r ≡ x → contentOf ss (r .address) ≡ old
     → c ≡ installedAs n t (entryIn r) old → enter 4 ss (r .address) c ≡ installRow 4 n t ss x
@@ -198,10 +213,10 @@ module _ (c : ContentWords) (t : ℕ) where
       go (suc (suc k)) n = refl
 
 pub installs : (r : Entry) (n t : ℕ) (old : Content) (k u : ℕ) → k ≡ pendingKind (r .kind) → u ≡ waitingSince t (old .pending)
-    → contentIn (record { kind = k; value = r .value; commit = n; since = u; lock = 0 }) ≡ installedAs n t (entryIn r) old
+    → contentIn (record { kind = k; value = r .value; commit = n; since = u; lock = 0; forput = 0 }) ≡ installedAs n t (entryIn r) old
 unfolding contentIn holderIn
 installs r n t old k u e f =
-    ap (λ (o : Option Pending). record { pending = o; holder = none })
+    ap (λ (o : Option Pending). record { pending = o; holder = none; forPut = false })
     (ap (λ (x : ℕ). words.pendingIn x (r .value) n u) e
     ∙ ap (words.pendingIn (pendingKind (r .kind)) (r .value) n) f
     ∙ pending-write (r .kind) (r .value) n (waitingSince t (old .pending)))
@@ -226,14 +241,15 @@ module _ (p : ℕ → Bool) (ws : WriteRows) (i n : ℕ) where
   unfolding any
   any-end h = ap (any p) (keys-none ws i n h)
 
--- the tests of refusals 10 and 11 are passed
-pub record Lockable (m : MapState) (ks : List ℕ) : Type 0 where
-  pub waiting : waitingWith m ks ≤ standard .waitingLimit
-  pub addresses : addressesWith m ks ≤ standard .mapLimit
+-- the tests of refusals 10 and 11 are passed, and each address stands once
+pub record Lockable (m : MapState) (ws : List (Row Write)) : Type 0 where
+  pub waiting : waitingWith m (keys ws) ≤ standard .waitingLimit
+  pub addresses : addressesWith m (keys ws) ≤ standard .mapLimit
+  pub once : Different (keys ws)
 
 -- what is left to lock, to unlock and to install
 abbrev pub Locking : ℕ → Lent → Sizes → ℕ → WriteRows → ℕ → ℕ → MapState → Type 0
-Locking w l z v ws i n goal = Going (lockKey 4 w) LockRoom l z v (restKeys ws i n) goal
+Locking w l z v ws i n goal = Going (lockRow 4 w) LockRoom l z v (rest ws i n) goal
 
 abbrev pub Unlocking : ℕ → Lent → Sizes → ℕ → WriteRows → ℕ → ℕ → MapState → Type 0
 Unlocking w l z v ws i n goal = Going (unlockKey 4 w) (Always {X = ℕ}) l z v (restKeys ws i n) goal
@@ -245,29 +261,29 @@ few-slots : standard .waitingLimit < slotCount
 few-slots = omega arith
 
 module _ (w : ℕ) (ws : WriteRows) (n v : ℕ) where
-  pub lock-start : (l : Lent) (z : Sizes) → MapHeld l z v → Lockable (mapOf l z) (keys (writesOf ws n))
-      → Locking w l z v ws 0 n (lockAll standard w (mapOf l z) (keys (writesOf ws n)))
+  pub lock-start : (l : Lent) (z : Sizes) → MapHeld l z v → Lockable (mapOf l z) (writesOf ws n)
+      → Locking w l z v ws 0 n (lockAll standard w (mapOf l z) (writesOf ws n))
   unfolding lockAll
   lock-start l z h t =
       record {
         tables = h .tables;
-        run = ap (λ (ks : List ℕ). withSlots (mapOf l z) (each (lockKey 4 w) (slotsOf (l .slots)) ks)) (keys-all ws n);
-        inv = subst (LockRoom (slotsOf (l .slots))) (sym (keys-all ws n)) (lock-room standard (mapOf l z) (keys (writesOf ws n)) few-slots (t .waiting));
+        run = ap (λ (rs : List (Row Write)). withSlots (mapOf l z) (each (lockRow 4 w) (slotsOf (l .slots)) rs)) (rest-all ws n);
+        inv = subst (LockRoom (slotsOf (l .slots))) (sym (rest-all ws n)) (lock-room standard (mapOf l z) (writesOf ws n) few-slots (t .once) (t .waiting));
       }
 
   pub lock-fits : {l : Lent} {z : Sizes} {goal : MapState} (i : ℕ) → Locking w l z v ws i n goal → length (entries (slotsOf (l .slots))) < slotCount
-  lock-fits i q = lt-of-le-of-lt (entry-count (q .tables .words .good) (restKeys ws i n)) (q .inv)
+  lock-fits i q = lt-of-le-of-lt (entry-count (q .tables .words .good) (keys (rest ws i n))) (q .inv .room)
 
   pub lock-on : {l l' : Lent} {z r : Sizes} {goal : MapState} (i : ℕ) → i < n → Locking w l z v ws i n goal
-      → ContentSet l l' z r v (lockKey 4 w (slotsOf (l .slots)) (writeAt ws i .key)) → Locking w l' r v ws (i + 1) n goal
-  lock-on i h q s = going-on (locking 4 w) (writeAt ws i .key) (restKeys ws i n) (restKeys ws (i + 1) n) (keys-cons ws i n h) q s
+      → ContentSet l l' z r v (lockRow 4 w (slotsOf (l .slots)) (writeAt ws i)) → Locking w l' r v ws (i + 1) n goal
+  lock-on i h q s = going-on (locking 4 w) (writeAt ws i) (rest ws i n) (rest ws (i + 1) n) (rest-cons ws i n h) q s
 
-  pub lock-end : {l l' : Lent} {z r : Sizes} (i : ℕ) → n ≤ i → MapHeld l z v → Lockable (mapOf l z) (keys (writesOf ws n))
-      → Locking w l' r v ws i n (lockAll standard w (mapOf l z) (keys (writesOf ws n)))
-      → MapBecomes l' r v (lockAll standard w (mapOf l z) (keys (writesOf ws n)))
+  pub lock-end : {l l' : Lent} {z r : Sizes} (i : ℕ) → n ≤ i → MapHeld l z v → Lockable (mapOf l z) (writesOf ws n)
+      → Locking w l' r v ws i n (lockAll standard w (mapOf l z) (writesOf ws n))
+      → MapBecomes l' r v (lockAll standard w (mapOf l z) (writesOf ws n))
   lock-end i e h t q =
-      becomes (q .tables) (going-end (keys-none ws i n e) q)
-      (lock-bounded (h .bounded) few-slots w (keys (writesOf ws n)) (t .waiting) (t .addresses))
+      becomes (q .tables) (going-end (rest-none ws i n e) q)
+      (lock-bounded (h .bounded) few-slots w (writesOf ws n) (t .once) (t .waiting) (t .addresses))
 
   pub unlock-start : (l : Lent) (z : Sizes) → MapHeld l z v → Unlocking w l z v ws 0 n (unlockAll standard w (mapOf l z) (keys (writesOf ws n)))
   unfolding unlockAll

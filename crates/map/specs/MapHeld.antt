@@ -34,10 +34,11 @@ pub record Tables (l : Lent) (z : Sizes) (v : ℕ) : Type 0 where
   pub words : indexlet.SlotsHeld (l .slots)
   pub entries-are : z .entries ≡ length (entries (slotsOf (l .slots)))
   -- the phantomlet
-  pub outside-size : length (l .outside) ≡ perLeaf
+  pub hidden-size : length (l .hidden) ≡ perLeaf
   pub pending-size : length (l .pending) ≡ perLeaf
+  pub phantoms : Phantomlet (mapOf l z) (l .hidden) (l .pending)
+  -- the entries at addresses that the index lacks
   pub outside-are : z .outside ≡ howMany (outsideAny (mapOf l z)) (slotsOf (l .slots))
-  pub phantoms : Phantomlet (mapOf l z) (l .outside) (l .pending)
 
 pub record MapHeld (l : Lent) (z : Sizes) (v : ℕ) : Type 0 where
   pub tables : Tables l z v

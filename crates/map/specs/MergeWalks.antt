@@ -1,7 +1,7 @@
 -- The first part of a merge: a walk over the slots that takes the pending writes of a leaf into the index. What is left
 -- to take in is always what the slots had to begin with, from the walk's place on; and if no lock was counted, the slots
 -- behind the walk have no entry of the leaf.
-use Prim.Native.Nat.{ℕ, zero, suc, _+_, _^_, _<_, _≤_, zero-le}
+use Prim.Native.Nat.{ℕ, zero, suc, _+_, _-_, _^_, _<_, _≤_, zero-le}
 use native.Mathlib.Nat.{not-suc-le-zero, le-trans, le-of-eq, le-refl}
 use native.Mathlib.Omega.{arith}
 use mathlib.Core.Path.{_≡_, refl, sym, ap, _∙_, subst}
@@ -12,33 +12,35 @@ use mathlib.Core.Option.{Option, none, some}
 use lib.ListN.{length, drop, drop-of-length-le, getD}
 use lib.Seq.{drop-cons}
 use Rattle.lists.specs.Tests.{pick, both, maybe, present, same}
-use Rattle.lists.specs.TestLaws.{cases, clash, same-true, same-false, same-no}
+use Rattle.lists.specs.TestLaws.{cases, clash, same-true, same-false, same-no, same-refl}
 use Rattle.lists.specs.Rows.{Row, row, look, assign, keys, has, filter, distinct, Rising}
-use Rattle.lists.specs.RowLaws.{has-keys, length-keys, look-assign, rising-assign, rising-different}
+use Rattle.lists.specs.RowLaws.{has-keys, length-keys, look-assign, rising-assign, length-assign, rising-different}
 use Rattle.lists.specs.Ascending.{keys-mem}
 use Rattle.lists.specs.Counting.{Within, different-within}
 use Rattle.lists.specs.Memberships.{member-has, has-left, has-right}
-use Rattle.lists.specs.Sums.{total-at}
+use Rattle.lists.specs.Sums.{total-at, total-except}
 use Rattle.spec.specs.Records.{Record, outcome}
 use Rattle.spec.specs.Leaves.{Leaf}
 use Rattle.spec.specs.Slots.{slotCount, Pending, Content, isIdle, Slot, emptySlot, entries, contentOf, holds, enter, kept}
-use Rattle.spec.specs.Maps.{MapState, outcomeOf, current, each, mergeEntry}
+use Rattle.spec.specs.Maps.{MapState, outcomeOf, current, each, takenIn, mergeEntry}
 use Rattle.laws.specs.SlotCounts.{Good, entryAt, tally, count, keyed, keyed-here, keyed-holds, holds-yes, only-here, entries-some, entries-none, slot-member}
 use Rattle.laws.specs.Entering.{Entering, entering, kept-entry}
 use Rattle.laws.specs.SlotLaws.{Room, stands, member-content}
 use Rattle.laws.specs.MapLaws.{has-entry}
-use Rattle.laws.specs.MergeLaws.{withoutPending}
 use Rattle.indexlet.specs.Words.{pendingIn, holderIn, contentIn, slotIn, slotsOf}
 use Rattle.indexlet.specs.declared.Content.{Content as ContentWords}
 use Rattle.indexlet.specs.declared.Slot.{Slot as SlotWords}
 use Rattle.indexlet.specs.Promises as indexlet
 use Rattle.index.specs.Views as index
 use Rattle.index.specs.Views.{recordPlaces, recordFrom, recordsOf}
+use Rattle.index.specs.ViewLaws.{length-records}
 use Rattle.map.specs.declared.merge.Walk.{Walk}
 use Rattle.phantomlet.specs.Phantoms.{weigh, howMany, many-change, weigh-kept}
 use Rattle.phantomlet.specs.LeafTests.{takes}
+use Rattle.phantomlet.specs.LeafCounts.{lacking}
 use Rattle.phantomlet.specs.MergeCounts.{pick-most}
 use Rattle.map.specs.Views.{SlotRows, RecordRows}
+use Rattle.map.specs.EntryLaws.{many-most}
 
 -- a map of its three parts
 abbrev pub parts : List (Row Record) → List Leaf → List Slot → MapState
@@ -199,15 +201,18 @@ pub record Walking (p : ℕ → Bool) (rs : List (Row Record)) (ss : List Slot) 
       (ls : List Leaf) → each (mergeEntry 4) (parts (recordsOf rows (w .records)) ls (slotsOf slots)) (left p ss j)
       ≡ each (mergeEntry 4) (parts rs ls ss) (filter (takes p) (entries ss))
   pub counted : w .count + length (left p ss j) ≡ length (filter (takes p) (entries ss))
+  -- so many entries lie outside of the index now
+  pub outside-is : w .outside ≡ howMany (lacking (recordsOf rows (w .records))) (slotsOf slots)
   -- with no lock counted, the slots so far have no entry at an address that passes
   pub cleared : w .left ≡ 0 → (i : ℕ) → i < j → (e : Row Content) → entryAt (slotsOf slots) i ≡ some e → p (e .key) ≡ false
 
 -- what a walk begins with: as many addresses as the index has room for
-pub record Starting (rows : RecordRows) (slots : SlotRows) (n e : ℕ) : Type 0 where
+pub record Starting (rows : RecordRows) (slots : SlotRows) (n e o : ℕ) : Type 0 where
   pub rows-held : index.RecordsSorted rows n
   pub words : indexlet.SlotsHeld slots
   pub number : e ≡ length (entries (slotsOf slots))
   pub bound : distinct (keys (recordsOf rows n) ++ keys (entries (slotsOf slots))) ≤ recordPlaces
+  pub outside-is : o ≡ howMany (lacking (recordsOf rows n)) (slotsOf slots)
 
 -- a walk that began with as many addresses as the index has room for
 pub record Underway (p : ℕ → Bool) (rows : RecordRows) (slots : SlotRows) (w : Walk) (j : ℕ) : Type 0 where
@@ -232,13 +237,35 @@ pub record Took (p : ℕ → Bool) (rows : RecordRows) (slots : SlotRows) (n : �
       (ls : List Leaf) → parts (recordsOf rows' (w .records)) ls (slotsOf slots')
       ≡ each (mergeEntry 4) (parts (recordsOf rows n) ls (slotsOf slots)) (filter (takes p) (entries (slotsOf slots)))
   pub count : w .count ≡ length (filter (takes p) (entries (slotsOf slots)))
+  pub outside-is : w .outside ≡ howMany (lacking (recordsOf rows' (w .records))) (slotsOf slots')
   pub cleared : w .left ≡ 0 → (i : ℕ) → i < slotCount → (e : Row Content) → entryAt (slotsOf slots') i ≡ some e → p (e .key) ≡ false
 
-abbrev pub walk : ℕ → ℕ → ℕ → ℕ → Walk
-walk n e c f = record { records = n; entries = e; count = c; left = f }
+-- What the next promise asks: no difference is below 0.
+pub record OutsideFits (out before after kind lock : ℕ) : Type 0 where
+  pub small : out + lock + before < 2 ^ 64
+  pub put : kind ≡ 1 → after ≤ out + before
+  pub drop : (kind ≡ 1 → ⊥) → after + 1 ≤ out + lock + before
 
-pub walk-start : {rows : RecordRows} {slots : SlotRows} {n e : ℕ} (p : ℕ → Bool) → Starting rows slots n e → Walking p (recordsOf rows n) (slotsOf slots) rows slots (walk n e 0 0) 0
-walk-start {rows} {slots} {n} {e} p s =
+-- How many entries lie outside of the index, once a write of this kind has entered it: `before` and `after` are the numbers
+-- of its records, `lock` is 1 if the entry stays for its lock.
+pub record OutsideNow (out before after kind lock now : ℕ) : Type 0 where
+  pub put : kind ≡ 1 → now + after ≡ out + before
+  pub drop : (kind ≡ 1 → ⊥) → now + after + 1 ≡ out + lock + before
+
+pub outside-by-put : {out before after lock : ℕ} (kind : ℕ) → OutsideFits out before after kind lock → kind ≡ 1 → OutsideNow out before after kind lock (out + before - after)
+outside-by-put {out} {before} {after} {lock} kind f k =
+    let l : after ≤ out + before = f .put k in record { put = λ e. omega arith; drop = λ n. absurd (n k) }
+
+pub outside-by-drop : {out before after lock : ℕ} (kind : ℕ) → OutsideFits out before after kind lock → (kind ≡ 1 → ⊥)
+    → OutsideNow out before after kind lock (out + lock + before - after - 1)
+outside-by-drop {out} {before} {after} {lock} kind f k =
+    let l : after + 1 ≤ out + lock + before = f .drop k in record { put = λ e. absurd (k e); drop = λ n. omega arith }
+
+abbrev pub walk : ℕ → ℕ → ℕ → ℕ → ℕ → Walk
+walk n e c f o = record { records = n; entries = e; count = c; left = f; outside = o }
+
+pub walk-start : {rows : RecordRows} {slots : SlotRows} {n e o : ℕ} (p : ℕ → Bool) → Starting rows slots n e o → Walking p (recordsOf rows n) (slotsOf slots) rows slots (walk n e 0 0 o) 0
+walk-start {rows} {slots} {n} {e} {o} p s =
     record {
       rows-held = s .rows-held;
       words = s .words;
@@ -253,6 +280,7 @@ walk-start {rows} {slots} {n} {e} p s =
       elsewhere = λ q h. refl;
       rest = λ ls. ap (each (mergeEntry 4) (parts (recordsOf rows n) ls (slotsOf slots))) (left-start p (slotsOf slots));
       counted = (let z : length (left p (slotsOf slots) 0) ≡ length (filter (takes p) (entries (slotsOf slots))) = ap length (left-start p (slotsOf slots)) in omega arith);
+      outside-is = s .outside-is;
       cleared = λ z i l. absurd (not-suc-le-zero l);
     }
 
@@ -271,6 +299,7 @@ walk-end {p} {rows} {slots} {n} {rows'} {slots'} {w} {j} r h =
       elsewhere = r .elsewhere;
       after = λ ls. sym (ap (each (mergeEntry 4) (parts (recordsOf rows' (w .records)) ls (slotsOf slots'))) e) ∙ r .rest ls;
       count = (let z : length (left p (slotsOf slots) j) ≡ 0 = ap length e in let y : w .count + length (left p (slotsOf slots) j) ≡ length (filter (takes p) (entries (slotsOf slots))) = r .counted in omega arith);
+      outside-is = r .outside-is;
       cleared = λ z i l. r .cleared z i (omega arith);
     }
 
@@ -283,7 +312,7 @@ entry-in slots j r e = sym (ap (λ (s : Slot). s .entry) e)
 -- an entry that is not taken, or none; the count of locks becomes f
 walk-past : {p : ℕ → Bool} {rows : RecordRows} {slots : SlotRows} {w : Walk} {j : ℕ} (r : SlotWords) (f : ℕ) → indexlet.IsSlot slots j r → j < slotCount
     → takes p (row (r .key) (contentIn (r .content))) ≡ false → w .left ≤ f → f ≤ w .left + 1
-    → (f ≡ 0 → (e : Row Content) → entryAt (slotsOf slots) j ≡ some e → p (e .key) ≡ false) → WalksSlot p rows slots w j rows slots (walk (w .records) (w .entries) (w .count) f)
+    → (f ≡ 0 → (e : Row Content) → entryAt (slotsOf slots) j ≡ some e → p (e .key) ≡ false) → WalksSlot p rows slots w j rows slots (walk (w .records) (w .entries) (w .count) f (w .outside))
 walk-past {p} {rows} {slots} {w} {j} r f reads h t least most gone =
     record {
       on = λ {rs} {ss} g.
@@ -305,6 +334,7 @@ walk-past {p} {rows} {slots} {w} {j} r f reads h t least most gone =
             elsewhere = g .elsewhere;
             rest = λ ls. ap (each (mergeEntry 4) (parts (recordsOf rows (w .records)) ls (slotsOf slots))) d ∙ g .rest ls;
             counted = (let y : w .count + length (left p ss j) ≡ length (filter (takes p) (entries ss)) = g .counted in let x : length (left p ss (j + 1)) ≡ length (left p ss j) = ap length d in omega arith);
+            outside-is = g .outside-is;
             cleared =
                 λ z i l e q.
                 ⊎-elim
@@ -356,7 +386,7 @@ left-fits {w = w} {j} g h c x b =
 
 -- nothing is pending: a lock counts
 pub walk-lock : {p : ℕ → Bool} {rows : RecordRows} {slots : SlotRows} {w : Walk} {j : ℕ} (r : SlotWords) (x : ℕ) → indexlet.IsSlot slots j r → j < slotCount → r .content .kind ≡ 0
-    → x ≡ pick (present (contentIn (r .content) .holder)) 1 0 → WalksSlot p rows slots w j rows slots (walk (w .records) (w .entries) (w .count) (w .left + x))
+    → x ≡ pick (present (contentIn (r .content) .holder)) 1 0 → WalksSlot p rows slots w j rows slots (walk (w .records) (w .entries) (w .count) (w .left + x) (w .outside))
 unfolding contentIn pendingIn
 walk-lock {p} {rows} {slots} {w} {j} r x reads h k b =
     let most : pick (present (contentIn (r .content) .holder)) 1 0 ≤ 1 = pick-most (present (contentIn (r .content) .holder)) in
@@ -394,7 +424,7 @@ module _ {slots : SlotRows} {j : ℕ} (r : SlotWords) (held : indexlet.SlotsHeld
   -- what enters the index and the indexlet is what the model merges
   merged-is : (rs rs' : List (Row Record)) (ls : List Leaf) (ss' : List Slot)
       → rs' ≡ assign (r .key) (leaving (r .content .kind) (r .content .value) (r .content .commit)) rs
-      → ss' ≡ enter 4 (slotsOf slots) (r .key) (withoutPending (contentIn (r .content)))
+      → ss' ≡ enter 4 (slotsOf slots) (r .key) (takenIn (contentIn (r .content)))
       → parts rs' ls ss' ≡ mergeEntry 4 (parts rs ls (slotsOf slots)) (row (r .key) (contentIn (r .content)))
   unfolding mergeEntry current leaving contentIn
   merged-is rs rs' ls ss' e f =
@@ -405,7 +435,7 @@ module _ {slots : SlotRows} {j : ℕ} (r : SlotWords) (held : indexlet.SlotsHeld
       λ i. record {
         records = (e ∙ ap (λ (o : Option Record). assign (r .key) o rs) (sym cur)) i;
         leaves = ls;
-        slots = (f ∙ ap (λ (c : Content). enter 4 (slotsOf slots) (r .key) (withoutPending c)) (sym content-is)) i;
+        slots = (f ∙ ap (λ (c : Content). enter 4 (slotsOf slots) (r .key) (takenIn c)) (sym content-is)) i;
       }
 
   taken-yes : (p : ℕ → Bool) → p (r .key) ≡ true → takes p (row (r .key) (contentIn (r .content))) ≡ true
@@ -419,6 +449,135 @@ module _ {slots : SlotRows} {j : ℕ} (r : SlotWords) (held : indexlet.SlotsHeld
       let a : weigh q (kept (r .key) (contentOf (slotsOf slots) (r .key))) ≡ 0 = weigh-nothing q (r .key) (contentOf (slotsOf slots) (r .key)) (f (contentOf (slotsOf slots) (r .key))) in
       let b : weigh q (kept (r .key) c) ≡ 0 = weigh-nothing q (r .key) c (f c) in
       omega arith
+
+  -- ---- entries outside of the index
+
+  -- a test of entries that changes at this address alone changes the count by the entry's own terms
+  test-moved : j < slotCount → (q q' : Row Content → Bool) → ((e : Row Content) → (e .key ≡ r .key → ⊥) → q' e ≡ q e)
+      → howMany q' (slotsOf slots) + weigh q (some (row (r .key) (contentIn (r .content)))) ≡ howMany q (slotsOf slots) + weigh q' (some (row (r .key) (contentIn (r .content))))
+  unfolding howMany tally
+  test-moved inside q q' f =
+      let long : length (slotsOf slots) ≡ slotCount = held .good .size in
+      ap (λ (o : Option (Row Content)). howMany q' (slotsOf slots) + weigh q o) (sym entry-is)
+      ∙ total-except (λ (i : ℕ) (s : Slot). weigh q (s .entry)) (λ (i : ℕ) (s : Slot). weigh q' (s .entry)) (slotsOf slots) j emptySlot (omega arith)
+      (λ i l n. alike i l n (entryAt (slotsOf slots) i) refl)
+      ∙ ap (λ (o : Option (Row Content)). howMany q (slotsOf slots) + weigh q' o) entry-is
+    where
+      alike : (i : ℕ) → i < length (slotsOf slots) → (i ≡ j → ⊥) → (o : Option (Row Content)) → entryAt (slotsOf slots) i ≡ o → weigh q' o ≡ weigh q o
+      alike i l n none e = unfold weigh in refl
+      alike i l n (some x) e =
+          unfold weigh in
+          ap (λ (b : Bool). pick b 1 0)
+          (f x (λ k.
+          let long : length (slotsOf slots) ≡ slotCount = held .good .size in
+          clash
+          (holds-yes (r .key) (getD (slotsOf slots) i emptySlot) x e k)
+          (only-here (slotsOf slots) (r .key) j i (held .good .once (r .key)) (omega arith) l
+          (holds-yes (r .key) (getD (slotsOf slots) j emptySlot) (row (r .key) (contentIn (r .content))) entry-is refl) (λ y. n (sym y)))))
+
+  -- the index with the address's record, or without
+  abbrev assigned : List (Row Record) → List (Row Record)
+  assigned rs = assign (r .key) (leaving (r .content .kind) (r .content .value) (r .content .commit)) rs
+
+  look-assigned : (rs : List (Row Record)) → look (assigned rs) (r .key) ≡ leaving (r .content .kind) (r .content .value) (r .content .commit)
+  look-assigned rs =
+      look-assign (r .key) (leaving (r .content .kind) (r .content .value) (r .content .commit)) rs (r .key)
+      ∙ ap (λ (b : Bool). pick b (leaving (r .content .kind) (r .content .value) (r .content .commit)) (look rs (r .key))) (same-refl (r .key))
+
+  -- what the entry counts before, and what is left of it after
+  outside-moved : j < slotCount → (rs : List (Row Record))
+      → howMany (lacking (assigned rs)) (enter 4 (slotsOf slots) (r .key) (takenIn (contentIn (r .content)))) + pick (not (present (look rs (r .key)))) 1 0
+      ≡ howMany (lacking rs) (slotsOf slots)
+      + pick (not (present (contentIn (r .content) .holder))) 0 (pick (not (present (leaving (r .content .kind) (r .content .value) (r .content .commit)))) 1 0)
+  unfolding lacking weigh
+  outside-moved inside rs =
+      let c : Content = contentIn (r .content) in
+      let q' : Row Content → Bool = lacking (assigned rs) in
+      let change : howMany q' (enter 4 (slotsOf slots) (r .key) (takenIn c)) + weigh q' (kept (r .key) (contentOf (slotsOf slots) (r .key))) ≡ howMany q' (slotsOf slots) + weigh q' (kept (r .key) (takenIn c))
+      = many-change (held .good) (slot-room (takenIn c)) q' in
+      let was : weigh q' (kept (r .key) (contentOf (slotsOf slots) (r .key))) ≡ weigh q' (some (row (r .key) c))
+      = ap (λ (x : Content). weigh q' (kept (r .key) x)) content-is ∙ ap (λ (b : Bool). weigh q' (pick b none (some (row (r .key) c)))) busy in
+      let test : howMany q' (slotsOf slots) + weigh (lacking rs) (some (row (r .key) c)) ≡ howMany (lacking rs) (slotsOf slots) + weigh q' (some (row (r .key) c))
+      = test-moved inside (lacking rs) q' (λ e n. ap (λ (o : Option Record). not (present o))
+      (look-assign (r .key) (leaving (r .content .kind) (r .content .value) (r .content .commit)) rs (e .key)
+      ∙ ap (λ (b : Bool). pick b (leaving (r .content .kind) (r .content .value) (r .content .commit)) (look rs (e .key))) (same-no {m = r .key} {n = e .key} (λ y. n (sym y))))) in
+      let stays : weigh q' (kept (r .key) (takenIn c)) ≡ pick (not (present (c .holder))) 0 (pick (not (present (leaving (r .content .kind) (r .content .value) (r .content .commit)))) 1 0)
+      = weigh-kept q' (r .key) (takenIn c) ∙ (unfold isIdle in ap (λ (o : Option Record). pick (not (present (c .holder))) 0 (pick (not (present o)) 1 0)) (look-assigned rs)) in
+      let own : weigh (lacking rs) (some (row (r .key) c)) ≡ pick (not (present (look rs (r .key)))) 1 0 = refl in
+      omega arith
+
+  one-of : (b : Bool) → pick b 1 0 + pick (not b) 1 0 ≡ 1
+  one-of true = refl
+  one-of false = refl
+
+  -- by the number of records: a put brings its address into the index
+  outside-put : j < slotCount → (rs rs' : List (Row Record)) (ss' : List Slot) → Rising rs → rs' ≡ assigned rs → ss' ≡ enter 4 (slotsOf slots) (r .key) (takenIn (contentIn (r .content)))
+      → r .content .kind ≡ 1 → howMany (lacking rs') ss' + length rs' ≡ howMany (lacking rs) (slotsOf slots) + length rs
+  outside-put inside rs rs' ss' f e v k =
+      let here : present (leaving (r .content .kind) (r .content .value) (r .content .commit)) ≡ true = ap present (sym (leaving-put (r .content .kind) (r .content .value) (r .content .commit) k)) in
+      let moved : howMany (lacking rs') ss' + pick (not (present (look rs (r .key)))) 1 0
+      ≡ howMany (lacking rs) (slotsOf slots)
+      + pick (not (present (contentIn (r .content) .holder))) 0 (pick (not (present (leaving (r .content .kind) (r .content .value) (r .content .commit)))) 1 0)
+      = (λ i. howMany (lacking (e i)) (v i) + pick (not (present (look rs (r .key)))) 1 0) ∙ outside-moved inside rs in
+      let none-left : _≡_ {A = ℕ} (pick (not (present (contentIn (r .content) .holder))) 0 (pick (not (present (leaving (r .content .kind) (r .content .value) (r .content .commit)))) 1 0)) 0
+      = ap (λ (b : Bool). pick (not (present (contentIn (r .content) .holder))) 0 (pick (not b) 1 0)) here ∙ zeros (not (present (contentIn (r .content) .holder))) in
+      let long : length rs' + pick (present (look rs (r .key))) 1 0 ≡ length rs + 1
+      = ap (λ (x : List (Row Record)). length x + pick (present (look rs (r .key))) 1 0) e
+      ∙ length-assign (r .key) (leaving (r .content .kind) (r .content .value) (r .content .commit)) rs f
+      ∙ ap (λ (b : Bool). length rs + pick b 1 0) here in
+      let one : pick (present (look rs (r .key))) 1 0 + pick (not (present (look rs (r .key)))) 1 0 ≡ 1 = one-of (present (look rs (r .key))) in
+      omega arith
+    where
+      zeros : (b : Bool) → _≡_ {A = ℕ} (pick b 0 0) 0
+      zeros true = refl
+      zeros false = refl
+
+  -- a deletion takes it out, and leaves an entry there for a lock alone
+  outside-drop : j < slotCount → (rs rs' : List (Row Record)) (ss' : List Slot) → Rising rs → rs' ≡ assigned rs → ss' ≡ enter 4 (slotsOf slots) (r .key) (takenIn (contentIn (r .content)))
+      → (r .content .kind ≡ 1 → ⊥) → howMany (lacking rs') ss' + length rs' + 1 ≡ howMany (lacking rs) (slotsOf slots) + pick (present (contentIn (r .content) .holder)) 1 0 + length rs
+  outside-drop inside rs rs' ss' f e v k =
+      let gone : present (leaving (r .content .kind) (r .content .value) (r .content .commit)) ≡ false = ap present (sym (leaving-drop (r .content .kind) (r .content .value) (r .content .commit) k)) in
+      let moved : howMany (lacking rs') ss' + pick (not (present (look rs (r .key)))) 1 0
+      ≡ howMany (lacking rs) (slotsOf slots)
+      + pick (not (present (contentIn (r .content) .holder))) 0 (pick (not (present (leaving (r .content .kind) (r .content .value) (r .content .commit)))) 1 0)
+      = (λ i. howMany (lacking (e i)) (v i) + pick (not (present (look rs (r .key)))) 1 0) ∙ outside-moved inside rs in
+      let stays : _≡_ {A = ℕ} (pick (not (present (contentIn (r .content) .holder))) 0 (pick (not (present (leaving (r .content .kind) (r .content .value) (r .content .commit)))) 1 0)) (pick (present (contentIn (r .content) .holder)) 1 0)
+      = ap (λ (b : Bool). pick (not (present (contentIn (r .content) .holder))) 0 (pick (not b) 1 0)) gone ∙ turned (present (contentIn (r .content) .holder)) in
+      let long : length rs' + pick (present (look rs (r .key))) 1 0 ≡ length rs + 0
+      = ap (λ (x : List (Row Record)). length x + pick (present (look rs (r .key))) 1 0) e
+      ∙ length-assign (r .key) (leaving (r .content .kind) (r .content .value) (r .content .commit)) rs f
+      ∙ ap (λ (b : Bool). length rs + pick b 1 0) gone in
+      let one : pick (present (look rs (r .key))) 1 0 + pick (not (present (look rs (r .key)))) 1 0 ≡ 1 = one-of (present (look rs (r .key))) in
+      omega arith
+    where
+      turned : (b : Bool) → _≡_ {A = ℕ} (pick (not b) 0 1) (pick b 1 0)
+      turned true = refl
+      turned false = refl
+
+  pub outside-fits : {p : ℕ → Bool} {rs : List (Row Record)} {ss : List Slot} {rows rows' : RecordRows} {w : Walk} (n x : ℕ) → j < slotCount → Walking p rs ss rows slots w j
+      → x ≡ pick (present (contentIn (r .content) .holder)) 1 0
+      → index.RecordsAre rows' n (assign (r .key) (leaving (r .content .kind) (r .content .value) (r .content .commit)) (recordsOf rows (w .records)))
+      → OutsideFits (w .outside) (w .records) n (r .content .kind) x
+  outside-fits {rows = rows} {rows' = rows'} {w = w} n x inside g locks hold =
+      let o : w .outside ≡ howMany (lacking (recordsOf rows (w .records))) (slotsOf slots) = g .outside-is in
+      let a : length (recordsOf rows (w .records)) ≡ w .records = length-records rows (w .records) (g .rows-held .room) in
+      let b : length (recordsOf rows' n) ≡ n = length-records rows' n (hold .held .room) in
+      let room : w .records ≤ recordPlaces = g .rows-held .room in
+      let few : howMany (lacking (recordsOf rows (w .records))) (slotsOf slots) ≤ slotCount = many-most (held .good) (lacking (recordsOf rows (w .records))) in
+      let one : pick (present (contentIn (r .content) .holder)) 1 0 ≤ 1 = pick-most (present (contentIn (r .content) .holder)) in
+      record {
+        small = omega arith;
+        put = λ k.
+            let z : howMany (lacking (recordsOf rows' n)) (enter 4 (slotsOf slots) (r .key) (takenIn (contentIn (r .content)))) + length (recordsOf rows' n)
+            ≡ howMany (lacking (recordsOf rows (w .records))) (slotsOf slots) + length (recordsOf rows (w .records))
+            = outside-put inside (recordsOf rows (w .records)) (recordsOf rows' n) _ (g .rows-held .rising) (hold .same) refl k in
+            omega arith;
+        drop = λ k.
+            let z : howMany (lacking (recordsOf rows' n)) (enter 4 (slotsOf slots) (r .key) (takenIn (contentIn (r .content)))) + length (recordsOf rows' n) + 1
+            ≡ howMany (lacking (recordsOf rows (w .records))) (slotsOf slots) + pick (present (contentIn (r .content) .holder)) 1 0 + length (recordsOf rows (w .records))
+            = outside-drop inside (recordsOf rows (w .records)) (recordsOf rows' n) _ (g .rows-held .rising) (hold .same) refl k in
+            omega arith;
+      }
 
   other : (p : ℕ → Bool) → p (r .key) ≡ true → (x : ℕ) → p x ≡ false → same (r .key) x ≡ false
   other p t x f = same-no {m = r .key} {n = x} (λ e. clash (ap p (sym e) ∙ t) f)
@@ -435,13 +594,14 @@ module _ {slots : SlotRows} {j : ℕ} (r : SlotWords) (held : indexlet.SlotsHeld
       (entry-inside (u .records) (u .begun) j (row (r .key) (contentIn (r .content))) (sym (g .untouched j (le-refl j) h) ∙ entry-is))))
       (u .bound)
 
-  pub walk-on : {p : ℕ → Bool} {rows : RecordRows} {w : Walk} (rows' : RecordRows) (slots' : SlotRows) (n e x : ℕ) (c : ContentWords) → j < slotCount → p (r .key) ≡ true
+  pub walk-on : {p : ℕ → Bool} {rows : RecordRows} {w : Walk} (rows' : RecordRows) (slots' : SlotRows) (n e x o : ℕ) (c : ContentWords) → j < slotCount → p (r .key) ≡ true
       → x ≡ pick (present (contentIn (r .content) .holder)) 1 0
       → index.RecordsAre rows' n (assign (r .key) (leaving (r .content .kind) (r .content .value) (r .content .commit)) (recordsOf rows (w .records)))
-      → contentIn c ≡ withoutPending (contentIn (r .content)) → indexlet.Enters slots (r .key) c slots' e
-      → WalksSlot p rows slots w j rows' slots' (walk n e (w .count + 1) (w .left + x))
+      → contentIn c ≡ takenIn (contentIn (r .content)) → indexlet.Enters slots (r .key) c slots' e
+      → OutsideNow (w .outside) (w .records) n (r .content .kind) x o
+      → WalksSlot p rows slots w j rows' slots' (walk n e (w .count + 1) (w .left + x) o)
   unfolding each
-  walk-on {p} {rows} {w} rows' slots' n e lock c h t locks hold ce ent =
+  walk-on {p} {rows} {w} rows' slots' n e lock out c h t locks hold ce ent now =
       record {
         on = λ {rs} {ss} g.
             let z : length ss ≡ slotCount = g .full in
@@ -450,7 +610,7 @@ module _ {slots : SlotRows} {j : ℕ} (r : SlotWords) (held : indexlet.SlotsHeld
             let was : entryAt ss j ≡ some x = sym (g .untouched j (le-refl j) h) ∙ entry-is in
             let d : left p ss j ≡ x ∷ left p ss (suc j) = left-some p ss j (omega arith) x was ∙ ap (λ (b : Bool). pick b (x ∷ left p ss (suc j)) (left p ss (suc j))) (taken-yes p t) in
             let s : suc j ≡ j + 1 = omega arith in
-            let view : slotsOf slots' ≡ enter 4 (slotsOf slots) (r .key) (withoutPending (contentIn (r .content)))
+            let view : slotsOf slots' ≡ enter 4 (slotsOf slots) (r .key) (takenIn (contentIn (r .content)))
             = ent .view ∙ ap (enter 4 (slotsOf slots) (r .key)) ce in
             record {
               rows-held = hold .held;
@@ -489,6 +649,7 @@ module _ {slots : SlotRows} {j : ℕ} (r : SlotWords) (held : indexlet.SlotsHeld
                   (let y : w .count + length (left p ss j) ≡ length (filter (takes p) (entries ss)) = g .counted in
                   let q : length (left p ss j) ≡ suc (length (left p ss (j + 1))) = ap length d ∙ ap (λ (k : ℕ). suc (length (left p ss k))) s in
                   omega arith);
+              outside-is = outside-now (g .outside-is) (g .rows-held);
               cleared =
                   λ y i l o q.
                   ⊎-elim
@@ -496,7 +657,7 @@ module _ {slots : SlotRows} {j : ℕ} (r : SlotWords) (held : indexlet.SlotsHeld
                   let here : entryAt (slotsOf slots') j ≡ kept (r .key) (contentIn c)
                   = ap (λ (ts : List Slot). entryAt ts j) (ent .view) ∙ enter-here j (contentIn c) (held .good) (omega arith) entry-is (slot-room (contentIn c)) in
                   clash
-                  (ap isIdle ce ∙ unlocked (withoutPending (contentIn (r .content))) lock refl locks (omega arith))
+                  (ap isIdle ce ∙ unlocked (takenIn (contentIn (r .content))) lock refl locks (omega arith))
                   (kept-entry (r .key) (contentIn c) o (sym here ∙ ap (entryAt (slotsOf slots')) (sym (same-true i j b)) ∙ q) .0))
                   (λ b.
                   let m : i ≡ j → ⊥ = same-false i j b in
@@ -506,7 +667,26 @@ module _ {slots : SlotRows} {j : ℕ} (r : SlotWords) (held : indexlet.SlotsHeld
                   (cases (same i j));
             };
       }
+    where
+      outside-now : w .outside ≡ howMany (lacking (recordsOf rows (w .records))) (slotsOf slots) → index.RecordsSorted rows (w .records)
+          → out ≡ howMany (lacking (recordsOf rows' n)) (slotsOf slots')
+      outside-now were sorted =
+          let view : slotsOf slots' ≡ enter 4 (slotsOf slots) (r .key) (takenIn (contentIn (r .content))) = ent .view ∙ ap (enter 4 (slotsOf slots) (r .key)) ce in
+          let a : length (recordsOf rows (w .records)) ≡ w .records = length-records rows (w .records) (sorted .room) in
+          let b : length (recordsOf rows' n) ≡ n = length-records rows' n (hold .held .room) in
+          ⊎-elim
+          (λ k.
+          let y : out + n ≡ w .outside + w .records = now .put (same-true (r .content .kind) 1 k) in
+          let z : howMany (lacking (recordsOf rows' n)) (slotsOf slots') + length (recordsOf rows' n) ≡ howMany (lacking (recordsOf rows (w .records))) (slotsOf slots) + length (recordsOf rows (w .records))
+          = outside-put h (recordsOf rows (w .records)) (recordsOf rows' n) (slotsOf slots') (sorted .rising) (hold .same) view (same-true (r .content .kind) 1 k) in
+          omega arith)
+          (λ k.
+          let y : out + n + 1 ≡ w .outside + lock + w .records = now .drop (same-false (r .content .kind) 1 k) in
+          let z : howMany (lacking (recordsOf rows' n)) (slotsOf slots') + length (recordsOf rows' n) + 1 ≡ howMany (lacking (recordsOf rows (w .records))) (slotsOf slots) + pick (present (contentIn (r .content) .holder)) 1 0 + length (recordsOf rows (w .records))
+          = outside-drop h (recordsOf rows (w .records)) (recordsOf rows' n) (slotsOf slots') (sorted .rising) (hold .same) view (same-false (r .content .kind) 1 k) in
+          omega arith)
+          (cases (same (r .content .kind) 1))
 
-pub rest-content : (c : ContentWords) → contentIn (record { kind = 0; value = 0; commit = 0; since = 0; lock = c .lock }) ≡ withoutPending (contentIn c)
+pub rest-content : (c : ContentWords) → contentIn (record { kind = 0; value = 0; commit = 0; since = 0; lock = c .lock; forput = c .forput }) ≡ takenIn (contentIn c)
 unfolding contentIn pendingIn
 rest-content c = refl

@@ -32,7 +32,7 @@ use Rattle.index.specs.Views.{leafPlaces, recordPlaces, recordsOf, leavesOf}
 use Rattle.index.specs.ViewLaws.{length-records}
 use Rattle.index.specs.LeafPlaces.{lowPlace, AtLeaf, Listed}
 use Rattle.index.specs.LeafViews.{parted}
-use Rattle.index.specs.LeafColumns.{lowsOf, versionsOf, outsideOf, pendingOf}
+use Rattle.index.specs.LeafColumns.{lowsOf, versionsOf, hiddenOf, pendingOf}
 use Rattle.index.specs.LeafColumnLaws.{column-places}
 use Rattle.index.specs.Settles.{SettledAs}
 use Rattle.index.specs.SettleRows.{Shifted}
@@ -41,13 +41,13 @@ use Rattle.counters.specs.declared.Counters.{Counters}
 use Rattle.counters.specs.Taking.{versioned}
 use Rattle.map.specs.declared.merge.Walk.{Walk}
 use Rattle.map.specs.declared.merge.Merged.{Merged}
-use Rattle.phantomlet.specs.Phantoms.{howMany, outsideAny, outsideIn, pendingIn, versionOf, Phantomlet}
+use Rattle.phantomlet.specs.Phantoms.{howMany, outsideAny, hidesSome, hidingIn, pendingIn, versionOf, Phantomlet}
 use Rattle.map.specs.Views.{SlotRows, LeafRows, RecordRows, Lent, byColumns, lent, mapOf}
 use Rattle.map.specs.MapHeld.{Tables, MapHeld}
 use Rattle.phantomlet.specs.LeafTests.{none-left, placed, takes, filter-same, many-same, pending-merging, lows-are, leaves-count, live-at, placed-version, at-version, placed-own}
 use Rattle.map.specs.MergeWalks.{parts, Starting, Took}
-use Rattle.phantomlet.specs.MergeCounts.{Recounting, Counting, Recounted}
-use Rattle.phantomlet.specs.LeafCounts.{Ranging, Keeping, Bare, lacking, waiting, inLeaf, many-zero}
+use Rattle.phantomlet.specs.MergeCounts.{Recounting, Numbers, Numbering}
+use Rattle.phantomlet.specs.LeafCounts.{Ranging, Keeping, Bare, lacking, hidingAt, waiting, inLeaf, many-zero}
 use Rattle.phantomlet.specs.LeafRows.{low-inside}
 use Rattle.map.specs.MergeKeys.{entry-narrow, record-narrow, rows-narrow, low-at, first-low}
 use Rattle.map.specs.MergeKeeps.{Shape, settle-shape, shape-length, shape-early, shape-unjoined, shape-after, kept-test}
@@ -90,14 +90,17 @@ merge-some s v m a h = all-some s v m a (merging m a) h
 -- ---- counts of kept leaves
 
 -- two tests that agree on addresses, of which those that pass keep their records
-lacking-same : (b c : Bool) (rs rs' : List (Row Record)) (e : Row Content) → b ≡ c → (c ≡ true → look rs' (e .key) ≡ look rs (e .key)) → both b (lacking rs' e) ≡ both c (lacking rs e)
-unfolding lacking
-lacking-same b c rs rs' e q h =
-    ap (λ (x : Bool). both x (not (present (look rs' (e .key))))) q
+hiding-same : (b c : Bool) (rs rs' : List (Row Record)) (e : Row Content) → b ≡ c → (c ≡ true → look rs' (e .key) ≡ look rs (e .key)) → both b (hidingAt rs' e) ≡ both c (hidingAt rs e)
+unfolding hidingAt lacking
+hiding-same b c rs rs' e q h =
+    ap (λ (x : Bool). both x (at rs')) q
     ∙ ⊎-elim
-    (λ t. (rw t) ∙ ap (λ (o : Option Record). not (present o)) (h t) ∙ sym (ap (λ (x : Bool). both x (not (present (look rs (e .key))))) t))
-    (λ f. (rw f) ∙ sym (ap (λ (x : Bool). both x (not (present (look rs (e .key))))) f))
+    (λ t. (rw t) ∙ ap (λ (o : Option Record). both (not (present o)) (hidesSome (e .item))) (h t) ∙ sym (ap (λ (x : Bool). both x (at rs)) t))
+    (λ f. (rw f) ∙ sym (ap (λ (x : Bool). both x (at rs)) f))
     (cases c)
+  where
+    at : List (Row Record) → Bool
+    at zs = both (not (present (look zs (e .key)))) (hidesSome (e .item))
 
 -- a place is one place
 placed-one : (lows : List ℕ) (m i o k : ℕ) → (o ≡ i → ⊥) → placed lows m i k ≡ true → placed lows m o k ≡ false
@@ -169,8 +172,16 @@ module _ {l : Lent} {z : Sizes} (k : Counters) (h : MapHeld l z (k .version)) (a
         same-current = λ j. refl;
       }
 
-  pub starting : Starting (l .rows) (l .slots) (z .records) (z .entries)
-  starting = record { rows-held = h .tables .rows; words = h .tables .words; number = h .tables .entries-are; bound = h .bounded .addresses }
+  pub starting : Starting (l .rows) (l .slots) (z .records) (z .entries) (z .outside)
+  unfolding lacking outsideAny
+  starting =
+      record {
+        rows-held = h .tables .rows;
+        words = h .tables .words;
+        number = h .tables .entries-are;
+        bound = h .bounded .addresses;
+        outside-is = h .tables .outside-are;
+      }
 
   -- what finding the leaf's addresses asks
   pub ranging : Ranging (l .lows) (z .leaves) i (i + 1)
@@ -263,7 +274,7 @@ module _ {l : Lent} {z : Sizes} (k : Counters) (h : MapHeld l z (k .version)) (a
     -- the leaf has settled
     module _ (ls : LeafRows) (m v : ℕ) (all : length ls ≡ leafPlaces)
         (settled : SettledAs (l .lows) (l .versions) (z .leaves) i (k .version) (leafKeys (l .lows) rows (w .records) (z .leaves) i) (lowsOf ls) (versionsOf ls) m v)
-        (outside-shifts : Shifted (l .outside) (outsideOf ls) (z .leaves) i m) (pending-shifts : Shifted (l .pending) (pendingOf ls) (z .leaves) i m) where
+        (hidden-shifts : Shifted (l .hidden) (hiddenOf ls) (z .leaves) i m) (pending-shifts : Shifted (l .pending) (pendingOf ls) (z .leaves) i m) where
       abbrev lows : List ℕ
       lows = lowsOf ls
 
@@ -325,10 +336,10 @@ module _ {l : Lent} {z : Sizes} (k : Counters) (h : MapHeld l z (k .version)) (a
           }
 
       -- the numbers of the leaf at place j, by its place and by its version
-      outside-test : (j : ℕ) → j < m → (e : Row Content) → inLeaf lows m (lacking (recordsOf rows (w .records))) j e ≡ outsideIn now (versionOf now j) e
-      unfolding now inLeaf outsideIn outsideAny lacking
-      outside-test j g e =
-          ap (λ (t : Bool). both t (not (present (look (recordsOf rows (w .records)) (e .key)))))
+      hidden-test : (j : ℕ) → j < m → (e : Row Content) → inLeaf lows m (hidingAt (recordsOf rows (w .records))) j e ≡ hidingIn now (versionOf now j) e
+      unfolding now inLeaf hidingIn hidingAt outsideAny lacking
+      hidden-test j g e =
+          ap (λ (t : Bool). both t (both (not (present (look (recordsOf rows (w .records)) (e .key)))) (hidesSome (e .item))))
           (sym (placed-version lows versions m al av (settled .room) now-good j (e .key) g))
 
       pending-test : (j : ℕ) → j < m → (e : Row Content) → inLeaf lows m waiting j e ≡ pendingIn now (versionOf now j) e
@@ -367,17 +378,17 @@ module _ {l : Lent} {z : Sizes} (k : Counters) (h : MapHeld l z (k .version)) (a
           ∙ placed-version (l .lows) (l .versions) (z .leaves) (h .tables .lows-size) (h .tables .versions-size) (h .tables .lows .room) good o x b
 
       module _ (j o : ℕ) (g : j < m) (b : o < z .leaves) (n : o ≡ i → ⊥) (e : getD (leavesOf lows versions m) j firstLeaf ≡ getD (mapOf l z .leaves) o firstLeaf) where
-        outside-kept : getD (l .outside) o 0 ≡ howMany (inLeaf lows m (lacking (recordsOf rows (w .records))) j) (slotsOf slots)
-        unfolding inLeaf outsideIn outsideAny lacking
-        outside-kept =
-            h .tables .phantoms .outside-is o (rw many-leaves b)
-            ∙ many-same (outsideIn (mapOf l z) (versionOf (mapOf l z) o)) (inLeaf (l .lows) (z .leaves) (lacking (recordsOf (l .rows) (z .records))) o) (slotsOf (l .slots))
-            (λ x. ap (λ (t : Bool). both t (not (present (look (recordsOf (l .rows) (z .records)) (x .key)))))
+        hidden-kept : getD (l .hidden) o 0 ≡ howMany (inLeaf lows m (hidingAt (recordsOf rows (w .records))) j) (slotsOf slots)
+        unfolding inLeaf hidingIn hidingAt outsideAny lacking
+        hidden-kept =
+            h .tables .phantoms .hidden-is o (rw many-leaves b)
+            ∙ many-same (hidingIn (mapOf l z) (versionOf (mapOf l z) o)) (inLeaf (l .lows) (z .leaves) (hidingAt (recordsOf (l .rows) (z .records))) o) (slotsOf (l .slots))
+            (λ x. ap (λ (t : Bool). both t (both (not (present (look (recordsOf (l .rows) (z .records)) (x .key)))) (hidesSome (x .item))))
             (placed-version (l .lows) (l .versions) (z .leaves) (h .tables .lows-size) (h .tables .versions-size) (h .tables .lows .room) good o (x .key) b))
-            ∙ sym (took .elsewhere (inLeaf (l .lows) (z .leaves) (lacking (recordsOf (l .rows) (z .records))) o)
-            (λ x t. ap (λ (c : Bool). both c (not (present (look (recordsOf (l .rows) (z .records)) (x .key))))) (placed-one (l .lows) (z .leaves) i o (x .key) n t)))
-            ∙ many-same (inLeaf (l .lows) (z .leaves) (lacking (recordsOf (l .rows) (z .records))) o) (inLeaf lows m (lacking (recordsOf rows (w .records))) j) (slotsOf slots)
-            (λ x. sym (lacking-same (placed lows m j (x .key)) (placed (l .lows) (z .leaves) o (x .key)) (recordsOf (l .rows) (z .records)) (recordsOf rows (w .records)) x
+            ∙ sym (took .elsewhere (inLeaf (l .lows) (z .leaves) (hidingAt (recordsOf (l .rows) (z .records))) o)
+            (λ x t. ap (λ (c : Bool). both c (both (not (present (look (recordsOf (l .rows) (z .records)) (x .key)))) (hidesSome (x .item)))) (placed-one (l .lows) (z .leaves) i o (x .key) n t)))
+            ∙ many-same (inLeaf (l .lows) (z .leaves) (hidingAt (recordsOf (l .rows) (z .records))) o) (inLeaf lows m (hidingAt (recordsOf rows (w .records))) j) (slotsOf slots)
+            (λ x. sym (hiding-same (placed lows m j (x .key)) (placed (l .lows) (z .leaves) o (x .key)) (recordsOf (l .rows) (z .records)) (recordsOf rows (w .records)) x
             (same-leaf j o g b e (x .key))
             (λ t. took .apart (x .key) (placed-one (l .lows) (z .leaves) o i (x .key) (λ q. n (sym q)) t))))
 
@@ -468,11 +479,11 @@ module _ {l : Lent} {z : Sizes} (k : Counters) (h : MapHeld l z (k .version)) (a
             ap (λ (c : Bool). both c (t e))
             (elsewhere (e .key) (took .cleared unlocked y (let s : length (slotsOf slots) ≡ slotCount = took .words .good .size in omega arith) e q) j a b))
 
-        outside-bare : Bare lows m (lacking (recordsOf rows (w .records))) (slotsOf slots) (outsideOf ls) (i + 1 + m - z .leaves)
-        outside-bare =
+        hidden-bare : Bare lows m (hidingAt (recordsOf rows (w .records))) (slotsOf slots) (hiddenOf ls) (i + 1 + m - z .leaves)
+        hidden-bare =
             let b : i < z .leaves = at .inside in
-            made-numbers lows m (lacking (recordsOf rows (w .records))) (slotsOf slots) outside-shifts (λ j g. outside-kept j j (omega arith) (omega arith) (λ x. let y : ⊥ = omega arith in y) (unmoved j g))
-            (none-made (lacking (recordsOf rows (w .records))))
+            made-numbers lows m (hidingAt (recordsOf rows (w .records))) (slotsOf slots) hidden-shifts (λ j g. hidden-kept j j (omega arith) (omega arith) (λ x. let y : ⊥ = omega arith in y) (unmoved j g))
+            (none-made (hidingAt (recordsOf rows (w .records))))
 
         pending-bare : Bare lows m waiting (slotsOf slots) (pendingOf ls) (i + 1 + m - z .leaves)
         pending-bare =
@@ -497,49 +508,49 @@ module _ {l : Lent} {z : Sizes} (k : Counters) (h : MapHeld l z (k .version)) (a
             old-in = h .tables .lows .room;
             some-made = omega arith;
             one-less = omega arith;
-            outside-kept =
-                kept-numbers lows m (lacking (recordsOf rows (w .records))) (slotsOf slots) outside-shifts (at .inside) (omega arith)
-                (λ j g. outside-kept j j (early-leaf j g) (omega arith) (λ x. let y : ⊥ = omega arith in y) (shape-early shape j g))
-                (λ y g. outside-kept (i + 1 + m - z .leaves + y) (i + 1 + y) (later-leaf y g) g (λ x. let u : ⊥ = omega arith in u) (later-is y));
+            hidden-kept =
+                kept-numbers lows m (hidingAt (recordsOf rows (w .records))) (slotsOf slots) hidden-shifts (at .inside) (omega arith)
+                (λ j g. hidden-kept j j (early-leaf j g) (omega arith) (λ x. let y : ⊥ = omega arith in y) (shape-early shape j g))
+                (λ y g. hidden-kept (i + 1 + m - z .leaves + y) (i + 1 + y) (later-leaf y g) g (λ x. let u : ⊥ = omega arith in u) (later-is y));
             pending-kept =
                 kept-numbers lows m waiting (slotsOf slots) pending-shifts (at .inside) (omega arith)
                 (λ j g. pending-kept j j (early-leaf j g) (omega arith) (λ x. let y : ⊥ = omega arith in y) (shape-early shape j g))
                 (λ y g. pending-kept (i + 1 + m - z .leaves + y) (i + 1 + y) (later-leaf y g) g (λ x. let u : ⊥ = omega arith in u) (later-is y));
-            outside-bare = outside-bare;
+            hidden-bare = hidden-bare;
             pending-bare = pending-bare;
           }
 
       -- the phantomlet is worked out
-      module _ (ls' : LeafRows) (out : ℕ) (recounted : Recounted rows ls ls' slots (w .records) m out) where
-        abbrev outside : List ℕ
-        outside = outsideOf ls'
+      module _ (ls' : LeafRows) (recounted : Numbering rows ls slots (w .records) m ls') where
+        abbrev hidden : List ℕ
+        hidden = hiddenOf ls'
 
         abbrev pending : List ℕ
         pending = pendingOf ls'
 
-        counting : Counting rows lows slots (w .records) m outside pending out
-        counting = subst (λ (x : List ℕ). Counting rows x slots (w .records) m outside pending out) (recounted .same .lows) (recounted .counting)
+        counting : Numbers rows lows slots (w .records) m hidden pending
+        counting = subst (λ (x : List ℕ). Numbers rows x slots (w .records) m hidden pending) (recounted .same .lows) (recounted .numbers)
 
-        now-phantoms : Phantomlet now outside pending
+        now-phantoms : Phantomlet now hidden pending
         unfolding now
         now-phantoms =
             record {
-              outside-is =
+              hidden-is =
                   λ j b.
                   let g : j < m = subst (λ (n : ℕ). j < n) count-is b in
-                  counting .numbers .outside-is j g
-                  ∙ many-same (inLeaf lows m (lacking (recordsOf rows (w .records))) j) (outsideIn now (versionOf now j)) (slotsOf slots) (outside-test j g);
+                  counting .hidden-is j g
+                  ∙ many-same (inLeaf lows m (hidingAt (recordsOf rows (w .records))) j) (hidingIn now (versionOf now j)) (slotsOf slots) (hidden-test j g);
               pending-is =
                   λ j b.
                   let g : j < m = subst (λ (n : ℕ). j < n) count-is b in
-                  counting .numbers .pending-is j g ∙ many-same (inLeaf lows m waiting j) (pendingIn now (versionOf now j)) (slotsOf slots) (pending-test j g);
+                  counting .pending-is j g ∙ many-same (inLeaf lows m waiting j) (pendingIn now (versionOf now j)) (slotsOf slots) (pending-test j g);
             }
 
-        outside-all : out ≡ howMany (outsideAny now) (slotsOf slots)
+        outside-all : w .outside ≡ howMany (outsideAny now) (slotsOf slots)
         unfolding now lacking outsideAny
-        outside-all = counting .total-is
+        outside-all = took .outside-is
 
-        now-tables : Tables (byColumns rows lows versions outside pending slots) (record { records = w .records; leaves = m; entries = w .entries; outside = out })
+        now-tables : Tables (byColumns rows lows versions hidden pending slots) (record { records = w .records; leaves = m; entries = w .entries; outside = w .outside })
             (mergeAt standard (k .version) (mapOf l z) a .version)
         unfolding now
         now-tables =
@@ -555,18 +566,18 @@ module _ {l : Lent} {z : Sizes} (k : Counters) (h : MapHeld l z (k .version)) (a
               leaves = now-good;
               words = took .words;
               entries-are = took .number;
-              outside-size = counting .numbers .outside-size;
-              pending-size = counting .numbers .pending-size;
+              hidden-size = counting .hidden-size;
+              pending-size = counting .pending-size;
               outside-are = outside-all;
               phantoms = now-phantoms;
             }
 
         -- what the merge leaves
         abbrev leaving : Counters → Merged
-        leaving n = record { sizes = record { records = w .records; leaves = m; entries = w .entries; outside = out }; counters = n; count = w .count }
+        leaving n = record { sizes = record { records = w .records; leaves = m; entries = w .entries; outside = w .outside }; counters = n; count = w .count }
 
         -- the versions that settling used are taken
-        merges-columns : {n : Counters} → n ≡ versioned k (v - k .version) → Merges l z k a (byColumns rows lows versions outside pending slots) (leaving n)
+        merges-columns : {n : Counters} → n ≡ versioned k (v - k .version) → Merges l z k a (byColumns rows lows versions hidden pending slots) (leaving n)
         unfolding now
         merges-columns taken =
             record {
@@ -584,5 +595,5 @@ module _ {l : Lent} {z : Sizes} (k : Counters) (h : MapHeld l z (k .version)) (a
 
         pub merges-some : {n : Counters} → n ≡ versioned k (v - k .version) → Merges l z k a (lent rows ls' slots) (leaving n)
         merges-some {n} taken =
-            subst (λ (x : List ℕ). Merges l z k a (byColumns rows x (versionsOf ls') outside pending slots) (leaving n)) (sym (recounted .same .lows))
-            (subst (λ (x : List ℕ). Merges l z k a (byColumns rows lows x outside pending slots) (leaving n)) (sym (recounted .same .versions)) (merges-columns taken))
+            subst (λ (x : List ℕ). Merges l z k a (byColumns rows x (versionsOf ls') hidden pending slots) (leaving n)) (sym (recounted .same .lows))
+            (subst (λ (x : List ℕ). Merges l z k a (byColumns rows lows x hidden pending slots) (leaving n)) (sym (recounted .same .versions)) (merges-columns taken))

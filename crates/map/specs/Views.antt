@@ -35,16 +35,16 @@ pub record Lent : Type 0 where
   pub rows : RecordRows
   pub lows : List ℕ
   pub versions : List ℕ
-  pub outside : List ℕ
+  pub hidden : List ℕ
   pub pending : List ℕ
   pub slots : SlotRows
 
 abbrev pub byColumns : RecordRows → List ℕ → List ℕ → List ℕ → List ℕ → SlotRows → Lent
-byColumns rows lows versions outside pending slots =
-    record { rows = rows; lows = lows; versions = versions; outside = outside; pending = pending; slots = slots }
+byColumns rows lows versions hidden pending slots =
+    record { rows = rows; lows = lows; versions = versions; hidden = hidden; pending = pending; slots = slots }
 
 abbrev pub lent : RecordRows → LeafRows → SlotRows → Lent
-lent rows leaves slots = byColumns rows (lowsOf leaves) (versionsOf leaves) (columns.outsideOf leaves) (columns.pendingOf leaves) slots
+lent rows leaves slots = byColumns rows (lowsOf leaves) (versionsOf leaves) (columns.hiddenOf leaves) (columns.pendingOf leaves) slots
 
 -- a record of its value and its commit number
 abbrev pub recordFrom : ℕ → ℕ → Record

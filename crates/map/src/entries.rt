@@ -15,10 +15,10 @@ ghost use Rattle.laws.specs.SlotLaws.{Room};
 ghost use Rattle.indexlet.specs.Words.{contentIn, slotsOf};
 ghost use Rattle.index.specs.Views as index;
 ghost use Rattle.index.specs.LeafPlaces.{Listed};
-ghost use Rattle.index.specs.LeafColumns.{lowsOf, outsideOf, pendingOf};
+ghost use Rattle.index.specs.LeafColumns.{lowsOf, hiddenOf, pendingOf};
 ghost use Rattle.map.specs.Views.{lent};
 ghost use Rattle.map.specs.MapHeld.{Tables};
-ghost use Rattle.map.specs.Entries.{MapBecomes, ContentSet, Adjustable, Adjusts, Terms, outsideTerm};
+ghost use Rattle.map.specs.Entries.{MapBecomes, ContentSet, Adjustable, Adjusts, Terms, hiddenTerm, outsideTerm, stillAs};
 
 // An empty map: one leaf with version 0, no record, no entry.
 pub fn fresh_map(rows: &mut Records, leaves: &mut Leaves, slots: &mut Slots) -> Sizes
@@ -28,7 +28,7 @@ pub fn fresh_map(rows: &mut Records, leaves: &mut Leaves, slots: &mut Slots) -> 
     let first = Leaf {
         low: 0,
         version: 0,
-        outside: 0,
+        hidden: 0,
         pending: 0,
     };
     leaves::put_leaf(leaves, 0, first);
@@ -54,11 +54,37 @@ fn outside_term(lacks: bool, c: indexlet::Content) -> u64
     0
 }
 
-// What an address adds to the phantomlet's numbers, at the place of its leaf, and what it takes away.
+// 1 if what is said of an address that the index lacks hides it from somebody.
+fn hidden_term(lacks: bool, c: indexlet::Content) -> u64
+    ensures { λ r. ⌜ r ≡ hiddenTerm lacks (contentIn c) ⌝ }
+{
+    if !recount::hides_some(c) {
+        return 0;
+    }
+    if lacks {
+        return 1;
+    }
+    0
+}
+
+// An entry neither comes nor goes, and it hides its address as before.
+fn still(old: indexlet::Content, c: indexlet::Content) -> bool
+    ensures { λ r. ⌜ r ≡ stillAs (contentIn old) (contentIn c) ⌝ }
+{
+    if indexlet::idle(old) == indexlet::idle(c) {
+        return recount::hides_some(old) == recount::hides_some(c);
+    }
+    false
+}
+
+// What an address adds to the phantomlet's numbers, at the place of its leaf, and what it takes away: pending writes, and
+// hidden keys; and the same of the entries outside of the index.
 struct Change {
     at: usize,
     pend: u64,
     unpend: u64,
+    hide: u64,
+    unhide: u64,
     join: u64,
     leave: u64,
 }
@@ -66,7 +92,7 @@ struct Change {
 // The phantomlet's two numbers of a leaf change.
 fn adjust(leaves: &mut Leaves, t: Change)
     requires { ⌜ Adjustable (pendingOf (now leaves)) (t .at) (t .pend) (t .unpend) ⌝ }
-    requires { ⌜ Adjustable (outsideOf (now leaves)) (t .at) (t .join) (t .leave) ⌝ }
+    requires { ⌜ Adjustable (hiddenOf (now leaves)) (t .at) (t .hide) (t .unhide) ⌝ }
     ensures { λ _. ⌜ Adjusts (now (leaves .entry)) t (now (leaves .exit)) ⌝ }
 {
     let at = t.at;
@@ -74,13 +100,13 @@ fn adjust(leaves: &mut Leaves, t: Change)
     let changed = Leaf {
         low: l.low,
         version: l.version,
-        outside: l.outside + t.join - t.leave,
+        hidden: l.hidden + t.hide - t.unhide,
         pending: l.pending + t.pend - t.unpend,
     };
     leaves::put_leaf(leaves, at, changed);
 }
 
-// Where an entry neither comes nor goes, none joins or leaves those outside of the index, which is not searched then.
+// Where nothing of the entry changes that counts, the index is not searched.
 fn terms(
     rows: &Records,
     leaves: &Leaves,
@@ -96,11 +122,13 @@ fn terms(
     let at = leaves::find_leaf(leaves, z.leaves, a);
     let pend = recount::waits(c);
     let unpend = recount::waits(old);
-    if indexlet::idle(old) == indexlet::idle(c) {
+    if still(old, c) {
         return Change {
             at,
             pend,
             unpend,
+            hide: 0,
+            unhide: 0,
             join: 0,
             leave: 0,
         };
@@ -110,6 +138,8 @@ fn terms(
         at,
         pend,
         unpend,
+        hide: hidden_term(absent, c),
+        unhide: hidden_term(absent, old),
         join: outside_term(absent, c),
         leave: outside_term(absent, old),
     }

@@ -20,7 +20,7 @@ ghost use Rattle.lists.specs.Rows.{any, keys, Rising};
 ghost use Rattle.spec.specs.Records.{standard};
 ghost use Rattle.spec.specs.Slots.{slotCount, isIdle, entries, contentOf};
 ghost use Rattle.spec.specs.Slots as model;
-ghost use Rattle.spec.specs.Maps.{heldByOther, lockKey, unlockKey, waitingSince, installRow, lockAll, unlockAll, installAll};
+ghost use Rattle.spec.specs.Maps.{heldByOther, lockRow, unlockKey, waitingSince, installRow, lockAll, unlockAll, installAll};
 ghost use Rattle.laws.specs.MapLaws.{Installable, installedAs};
 ghost use Rattle.sets.specs.Writes.{entryIn, writesOf};
 ghost use Rattle.indexlet.specs.Words.{contentIn, slotsOf};
@@ -81,9 +81,9 @@ pub fn held(slots: &Slots, ws: &WriteSet, n: usize, w: u64) -> bool
     false
 }
 
-// The content with another lock.
-fn with_lock(c: indexlet::Content, lock: u64) -> indexlet::Content
-    ensures { λ r. ⌜ contentIn r ≡ holding lock (contentIn c) ⌝ }
+// The content with another lock, for a write of this kind.
+fn with_lock(c: indexlet::Content, lock: u64, kind: u64) -> indexlet::Content
+    ensures { λ r. ⌜ contentIn r ≡ holding lock kind (contentIn c) ⌝ }
 {
     indexlet::Content {
         kind: c.kind,
@@ -91,6 +91,7 @@ fn with_lock(c: indexlet::Content, lock: u64) -> indexlet::Content
         commit: c.commit,
         since: c.since,
         lock,
+        forput: kind,
     }
 }
 
@@ -109,12 +110,13 @@ fn lock_one(
     requires { ⌜ Tables (lent (now rows) (now leaves) (now slots)) z (k .version) ⌝ }
     requires { ⌜ Writing (now ws) n ⌝ }
     requires { ⌜ (i < n) × (w + 1 < 2 ^ 64) × (length (entries (slotsOf (now slots))) < slotCount) ⌝ }
-    ensures { λ r. ⌜ ContentSet (lent (now (rows .entry)) (now (leaves .entry)) (now (slots .entry))) (lent (now (rows .entry)) (now (leaves .exit)) (now (slots .exit))) z r (k .version) (lockKey 4 w (slotsOf (now (slots .entry))) (writeAt (now (ws .entry)) i .key)) ⌝ }
+    ensures { λ r. ⌜ ContentSet (lent (now (rows .entry)) (now (leaves .entry)) (now (slots .entry))) (lent (now (rows .entry)) (now (leaves .exit)) (now (slots .exit))) z r (k .version) (lockRow 4 w (slotsOf (now (slots .entry))) (writeAt (now (ws .entry)) i)) ⌝ }
 {
-    let a = key_at(ws, n, i);
+    let row = writes::write_at(ws, i);
+    let a = row.address;
     let found = indexlet::look_up(slots, a);
     let old = found.content;
-    let c = with_lock(old, w + 1);
+    let c = with_lock(old, w + 1, row.kind);
     entries::set_content(leaves, slots, rows, z, k, a, old, c)
 }
 
@@ -139,7 +141,7 @@ fn unlock_one(
     let found = indexlet::look_up(slots, a);
     let old = found.content;
     if by_own(old, w) {
-        let c = with_lock(old, 0);
+        let c = with_lock(old, 0, 0);
         return entries::set_content(leaves, slots, rows, z, k, a, old, c);
     }
     z
@@ -176,6 +178,7 @@ fn installed(r: Entry, number: u64, t: u64, old: indexlet::Content) -> indexlet:
         commit: number,
         since: waiting_since(t, old),
         lock: 0,
+        forput: 0,
     }
 }
 
@@ -219,8 +222,8 @@ pub fn lock_all(
     requires { ⌜ MapHeld (lent (now rows) (now leaves) (now slots)) z (k .version) ⌝ }
     requires { ⌜ Writing (now ws) n ⌝ }
     requires { ⌜ w + 1 < 2 ^ 64 ⌝ }
-    requires { ⌜ Lockable (mapOf (lent (now rows) (now leaves) (now slots)) z) (keys (writesOf (now ws) n)) ⌝ }
-    ensures { λ r. ⌜ MapBecomes (lent (now (rows .entry)) (now (leaves .exit)) (now (slots .exit))) r (k .version) (lockAll standard w (mapOf (lent (now (rows .entry)) (now (leaves .entry)) (now (slots .entry))) z) (keys (writesOf (now (ws .entry)) n))) ⌝ }
+    requires { ⌜ Lockable (mapOf (lent (now rows) (now leaves) (now slots)) z) (writesOf (now ws) n) ⌝ }
+    ensures { λ r. ⌜ MapBecomes (lent (now (rows .entry)) (now (leaves .exit)) (now (slots .exit))) r (k .version) (lockAll standard w (mapOf (lent (now (rows .entry)) (now (leaves .entry)) (now (slots .entry))) z) (writesOf (now (ws .entry)) n)) ⌝ }
 {
     let mut sizes = z;
     let mut i = 0;

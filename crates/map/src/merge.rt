@@ -35,15 +35,16 @@ ghost use Rattle.phantomlet.specs.LeafCounts.{OneLeaf};
 ghost use Rattle.phantomlet.specs.LeafRows.{Lows, Spans};
 ghost use Rattle.map.specs.MergeSettles.{Resettling, leafKeys};
 ghost use Rattle.map.specs.Merges.{Merges};
-ghost use Rattle.map.specs.MergeWalks.{leaving, Underway, WalksSlot, Starting, Took};
+ghost use Rattle.map.specs.MergeWalks.{leaving, OutsideFits, OutsideNow, Underway, WalksSlot, Starting, Took};
 
-// How far a walk over the slots has come: records of the index, entries of the indexlet, pending writes taken in, and
-// entries of the leaf that stay, for their lock.
+// How far a walk over the slots has come: records of the index, entries of the indexlet, pending writes taken in, entries of
+// the leaf that stay, for their lock, and entries outside of the index.
 struct Walk {
     records: usize,
     entries: usize,
     count: usize,
     left: usize,
+    outside: usize,
 }
 
 // The rows of a leaf: from row `from` up to, not including, row `to`.
@@ -81,6 +82,18 @@ fn locked(c: indexlet::Content) -> usize
     1
 }
 
+// How many entries lie outside of the index, after a write entered it. A put brings its address into the index; a deletion
+// takes it out, and its entry stays for a lock alone. The number of records tells whether the index had the address.
+fn outside_now(out: usize, before: usize, after: usize, kind: u64, lock: usize) -> usize
+    requires { ⌜ OutsideFits out before after kind lock ⌝ }
+    ensures { λ r. ⌜ OutsideNow out before after kind lock r ⌝ }
+{
+    if kind == 1 {
+        return out + before - after;
+    }
+    out + lock + before - after - 1
+}
+
 // The walk at slot j: a write that is pending there, in the leaf at place i, whose addresses are r, enters the index; a lock
 // stays.
 fn take_slot(
@@ -104,13 +117,15 @@ fn take_slot(
         return w;
     }
     let c = s.content;
-    let left = w.left + locked(c);
+    let lock = locked(c);
+    let left = w.left + lock;
     if c.kind == 0 {
         return Walk {
             records: w.records,
             entries: w.entries,
             count: w.count,
             left,
+            outside: w.outside,
         };
     }
     let a = key as Address;
@@ -121,13 +136,16 @@ fn take_slot(
         commit: 0,
         since: 0,
         lock: c.lock,
+        forput: c.forput,
     };
     let e = indexlet::enter(slots, w.entries, a, rest);
+    let outside = outside_now(w.outside, w.records, n, c.kind, lock);
     Walk {
         records: n,
         entries: e,
         count: w.count + 1,
         left,
+        outside,
     }
 }
 
@@ -139,11 +157,12 @@ fn take_all(
     leaves: &Leaves,
     n: usize,
     e: usize,
+    out: usize,
     m: usize,
     i: usize,
     r: Reach,
 ) -> Walk
-    requires { ⌜ Starting (now rows) (now slots) n e ⌝ }
+    requires { ⌜ Starting (now rows) (now slots) n e out ⌝ }
     requires { ⌜ OneLeaf (lowsOf (now leaves)) m i r ⌝ }
     ensures { λ r. ⌜ Took (placed (lowsOf (now (leaves .entry))) m i) (now (rows .entry)) (now (slots .entry)) n (now (rows .exit)) (now (slots .exit)) r ⌝ }
 {
@@ -152,6 +171,7 @@ fn take_all(
         entries: e,
         count: 0,
         left: 0,
+        outside: out,
     };
     let mut j = 0;
     while j < SLOTS {
@@ -214,15 +234,25 @@ pub fn merge(
         };
     }
     let r = recount::addresses_of(leaves, m, i, i + 1);
-    let w = take_all(rows, slots, leaves, z.records, z.entries, m, i, r);
+    let w = take_all(
+        rows,
+        slots,
+        leaves,
+        z.records,
+        z.entries,
+        z.outside,
+        m,
+        i,
+        r,
+    );
     let s = resettle(leaves, rows, w.records, m, i, k.version);
     leaves::leaf_places(leaves);
-    let out = recount::recount(leaves, rows, slots, w.records, s.leaves, i, m, w.left);
+    recount::recount(leaves, rows, slots, w.records, s.leaves, i, m, w.left);
     let sizes = Sizes {
         records: w.records,
         leaves: s.leaves,
         entries: w.entries,
-        outside: out,
+        outside: w.outside,
     };
     let taken = counters::take_versions(k, s.version - k.version);
     let counters = taken.counters;

@@ -1,5 +1,5 @@
--- When a leaf hides a key from a worker, by counting. Of the entries in the leaf at addresses that the index lacks, those
--- that hide nothing from worker w are its own locks at which no write is pending: addresses of its write set.
+-- When a leaf hides a key from a worker, by counting. Of the entries in the leaf that hide an address from somebody, those
+-- that hide nothing from worker w are its own locks for puts at which no put is pending: addresses that it puts.
 use Prim.Native.Nat.{ℕ, suc, _+_, _<_, _≤_, zero-le, suc-le-suc}
 use native.Mathlib.Omega.{arith}
 use mathlib.Core.Path.{_≡_, refl, sym, ap, _∙_, subst}
@@ -18,12 +18,12 @@ use Rattle.lists.specs.Memberships.{member-has, has-member, different-length}
 use Rattle.lists.specs.Counting.{Within}
 use Rattle.lists.specs.Options.{options}
 use Rattle.spec.specs.Leaves.{versionAt}
-use Rattle.spec.specs.Slots.{Pending, Content, isIdle, Slot, entries, contentOf}
-use Rattle.spec.specs.Maps.{MapState, heldByOther, hiding, hiddenIn, hides}
+use Rattle.spec.specs.Slots.{Content, isIdle, Slot, entries, contentOf}
+use Rattle.spec.specs.Maps.{MapState, heldByOther, putPending, hiding, hiddenIn, hides}
 use Rattle.laws.specs.SlotCounts.{Good, tally, count, count-cons, entries-some, entries-none}
 use Rattle.laws.specs.RecordLaws.{both-left, both-right}
-use Rattle.laws.specs.SlotLaws.{keys-differ, member-content, content-member, not-idle}
-use Rattle.phantomlet.specs.Phantoms.{weigh, howMany, outsideAny, outsideIn}
+use Rattle.laws.specs.SlotLaws.{keys-differ, member-content, content-member}
+use Rattle.phantomlet.specs.Phantoms.{weigh, howMany, outsideAny, hidesSome, hidingIn}
 
 -- ---- counts over entries
 
@@ -78,31 +78,46 @@ any-length p (x ∷ xs) =
 
 -- ---- the entries that hide nothing
 
--- the entry lies in the leaf with version v, at an address that the index lacks, and hides nothing from worker w
+-- the entry lies in the leaf with version v, hides an address that the index lacks from somebody, but not from worker w
 quietIn : MapState → ℕ → ℕ → Row Content → Bool
-quietIn m w v e = both (outsideIn m v e) (not (hiding w (e .item)))
+quietIn m w v e = both (hidingIn m v e) (not (hiding w (e .item)))
 
--- an address in the leaf with version v, that the index lacks, and at which no write is pending
+-- an address in the leaf with version v, that the index lacks, and at which no put is pending
 unfoldable pub lockOnlyAt : MapState → ℕ → ℕ → Bool
 lockOnlyAt m v k =
     both (same (versionAt (m .leaves) k) v)
-    (both (not (present (look (m .records) k))) (not (present (contentOf (m .slots) k .pending))))
+    (both (not (present (look (m .records) k))) (not (putPending (contentOf (m .slots) k))))
 
-three : (a b h : Bool) → _≡_ {A = ℕ} (pick (both a b) 1 0) (pick (both a (both b h)) 1 0 + pick (both (both a b) (not h)) 1 0)
-three true true true = refl
-three true true false = refl
-three true false h = refl
-three false b h = refl
-
-split : (m : MapState) (w v : ℕ) → howMany (outsideIn m v) (m .slots) ≡ howMany (hiddenIn m w v) (m .slots) + howMany (quietIn m w v) (m .slots)
-unfolding howMany
-split m w v = count-sum (weigh (outsideIn m v)) (weigh (hiddenIn m w v)) (weigh (quietIn m w v)) parts (m .slots)
+-- what hides from one worker hides from somebody
+hiding-some : (w : ℕ) (c : Content) → hiding w c ≡ true → hidesSome c ≡ true
+unfolding hiding hidesSome heldByOther
+hiding-some w c e = go (putPending c) (c .forPut) (c .holder) e
   where
-    parts : (o : Option (Row Content)) → weigh (outsideIn m v) o ≡ weigh (hiddenIn m w v) o + weigh (quietIn m w v) o
+    go : (p f : Bool) (o : Option ℕ) → either p (both f (maybe o false (λ (h : ℕ). not (same h w)))) ≡ true → either p (both f (present o)) ≡ true
+    go true f o e = refl
+    go false false o e = e
+    go false true none e = e
+    go false true (some h) e = refl
+
+three : (a b s h : Bool) → (h ≡ true → s ≡ true)
+    → _≡_ {A = ℕ} (pick (both a (both b s)) 1 0) (pick (both a (both b h)) 1 0 + pick (both (both a (both b s)) (not h)) 1 0)
+three true true true true i = refl
+three true true true false i = refl
+three true true false true i = clash (i refl) refl
+three true true false false i = refl
+three true false s h i = refl
+three false b s h i = refl
+
+split : (m : MapState) (w v : ℕ) → howMany (hidingIn m v) (m .slots) ≡ howMany (hiddenIn m w v) (m .slots) + howMany (quietIn m w v) (m .slots)
+unfolding howMany
+split m w v = count-sum (weigh (hidingIn m v)) (weigh (hiddenIn m w v)) (weigh (quietIn m w v)) parts (m .slots)
+  where
+    parts : (o : Option (Row Content)) → weigh (hidingIn m v) o ≡ weigh (hiddenIn m w v) o + weigh (quietIn m w v) o
     parts none = unfold weigh in refl
     parts (some e) =
-        unfold weigh outsideIn outsideAny hiddenIn quietIn in
-        three (same (versionAt (m .leaves) (e .key)) v) (not (present (look (m .records) (e .key)))) (hiding w (e .item))
+        unfold weigh hidingIn outsideAny hiddenIn quietIn in
+        three (same (versionAt (m .leaves) (e .key)) v) (not (present (look (m .records) (e .key)))) (hidesSome (e .item)) (hiding w (e .item))
+        (hiding-some w (e .item))
 
 hides-many : (m : MapState) (w v : ℕ) → hides m w v ≡ less 0 (howMany (hiddenIn m w v) (m .slots))
 unfolding hides
@@ -111,29 +126,37 @@ hides-many m w v =
 
 -- ---- they are the worker's own
 
--- an entry that hides nothing from w is a lock of w's
-quiet-own : (w : ℕ) (c : Content) → isIdle c ≡ false → hiding w c ≡ false → (c .pending ≡ none) × (c .holder ≡ some w)
-unfolding isIdle hiding heldByOther
-quiet-own w c i h = go (c .pending) (c .holder) i h
+-- an entry that hides from somebody, and not from w, is a lock of w's for a put, and no put is pending
+quiet-own : (w : ℕ) (c : Content) → hidesSome c ≡ true → hiding w c ≡ false → (putPending c ≡ false) × (c .forPut ≡ true) × (c .holder ≡ some w)
+unfolding hiding hidesSome heldByOther
+quiet-own w c s h = go (putPending c) (c .forPut) (c .holder) s h
   where
     own : (x : ℕ) → not (same x w) ≡ false → x ≡ w
     own x e = ⊎-elim (λ t. same-true x w t) (λ t. clash (ap not t) e) (cases (same x w))
 
-    go : (p : Option Pending) (o : Option ℕ) → both (not (present p)) (not (present o)) ≡ false
-        → either (present p) (maybe o false (λ (x : ℕ). not (same x w))) ≡ false → (p ≡ none) × (o ≡ some w)
-    go none none i h = clash refl i
-    go none (some x) i h = (refl, ap some (own x h))
-    go (some p) o i h = clash refl h
+    go : (p f : Bool) (o : Option ℕ) → either p (both f (present o)) ≡ true
+        → either p (both f (maybe o false (λ (x : ℕ). not (same x w)))) ≡ false → (p ≡ false) × (f ≡ true) × (o ≡ some w)
+    go true f o s h = clash refl h
+    go false false o s h = clash s refl
+    go false true none s h = clash s refl
+    go false true (some x) s h = (refl, refl, ap some (own x h))
 
 -- and the other way round
-own-quiet : (w : ℕ) (c : Content) → present (c .pending) ≡ false → c .holder ≡ some w → (isIdle c ≡ false) × (hiding w c ≡ false)
-unfolding isIdle hiding heldByOther
-own-quiet w c p h = (
-  ap (λ (o : Option ℕ). both (not (present (c .pending))) (not (present o))) h ∙ ap (λ (b : Bool). both (not b) false) p,
-  ap (λ (o : Option ℕ). either (present (c .pending)) (maybe o false (λ (x : ℕ). not (same x w)))) h
+own-quiet : (w : ℕ) (c : Content) → putPending c ≡ false → c .forPut ≡ true → c .holder ≡ some w
+    → (isIdle c ≡ false) × (hidesSome c ≡ true) × (hiding w c ≡ false)
+unfolding isIdle hiding hidesSome heldByOther
+own-quiet w c p f h = (
+  ap (λ (o : Option ℕ). both (not (present (c .pending))) (not (present o))) h ∙ no-idle (present (c .pending)),
+  ap (λ (o : Option ℕ). either (putPending c) (both (c .forPut) (present o))) h ∙ ap (λ (b : Bool). either (putPending c) (both b true)) f ∙ ap (λ (b : Bool). either b true) p,
+  ap (λ (o : Option ℕ). either (putPending c) (both (c .forPut) (maybe o false (λ (x : ℕ). not (same x w))))) h
+      ∙ ap (λ (b : Bool). either (putPending c) (both b (not (same w w)))) f
       ∙ ap (λ (b : Bool). either b (not (same w w))) p
       ∙ ap not (same-refl w),
 )
+  where
+    no-idle : (b : Bool) → both (not b) false ≡ false
+    no-idle true = refl
+    no-idle false = refl
 
 both-true : (a b : Bool) → both a b ≡ true → (a ≡ true) × (b ≡ true)
 both-true a b e = (both-left a b e, both-right a b e)
@@ -168,44 +191,46 @@ different-keys p (r ∷ rs) d =
     again : (s : Row _) × List·Memᴰ s rs × (p s ≡ true) × (s .key ≡ r .key) → has (r .key) (keys rs) ≡ true
     again x = subst (λ (k : ℕ). has k (keys rs) ≡ true) (x .3) (member-has (keys-mem (x .0) rs (x .1)))
 
--- Worker w's locks are the addresses ks.
+-- Worker w's locks for puts are the addresses ks.
 pub record Locking (ss : List Slot) (w : ℕ) (ks : List ℕ) : Type 0 where
   pub once : Different ks
-  pub mine : (k : ℕ) → has k ks ≡ true → contentOf ss k .holder ≡ some w
-  pub only : (k : ℕ) → contentOf ss k .holder ≡ some w → has k ks ≡ true
+  pub mine : (k : ℕ) → has k ks ≡ true → (contentOf ss k .holder ≡ some w) × (contentOf ss k .forPut ≡ true)
+  pub only : (k : ℕ) → contentOf ss k .holder ≡ some w → contentOf ss k .forPut ≡ true → has k ks ≡ true
 
 module _ (m : MapState) (w v : ℕ) (ks : List ℕ) (good : Good 4 (m .slots)) (own : Locking (m .slots) w ks) where
   forth : Within (keys (filter (quietIn m w v) (entries (m .slots)))) (filter (lockOnlyAt m v) ks)
-  unfolding quietIn outsideIn outsideAny lockOnlyAt
+  unfolding quietIn hidingIn outsideAny lockOnlyAt
   forth k e =
       let f = keys-filter (quietIn m w v) (entries (m .slots)) k e in
       let said : contentOf (m .slots) k ≡ f .0 .item = ap (contentOf (m .slots)) (sym (f .3)) ∙ member-content good (f .1) in
-      let outer = both-true (outsideIn m v (f .0)) (not (hiding w (f .0 .item))) (f .2) in
-      let inner = both-true (same (versionAt (m .leaves) (f .0 .key)) v) (not (present (look (m .records) (f .0 .key)))) (outer .0) in
-      let q = quiet-own w (f .0 .item) (not-idle good (f .0) (f .1)) (not-true (hiding w (f .0 .item)) (outer .1)) in
+      let outer = both-true (hidingIn m v (f .0)) (not (hiding w (f .0 .item))) (f .2) in
+      let inner = both-true (same (versionAt (m .leaves) (f .0 .key)) v) (both (not (present (look (m .records) (f .0 .key)))) (hidesSome (f .0 .item))) (outer .0) in
+      let last = both-true (not (present (look (m .records) (f .0 .key)))) (hidesSome (f .0 .item)) (inner .1) in
+      let q = quiet-own w (f .0 .item) (last .1) (not-true (hiding w (f .0 .item)) (outer .1)) in
       member-has
       (filter-mem (lockOnlyAt m v) ks
-      (has-member k ks (own .only k (ap (λ (c : Content). c .holder) said ∙ q .1)))
-      (both-yes (same (versionAt (m .leaves) k) v) (both (not (present (look (m .records) k))) (not (present (contentOf (m .slots) k .pending))))
+      (has-member k ks (own .only k (ap (λ (c : Content). c .holder) said ∙ q .2) (ap (λ (c : Content). c .forPut) said ∙ q .1)))
+      (both-yes (same (versionAt (m .leaves) k) v) (both (not (present (look (m .records) k))) (not (putPending (contentOf (m .slots) k))))
       (subst (λ (j : ℕ). same (versionAt (m .leaves) j) v ≡ true) (f .3) (inner .0))
-      (both-yes (not (present (look (m .records) k))) (not (present (contentOf (m .slots) k .pending)))
-      (subst (λ (j : ℕ). not (present (look (m .records) j)) ≡ true) (f .3) (inner .1))
-      (ap (λ (o : Option Pending). not (present o)) (ap (λ (c : Content). c .pending) said ∙ q .0)))))
+      (both-yes (not (present (look (m .records) k))) (not (putPending (contentOf (m .slots) k)))
+      (subst (λ (j : ℕ). not (present (look (m .records) j)) ≡ true) (f .3) (last .0))
+      (ap (λ (c : Content). not (putPending c)) said ∙ ap not (q .0)))))
 
   back : Within (filter (lockOnlyAt m v) ks) (keys (filter (quietIn m w v) (entries (m .slots))))
-  unfolding quietIn outsideIn outsideAny lockOnlyAt
+  unfolding quietIn hidingIn outsideAny lockOnlyAt
   back k e =
       let f = mem-filter (lockOnlyAt m v) ks (has-member k (filter (lockOnlyAt m v) ks) e) in
-      let held : contentOf (m .slots) k .holder ≡ some w = own .mine k (member-has (f .0)) in
-      let outer = both-true (same (versionAt (m .leaves) k) v) (both (not (present (look (m .records) k))) (not (present (contentOf (m .slots) k .pending)))) (f .1) in
-      let inner = both-true (not (present (look (m .records) k))) (not (present (contentOf (m .slots) k .pending))) (outer .1) in
-      let q = own-quiet w (contentOf (m .slots) k) (not-true (present (contentOf (m .slots) k .pending)) (inner .1)) held in
+      let held = own .mine k (member-has (f .0)) in
+      let outer = both-true (same (versionAt (m .leaves) k) v) (both (not (present (look (m .records) k))) (not (putPending (contentOf (m .slots) k)))) (f .1) in
+      let inner = both-true (not (present (look (m .records) k))) (not (putPending (contentOf (m .slots) k))) (outer .1) in
+      let q = own-quiet w (contentOf (m .slots) k) (not-true (putPending (contentOf (m .slots) k)) (inner .1)) (held .1) (held .0) in
       member-has
       (keys-mem (row k (contentOf (m .slots) k)) (filter (quietIn m w v) (entries (m .slots)))
       (filter-mem (quietIn m w v) (entries (m .slots)) (content-member good k (q .0))
-      (both-yes (outsideIn m v (row k (contentOf (m .slots) k))) (not (hiding w (contentOf (m .slots) k)))
-      (both-yes (same (versionAt (m .leaves) k) v) (not (present (look (m .records) k))) (outer .0) (inner .0))
-      (ap not (q .1)))))
+      (both-yes (hidingIn m v (row k (contentOf (m .slots) k))) (not (hiding w (contentOf (m .slots) k)))
+      (both-yes (same (versionAt (m .leaves) k) v) (both (not (present (look (m .records) k))) (hidesSome (contentOf (m .slots) k))) (outer .0)
+      (both-yes (not (present (look (m .records) k))) (hidesSome (contentOf (m .slots) k)) (inner .0) (q .1)))
+      (ap not (q .2)))))
 
   own-count : howMany (quietIn m w v) (m .slots) ≡ length (filter (lockOnlyAt m v) ks)
   own-count =
@@ -220,10 +245,10 @@ module _ (m : MapState) (w v : ℕ) (ks : List ℕ) (good : Good 4 (m .slots)) (
       (different-filter (lockOnlyAt m v) ks (own .once)) back in
       omega arith
 
-  -- the leaf hides a key exactly if more entries lie outside the index there than the worker's own silent ones
-  pub hides-count : (out mine : ℕ) → out ≡ howMany (outsideIn m v) (m .slots) → mine ≡ length (filter (lockOnlyAt m v) ks) → hides m w v ≡ less mine out
+  -- the leaf hides a key exactly if more entries hide there than the worker's own silent ones
+  pub hides-count : (out mine : ℕ) → out ≡ howMany (hidingIn m v) (m .slots) → mine ≡ length (filter (lockOnlyAt m v) ks) → hides m w v ≡ less mine out
   hides-count out mine e f =
-      let a : howMany (outsideIn m v) (m .slots) ≡ howMany (hiddenIn m w v) (m .slots) + howMany (quietIn m w v) (m .slots) = split m w v in
+      let a : howMany (hidingIn m v) (m .slots) ≡ howMany (hiddenIn m w v) (m .slots) + howMany (quietIn m w v) (m .slots) = split m w v in
       let b : howMany (quietIn m w v) (m .slots) ≡ length (filter (lockOnlyAt m v) ks) = own-count in
       hides-many m w v
       ∙ ⊎-elim
@@ -233,6 +258,6 @@ module _ (m : MapState) (w v : ℕ) (ks : List ℕ) (good : Good 4 (m .slots)) (
       t ∙ sym (less-no {m = mine} {n = out} (omega arith)))
       (cases (less 0 (howMany (hiddenIn m w v) (m .slots))))
 
-  -- with none outside the index there is nothing to hide
-  pub hides-none : 0 ≡ howMany (outsideIn m v) (m .slots) → hides m w v ≡ false
+  -- with none that hides there is no hidden key
+  pub hides-none : 0 ≡ howMany (hidingIn m v) (m .slots) → hides m w v ≡ false
   hides-none e = hides-count 0 (length (filter (lockOnlyAt m v) ks)) e refl ∙ less-no {m = length (filter (lockOnlyAt m v) ks)} {n = 0} zero-le

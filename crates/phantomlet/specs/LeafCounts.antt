@@ -24,7 +24,7 @@ use Rattle.index.specs.declared.leaves.Leaf.{Leaf as LeafWords}
 use Rattle.index.specs.LeafColumns.{LeafRows, lowsOf, leafAt}
 use Rattle.index.specs.LeafColumnLaws.{column-getD}
 use Rattle.index.specs.LeafPlaces.{lowPlace, AtLeaf, Listed}
-use Rattle.phantomlet.specs.Phantoms.{weigh, howMany}
+use Rattle.phantomlet.specs.Phantoms.{weigh, howMany, hidesSome}
 use Rattle.phantomlet.specs.LeafRows.{low-from, low-before, low-below, low-inside}
 use Rattle.phantomlet.specs.LeafTests.{placed}
 use Rattle.phantomlet.specs.declared.recount.Reach.{Reach}
@@ -33,6 +33,10 @@ use Rattle.phantomlet.specs.LeafNumbers.{Clearing}
 -- the entry lies at an address that the records lack
 unfoldable pub lacking : List (Row Record) → Row Content → Bool
 lacking rs e = not (present (look rs (e .key)))
+
+-- ... and hides it from somebody
+unfoldable pub hidingAt : List (Row Record) → Row Content → Bool
+hidingAt rs e = both (lacking rs e) (hidesSome (e .item))
 
 -- a write is pending there
 unfoldable pub waiting : Row Content → Bool

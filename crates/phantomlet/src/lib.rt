@@ -1,3 +1,3 @@
-// The phantomlet: two numbers for each leaf, entries at addresses that the index lacks and pending writes. What they count
+// The phantomlet: two numbers for each leaf, keys that it hides from somebody and pending writes. What they count
 // is in `specs/Phantoms.antt`; `recount` works them out anew after a merge.
 pub mod recount;

@@ -12,18 +12,18 @@ use spec::ADDRESSES;
 use spec::Address;
 ghost use mathlib.Core.Path.{_≡_};
 ghost use mathlib.Core.Bool.{not};
-ghost use Prim.Native.Nat.{ℕ, _+_, _-_, _^_, _<_, _≤_};
+ghost use Prim.Native.Nat.{_+_, _-_, _^_, _<_, _≤_};
 ghost use lib.ListN.{getD};
 ghost use Rattle.lists.specs.Tests.{pick, both, present, same, atMost};
 ghost use Rattle.lists.specs.Rows.{look};
 ghost use Rattle.spec.specs.Slots.{slotCount};
 ghost use Rattle.indexlet.specs.Words.{contentIn};
 ghost use Rattle.index.specs.Views.{leafPlaces, RecordsSorted, recordsOf};
-ghost use Rattle.index.specs.LeafColumns.{lowsOf, outsideOf, pendingOf};
-ghost use Rattle.phantomlet.specs.LeafNumbers.{sumTo};
+ghost use Rattle.index.specs.LeafColumns.{lowsOf, hiddenOf, pendingOf};
+ghost use Rattle.phantomlet.specs.Phantoms.{hidesSome};
 ghost use Rattle.phantomlet.specs.LeafWrites.{Cleared, Raised};
 ghost use Rattle.phantomlet.specs.LeafCounts.{Range, Ranging, reached};
-ghost use Rattle.phantomlet.specs.MergeCounts.{Recounting, Tallying, Tallied, Numbering, Recounted};
+ghost use Rattle.phantomlet.specs.MergeCounts.{Recounting, Tallying, Tallied, Numbering};
 
 // Which leaves are counted: the places from `from` up to, not including, `to`, which hold the addresses from `low` up to,
 // not including, `high`: `span` of them.
@@ -57,7 +57,7 @@ fn clear(leaves: &mut Leaves, from: usize, to: usize)
         let none = Leaf {
             low: l.low,
             version: l.version,
-            outside: 0,
+            hidden: 0,
             pending: 0,
         };
         leaves::put_leaf(leaves, x, none);
@@ -133,10 +133,28 @@ pub fn lacks(rows: &Records, n: usize, a: Address) -> bool
     }
 }
 
-fn one(b: bool) -> u64
-    ensures { λ r. ⌜ r ≡ pick b 1 0 ⌝ }
+// What is said hides its address from somebody: a put is pending, or somebody has a lock for a put.
+pub fn hides_some(c: indexlet::Content) -> bool
+    ensures { λ r. ⌜ r ≡ hidesSome (contentIn c) ⌝ }
 {
-    if b {
+    if c.kind == 1 {
+        return true;
+    }
+    if c.lock == 0 {
+        return false;
+    }
+    c.forput == 1
+}
+
+// 1 if what is said of the address hides it from somebody, and the index lacks it.
+fn hides_at(rows: &Records, n: usize, a: Address, c: indexlet::Content) -> u64
+    requires { ⌜ RecordsSorted (now rows) n ⌝ }
+    ensures { λ r. ⌜ r ≡ pick (both (not (present (look (recordsOf (now (rows .entry)) n) a))) (hidesSome (contentIn c))) 1 0 ⌝ }
+{
+    if !hides_some(c) {
+        return 0;
+    }
+    if lacks(rows, n, a) {
         return 1;
     }
     0
@@ -145,14 +163,14 @@ fn one(b: bool) -> u64
 // Adds to the two numbers of the leaf at a place.
 fn raise(leaves: &mut Leaves, at: usize, x: u64, w: u64)
     requires { ⌜ at < leafPlaces ⌝ }
-    requires { ⌜ (getD (outsideOf (now leaves)) at 0 + x < 2 ^ 64) × (getD (pendingOf (now leaves)) at 0 + w < 2 ^ 64) ⌝ }
+    requires { ⌜ (getD (hiddenOf (now leaves)) at 0 + x < 2 ^ 64) × (getD (pendingOf (now leaves)) at 0 + w < 2 ^ 64) ⌝ }
     ensures { λ _. ⌜ Raised (now (leaves .entry)) (now (leaves .exit)) at x w ⌝ }
 {
     let l = leaves::leaf_at(leaves, at);
     let more = Leaf {
         low: l.low,
         version: l.version,
-        outside: l.outside + x,
+        hidden: l.hidden + x,
         pending: l.pending + w,
     };
     leaves::put_leaf(leaves, at, more);
@@ -168,7 +186,7 @@ fn tally_slot(
     r: Reach,
     j: usize,
 )
-    requires { ⌜ Tallying (now rows) (lowsOf (now leaves)) (now slots) n m r (outsideOf (now leaves)) (pendingOf (now leaves)) j ⌝ }
+    requires { ⌜ Tallying (now rows) (lowsOf (now leaves)) (now slots) n m r (hiddenOf (now leaves)) (pendingOf (now leaves)) j ⌝ }
     requires { ⌜ j < slotCount ⌝ }
     ensures { λ _. ⌜ Tallied (now (rows .entry)) (now (leaves .entry)) (now (slots .entry)) n m r (j + 1) (now (leaves .exit)) ⌝ }
 {
@@ -183,15 +201,14 @@ fn tally_slot(
     }
     let a = key as u32;
     let at = leaves::find_leaf(leaves, m, a);
-    let out = lacks(rows, n, a);
-    let x = one(out);
+    let x = hides_at(rows, n, a, c);
     let w = waits(c);
     raise(leaves, at, x, w);
 }
 
 // Counts the entries of the leaves.
 fn tally_all(leaves: &mut Leaves, rows: &Records, slots: &Slots, n: usize, m: usize, r: Reach)
-    requires { ⌜ Tallying (now rows) (lowsOf (now leaves)) (now slots) n m r (outsideOf (now leaves)) (pendingOf (now leaves)) 0 ⌝ }
+    requires { ⌜ Tallying (now rows) (lowsOf (now leaves)) (now slots) n m r (hiddenOf (now leaves)) (pendingOf (now leaves)) 0 ⌝ }
     ensures { λ _. ⌜ Numbering (now (rows .entry)) (now (leaves .entry)) (now (slots .entry)) n m (now (leaves .exit)) ⌝ }
 {
     let mut j = 0;
@@ -199,22 +216,6 @@ fn tally_all(leaves: &mut Leaves, rows: &Records, slots: &Slots, n: usize, m: us
         tally_slot(leaves, rows, slots, n, m, r, j);
         j += 1;
     }
-}
-
-// The sum of the first m leaves' numbers of entries outside of the index.
-fn sum(leaves: &Leaves, m: usize) -> usize
-    requires { ⌜ m ≤ leafPlaces ⌝ }
-    requires { ⌜ ((i : ℕ) → i < m → getD (outsideOf (now leaves)) i 0 ≤ slotCount) ⌝ }
-    ensures { λ r. ⌜ r ≡ sumTo (λ (i : ℕ). getD (outsideOf (now (leaves .entry))) i 0) m ⌝ }
-{
-    let mut total = 0;
-    let mut i = 0;
-    while i < m {
-        let l = leaves::leaf_at(leaves, i);
-        total += l.outside as usize;
-        i += 1;
-    }
-    total
 }
 
 // The leaves that a merge made have no entry: it left none in its leaf, and did not join the leaf to the one before it.
@@ -228,7 +229,7 @@ fn bare(left: usize, m: usize, old: usize) -> bool
 }
 
 // The phantomlet after a merge at place i of `old` leaves, of which there are m now; the merge left `left` entries in its
-// leaf. Answers how many entries lie at addresses that the index lacks.
+// leaf.
 pub fn recount(
     leaves: &mut Leaves,
     rows: &Records,
@@ -238,18 +239,17 @@ pub fn recount(
     i: usize,
     old: usize,
     left: usize,
-) -> usize
+)
     requires { ⌜ Recounting (now rows) (now leaves) (now slots) n m i old left ⌝ }
-    ensures { λ r. ⌜ Recounted (now (rows .entry)) (now (leaves .entry)) (now (leaves .exit)) (now (slots .entry)) n m r ⌝ }
+    ensures { λ _. ⌜ Numbering (now (rows .entry)) (now (leaves .entry)) (now (slots .entry)) n m (now (leaves .exit)) ⌝ }
 {
     leaves::leaf_places(leaves);
     if bare(left, m, old) {
-        return sum(leaves, m);
+        return;
     }
     let from = before(i);
     let to = i + 1 + m - old;
     clear(leaves, from, to);
     let r = addresses_of(leaves, m, from, to);
     tally_all(leaves, rows, slots, n, m, r);
-    sum(leaves, m)
 }

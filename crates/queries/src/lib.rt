@@ -12,6 +12,7 @@ use sets::WriteSet;
 use sets::leaves::LoggedLeaf;
 use sets::reads::Observed;
 use sets::writes;
+use sets::writes::Entry;
 use spec::ADDRESSES;
 use spec::Address;
 use spec::Current;
@@ -23,10 +24,11 @@ ghost use Rattle.index.specs.Views as index;
 ghost use Rattle.index.specs.LeafPlaces.{Listed};
 ghost use Rattle.map.specs.Views.{lowsOf, versionsOf, lent, mapOf};
 ghost use Rattle.map.specs.Parts.{RecordsHeld, SlotsHeld, LeavesListed, LeafListed};
+ghost use Rattle.sets.specs.Writes.{entryIn};
 ghost use Rattle.map.specs.WriteWalks.{Writing};
 ghost use Rattle.queries.specs.QueryViews.{Sees, Examines, Spans, SeenAt, Meets, LeafAt, LoggedAt};
 ghost use Rattle.queries.specs.NextViews.{IndexFrom, Nearer, SlotFrom, Follows, Numbers};
-ghost use Rattle.queries.specs.PhantomViews.{Holding, phantomAt, Owns, Logged, lockOnlyIn, lockOnlyCount};
+ghost use Rattle.queries.specs.PhantomViews.{Holding, phantomAt, Owns, Logged, ownPut, lockOnlyCount};
 
 // Places from one up to, not including, another.
 pub struct Range {
@@ -187,7 +189,7 @@ pub fn leaf(leaves: &Leaves, i: usize) -> LoggedLeaf
     }
 }
 
-// 1 if the address lies in the leaf at place i, the index lacks it, and no write is pending there; else 0.
+// 1 if the write is a put in the leaf at place i, at an address that the index lacks and at which no put is pending; else 0.
 fn lock_only_at(
     rows: &Records,
     leaves: &Leaves,
@@ -195,20 +197,24 @@ fn lock_only_at(
     n: usize,
     m: usize,
     i: usize,
-    a: Address,
+    e: Entry,
 ) -> usize
     requires { ⌜ index.RecordsSorted (now rows) n ⌝ }
     requires { ⌜ Listed (lowsOf (now leaves)) m ⌝ }
     requires { ⌜ indexlet.SlotsHeld (now slots) ⌝ }
-    ensures { λ r. ⌜ r ≡ pick (lockOnlyIn (now (rows .entry)) (lowsOf (now (leaves .entry))) (now (slots .entry)) n m i a) 1 0 ⌝ }
+    ensures { λ r. ⌜ r ≡ pick (ownPut (now (rows .entry)) (lowsOf (now (leaves .entry))) (now (slots .entry)) n m i (entryIn e)) 1 0 ⌝ }
 {
+    if e.kind != 1 {
+        return 0;
+    }
+    let a = e.address;
     let p = leaves::find_leaf(leaves, m, a);
     if p != i {
         return 0;
     }
     let looked = indexlet::look_up(slots, a);
     let c = looked.content;
-    if c.kind != 0 {
+    if c.kind == 1 {
         return 0;
     }
     let found = records::find(rows, n, a);
@@ -221,7 +227,7 @@ fn lock_only_at(
     }
 }
 
-// How many of a write set's addresses are so.
+// How many of a write set are so.
 fn count_lock_only(
     rows: &Records,
     leaves: &Leaves,
@@ -242,7 +248,7 @@ fn count_lock_only(
     let mut own = 0;
     while x < count {
         let e = writes::write_at(ws, x);
-        let one = lock_only_at(rows, leaves, slots, n, m, i, e.address);
+        let one = lock_only_at(rows, leaves, slots, n, m, i, e);
         own = own + one;
         x += 1;
     }
@@ -250,8 +256,8 @@ fn count_lock_only(
 }
 
 // A logged leaf is gone, or hides a key from the worker whose locks are the addresses of the write set. The leaf is the
-// one of the low that was logged with it, or it is gone. Entries outside the index hide nothing if they are the
-// worker's own locks.
+// one of the low that was logged with it, or it is gone. Of the keys that it hides from somebody, the worker's own puts hide
+// nothing from itself.
 pub fn phantom(
     rows: &Records,
     leaves: &Leaves,
@@ -272,7 +278,7 @@ pub fn phantom(
     if l.version != version {
         return true;
     }
-    let out = l.outside;
+    let out = l.hidden;
     if out == 0 {
         return false;
     }

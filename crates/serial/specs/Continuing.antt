@@ -15,7 +15,7 @@ use Rattle.lists.specs.Rows.{Row, row, look, insert, Rising}
 use Rattle.lists.specs.RowLaws.{from-insert}
 use Rattle.spec.specs.Records.{Payload, Record, Write, written, deleted, payloadOf, ownView}
 use Rattle.spec.specs.Leaves.{Leaf, versionAt}
-use Rattle.spec.specs.Slots.{contentOf}
+use Rattle.spec.specs.Slots.{Content, contentOf}
 use Rattle.spec.specs.Guards.{Scan}
 use Rattle.spec.specs.Maps.{MapState, current, indexedBetween}
 use Rattle.spec.specs.Steps.{Worker, State, workerOf, Step, read, scan, put, remove, Answer, done, found, listed, Event, isFree, isOpen, isChecked, ownWrite, slotsExamined, scanned, scanReads, scanVersions, remembered, withWorker, withMap, logged, writing, readRows}
@@ -25,7 +25,7 @@ use Rattle.laws.specs.ContentLaws.{look-indexedBetween}
 use Rattle.laws.specs.LeafLaws.{version-old, meeting-covers}
 use Rattle.serial.specs.Stages.{open-unchecked, open-busy}
 use Rattle.serial.specs.Feeding.{eventWrites, writesOf-snoc, wrote, look-member}
-use Rattle.serial.specs.Invariant.{Facts, Observation, Throughout, Explains, Backed, by-read, by-leaf, Saw, AllSaw, Roomy, Working, Invariant}
+use Rattle.serial.specs.Invariant.{Facts, Observation, Throughout, Explains, Backed, by-read, by-leaf, Saw, AllSaw, Roomy, HasLock, putAt, Working, Invariant}
 use Rattle.serial.specs.Keeping.{ReadOn, own-step}
 use Rattle.serial.specs.Guarding.{saw-longer, saw-now}
 use Rattle.serial.specs.Observing.{explain-quiet, explain-own-read, readOf, explain-read, ScanOf, scanOf, shown, explain-scan}
@@ -43,7 +43,7 @@ pub record OwnLocks (m m' : MapState) (w : ℕ) : Type 0 where
   pub records : m' .records ≡ m .records
   pub leaves : m' .leaves ≡ m .leaves
   pub current : (k : ℕ) → current m' k ≡ current m k
-  pub holder : (k v : ℕ) → (v ≡ w → ⊥) → contentOf (m .slots) k .holder ≡ some v → contentOf (m' .slots) k .holder ≡ some v
+  pub locks : (v : ℕ) → (v ≡ w → ⊥) → (k : ℕ) → contentOf (m .slots) k .holder ≡ some v → contentOf (m' .slots) k ≡ contentOf (m .slots) k
 
 pub own-map : (σ : State) (m' : MapState) (w : ℕ) (x : Worker) (ρ ρ' : Reading) → OwnLocks (σ .map) m' w
     → workerOf (withWorker (withMap σ m') w x) w ≡ x → isChecked (x .stage) ≡ false → ReadOn ρ ρ'
@@ -61,7 +61,10 @@ own-map σ m' w x ρ ρ' o e c r n mine i =
       indexed = λ k. ap (λ (rs : List (Row Record)). present (look rs k)) (o .records);
       version = λ k. ap (λ (ls : List Leaf). versionAt ls k) (o .leaves);
       others = λ v d. worker-other (withMap σ m') w x v d;
-      holder = o .holder;
+      locks =
+          λ v d k b q.
+          let e : contentOf (m' .slots) k ≡ contentOf (σ .map .slots) k = o .locks v d k (q .0) in
+          (ap (λ (c : Content). c .holder) e ∙ q .0, ap (λ (c : Content). c .forPut) e ∙ q .1);
       unchecked = ap (λ (y : Worker). isChecked (y .stage)) e ∙ c;
       reading = r;
       running = n;
@@ -73,7 +76,7 @@ own-map σ m' w x ρ ρ' o e c r n mine i =
     i
 
 same-locks : (m : MapState) (w : ℕ) → OwnLocks m m w
-same-locks m w = record { records = refl; leaves = refl; current = λ k. refl; holder = λ k v d e. e }
+same-locks m w = record { records = refl; leaves = refl; current = λ k. refl; locks = λ v d k e. refl }
 
 -- the worker alone
 pub own-worker : (σ : State) (w : ℕ) (x : Worker) (ρ ρ' : Reading) → w < length (σ .workers)
@@ -93,7 +96,7 @@ pub goes-on : (F F' : Facts) (ρ : Reading) (w : ℕ) (x x' : Worker) (e : Event
     → Explains os (g .t .events ++ (e ∷ []))
     → wrote (x .writes) (e .step) ≡ x' .writes
     → Throughout os (Backed F' x')
-    → (isOpen (x' .stage) ≡ false → (k : ℕ) → present (look (x' .writes) k) ≡ true → F' .holder k ≡ some w)
+    → (isOpen (x' .stage) ≡ false → (k : ℕ) → present (look (x' .writes) k) ≡ true → HasLock F' w k (putAt (x' .writes) k))
     → isChecked (x' .stage) ≡ false
     → (isOpen (x' .stage) ≡ true → AllSaw x' os)
     → (isOpen (x' .stage) ≡ false → Roomy (F' .guard) os (x' .writes))

@@ -11,10 +11,10 @@ use Rattle.lists.specs.Tests.{pick, both, either, maybe, present, same}
 use Rattle.lists.specs.TestLaws.{cases, clash, same-yes, same-no}
 use Rattle.lists.specs.Rows.{Row, row, look, keys, any, Rising}
 use Rattle.lists.specs.RowLaws.{any-false, member-keys, look-delete, some-not-none, rising-nil, rising-different}
-use Rattle.spec.specs.Records.{Record, Write, outcome, sameRecord}
+use Rattle.spec.specs.Records.{Record, Write, written, deleted, isPut, outcome, sameRecord}
 use Rattle.spec.specs.Leaves.{Leaf, versionAt, live}
 use Rattle.spec.specs.Slots.{Pending, Content, isIdle, contentOf, entries}
-use Rattle.spec.specs.Maps.{MapState, outcomeOf, current, heldByOther, hiding, hiddenIn, hides, withSlots, installAll, Merged, mergeAt}
+use Rattle.spec.specs.Maps.{MapState, outcomeOf, current, heldByOther, putPending, hiding, hiddenIn, hides, withSlots, installAll, Merged, mergeAt}
 use Rattle.spec.specs.Steps.{Worker, freeWorker, State, workerOf, validate, numbered, Event, isFree, isLocked, isChecked, lockedByOther, changedSince, phantomIn, withWorker, withMap, withCounters, installCounted, checkedAs, installedMap, merged}
 use Rattle.spec.specs.Sequential.{Agrees}
 use Rattle.spec.specs.Claim.{Transaction, Reading, runningNow, passed, extended, withNumber, numberIn, oneMoreGiven, validated, installedNow}
@@ -25,7 +25,7 @@ use Rattle.laws.specs.LeafLaws.{GoodLeaves, live-version}
 use Rattle.laws.specs.MergeLaws.{Merges, merges}
 use Rattle.serial.specs.Stages.{locked-busy, locked-unchecked, locked-not-open, checked-busy, checked-not-open, free-free}
 use Rattle.serial.specs.Feeding.{eventWrites, writesOf-snoc, wrote, laid}
-use Rattle.serial.specs.Invariant.{Observation, Explains, unwritten, Working, Invariant}
+use Rattle.serial.specs.Invariant.{Observation, Explains, Harmless, unwritten, already-absent, Working, Invariant}
 use Rattle.serial.specs.Keeping.{Rearranged, merge-step}
 use Rattle.serial.specs.Validating.{OthersHarmless, Passed, Checks, validate-step}
 use Rattle.serial.specs.Installing.{Installs, install-step}
@@ -52,29 +52,68 @@ pub record Validatable (σ : State) (w : ℕ) : Type 0 where
   pub unlocked : any (lockedByOther σ w) (keys (workerOf σ w .reads)) ≡ false
   pub no-phantom : any (phantomIn σ w) (workerOf σ w .versions) ≡ false
 
--- a key that no other worker has locked is changed by no checked transaction
-untouched : (σ : State) (ρ : Reading) (w : ℕ) → Invariant (facts σ) ρ → (k : ℕ) (r : Option Record)
-    → heldByOther w (contentOf (σ .map .slots) k) ≡ false → OthersHarmless (facts σ) w k r
-untouched σ ρ w i k r e v d c = unwritten (go (look (workerOf σ v .writes) k) refl)
-  where
-    go : (o : Option Write) → look (workerOf σ v .writes) k ≡ o → look (workerOf σ v .writes) k ≡ none
-    go none q = q
-    go (some x) q =
-        clash
-        (other-holds w (contentOf (σ .map .slots) k) v d
-        (i .working v (checked-busy (workerOf σ v .stage) c) .locked (checked-not-open (workerOf σ v .stage) c) k (ap present q)))
-        e
+module _ (σ : State) (ρ : Reading) (w : ℕ) (i : Invariant (facts σ) ρ) (k : ℕ) where
+  said : Content
+  said = contentOf (σ .map .slots) k
 
--- nothing is said of the key that worker w would have to know: no write is pending, no other worker has the lock
+  -- what another checked worker writes it has locked, for that write
+  locked-for : (v : ℕ) → (v ≡ w → ⊥) → isChecked (workerOf σ v .stage) ≡ true → (e : Write) → look (workerOf σ v .writes) k ≡ some e
+      → (heldByOther w said ≡ true) × (said .forPut ≡ isPut e)
+  unfolding said
+  locked-for v d c e q =
+      let l = i .working v (checked-busy (workerOf σ v .stage) c) .locked (checked-not-open (workerOf σ v .stage) c) k (ap present q) in
+      (other-holds w (contentOf (σ .map .slots) k) v d (l .0), l .1 ∙ ap (λ (o : Option Write). maybe o false isPut) q)
+
+  -- a key that no other worker has locked is changed by no checked transaction
+  untouched : (r : Option Record) → heldByOther w said ≡ false → OthersHarmless (facts σ) w k r
+  untouched r e v d c = go (look (workerOf σ v .writes) k) refl
+    where
+      go : (o : Option Write) → look (workerOf σ v .writes) k ≡ o → Harmless (workerOf σ v .writes) k r
+      go none q = unwritten q
+      go (some x) q = clash (locked-for v d c x q .0) e
+
+  -- an absent key that no other worker has locked for a put stays absent: what others have there are removals
+  stays-absent : both (said .forPut) (heldByOther w said) ≡ false → OthersHarmless (facts σ) w k none
+  stays-absent e v d c = go (look (workerOf σ v .writes) k) refl
+    where
+      go : (o : Option Write) → look (workerOf σ v .writes) k ≡ o → Harmless (workerOf σ v .writes) k none
+      go none q = unwritten q
+      go (some deleted) q = already-absent q refl
+      go (some (written p)) q =
+          let l = locked-for v d c (written p) q in
+          clash (ap (λ (b : Bool). both b (heldByOther w said)) (l .1) ∙ (unfold isPut in l .0)) e
+
+-- nothing is said of the key that worker w would have to know: no put is pending, no other worker has the lock for a put
 abbrev Quiet : ℕ → Content → Type 0
-Quiet w c = (present (c .pending) ≡ false) × (heldByOther w c ≡ false)
+Quiet w c = (putPending c ≡ false) × (both (c .forPut) (heldByOther w c) ≡ false)
 
 idle-quiet : (w : ℕ) (c : Content) → isIdle c ≡ true → Quiet w c
-unfolding heldByOther
+unfolding putPending heldByOther
 idle-quiet w c e = (
-  ap (λ (p : Option Pending). present p) (idle-pending c e),
-  ap (λ (h : Option ℕ). maybe h false (λ (h : ℕ). not (same h w))) (idle-holder c e),
+  ap (λ (p : Option Pending). maybe p false (λ (p : Pending). isPut (p .write))) (idle-pending c e),
+  ap (λ (h : Option ℕ). both (c .forPut) (maybe h false (λ (h : ℕ). not (same h w)))) (idle-holder c e) ∙ never (c .forPut),
 )
+  where
+    never : (b : Bool) → both b false ≡ false
+    never true = refl
+    never false = refl
+
+-- where no put is pending and the index lacks the key, it is absent
+absent : (m : MapState) (k : ℕ) → present (look (m .records) k) ≡ false → putPending (contentOf (m .slots) k) ≡ false → current m k ≡ none
+unfolding current putPending
+absent m k n q = go (contentOf (m .slots) k .pending) q
+  where
+    gone : (o : Option Record) → present o ≡ false → o ≡ none
+    gone none e = refl
+    gone (some a) e = clash refl e
+
+    removed : (p : Pending) (e : Write) → isPut e ≡ false → outcome (p .commit) e ≡ none
+    removed p (written x) e = unfold isPut in clash refl e
+    removed p deleted e = unfold outcome in refl
+
+    go : (o : Option Pending) → maybe o false (λ (p : Pending). isPut (p .write)) ≡ false → maybe o (look (m .records) k) outcomeOf ≡ none
+    go none e = gone (look (m .records) k) n
+    go (some p) e = unfold outcomeOf in removed p (p .write) e
 
 module _ {σ : State} {ρ : Reading} {w : ℕ} (h : Sound σ ρ) (p : Validatable σ w) where
   -- a key of a logged leaf that the index lacks is not hidden: what that means is told here, and nowhere else
@@ -83,13 +122,13 @@ module _ {σ : State} {ρ : Reading} {w : ℕ} (h : Sound σ ρ) (p : Validatabl
   unhidden v m k e n =
       ⊎-elim
       (λ t. idle-quiet w (contentOf (σ .map .slots) k) t)
-      (λ t. quiet (tested t))
+      (λ t. quiet (contentOf (σ .map .slots) k) (tested t))
       (cases (isIdle (contentOf (σ .map .slots) k)))
     where
-      quiet : hiding w (contentOf (σ .map .slots) k) ≡ false → Quiet w (contentOf (σ .map .slots) k)
-      quiet q = (
-        either-left (present (contentOf (σ .map .slots) k .pending)) (heldByOther w (contentOf (σ .map .slots) k)) (unfold hiding in q),
-        either-right (present (contentOf (σ .map .slots) k .pending)) (heldByOther w (contentOf (σ .map .slots) k)) (unfold hiding in q),
+      quiet : (c : Content) → hiding w c ≡ false → Quiet w c
+      quiet c q = (
+        either-left (putPending c) (both (c .forPut) (heldByOther w c)) (unfold hiding in q),
+        either-right (putPending c) (both (c .forPut) (heldByOther w c)) (unfold hiding in q),
       )
 
       no-hide : hides (σ .map) w v ≡ false
@@ -118,25 +157,15 @@ module _ {σ : State} {ρ : Reading} {w : ℕ} (h : Sound σ ρ) (p : Validatabl
         read-free =
             λ k r m.
             untouched σ ρ w (h .invariant) k r
-            (unfold lockedByOther in any-false (lockedByOther σ w) (keys (workerOf σ w .reads)) (p .unlocked) k (member-keys (workerOf σ w .reads) k r m));
+            (unfold said lockedByOther in any-false (lockedByOther σ w) (keys (workerOf σ w .reads)) (p .unlocked) k (member-keys (workerOf σ w .reads) k r m));
         leaf-live =
             λ v m.
             live-version (h .fine .leaves) v
             (not-false (live (σ .map .leaves) v)
             (unfold phantomIn in either-left (not (live (σ .map .leaves) v)) (hides (σ .map) w v) (any-false (phantomIn σ w) (workerOf σ w .versions) (p .no-phantom) v m)));
-        leaf-empty = λ v m k e n. absent k n (unhidden v m k e n .0);
-        leaf-free = λ v m k e n. untouched σ ρ w (h .invariant) k none (unhidden v m k e n .1);
+        leaf-empty = λ v m k e n. absent (σ .map) k n (unhidden v m k e n .0);
+        leaf-free = λ v m k e n. stays-absent σ ρ w (h .invariant) k (unfold said in unhidden v m k e n .1);
       }
-    where
-      absent : (k : ℕ) → present (look (σ .map .records) k) ≡ false → present (contentOf (σ .map .slots) k .pending) ≡ false → current (σ .map) k ≡ none
-      absent k n q =
-          unfold current in
-          ap (λ (o : Option Pending). maybe o (look (σ .map .records) k) outcomeOf) (gone (contentOf (σ .map .slots) k .pending) q)
-          ∙ gone (look (σ .map .records) k) n
-        where
-          gone : {A : Type 0} (o : Option A) → present o ≡ false → o ≡ none
-          gone none e = refl
-          gone (some a) e = clash refl e
 
   n : ℕ
   n = suc (σ .counters .number)
@@ -179,7 +208,7 @@ module _ {σ : State} {ρ : Reading} {w : ℕ} (h : Sound σ ρ) (p : Validatabl
         current = λ k. unfold withWorker withCounters in refl;
         indexed = λ k. unfold withWorker withCounters in refl;
         version = λ k. unfold withWorker withCounters in refl;
-        holder = λ k. unfold withWorker withCounters in refl;
+        locks = λ v k b q. unfold withWorker withCounters in q;
         others = other-worker;
         writes = ap (λ (y : Worker). y .writes) now-worker ∙ (unfold checkedAs in refl);
         number = ap (λ (y : Worker). y .number) now-worker ∙ (unfold checkedAs in refl);
@@ -237,7 +266,7 @@ module _ {σ : State} {ρ : Reading} (h : Sound σ ρ) (w : ℕ) (s : isChecked 
   g-checked = h .invariant .working w (checked-busy (workerOf σ w .stage) s)
 
   holds-locks : (k : ℕ) → present (look (workerOf σ w .writes) k) ≡ true → contentOf (σ .map .slots) k .holder ≡ some w
-  holds-locks k q = g-checked .locked (checked-not-open (workerOf σ w .stage) s) k q
+  holds-locks k q = g-checked .locked (checked-not-open (workerOf σ w .stage) s) k q .0
 
   installable : Installable (σ .map .slots) (workerOf σ w .writes)
   installable =
@@ -279,13 +308,19 @@ module _ {σ : State} {ρ : Reading} (h : Sound σ ρ) (w : ℕ) (s : isChecked 
       go none = unfold current in refl
       go (some e) = unfold outcomeOf in refl
 
-  holder-installed : (k v : ℕ) → (v ≡ w → ⊥) → contentOf (σ .map .slots) k .holder ≡ some v → contentOf (m-installed .slots) k .holder ≡ some v
-  holder-installed k v d e =
-      ap (λ (c : Content). c .holder) (says-installed k) ∙ go (look (workerOf σ w .writes) k) refl
+  locks-installed : (v : ℕ) → (v ≡ w → ⊥) → (k : ℕ) (b : Bool)
+      → (contentOf (σ .map .slots) k .holder ≡ some v) × (contentOf (σ .map .slots) k .forPut ≡ b)
+      → (contentOf (m-installed .slots) k .holder ≡ some v) × (contentOf (m-installed .slots) k .forPut ≡ b)
+  locks-installed v d k b l =
+      (ap (λ (c : Content). c .holder) same-content ∙ l .0, ap (λ (c : Content). c .forPut) same-content ∙ l .1)
     where
-      go : (o : Option Write) → look (workerOf σ w .writes) k ≡ o → writtenBy (workerOf σ w .number) (suc (σ .counters .installs)) o (contentOf (σ .map .slots) k) .holder ≡ some v
-      go none q = e
-      go (some x) q = absurd (d (let a : some v ≡ some w = sym e ∙ holds-locks k (ap present q) in cc))
+      go : (o : Option Write) → look (workerOf σ w .writes) k ≡ o
+          → writtenBy (workerOf σ w .number) (suc (σ .counters .installs)) o (contentOf (σ .map .slots) k) ≡ contentOf (σ .map .slots) k
+      go none q = refl
+      go (some x) q = absurd (d (let a : some v ≡ some w = sym (l .0) ∙ holds-locks k (ap present q) in cc))
+
+      same-content : contentOf (m-installed .slots) k ≡ contentOf (σ .map .slots) k
+      same-content = says-installed k ∙ go (look (workerOf σ w .writes) k) refl
 
   σ-installed : State
   σ-installed = installCounted (withWorker (withMap σ m-installed) w freeWorker)
@@ -303,7 +338,7 @@ module _ {σ : State} {ρ : Reading} (h : Sound σ ρ) (w : ℕ) (s : isChecked 
         current = current-installed;
         indexed = λ k. ap (λ (rs : List (Row Record)). present (look rs k)) records-installed;
         version = λ k. ap (λ (ls : List Leaf). versionAt ls k) leaves-installed;
-        holder = holder-installed;
+        locks = locks-installed;
         others = λ v d. worker-other (withMap σ m-installed) w freeWorker v d ∙ (unfold workerOf in refl);
         is-free = ap (λ (y : Worker). isFree (y .stage)) (worker-free (withMap σ m-installed) w) ∙ free-free;
         was-checked = s;
@@ -381,7 +416,7 @@ module _ {σ : State} {ρ : Reading} (h : Sound σ ρ) (a : ℕ) where
         guard = refl;
         lastVersion = does .later;
         current = does .same-current;
-        holder = does .same-holder;
+        locks = λ w k b l. (does .same-holder k ∙ l .0, does .same-kind k w (l .0) ∙ l .1);
         worker = λ w. refl;
         gone = does .gone;
         fresh = does .renewed;
@@ -411,7 +446,7 @@ same-sound {σ} {ρ} h =
             guard = refl;
             lastVersion = le-refl (σ .counters .version);
             current = λ k. refl;
-            holder = λ k. refl;
+            locks = λ w k b l. l;
             worker = λ w. refl;
             gone = λ v. false;
             fresh = λ k e. clash e refl;

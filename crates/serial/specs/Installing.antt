@@ -5,7 +5,7 @@ use native.Mathlib.Nat.{le-refl, le-trans, le-of-eq}
 use native.Mathlib.Omega.{arith}
 use mathlib.Core.Path.{_≡_, refl, sym, ap, _∙_, subst}
 use mathlib.Core.Logic.{inl, inr, ⊎-elim}
-use mathlib.Core.Bool.{true, false}
+use mathlib.Core.Bool.{Bool, true, false}
 use mathlib.Core.List.{List, _∷_, List·Memᴰ, List·Memᴰ·cases-cons}
 use mathlib.Core.Option.{Option, none, some}
 use Rattle.lists.specs.Tests.{present, same, less}
@@ -17,7 +17,7 @@ use Rattle.spec.specs.Steps.{Worker, isFree, isChecked}
 use Rattle.spec.specs.Claim.{Transaction, Reading, listAfter}
 use Rattle.serial.specs.Stages.{checked-busy, checked-not-open}
 use Rattle.serial.specs.Feeding.{eventWrites, laid, listAfter-before, listAfter-other, listAfter-mine}
-use Rattle.serial.specs.Invariant.{Facts, Observation, Matches, Explains, RoomFor, Harmless, unwritten, already-absent, Valid, CheckedAs, Working, Done, Invariant}
+use Rattle.serial.specs.Invariant.{Facts, Observation, Matches, Explains, RoomFor, Harmless, unwritten, already-absent, Valid, CheckedAs, HasLock, Working, Done, Invariant}
 use Rattle.serial.specs.Keeping.{SameChecks, valid-kept, Kept, working-kept, backed-kept}
 
 -- The state and the reading after worker w installed.
@@ -28,7 +28,7 @@ pub record Installs (F F' : Facts) (ρ ρ' : Reading) (w : ℕ) : Type 0 where
   pub current : (k : ℕ) → F' .current k ≡ laid (F .worker w .number) (F .worker w .writes) k (F .current k)
   pub indexed : (k : ℕ) → F' .indexed k ≡ F .indexed k
   pub version : (k : ℕ) → F' .version k ≡ F .version k
-  pub holder : (k v : ℕ) → (v ≡ w → ⊥) → F .holder k ≡ some v → F' .holder k ≡ some v
+  pub locks : (v : ℕ) → (v ≡ w → ⊥) → (k : ℕ) (b : Bool) → HasLock F v k b → HasLock F' v k b
   pub others : (v : ℕ) → (v ≡ w → ⊥) → F' .worker v ≡ F .worker v
   pub is-free : isFree (F' .worker w .stage) ≡ true
   pub was-checked : isChecked (F .worker w .stage) ≡ true
@@ -178,7 +178,7 @@ module _ {F F' : Facts} {ρ ρ' : Reading} {w : ℕ} (h : Installs F F' ρ ρ' w
         place = h .place;
         installed = λ r m. ⊎-elim (λ e. inr (ends-now r e)) (λ q. inl q) (List·Memᴰ·cases-cons (subst (List·Memᴰ r) installs m));
         backed = backed-kept F F' (F .worker v) (le-of-eq (sym (h .lastVersion))) (h .version) (h .indexed);
-        holder = λ k e. h .holder k v d e;
+        locks = h .locks v d;
         checked = λ t os since q k. subst (λ (is : List (Row Transaction)). CheckedAs F' is (F .worker v) t os since) (sym installs) (moved t os since q k);
       }
     where
@@ -202,10 +202,10 @@ module _ {F F' : Facts} {ρ ρ' : Reading} {w : ℕ} (h : Installs F F' ρ ρ' w
           shared : (j : ℕ) → present (look (F .worker v .writes) j) ≡ true → (r : Row Transaction) → r ≡ row n (h .now)
               → present (look (eventWrites (r .item .events)) j) ≡ true → ⊥
           shared j p r a e =
-              let hv : F .holder j ≡ some v = i .working v s .locked (checked-not-open (F .worker v .stage) q) j p in
+              let hv : F .holder j ≡ some v = i .working v s .locked (checked-not-open (F .worker v .stage) q) j p .0 in
               let hw : F .holder j ≡ some w =
               g .locked (checked-not-open (F .worker w .stage) (h .was-checked)) j
-              (ap present (sym (own-write j)) ∙ ap (λ (x : Row Transaction). present (look (eventWrites (x .item .events)) j)) (sym a) ∙ e) in
+              (ap present (sym (own-write j)) ∙ ap (λ (x : Row Transaction). present (look (eventWrites (x .item .events)) j)) (sym a) ∙ e) .0 in
               d (cc)
 
   -- the current records are those of the list with the transaction in it

@@ -14,9 +14,9 @@ use mathlib.Core.Bool.{Bool, true, false}
 use mathlib.Core.List.{List, List·Memᴰ}
 use mathlib.Core.Option.{Option, none, some, Option·getD}
 use lib.ListN.{length}
-use Rattle.lists.specs.Tests.{present}
+use Rattle.lists.specs.Tests.{maybe, present}
 use Rattle.lists.specs.Rows.{Row, row, look, Rising, keys, Different}
-use Rattle.spec.specs.Records.{Settings, Payload, Record, Write, written, deleted, payloadOf}
+use Rattle.spec.specs.Records.{Settings, Payload, Record, Write, written, deleted, isPut, payloadOf}
 use Rattle.spec.specs.Guards.{Scan, stretch, lastByte, share, unfit}
 use Rattle.spec.specs.Steps.{Worker, isFree, isOpen, isChecked, Event}
 use Rattle.spec.specs.Sequential.{AllAgree}
@@ -30,6 +30,7 @@ pub record Facts : Type 0 where
   pub current : ℕ → Option Record
   pub indexed : ℕ → Bool  -- the index holds the key
   pub holder : ℕ → Option ℕ  -- the worker that has the key's lock
+  pub forPut : ℕ → Bool  -- that lock is for a put
   pub version : ℕ → ℕ  -- the version of the key's leaf
   pub worker : ℕ → Worker
   pub guard : Option Settings  -- the limits that a guarded map goes by
@@ -112,6 +113,14 @@ pub record CheckedAs (F : Facts) (ts : List (Row Transaction)) (x : Worker) (t :
   pub unused : look ts (suc m) ≡ none
   pub latest : (k : ℕ) → present (look (x .writes) k) ≡ true → NoLaterWriter (suc m) ts k
 
+-- worker w has the lock of k, for a put or not
+abbrev pub HasLock : Facts → ℕ → ℕ → Bool → Type 0
+HasLock F w k b = (F .holder k ≡ some w) × (F .forPut k ≡ b)
+
+-- the write set has a put at k
+abbrev pub putAt : List (Row Write) → ℕ → Bool
+putAt ws k = maybe (look ws k) false isPut
+
 -- A worker whose transaction goes on.
 pub record Working (F : Facts) (ρ : Reading) (w : ℕ) (x : Worker) : Type 0 where
   pub t : Transaction
@@ -125,7 +134,7 @@ pub record Working (F : Facts) (ρ : Reading) (w : ℕ) (x : Worker) : Type 0 wh
   pub past : (r : Row Transaction) → List·Memᴰ r (ρ .installed) → r .item .ended < t .begun → r .key ≤ since
   pub begun : t .begun ≤ ρ .place
   pub backed : isChecked (x .stage) ≡ false → Throughout os (Backed F x)
-  pub locked : isOpen (x .stage) ≡ false → (k : ℕ) → present (look (x .writes) k) ≡ true → F .holder k ≡ some w
+  pub locked : isOpen (x .stage) ≡ false → (k : ℕ) → present (look (x .writes) k) ≡ true → HasLock F w k (putAt (x .writes) k)
   pub checked : isChecked (x .stage) ≡ true → CheckedAs F (ρ .installed) x t os since
   pub saw : isOpen (x .stage) ≡ true → AllSaw x os
   pub room : isOpen (x .stage) ≡ false → Roomy (F .guard) os (x .writes)

@@ -7,14 +7,14 @@ use mathlib.Core.Path.{_≡_, sym, ap, _∙_, subst}
 use mathlib.Core.Logic.{_⊎_, inl, ⊎-elim}
 use mathlib.Core.Bool.{Bool, true, false}
 use mathlib.Core.List.{List, List·Memᴰ}
-use mathlib.Core.Option.{Option, some}
+use mathlib.Core.Option.{Option}
 use Rattle.lists.specs.Tests.{same}
 use Rattle.lists.specs.TestLaws.{cases, clash, same-true, same-false}
 use Rattle.lists.specs.Rows.{Row, look, keys, Different}
 use Rattle.spec.specs.Records.{Record}
 use Rattle.spec.specs.Steps.{Worker, isFree, isChecked}
 use Rattle.spec.specs.Claim.{Transaction, Reading, listAfter}
-use Rattle.serial.specs.Invariant.{Facts, Observation, Backed, by-read, by-leaf, Harmless, ChecksUpTo, Valid, CheckedAs, Working, Done, Invariant}
+use Rattle.serial.specs.Invariant.{Facts, Observation, Backed, by-read, by-leaf, Harmless, ChecksUpTo, Valid, CheckedAs, HasLock, putAt, Working, Done, Invariant}
 
 -- ---- what does not change
 
@@ -72,7 +72,7 @@ pub record Kept (F F' : Facts) (ρ ρ' : Reading) (w : ℕ) (x : Worker) : Type 
   pub installed :
       (r : Row Transaction) → List·Memᴰ r (ρ' .installed) → List·Memᴰ r (ρ .installed) ⊎ (ρ .place ≤ r .item .ended)
   pub backed : (k : ℕ) (r : Option Record) → Backed F x k r → Backed F' x k r
-  pub holder : (k : ℕ) → F .holder k ≡ some w → F' .holder k ≡ some w
+  pub locks : (k : ℕ) (b : Bool) → HasLock F w k b → HasLock F' w k b
   pub checked :
       (t : Transaction) (os : List Observation) (since : ℕ) → isChecked (x .stage) ≡ true
       → CheckedAs F (ρ .installed) x t os since → CheckedAs F' (ρ' .installed) x t os since
@@ -90,7 +90,7 @@ working-kept {F} {F'} {ρ} {ρ'} {w} {x} h g =
       past = λ r mem l. ⊎-elim (λ m. g .past r m l) (λ p. absurd (early r l p)) (h .installed r mem);
       begun = le-trans (g .begun) (h .place);
       backed = λ s o mem k a b. h .backed k (o .seen k) (g .backed s o mem k a b);
-      locked = λ s k p. h .holder k (g .locked s k p);
+      locked = λ s k p. h .locks k (putAt (x .writes) k) (g .locked s k p);
       checked = λ s. h .checked (g .t) (g .os) (g .since) s (g .checked s);
       saw = g .saw;
       room = λ s l q. g .room s l (sym (h .guard) ∙ q);
@@ -130,7 +130,7 @@ pub record Own (F F' : Facts) (ρ ρ' : Reading) (w : ℕ) : Type 0 where
   pub indexed : (k : ℕ) → F' .indexed k ≡ F .indexed k
   pub version : (k : ℕ) → F' .version k ≡ F .version k
   pub others : (v : ℕ) → (v ≡ w → ⊥) → F' .worker v ≡ F .worker v
-  pub holder : (k v : ℕ) → (v ≡ w → ⊥) → F .holder k ≡ some v → F' .holder k ≡ some v
+  pub locks : (v : ℕ) → (v ≡ w → ⊥) → (k : ℕ) (b : Bool) → HasLock F v k b → HasLock F' v k b
   pub unchecked : isChecked (F' .worker w .stage) ≡ false
   pub reading : ReadOn ρ ρ'
   pub running : (v : ℕ) → (v ≡ w → ⊥) → look (ρ' .running) v ≡ look (ρ .running) v
@@ -156,7 +156,7 @@ module _ {F F' : Facts} {ρ ρ' : Reading} {w : ℕ} (h : Own F F' ρ ρ' w) whe
         place = h .reading .place;
         installed = λ r m. inl (still-installed (h .reading) r m);
         backed = backed-kept F F' x (le-of-eq (sym (h .lastVersion))) (h .version) (h .indexed);
-        holder = λ k e. h .holder k v d e;
+        locks = h .locks v d;
         checked =
             λ t os since s c.
             along (λ (ts : List (Row Transaction)). CheckedAs F' ts x t os since) (h .reading)
@@ -204,7 +204,7 @@ pub record Rearranged (F F' : Facts) : Type 0 where
   pub guard : F' .guard ≡ F .guard
   pub lastVersion : F .lastVersion ≤ F' .lastVersion
   pub current : (k : ℕ) → F' .current k ≡ F .current k
-  pub holder : (k : ℕ) → F' .holder k ≡ F .holder k
+  pub locks : (w k : ℕ) (b : Bool) → HasLock F w k b → HasLock F' w k b
   pub worker : (w : ℕ) → F' .worker w ≡ F .worker w
   pub gone : ℕ → Bool
   pub fresh : (k : ℕ) → gone (F .version k) ≡ true → F .lastVersion < F' .version k
@@ -238,7 +238,7 @@ module _ {F F' : Facts} {ρ ρ' : Reading} (h : Rearranged F F') (d : ReadOn ρ 
         place = d .place;
         installed = λ r m. inl (still-installed d r m);
         backed = backed-merged x;
-        holder = λ k e. h .holder k ∙ e;
+        locks = h .locks v;
         checked =
             λ t os since s c.
             along (λ (ts : List (Row Transaction)). CheckedAs F' ts x t os since) d

@@ -13,18 +13,18 @@ use Rattle.lists.specs.Options.{both-options, some-same}
 use Rattle.lists.specs.Rows.{Row, look, has, Rising}
 use Rattle.lists.specs.RowLaws.{has-keys, rising-nil}
 use Rattle.spec.specs.declared.Stage.the-variants.{Open, Locked}
-use Rattle.spec.specs.Records.{Settings, Payload, Record, Write, written}
+use Rattle.spec.specs.Records.{Settings, Payload, Record, Write, written, isPut}
 use Rattle.spec.specs.Slots.{Pending, Content, contentOf}
 use Rattle.spec.specs.Guards.{anyPut}
 use Rattle.spec.specs.Maps.{MapState, outcomeOf, current, heldByOther, withSlots, lockAll, unlockAll}
 use Rattle.spec.specs.Steps.{Worker, freeWorker, State, workerOf, lock, done, Event, isOpen, isChecked, guard, unfitPut, uncoveredPut, overlappedPut, lockedByOther, writeKeys, withWorker, withMap, atStage, dropped}
 use Rattle.spec.specs.Sequential.{Agrees, AllAgree}
 use Rattle.spec.specs.Claim.{Transaction, Reading, runningNow, passed, started, goesOn}
-use Rattle.laws.specs.MapLaws.{LockRoom, withHolder, lock-good, lock-says, unlocked, unlocked-pending, unlocked-holder, unlock-good, unlock-says}
+use Rattle.laws.specs.MapLaws.{LockRoom, lockedBy, locked-pending, lock-good, lock-says, unlocked, unlocked-other, unlocked-pending, unlock-good, unlock-says}
 use Rattle.serial.specs.Stages.{open-open, open-not-checked, free-free}
 use Rattle.serial.specs.Feeding.{writesOf-nil, wrote}
 use Rattle.serial.specs.Guarding.{lock-room-for}
-use Rattle.serial.specs.Invariant.{Throughout, Backed, by-read, by-leaf, AllSaw, RoomFor, Roomy, Working, Invariant}
+use Rattle.serial.specs.Invariant.{Throughout, Backed, by-read, by-leaf, AllSaw, RoomFor, Roomy, HasLock, putAt, Working, Invariant}
 use Rattle.serial.specs.Observing.{explain-quiet}
 use Rattle.serial.specs.Model.{facts, Fine, worker-same, worker-free, fine-worker, read-passed, read-running, running-same, running-other}
 use Rattle.serial.specs.Continuing.{Sound, OwnLocks, own-map, own-worker, goes-on, read-goesOn, running-goesOn, IsOpen, g, g-backed, g-saw}
@@ -96,7 +96,7 @@ fine-slots σ m' r l s f =
 -- What a granted lock has passed.
 pub record Lockable (σ : State) (w : ℕ) : Type 0 where
   pub unheld : (k : ℕ) → has k (writeKeys σ w) ≡ true → lockedByOther σ w k ≡ false
-  pub room : LockRoom (σ .map .slots) (writeKeys σ w)
+  pub room : LockRoom (σ .map .slots) (workerOf σ w .writes)
   pub fit : unfitPut σ w ≡ false
   pub covered : uncoveredPut σ w ≡ false
   pub clear : overlappedPut σ w ≡ false
@@ -113,11 +113,11 @@ other-holds w c v d e =
 
 module _ {σ : State} {ρ : Reading} {w : ℕ} (h : Sound σ ρ) (o : IsOpen σ w) (l : Lockable σ w) where
   m' : MapState
-  m' = lockAll (σ .settings) w (σ .map) (writeKeys σ w)
+  m' = lockAll (σ .settings) w (σ .map) (workerOf σ w .writes)
 
-  says : (k : ℕ) → contentOf (m' .slots) k ≡ pick (has k (writeKeys σ w)) (withHolder w (contentOf (σ .map .slots) k)) (contentOf (σ .map .slots) k)
+  says : (k : ℕ) → contentOf (m' .slots) k ≡ lockedBy w (look (workerOf σ w .writes) k) (contentOf (σ .map .slots) k)
   unfolding m'
-  says k = lock-says (σ .settings) w (σ .map) (writeKeys σ w) (h .fine .slots) (l .room) k
+  says k = lock-says (σ .settings) w (σ .map) (workerOf σ w .writes) (h .fine .slots) (l .room) k
 
   same-records : m' .records ≡ σ .map .records
   unfolding m' lockAll withSlots
@@ -129,16 +129,17 @@ module _ {σ : State} {ρ : Reading} {w : ℕ} (h : Sound σ ρ) (o : IsOpen σ 
 
   same-pending : (k : ℕ) → contentOf (m' .slots) k .pending ≡ contentOf (σ .map .slots) k .pending
   same-pending k =
-      ap (λ (c : Content). c .pending) (says k) ∙ ⊎-elim (λ t. rw t) (λ t. rw t) (cases (has k (writeKeys σ w)))
+      ap (λ (c : Content). c .pending) (says k) ∙ locked-pending w (look (workerOf σ w .writes) k) (contentOf (σ .map .slots) k)
 
-  same-holder : (k v : ℕ) → (v ≡ w → ⊥) → contentOf (σ .map .slots) k .holder ≡ some v → contentOf (m' .slots) k .holder ≡ some v
-  unfolding lockedByOther
-  same-holder k v d e =
-      ap (λ (c : Content). c .holder) (says k)
-      ∙ ⊎-elim
-      (λ t. clash (other-holds w (contentOf (σ .map .slots) k) v d e) (l .unheld k t))
-      (λ t. (rw t) ∙ e)
-      (cases (has k (writeKeys σ w)))
+  -- a key that another has locked is not written
+  same-lock : (v : ℕ) → (v ≡ w → ⊥) → (k : ℕ) → contentOf (σ .map .slots) k .holder ≡ some v → contentOf (m' .slots) k ≡ contentOf (σ .map .slots) k
+  unfolding lockedByOther writeKeys
+  same-lock v d k e = says k ∙ go (look (workerOf σ w .writes) k) refl
+    where
+      go : (y : Option Write) → look (workerOf σ w .writes) k ≡ y → lockedBy w y (contentOf (σ .map .slots) k) ≡ contentOf (σ .map .slots) k
+      go none q = refl
+      go (some x) q =
+          clash (other-holds w (contentOf (σ .map .slots) k) v d e) (l .unheld k (has-keys (workerOf σ w .writes) k ∙ ap present q))
 
   own-locks : OwnLocks (σ .map) m' w
   own-locks =
@@ -146,16 +147,19 @@ module _ {σ : State} {ρ : Reading} {w : ℕ} (h : Sound σ ρ) (o : IsOpen σ 
         records = same-records;
         leaves = same-leaves;
         current = λ k. current-by (σ .map) m' same-records k (same-pending k);
-        holder = same-holder;
+        locks = same-lock;
       }
 
-  locked : (k : ℕ) → present (look (workerOf σ w .writes) k) ≡ true → contentOf (m' .slots) k .holder ≡ some w
+  locked : (k : ℕ) → present (look (workerOf σ w .writes) k) ≡ true
+      → (contentOf (m' .slots) k .holder ≡ some w) × (contentOf (m' .slots) k .forPut ≡ putAt (workerOf σ w .writes) k)
   locked k p =
-      ap (λ (c : Content). c .holder) (says k)
-      ∙ ap (λ (b : Bool). pick b (withHolder w (contentOf (σ .map .slots) k)) (contentOf (σ .map .slots) k) .holder) mine
+      let q = go (look (workerOf σ w .writes) k) p in
+      (ap (λ (c : Content). c .holder) (says k) ∙ q .0, ap (λ (c : Content). c .forPut) (says k) ∙ q .1)
     where
-      mine : has k (writeKeys σ w) ≡ true
-      mine = unfold writeKeys in has-keys (workerOf σ w .writes) k ∙ p
+      go : (y : Option Write) → present y ≡ true
+          → (lockedBy w y (contentOf (σ .map .slots) k) .holder ≡ some w) × (lockedBy w y (contentOf (σ .map .slots) k) .forPut ≡ maybe y false isPut)
+      go none p = clash p refl
+      go (some e) p = (refl, refl)
 
   x' : Worker
   x' = atStage Locked (workerOf σ w)
@@ -172,12 +176,12 @@ module _ {σ : State} {ρ : Reading} {w : ℕ} (h : Sound σ ρ) (o : IsOpen σ 
   e : Event
   e = record { step = lock w; answer = done }
 
-  pub lock-sound : Sound (withWorker (withMap σ (lockAll (σ .settings) w (σ .map) (writeKeys σ w))) w (atStage Locked (workerOf σ w)))
+  pub lock-sound : Sound (withWorker (withMap σ (lockAll (σ .settings) w (σ .map) (workerOf σ w .writes))) w (atStage Locked (workerOf σ w)))
       (goesOn ρ w (record { step = lock w; answer = done }))
   unfolding σ' x' m' e
   lock-sound =
       record {
-        fine = fine-worker (withMap σ m') w x' (unfold atStage in h .fine .writes w) (fine-slots σ m' same-records same-leaves (lock-good (σ .settings) w (σ .map) (writeKeys σ w) (h .fine .slots) (l .room)) (h .fine));
+        fine = fine-worker (withMap σ m') w x' (unfold atStage in h .fine .writes w) (fine-slots σ m' same-records same-leaves (lock-good (σ .settings) w (σ .map) (workerOf σ w .writes) (h .fine .slots) (l .room)) (h .fine));
         invariant =
             own-map σ m' w x' ρ (goesOn ρ w e) own-locks (worker-same (withMap σ m') w x' (unfold withMap in o .inside)) unchecked
             (read-goesOn (facts σ) ρ w (workerOf σ w) e (w-working)) (running-goesOn (facts σ) ρ w (workerOf σ w) e w-working)
@@ -223,8 +227,8 @@ module _ {σ : State} {ρ : Reading} {w : ℕ} (h : Sound σ ρ) (o : IsOpen σ 
       same-given : facts σ' .given ≡ facts σ .given
       same-given = unfold withWorker withMap in refl
 
-      holds : (k : ℕ) → present (look (x' .writes) k) ≡ true → facts σ' .holder k ≡ some w
-      holds k p = unfold withWorker withMap in locked k (unfold atStage in p)
+      holds : (k : ℕ) → present (look (x' .writes) k) ≡ true → HasLock (facts σ') w k (putAt (x' .writes) k)
+      holds k p = unfold withWorker withMap atStage in locked k (unfold atStage in p)
 
 -- ---- the end of a transaction that is not installed
 
@@ -249,10 +253,10 @@ module _ {σ : State} {ρ : Reading} (w : ℕ) (h : Sound σ ρ) where
       ap (λ (c : Content). c .pending) (free-says k)
       ∙ ⊎-elim (λ t. (rw t) ∙ unlocked-pending w (contentOf (σ .map .slots) k)) (λ t. rw t) (cases (has k (writeKeys σ w)))
 
-  free-holder : (k v : ℕ) → (v ≡ w → ⊥) → contentOf (σ .map .slots) k .holder ≡ some v → contentOf (free' .slots) k .holder ≡ some v
-  free-holder k v d e =
-      ap (λ (c : Content). c .holder) (free-says k)
-      ∙ ⊎-elim (λ t. (rw t) ∙ unlocked-holder w (contentOf (σ .map .slots) k) v d e) (λ t. (rw t) ∙ e) (cases (has k (writeKeys σ w)))
+  free-locks : (v : ℕ) → (v ≡ w → ⊥) → (k : ℕ) → contentOf (σ .map .slots) k .holder ≡ some v → contentOf (free' .slots) k ≡ contentOf (σ .map .slots) k
+  free-locks v d k e =
+      free-says k
+      ∙ ⊎-elim (λ t. (rw t) ∙ unlocked-other w (contentOf (σ .map .slots) k) v d e) (λ t. rw t) (cases (has k (writeKeys σ w)))
 
   pub dropped-sound : Sound (dropped σ w) (passed ρ)
   unfolding dropped free'
@@ -267,7 +271,7 @@ module _ {σ : State} {ρ : Reading} (w : ℕ) (h : Sound σ ρ) where
               records = free-records;
               leaves = free-leaves;
               current = λ k. current-by (σ .map) free' free-records k (free-pending k);
-              holder = free-holder;
+              locks = free-locks;
             })
             (worker-free (withMap σ free') w) (unfold isChecked in refl) (read-passed ρ)
             (λ v d. unfold passed in refl)

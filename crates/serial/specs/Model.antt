@@ -2,7 +2,6 @@
 -- and write sets rise, and the leaves are good.
 use Prim.Native.Nat.{ℕ, zero, suc, _<_, _≤_}
 use native.Mathlib.Nat.{le-refl, le-step}
-use native.Mathlib.Omega.{arith}
 use mathlib.Core.Path.{_≡_, refl, sym, ap, _∙_, subst}
 use mathlib.Core.Logic.{⊎-elim}
 use mathlib.Core.Bool.{Bool, true, false, not}
@@ -35,6 +34,7 @@ facts σ =
       current = current (σ .map);
       indexed = λ (k : ℕ). present (look (σ .map .records) k);
       holder = λ (k : ℕ). contentOf (σ .map .slots) k .holder;
+      forPut = λ (k : ℕ). contentOf (σ .map .slots) k .forPut;
       version = versionAt (σ .map .leaves);
       worker = workerOf σ;
       guard = pick (σ .guarded) (some (σ .settings)) none;

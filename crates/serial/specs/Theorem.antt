@@ -1,6 +1,6 @@
 -- Demand 3 over the model: every list of steps from a fresh map is a serial run.
 use Prim.Native.Nat.{ℕ, zero, suc, _<_}
-use native.Mathlib.Nat.{le-trans, le-of-eq, lt-of-le-of-lt}
+use native.Mathlib.Nat.{le-trans, le-of-eq}
 use mathlib.Core.Path.{_≡_, refl, sym, ap, _∙_}
 use mathlib.Core.Logic.{⊎-elim}
 use mathlib.Core.Bool.{Bool, true, false, not}
@@ -10,15 +10,16 @@ use lib.ListN.{length, replicate}
 use Rattle.lists.specs.Tests.{maybe, less}
 use Rattle.lists.specs.TestLaws.{cases, clash, less-true, less-false}
 use Rattle.lists.specs.Rows.{Row, look, keys, Different}
-use Rattle.lists.specs.RowLaws.{has-any, look-nil}
+use Rattle.lists.specs.RowLaws.{has-any, look-nil, rising-different}
 use Rattle.spec.specs.declared.Refusal.{Refusal}
 use Rattle.spec.specs.Refusals.{ends}
 use Rattle.spec.specs.Records.{Settings, standard, Payload}
 use Rattle.spec.specs.Slots.{slotCount, Content, idle, emptySlot, entries, contentOf}
-use Rattle.spec.specs.Maps.{freshMap, outcomeOf, current, contents, waitingWith, oldest}
-use Rattle.spec.specs.Steps.{Worker, State, fresh, workerOf, Step, begin, read, scan, put, remove, lock, validate, install, abort, merge, mergeOldest, stepWorker, refused, isFree, isOpen, isLocked, isChecked, Cause, noWorker, workerFree, wrongStage, causes, firstCause, refusal, granted, effect, afterRefusal, answer, next, final, history}
+use Rattle.spec.specs.Maps.{freshMap, outcomeOf, current, contents, oldest}
+use Rattle.spec.specs.Steps.{Worker, State, fresh, workerOf, Step, begin, read, scan, put, remove, lock, validate, install, abort, merge, mergeOldest, stepWorker, refused, isFree, isOpen, isLocked, isChecked, writeKeys, Cause, noWorker, workerFree, wrongStage, causes, firstCause, refusal, granted, effect, afterRefusal, answer, next, final, history}
 use Rattle.spec.specs.Claim.{Reading, nothingRead, isGranted, passed, readGranted, advance, readOn, reading, listAfter, SerialRun}
 use Rattle.laws.specs.ContentLaws.{look-contents, rising-contents}
+use Rattle.laws.specs.MapBounds.{lock-room}
 use Rattle.laws.specs.WorkerLaws.{GoodSettings, standard-settings}
 use Rattle.serial.specs.Stages.{free-free, checked-busy}
 use Rattle.serial.specs.Concluding.{serial}
@@ -48,7 +49,7 @@ module _ {σ : State} {ρ : Reading} (h : Sound σ ρ) where
       stage q = unfold wrongStage in q
 
   lockable : (w : ℕ) → refusal σ (lock w) ≡ none → IsOpen σ w × Lockable σ w
-  unfolding refusal causes waitingWith
+  unfolding refusal causes writeKeys
   lockable w e =
       let a = is-open w _ e in
       let fit = cause-passed _ _ (a .1) in
@@ -60,9 +61,8 @@ module _ {σ : State} {ρ : Reading} (h : Sound σ ρ) where
         record {
           unheld = λ k q. has-any _ _ (b .0) k q;
           room =
-              lt-of-le-of-lt
-              (less-false (σ .settings .waitingLimit) _ (c .0))
-              (h .fine .settings .roomy);
+              lock-room (σ .settings) (σ .map) (workerOf σ w .writes) (h .fine .settings .roomy)
+              (rising-different (workerOf σ w .writes) (h .fine .writes w)) (less-false (σ .settings .waitingLimit) _ (c .0));
           fit = fit .0;
           covered = covered .0;
           clear = clear .0;

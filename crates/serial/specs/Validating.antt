@@ -5,7 +5,7 @@ use native.Mathlib.Nat.{le-refl, le-trans, le-step, le-of-eq}
 use native.Mathlib.Omega.{arith}
 use mathlib.Core.Path.{_≡_, refl, sym, ap, _∙_, subst}
 use mathlib.Core.Logic.{inl, ⊎-elim}
-use mathlib.Core.Bool.{true, false}
+use mathlib.Core.Bool.{Bool, true, false}
 use mathlib.Core.List.{List, List·Memᴰ}
 use mathlib.Core.Option.{Option, none, some}
 use Rattle.lists.specs.Tests.{present, same}
@@ -16,7 +16,7 @@ use Rattle.spec.specs.Steps.{Worker, isFree, isOpen, isChecked}
 use Rattle.spec.specs.Claim.{Transaction, Reading, listAfter}
 use Rattle.serial.specs.Stages.{checked-busy, checked-not-open}
 use Rattle.serial.specs.Feeding.{eventWrites, NoLaterWriter, look-member, listAfter-none}
-use Rattle.serial.specs.Invariant.{Facts, Observation, Throughout, Explains, Backed, by-read, by-leaf, RoomFor, Harmless, Valid, CheckedAs, Working, Done, Invariant}
+use Rattle.serial.specs.Invariant.{Facts, Observation, Throughout, Explains, Backed, by-read, by-leaf, RoomFor, Harmless, Valid, CheckedAs, HasLock, putAt, Working, Done, Invariant}
 use Rattle.serial.specs.Keeping.{SameChecks, done-kept, checked-kept, Kept, working-kept, backed-kept}
 
 -- no checked worker but w would change r at k
@@ -40,7 +40,7 @@ pub record Checks (F F' : Facts) (ρ ρ' : Reading) (w : ℕ) : Type 0 where
   pub current : (k : ℕ) → F' .current k ≡ F .current k
   pub indexed : (k : ℕ) → F' .indexed k ≡ F .indexed k
   pub version : (k : ℕ) → F' .version k ≡ F .version k
-  pub holder : (k : ℕ) → F' .holder k ≡ F .holder k
+  pub locks : (v k : ℕ) (b : Bool) → HasLock F v k b → HasLock F' v k b
   pub others : (v : ℕ) → (v ≡ w → ⊥) → F' .worker v ≡ F .worker v
   pub writes : F' .worker w .writes ≡ F .worker w .writes
   pub number : F' .worker w .number ≡ suc (F .given)
@@ -157,7 +157,9 @@ module _ {F F' : Facts} {ρ ρ' : Reading} {w : ℕ} (h : Checks F F' ρ ρ' w) 
         begun = le-trans (le-of-eq (n .0)) (le-trans (g .begun) (h .place));
         backed = λ s. clash (h .is-checked) s;
         locked =
-            λ s k q. h .holder k ∙ g .locked (h .was-locked) k (ap (λ (ws : List (Row _)). present (look ws k)) (sym (h .writes)) ∙ q);
+            λ s k.
+            subst (λ (ws : List (Row Write)). present (look ws k) ≡ true → HasLock F' w k (putAt ws k)) (sym (h .writes))
+            (λ q. h .locks w k (putAt (F .worker w .writes) k) (g .locked (h .was-locked) k q));
         checked =
             λ s.
             subst (λ (is : List (Row Transaction)). CheckedAs F' is (F' .worker w) (h .now) (g .os) (g .since)) (sym (h .installed))
@@ -187,7 +189,7 @@ module _ {F F' : Facts} {ρ ρ' : Reading} {w : ℕ} (h : Checks F F' ρ ρ' w) 
         place = h .place;
         installed = λ r m. inl (subst (List·Memᴰ r) (h .installed) m);
         backed = backed-kept F F' x (le-of-eq (sym (h .lastVersion))) (h .version) (h .indexed);
-        holder = λ k e. h .holder k ∙ e;
+        locks = h .locks v;
         checked =
             λ t os since s c.
             subst (λ (is : List (Row Transaction)). CheckedAs F' is x t os since) (sym (h .installed))

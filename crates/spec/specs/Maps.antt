@@ -6,7 +6,7 @@ use mathlib.Core.List.{List, [], _∷_, _++_, map}
 use mathlib.Core.Option.{Option, none, some}
 use Rattle.lists.specs.Tests.{pick, both, either, maybe, present, same, less}
 use Rattle.lists.specs.Rows.{Row, row, look, assign, lay, between, keys, any, filter, distinct}
-use Rattle.spec.specs.Records.{Settings, Record, Write, outcome}
+use Rattle.spec.specs.Records.{Settings, Record, Write, isPut, outcome}
 use Rattle.spec.specs.Leaves.{Leaf, firstLeaf, versionAt, settle, versionsTaken}
 use Rattle.spec.specs.Slots.{Slot, Pending, Content, emptySlots, entries, contentOf, enter}
 
@@ -49,10 +49,13 @@ indexedBetween m lo hi =
 unfoldable pub heldByOther : ℕ → Content → Bool
 heldByOther w c = maybe (c .holder) false (λ (h : ℕ). not (same h w))
 
--- the entry makes its address a hidden key to worker w, unless the index holds it: a write of any kind is pending, or
--- another worker has a lock
+unfoldable pub putPending : Content → Bool
+putPending c = maybe (c .pending) false (λ (p : Pending). isPut (p .write))
+
+-- the entry makes its address a hidden key to worker w, unless the index holds it: a put is pending, or another worker has
+-- a lock for a put. A removal hides nothing, whether it is pending or locked for (request 104).
 unfoldable pub hiding : ℕ → Content → Bool
-hiding w c = either (present (c .pending)) (heldByOther w c)
+hiding w c = either (putPending c) (both (c .forPut) (heldByOther w c))
 
 -- the entry's address is a hidden key that lies in the leaf with version v
 unfoldable pub hiddenIn : MapState → ℕ → ℕ → Row Content → Bool
@@ -76,14 +79,22 @@ addressesWith m ks = distinct (keys (m .records) ++ (keys (entries (m .slots)) +
 
 -- ---- changes of the indexlet
 
-unfoldable pub lockKey : ℕ → ℕ → List Slot → ℕ → List Slot
-lockKey bytes w ss k = enter bytes ss k (record { pending = contentOf ss k .pending; holder = some w })
+-- what is said of an address that worker w locks for a write
+abbrev pub lockedFor : ℕ → Write → Content → Content
+lockedFor w e c = record { pending = c .pending; holder = some w; forPut = isPut e }
+
+unfoldable pub lockRow : ℕ → ℕ → List Slot → Row Write → List Slot
+lockRow bytes w ss r = enter bytes ss (r .key) (lockedFor w (r .item) (contentOf ss (r .key)))
+
+-- what is left once the lock goes
+abbrev pub withoutLock : Content → Content
+withoutLock c = record { pending = c .pending; holder = none; forPut = false }
 
 -- the lock of k goes, if worker w has it
 unfoldable pub unlockKey : ℕ → ℕ → List Slot → ℕ → List Slot
 unlockKey bytes w ss k =
     maybe (contentOf ss k .holder) ss
-    (λ (h : ℕ). pick (same h w) (enter bytes ss k (record { pending = contentOf ss k .pending; holder = none })) ss)
+    (λ (h : ℕ). pick (same h w) (enter bytes ss k (withoutLock (contentOf ss k))) ss)
 
 -- the install that began the waiting, once install t has left a write: where one waits already, its waiting goes on
 unfoldable pub waitingSince : ℕ → Option Pending → ℕ
@@ -95,6 +106,7 @@ writtenOver n t e c =
     record {
       pending = some (record { write = e; commit = n; since = waitingSince t (c .pending) });
       holder = none;
+      forPut = false;
     }
 
 unfoldable pub installRow : ℕ → ℕ → ℕ → List Slot → Row Write → List Slot
@@ -107,9 +119,9 @@ each f b (x ∷ xs) = each f (f b x) xs
 unfoldable pub withSlots : MapState → List Slot → MapState
 withSlots m ss = record { records = m .records; leaves = m .leaves; slots = ss }
 
--- locks by rising address, as the keys of a write set are
-unfoldable pub lockAll : Settings → ℕ → MapState → List ℕ → MapState
-lockAll s w m ks = withSlots m (each (lockKey (s .bytes) w) (m .slots) ks)
+-- locks by rising address, as the rows of a write set are
+unfoldable pub lockAll : Settings → ℕ → MapState → List (Row Write) → MapState
+lockAll s w m ws = withSlots m (each (lockRow (s .bytes) w) (m .slots) ws)
 
 unfoldable pub unlockAll : Settings → ℕ → MapState → List ℕ → MapState
 unlockAll s w m ks = withSlots m (each (unlockKey (s .bytes) w) (m .slots) ks)
@@ -127,13 +139,17 @@ mergesAt ls a e = both (present (e .item .pending)) (same (versionAt ls (e .key)
 unfoldable pub merging : MapState → ℕ → List (Row Content)
 merging m a = filter (mergesAt (m .leaves) a) (entries (m .slots))
 
--- one entry enters the index; a lock on its address stays
+-- what is left once the write has entered the index: a lock stays
+abbrev pub takenIn : Content → Content
+takenIn c = record { pending = none; holder = c .holder; forPut = c .forPut }
+
+-- one entry enters the index
 unfoldable pub mergeEntry : ℕ → MapState → Row Content → MapState
 mergeEntry bytes m e =
     record {
       records = assign (e .key) (current m (e .key)) (m .records);
       leaves = m .leaves;
-      slots = enter bytes (m .slots) (e .key) (record { pending = none; holder = contentOf (m .slots) (e .key) .holder });
+      slots = enter bytes (m .slots) (e .key) (takenIn (contentOf (m .slots) (e .key)));
     }
 
 -- the records of the leaf of a

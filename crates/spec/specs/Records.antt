@@ -53,6 +53,10 @@ pub data Write : Type 0 where
   written : Payload → Write
   deleted : Write
 
+unfoldable pub isPut : Write → Bool
+isPut (written p) = true
+isPut deleted = false
+
 -- what a write leaves at its address, under the writer's commit number
 unfoldable pub outcome : ℕ → Write → Option Record
 outcome n (written p) = some (record { payload = p; commit = n })

@@ -138,7 +138,7 @@ sameValueAgain =
     ∷ event (lock 1) (refused WorkerFree)
     ∷ []
 
--- an own write is read unlogged and laid over a scan; a removal of an absent address hides its key; an abort ends it
+-- an own write is read unlogged and laid over a scan; a put that another has locked hides its key; an abort ends it
 abbrev pub ownWrites : List Event
 ownWrites =
     event (begin 0) done
@@ -330,6 +330,64 @@ slotsPassed =
     ∷ event (read 3 726) (found none 1)
     ∷ []
 
+-- Request 104. As in the starred run the index holds 7, its removal waits, and a merge drops the record under a lock; but the
+-- lock is for a removal, so it hides nothing. Nor does a removal that waits, of 5, which was never there.
+abbrev pub removalsHideNothing : List Event
+removalsHideNothing =
+    inTurn
+    (installed 0 1 (7 ∷ [])
+    ∷ (event (merge 7) (counted 1)
+    ∷ event (begin 0) done
+    ∷ event (remove 0 5) done
+    ∷ event (remove 0 7) done
+    ∷ event (lock 0) done
+    ∷ event (validate 0) (numbered 2)
+    ∷ event (install 0) done
+    ∷ event (begin 0) done
+    ∷ event (remove 0 7) done
+    ∷ event (lock 0) done
+    ∷ event (merge 7) (counted 2)
+    ∷ event (begin 2) done
+    ∷ event (remove 2 5) done
+    ∷ event (lock 2) done
+    ∷ event (validate 2) (numbered 3)
+    ∷ event (install 2) done
+    ∷ event (begin 1) done
+    ∷ event (scan 1 0 10 64 64) (listed [])
+    ∷ event (lock 1) done
+    ∷ event (validate 1) (numbered 4)
+    ∷ event (install 1) done
+    ∷ [])
+    ∷ [])
+
+-- A put that waits hides its key under a lock for a removal, and a put that another has locked for hides it while a removal
+-- waits there. The worker's own does not.
+abbrev pub putsHide : List Event
+putsHide =
+    inTurn
+    (installed 0 1 (7 ∷ [])
+    ∷ (event (begin 0) done
+    ∷ event (remove 0 7) done
+    ∷ event (lock 0) done
+    ∷ event (begin 1) done
+    ∷ event (scan 1 0 10 64 64) (listed [])
+    ∷ event (lock 1) done
+    ∷ event (validate 1) (refused Phantom)
+    ∷ event (validate 0) (numbered 2)
+    ∷ event (install 0) done
+    ∷ event (begin 0) done
+    ∷ event (scan 0 0 10 64 64) (listed [])
+    ∷ event (put 0 7 (value 71)) done
+    ∷ event (lock 0) done
+    ∷ event (begin 1) done
+    ∷ event (scan 1 0 10 64 64) (listed [])
+    ∷ event (lock 1) done
+    ∷ event (validate 1) (refused Phantom)
+    ∷ event (validate 0) (numbered 3)
+    ∷ event (install 0) done
+    ∷ [])
+    ∷ [])
+
 -- Document 01's starred runs, in its order.
 abbrev pub starred : List Run
 starred =
@@ -366,11 +424,13 @@ further =
     ∷ script true guardedDay (entryOf 4100 28 3 ∷ entryOf 4128 8 2 ∷ [])
     ∷ script true guardedOrder []
     ∷ script false slotsPassed (entryOf 425 21 2 ∷ [])
+    ∷ script false removalsHideNothing []
+    ∷ script false putsHide (entryOf 7 71 3 ∷ [])
     ∷ []
 
 pub further-hold : AllHold further
 unfolding model
-further-hold = ((refl, refl), ((refl, refl), ((refl, refl), ((refl, refl), ((refl, refl), ((refl, refl), tt))))))
+further-hold = ((refl, refl), ((refl, refl), ((refl, refl), ((refl, refl), ((refl, refl), ((refl, refl), ((refl, refl), ((refl, refl), tt))))))))
 
 pub starred-hold : AllHold starred
 unfolding model

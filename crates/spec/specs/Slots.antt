@@ -44,14 +44,16 @@ pub record Pending : Type 0 where
   pub commit : ℕ
   pub since : ℕ
 
--- What the indexlet says of an address: the pending write, and the worker that holds its lock.
+-- What the indexlet says of an address: the pending write, the worker that holds its lock, and whether that lock is for a
+-- put (request 104), false where nobody holds it.
 pub record Content : Type 0 where
   pub pending : Option Pending
   pub holder : Option ℕ
+  pub forPut : Bool
 
 -- neither waiting nor locked
 abbrev pub idle : Content
-idle = record { pending = none; holder = none }
+idle = record { pending = none; holder = none; forPut = false }
 
 unfoldable pub isIdle : Content → Bool
 isIdle c = both (not (present (c .pending))) (not (present (c .holder)))

@@ -375,7 +375,7 @@ effect σ (scan w lo hi m n) =
 effect σ (put w k p) = withWorker σ w (writing k (written p) (workerOf σ w))
 effect σ (remove w k) = withWorker σ w (writing k deleted (workerOf σ w))
 effect σ (lock w) =
-    withWorker (withMap σ (lockAll (σ .settings) w (σ .map) (writeKeys σ w))) w (atStage Locked (workerOf σ w))
+    withWorker (withMap σ (lockAll (σ .settings) w (σ .map) (workerOf σ w .writes))) w (atStage Locked (workerOf σ w))
 effect σ (validate w) =
     withWorker (withCounters σ (suc (σ .counters .number)) (σ .counters .version)) w
     (checkedAs (suc (σ .counters .number)) (workerOf σ w))

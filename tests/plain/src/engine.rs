@@ -1,7 +1,7 @@
 //! Eight workers over one map: the steps and their refusals.
 
 use crate::guard;
-use crate::map::{Commit, Leaf, Map, Pending, Stored, Write, INDEXLET_LIMIT};
+use crate::map::{Commit, Leaf, Lock, Map, Pending, Stored, Write, INDEXLET_LIMIT};
 use std::ops::Range;
 
 pub const WORKERS: usize = 8;
@@ -267,8 +267,8 @@ impl Engine {
         if self.map.overfull_with(worker.written()) {
             return Err(MapFull);
         }
-        for address in worker.written() {
-            self.map.lock(address, at);
+        for &(address, write) in &worker.write_set {
+            self.map.lock(address, Lock { holder: at, put: write.is_put() });
         }
         worker.stage = Stage::Locked;
         Ok(())

@@ -32,6 +32,12 @@ pub enum Write {
     Delete,
 }
 
+impl Write {
+    pub fn is_put(self) -> bool {
+        matches!(self, Write::Put(_))
+    }
+}
+
 /// A waiting edit in document 01.
 #[derive(Clone, Copy, PartialEq, Eq, Debug)]
 pub struct Pending {
@@ -50,16 +56,26 @@ impl Pending {
     }
 }
 
+/// Whose lock it is, and whether it is for a put.
+#[derive(Clone, Copy, PartialEq, Eq, Debug)]
+pub struct Lock {
+    pub holder: usize,
+    pub put: bool,
+}
+
 /// One address of the indexlet. It stays while it is pending or locked.
 #[derive(Clone, Copy, Default, Debug)]
 pub struct Entry {
     pub pending: Option<Pending>,
-    pub lock: Option<usize>,
+    pub lock: Option<Lock>,
 }
 
 impl Entry {
+    /// Where the index holds nothing, a removal changes nothing that a scan shows:
+    /// only puts hide (request 104).
     fn hides_from(&self, worker: usize) -> bool {
-        self.pending.is_some() || self.lock.is_some_and(|holder| holder != worker)
+        let waiting = self.pending.is_some_and(|pending| pending.write.is_put());
+        waiting || self.lock.is_some_and(|lock| lock.put && lock.holder != worker)
     }
 }
 
@@ -164,7 +180,7 @@ impl Map {
     }
 
     pub fn holder(&self, address: u32) -> Option<usize> {
-        self.indexlet.get(&address)?.lock
+        self.indexlet.get(&address)?.lock.map(|lock| lock.holder)
     }
 
     /// Distinct pending and locked addresses, with these.
@@ -188,7 +204,7 @@ impl Map {
         at_most > MAP_LIMIT && self.total_with(addresses) > MAP_LIMIT
     }
 
-    pub fn lock(&mut self, address: u32, worker: usize) {
+    pub fn lock(&mut self, address: u32, lock: Lock) {
         let entry = match self.indexlet.entry(address) {
             hash_map::Entry::Occupied(old) => old.into_mut(),
             hash_map::Entry::Vacant(new) => {
@@ -198,7 +214,7 @@ impl Map {
                 new.insert(Entry::default())
             }
         };
-        entry.lock = Some(worker);
+        entry.lock = Some(lock);
     }
 
     pub fn unlock(&mut self, address: u32) {

@@ -5,7 +5,7 @@ use crate::engine::Engine;
 use crate::generate::Generator;
 use crate::map::Write;
 use crate::moves::{transaction, write_of};
-use crate::rounds::{capacity, crowd, guarded, leaves, limits, spent, turns};
+use crate::rounds::{capacity, cleanup, crowd, guarded, leaves, limits, spent, turns};
 use crate::scenarios;
 use crate::step::Step;
 
@@ -34,7 +34,7 @@ impl Profile {
     }
 }
 
-pub const PROFILES: [Profile; 15] = [
+pub const PROFILES: [Profile; 16] = [
     profile("ordinary", |generator| generator.go_on(ordinary)),
     profile("contended", |generator| generator.go_on(contended)),
     profile("scans", |generator| generator.go_on(scans)),
@@ -47,6 +47,7 @@ pub const PROFILES: [Profile; 15] = [
     profile("limits", limits::limits),
     Profile { oldest: 1, ..profile("turns", turns::turns) },
     profile("crowd", crowd::crowd),
+    profile("cleanup", cleanup::cleanup),
     Profile { guarded: true, ..profile("guarded", guarded::guarded) },
     Profile { padded: true, ..profile("wild", wild) },
     Profile { least: 4_005_000, ..profile("spent", spent::spent) },

@@ -40,7 +40,7 @@ pub fn round(generator: &mut Generator) {
 }
 
 /// A scan in the leaf of the address, which it may miss.
-fn scan_leaf(generator: &mut Generator, worker: u32, address: u32) {
+pub fn scan_leaf(generator: &mut Generator, worker: u32, address: u32) {
     let (low, high) = leaf_around(generator, address);
     let random = &mut generator.random;
     let (lo, hi) = match random.below(3) {
@@ -91,13 +91,13 @@ fn settled(generator: &mut Generator, worker: u32) -> u32 {
 }
 
 /// The holder locks one address with a write.
-fn hold(generator: &mut Generator, holder: u32, write: (u32, Write)) {
+pub fn hold(generator: &mut Generator, holder: u32, write: (u32, Write)) {
     generator.begin(holder);
     generator.write(holder, write);
     generator.lock(holder);
 }
 
-fn let_go(generator: &mut Generator, holder: u32) {
+pub fn let_go(generator: &mut Generator, holder: u32) {
     if generator.random.one_in(2) && generator.validate(holder).granted() {
         generator.install(holder);
     } else {
@@ -137,7 +137,7 @@ fn locked_phantom(generator: &mut Generator) {
     let_go(generator, holder);
 }
 
-/// The lock outlives the removed record, and then hides its key.
+/// The lock outlives the removed record, and then hides its key if it is for a put.
 fn dropped_under_lock(generator: &mut Generator) {
     let [reader, writer, holder] = generator.idle_workers();
     let address = settled(generator, writer);

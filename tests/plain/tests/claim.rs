@@ -75,6 +75,28 @@ fn scan_that_misses_a_pending_section() {
     refused(&history, &[(4096, 32, 1)], "the list scans");
 }
 
+/// Worker 1 is to remove 7, and worker 2 scans it meanwhile and gets the lower number.
+fn scan_under_removal() -> &'static str {
+    "B 1 -> B 0
+     D 1 7 -> D 0
+     L 1 -> L 0
+     B 2 -> B 0
+     S 2 0 9 -> S 0 0
+     L 2 -> L 0
+     V 2 -> V 0 2
+     I 2 -> I 0
+     V 1 -> V 0 3
+     I 1 -> I 0"
+}
+
+/// It may miss a removal that waits or is locked, but not a put that waits under it.
+#[test]
+fn scan_that_misses_a_removal() {
+    let removal = "B 0 -> B 0\nD 0 7 -> D 0\nL 0 -> L 0\nV 0 -> V 0 1\nI 0 -> I 0\n";
+    judge(&(removal.to_string() + scan_under_removal()), &[]).unwrap();
+    refused(&(put(0, 7, 1, 1) + scan_under_removal()), &[], "the list scans");
+}
+
 /// Worker 0 reads 2 as absent, and is installed after worker 1 put it.
 fn two_orders(first: u32, second: u32) -> String {
     format!(

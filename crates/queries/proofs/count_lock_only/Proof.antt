@@ -1,10 +1,7 @@
 -- `queries::count_lock_only` meets its contract. The invariant: those counted and those left are all.
 use Prim.Native.Nat.{_-_}
 use native.Mathlib.Omega.{arith}
-use mathlib.Core.Path.{ap}
 use borrow.Author.Needs.{needs}
-use Rattle.lists.specs.Rows.{Row}
-use Rattle.spec.specs.Records.{Write}
 use Rattle.index.specs.LeafColumns.{lowsOf}
 use Rattle.map.specs.WriteWalks.{given}
 use Rattle.queries.specs.PhantomViews.{Counting}
@@ -28,7 +25,7 @@ lock-only-at-requires : tie.Need-lock-only-at-requires Inv-loop μ-loop
 lock-only-at-requires c κs = search needs
 
 add-own : tie.Need-add-own Inv-loop μ-loop
-add-own c = let k = counting-on _ _ _ _ _ _ _ _ _ _ _ _ (c .before .before .before .loop .inv) (c .before .before .loop-test .taken) (ap (λ (x : Row Write). x .key) (given (c .before .write-at .ensures) (c .before .before .loop-test .taken))) (c .lock-only-at .ensures) in
+add-own c = let k = counting-on _ _ _ _ _ _ _ _ _ _ _ _ (c .before .before .before .loop .inv) (c .before .before .loop-test .taken) (given (c .before .write-at .ensures) (c .before .before .loop-test .taken)) (c .lock-only-at .ensures) in
     omega (arith, k .small, c .before .before .before .before .pre .1 .1 .1 .few)
 
 add-x : tie.Need-add-x Inv-loop μ-loop
@@ -38,7 +35,7 @@ loop-less : tie.Need-loop-less Inv-loop μ-loop
 loop-less c = search needs
 
 loop-again : tie.Need-loop-again Inv-loop μ-loop
-loop-again c = counting-on _ _ _ _ _ _ _ _ _ _ _ _ (c .before .before .before .loop .inv) (c .before .before .loop-test .taken) (ap (λ (x : Row Write). x .key) (given (c .before .write-at .ensures) (c .before .before .loop-test .taken))) (c .lock-only-at .ensures)
+loop-again c = counting-on _ _ _ _ _ _ _ _ _ _ _ _ (c .before .before .before .loop .inv) (c .before .before .loop-test .taken) (given (c .before .write-at .ensures) (c .before .before .loop-test .taken)) (c .lock-only-at .ensures)
 
 returns : tie.Need-returns Inv-loop μ-loop
 returns c = counting-end _ _ _ _ _ _ _ _ _ _ (c .before .loop .inv) (c .loop-test .left)

@@ -1,21 +1,24 @@
 -- `queries::lock_only_at` meets its contract: by each of its tests.
-use Rattle.queries.specs.PhantomLaws.{lock-only-elsewhere, lock-only-pending, lock-only-found, lock-only-yes}
+use Rattle.queries.specs.PhantomLaws.{own-removal, own-put, lock-only-elsewhere, lock-only-pending, lock-only-found, lock-only-yes}
 use borrow.Author.Needs.{needs}
 use Rattle.queries.proofs.lock_only_at.Statement.{statement}
 use Rattle.queries.proofs.lock_only_at.Tie as tie
 
+returns : tie.Need-returns
+returns c = own-removal _ _ _ _ _ _ _ (c .if1 .taken)
+
 find-leaf-requires : tie.Need-find-leaf-requires
 find-leaf-requires c κs = search needs
 
-returns : tie.Need-returns
-returns c = lock-only-elsewhere _ _ _ _ _ _ _ _ (c .before .find-leaf .ensures) (c .if1 .taken)
+returns-2 : tie.Need-returns-2
+returns-2 c = own-put _ _ _ _ _ _ _ (c .before .before .if1 .left) (lock-only-elsewhere _ _ _ _ _ _ _ _ (c .before .find-leaf .ensures) (c .if2 .taken))
 
 look-up-requires : tie.Need-look-up-requires
 look-up-requires c κs = search needs
 
-returns-2 : tie.Need-returns-2
-returns-2 c = let l = c .before .before .before .look-up in
-    lock-only-pending _ _ _ _ _ _ _ (l .result .content) (l .ensures .content) (c .if2 .taken)
+returns-3 : tie.Need-returns-3
+returns-3 c = let l = c .before .before .before .look-up in
+    own-put _ _ _ _ _ _ _ (c .before .before .before .before .before .before .if1 .left) (lock-only-pending _ _ _ _ _ _ _ (l .result .content) (l .ensures .content) (c .if3 .taken))
 
 find-requires : tie.Need-find-requires
 find-requires c κs = search needs
@@ -26,23 +29,25 @@ enum-told c = search needs
 enum-told-2 : tie.Need-enum-told-2
 enum-told-2 c = search needs
 
-returns-3 : tie.Need-returns-3
-returns-3 c = lock-only-found _ _ _ _ _ _ _ _ _ _ (c .enum-told .given .1) (c .before .before .find .ensures)
-
 returns-4 : tie.Need-returns-4
-returns-4 c = let l = c .before .before .before .before .before .before .look-up in
-    lock-only-yes _ _ _ _ _ _ _ _ (l .result .content) _ (c .before .before .before .before .before .before .before .before .find-leaf .ensures) (c .before .before .before .before .before .before .before .if1 .left) (l .ensures .content) (c .before .before .before .if2 .left) (c .enum-told2 .given .1) (c .before .before .find .ensures)
+returns-4 c = own-put _ _ _ _ _ _ _ (c .before .before .before .before .before .before .before .before .before .if1 .left) (lock-only-found _ _ _ _ _ _ _ _ _ _ (c .enum-told .given .1) (c .before .before .find .ensures))
+
+returns-5 : tie.Need-returns-5
+returns-5 c = let l = c .before .before .before .before .before .before .look-up in
+    own-put _ _ _ _ _ _ _ (c .before .before .before .before .before .before .before .before .before .if1 .left)
+    (lock-only-yes _ _ _ _ _ _ _ _ (l .result .content) _ (c .before .before .before .before .before .before .before .before .find-leaf .ensures) (c .before .before .before .before .before .before .before .if2 .left) (l .ensures .content) (c .before .before .before .if3 .left) (c .enum-told2 .given .1) (c .before .before .find .ensures))
 
 pub lock-only-at-spec : {M : Type 1} → statement M
 lock-only-at-spec =
     tie.close
     (tie.spec
-    find-leaf-requires
     returns
-    look-up-requires
+    find-leaf-requires
     returns-2
+    look-up-requires
+    returns-3
     find-requires
     enum-told
     enum-told-2
-    returns-3
-    returns-4)
+    returns-4
+    returns-5)

@@ -1,6 +1,6 @@
 -- `queries::phantom` meets its contract: by whether the leaf is there, and by the counts.
-use mathlib.Core.Path.{sym, ap, _∙_}
-use Rattle.queries.specs.PhantomLaws.{version-of, outside-of, phantom-gone, phantom-none, phantom-count}
+use mathlib.Core.Path.{sym, _∙_}
+use Rattle.queries.specs.PhantomLaws.{version-of, hidden-of, phantom-gone, phantom-none, phantom-count}
 use borrow.Author.Needs.{needs}
 use Rattle.queries.proofs.phantom.Statement.{statement}
 use Rattle.queries.proofs.phantom.Tie as tie
@@ -22,7 +22,7 @@ returns c =
 returns-2 : tie.Need-returns-2
 returns-2 c =
     let s = c .before .before .before .before .before in
-    λ w o. phantom-none _ _ (s .pre .0) (s .args .ws .now) _ _ o _ _ _ (c .before .before .before .before .place-of .ensures) (sym (version-of (s .args .leaves .now) _ (c .before .before .before .leaf-at .ensures)) ∙ c .before .if1 .left) (sym (outside-of (s .args .leaves .now) _ (c .before .before .before .leaf-at .ensures)) ∙ c .if2 .taken)
+    λ w o. phantom-none _ _ (s .pre .0) (s .args .ws .now) _ _ o _ _ _ (c .before .before .before .before .place-of .ensures) (sym (version-of (s .args .leaves .now) _ (c .before .before .before .leaf-at .ensures)) ∙ c .before .if1 .left) (sym (hidden-of (s .args .leaves .now) _ (c .before .before .before .leaf-at .ensures)) ∙ c .if2 .taken)
 
 count-lock-only-requires : tie.Need-count-lock-only-requires
 count-lock-only-requires c κs =
@@ -32,7 +32,7 @@ count-lock-only-requires c κs =
 returns-3 : tie.Need-returns-3
 returns-3 c =
     let s = c .before .before .before .before .before .before in
-    λ w o. phantom-count _ _ (s .pre .0) (s .args .ws .now) _ _ o _ _ _ _ _ (outside-of (s .args .leaves .now) _ (c .before .before .before .before .leaf-at .ensures)) (c .before .before .before .before .before .place-of .ensures) (sym (version-of (s .args .leaves .now) _ (c .before .before .before .before .leaf-at .ensures)) ∙ c .before .before .if1 .left) (c .count-lock-only .ensures)
+    λ w o. phantom-count _ _ (s .pre .0) (s .args .ws .now) _ _ o _ _ _ _ _ (hidden-of (s .args .leaves .now) _ (c .before .before .before .before .leaf-at .ensures)) (c .before .before .before .before .before .place-of .ensures) (sym (version-of (s .args .leaves .now) _ (c .before .before .before .before .leaf-at .ensures)) ∙ c .before .before .if1 .left) (c .count-lock-only .ensures)
 
 pub phantom-spec : {M : Type 1} → statement M
 phantom-spec =

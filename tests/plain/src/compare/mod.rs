@@ -4,6 +4,7 @@
 mod difference;
 mod guarded;
 pub mod program;
+mod removals;
 pub mod runs;
 mod script;
 mod slots;

@@ -1,8 +1,8 @@
 //! Runs with their answers written down by hand: those of document 01 that are
 //! not starred, as far as a script can show them, folds of the oldest, guarded maps,
-//! slots examined and the edges of a script.
+//! slots examined, removals and the edges of a script.
 
-use super::{guarded, slots, Script};
+use super::{guarded, removals, slots, Script};
 
 /// Lines with their answers, in the order in which they are run.
 #[derive(Default)]
@@ -76,6 +76,7 @@ pub fn all() -> Vec<Script> {
     scripts.extend([install_order(), age_of_an_address(), ages_in_one_install(), last_of_192()]);
     scripts.extend(guarded::all());
     scripts.extend(slots::all());
+    scripts.extend(removals::all());
     let edges = [
         ("empty input", "", "E 0\n"),
         ("a last line without its line feed", "B 0\nB 1", "B 0\n?\n"),
@@ -181,7 +182,7 @@ fn seventeen() -> impl Iterator<Item = u32> {
 }
 
 /// 17 records in a leaf below 90 and one from there on. Two numbers are given.
-fn two_leaves() -> Run {
+pub(super) fn two_leaves() -> Run {
     Run::default().job(0, 1, (1..=16).map(|place| 10 * place)).job(0, 2, [170]).oldest(&[17, 0])
 }
 

@@ -13,7 +13,7 @@ pub struct Size {
     pub steps: usize,
 }
 
-/// Those of the gate: 2.5 million steps, and one script that is long enough to
+/// Those of the gate: 2.7 million steps, and one script that is long enough to
 /// spend all serial numbers.
 pub const GATE: Size = Size { seeds: 1..5, steps: 45_000 };
 

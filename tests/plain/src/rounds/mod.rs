@@ -4,6 +4,7 @@ use crate::engine::READ_LIMIT;
 use crate::generate::Generator;
 
 pub mod capacity;
+pub mod cleanup;
 pub mod crowd;
 pub mod guarded;
 pub mod leaves;

@@ -17,7 +17,7 @@ pub fn turns(generator: &mut Generator) {
     }
     install_in_any_order(generator);
     let pending = generator.pending().len();
-    generator.growing = if generator.growing { pending < INDEXLET_LIMIT - 40 } else { pending < 4 };
+    generator.growing = if generator.growing { pending < INDEXLET_LIMIT / 2 } else { pending < 4 };
     let most = if generator.growing { 2 } else { 16 };
     for _ in 0..generator.random.between(0, most) {
         if generator.merge_oldest() == Answer::Merged(0) {

@@ -2,6 +2,7 @@
 //! 01's words, and not by the engine's own tests.
 
 use crate::guard::Guard;
+use crate::hiding::{bearing, other_lock, written, Bearing, Kind};
 use crate::observe::Observer;
 use crate::slots::Look;
 use plain::engine::{Stage, Worker, WORKERS};
@@ -40,14 +41,14 @@ pub enum Facts {
     Lock {
         guard: Guard,
         count: usize,
-        held: bool,
+        held: BTreeSet<&'static str>,
         waiting: usize,
         indexlet: usize,
         total: usize,
     },
     Validate {
         changes: BTreeSet<&'static str>,
-        held: bool,
+        held: BTreeSet<&'static str>,
         phantoms: BTreeSet<&'static str>,
         calm: BTreeSet<&'static str>,
     },
@@ -136,25 +137,31 @@ fn scan_facts(map: &Map, worker: &Worker, lo: u32, hi: u32) -> Facts {
 
 fn lock_facts(observer: &Observer, at: usize) -> Facts {
     let (map, worker) = (observer.engine.map(), observer.engine.worker(at));
-    let written: BTreeSet<u32> = worker.write_set.iter().map(|&(at, _)| at).collect();
+    let edited: BTreeSet<u32> = worker.write_set.iter().map(|&(at, _)| at).collect();
     let indexlet: BTreeSet<u32> = map.indexlet().keys().copied().collect();
     let index: BTreeSet<u32> = map.index().iter().map(|record| record.address).collect();
-    let both: BTreeSet<u32> = indexlet.union(&written).copied().collect();
+    let both: BTreeSet<u32> = indexlet.union(&edited).copied().collect();
     Facts::Lock {
         guard: if observer.guarded { observer.logs[at].guard() } else { Guard::default() },
-        count: written.len(),
-        held: written.iter().any(|&at| map.holder(at).is_some()),
+        count: edited.len(),
+        held: edited.iter().filter_map(|&address| meeting(observer, at, address)).collect(),
         waiting: indexlet.len(),
         indexlet: both.len(),
         total: both.union(&index).count(),
     }
 }
 
+/// An own edit where another holds the lock.
+fn meeting(observer: &Observer, at: usize, address: u32) -> Option<&'static str> {
+    let both = (written(observer, at, address)?, other_lock(observer, at, address)?);
+    Some(if both == (Kind::Removal, Kind::Removal) { "two removals" } else { "a put" })
+}
+
 fn validate_facts(observer: &Observer, at: usize) -> Facts {
     let (map, worker) = (observer.engine.map(), observer.engine.worker(at));
     let mut changes = BTreeSet::new();
     let mut calm = BTreeSet::new();
-    let mut held = false;
+    let mut held = BTreeSet::new();
     for &(address, then) in &worker.read_set {
         match (then, map.current(address)) {
             (None, Some(_)) => changes.extend(["appeared"]),
@@ -164,7 +171,10 @@ fn validate_facts(observer: &Observer, at: usize) -> Facts {
             (None, None) if map.pending(address).is_some() => calm.extend(["absent again"]),
             _ => {}
         }
-        held |= map.holder(address).is_some_and(|holder| holder != at);
+        held.extend(other_lock(observer, at, address).map(|kind| match kind {
+            Kind::Put => "lock for a put",
+            Kind::Removal => "lock for a removal",
+        }));
     }
     let mut phantoms = BTreeSet::new();
     for seen in &worker.leaf_set {
@@ -172,27 +182,13 @@ fn validate_facts(observer: &Observer, at: usize) -> Facts {
             phantoms.insert("version gone");
             continue;
         };
-        for (&address, entry) in map.indexlet() {
-            let inside = map.leaves()[leaf].low <= address && address <= map.high(leaf);
-            if !inside {
-                continue;
+        let inside = |at: &u32| map.leaves()[leaf].low <= *at && *at <= map.high(leaf);
+        for &address in map.indexlet().keys().filter(|at| inside(at)) {
+            match bearing(observer, at, address) {
+                Some(Bearing::Hides(name)) => phantoms.extend([name]),
+                Some(Bearing::Calm(name)) => calm.extend([name]),
+                None => {}
             }
-            if map.index().iter().any(|record| record.address == address) {
-                if entry.lock.is_some_and(|holder| holder != at) {
-                    calm.insert("lock on an index record");
-                }
-                continue;
-            }
-            match (entry.pending.map(|pending| pending.write), entry.lock) {
-                (Some(_), Some(holder)) if holder == at => phantoms.insert("own lock and pending"),
-                (Some(Write::Put(_)), _) => phantoms.insert("pending put"),
-                (Some(Write::Delete), _) => phantoms.insert("pending removal"),
-                (None, Some(holder)) if holder == at => calm.insert("own lock"),
-                (None, Some(holder)) if observer.dropped.contains(&(address, holder)) => {
-                    phantoms.insert("lock on a dropped record")
-                }
-                (None, _) => phantoms.insert("lock"),
-            };
         }
     }
     Facts::Validate { changes, held, phantoms, calm }
@@ -233,7 +229,7 @@ fn merge_facts(map: &Map, address: u32, picked: Vec<&'static str>) -> Facts {
     let pending = entries
         .clone()
         .filter_map(|(&at, entry)| entry.pending.map(|pending| (at, pending.write, indexed(at))));
-    let locked = entries.filter_map(|(&at, entry)| entry.lock.map(|holder| (at, holder)));
+    let locked = entries.filter_map(|(&at, entry)| entry.lock.map(|lock| (at, lock.holder)));
     let (pending, locked) = (pending.collect(), locked.collect());
     Facts::Merge { picked, at, leaves, pending, locked, range }
 }

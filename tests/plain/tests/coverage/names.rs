@@ -6,7 +6,7 @@ use crate::guard::Guard;
 use crate::observe::Observer;
 use crate::slots::Look;
 use plain::engine::{Engine, Stage, LEAF_LIMIT, READ_LIMIT, WORKERS, WRITE_LIMIT};
-use plain::map::{Leaf, Map, Write, INDEXLET_LIMIT, MAP_LIMIT};
+use plain::map::{Leaf, Lock, Map, Write, INDEXLET_LIMIT, MAP_LIMIT};
 use plain::step::{Answer, PLACES};
 use std::collections::BTreeSet;
 
@@ -87,9 +87,11 @@ impl Meeting {
     }
 
     fn lock_names(&self, answer: Answer) -> Vec<String> {
-        let &Facts::Lock { ref guard, count, held, waiting, indexlet, total } = &self.facts else {
+        let &Facts::Lock { ref guard, count, ref held, waiting, indexlet, total } = &self.facts
+        else {
             return vec![];
         };
+        let (why_held, held) = (held, !held.is_empty());
         let (narrow, full) = (indexlet > INDEXLET_LIMIT, total > MAP_LIMIT);
         let [length, scan, overlap] = [16, 17, 18].map(|number| guard.has(number));
         expect(
@@ -121,29 +123,27 @@ impl Meeting {
         if granted {
             names.extend(guard.calm.iter().map(|name| format!("put with {name}")));
         }
+        names.extend(only(why_held, 9));
         names
     }
 
     fn validate_names(&self, observer: &Observer, answer: Answer) -> Vec<String> {
         let Facts::Validate { changes, held, phantoms, calm } = &self.facts else { return vec![] };
-        let (changed, phantom) = (!changes.is_empty(), !phantoms.is_empty());
+        let [changed, locked, phantom] = [changes, held, phantoms].map(|causes| !causes.is_empty());
         let spent = observer.engine.last_commit() == 1_000_000
             && !matches!(answer, Answer::Commit(1_000_000));
-        expect(answer, &[(changed, 12), (*held, 13), (phantom, 14), (spent, 15)]);
+        expect(answer, &[(changed, 12), (locked, 13), (phantom, 14), (spent, 15)]);
         let mut names = chosen(&[
-            (changed && *held, "12 before 13"),
+            (changed && locked, "12 before 13"),
             (changed && phantom, "12 before 14"),
-            (!changed && *held && phantom, "13 before 14"),
+            (!changed && locked && phantom, "13 before 14"),
             (changed && spent, "12 before 15"),
-            (!changed && *held && spent, "13 before 15"),
-            (!changed && !held && phantom && spent, "14 before 15"),
+            (!changed && locked && spent, "13 before 15"),
+            (!changed && !locked && phantom && spent, "14 before 15"),
         ]);
-        let only = |causes: &BTreeSet<&str>, number: u8| {
-            let name = causes.first().filter(|_| causes.len() == 1);
-            name.map(|name| format!("{number} by {name}"))
-        };
         match answer {
             Answer::Refused(12) => names.extend(only(changes, 12)),
+            Answer::Refused(13) => names.extend(only(held, 13)),
             Answer::Refused(14) => names.extend(only(phantoms, 14)),
             Answer::Commit(_) => names.extend(calm.iter().map(|name| format!("0 with {name}"))),
             _ => {}
@@ -195,6 +195,12 @@ impl Meeting {
     }
 }
 
+/// The cause by name, if it is the only one.
+fn only(causes: &BTreeSet<&str>, number: u8) -> Option<String> {
+    let name = causes.first().filter(|_| causes.len() == 1);
+    name.map(|name| format!("{number} by {name}"))
+}
+
 /// How a granted read was looked up.
 fn look_names(look: &Look, own: bool, pending: bool, indexed: bool) -> Vec<String> {
     let &Look { examined, found, past_empty, empty, zero, wraps } = look;
@@ -233,8 +239,8 @@ fn guard_names(guard: &Guard, answer: Answer, later: [(bool, u8); 3]) -> Vec<Str
     names
 }
 
-/// Locked are just the write sets of locked and checked workers, and every entry
-/// of the indexlet is pending or locked.
+/// Locked are just the write sets of locked and checked workers, each address for the
+/// kind of its write, and every entry of the indexlet is pending or locked.
 pub fn check_entries(engine: &Engine) {
     let entries = engine.map().indexlet();
     assert!(entries.values().all(|entry| entry.pending.is_some() || entry.lock.is_some()));
@@ -243,8 +249,10 @@ pub fn check_entries(engine: &Engine) {
         let worker = engine.worker(at);
         assert!(worker.scans.len() <= worker.leaf_set.len(), "each scan logs a leaf");
         if matches!(worker.stage, Stage::Locked | Stage::Checked) {
-            let held = |&(address, _): &(u32, Write)| engine.map().holder(address) == Some(at);
-            assert!(worker.write_set.iter().all(held));
+            for &(address, write) in &worker.write_set {
+                let lock = Lock { holder: at, put: matches!(write, Write::Put(_)) };
+                assert_eq!(entries[&address].lock, Some(lock));
+            }
             locked += worker.write_set.len();
         }
     }

@@ -15,7 +15,7 @@ pub struct Observer {
     pub engine: Engine,
     pub guarded: bool,
     buffers: Buffers,
-    /// Records that a merge dropped while a worker held their lock.
+    /// Records that a merge dropped while a worker held their lock, as it still does.
     pub dropped: HashSet<(u32, usize)>,
     pub ages: Ages,
     pub table: Table,
@@ -39,7 +39,9 @@ impl Observer {
         let answer = run(&mut self.engine, step, &mut self.buffers);
         if !matches!(meeting.facts, Facts::Read { .. } | Facts::Scan { .. } | Facts::Write { .. }) {
             check_entries(&self.engine);
-            self.table.follow(self.engine.map());
+            let map = self.engine.map();
+            self.table.follow(map);
+            self.dropped.retain(|&(address, holder)| map.holder(address) == Some(holder));
         }
         self.log(step, answer);
         let mut names = meeting.names(self, answer);

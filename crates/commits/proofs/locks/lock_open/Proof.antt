@@ -55,7 +55,7 @@ lock-all-requires c κs =
         writing (s .pre .1 .1),
         (
           worker-fits _ (s .pre .1 .0),
-          tested-can _ _ _ _ _ _ _ _ (t .lock-tests .ensures) (sym (e .before .refused .ensures) ∙ e .if1 .left),
+          tested-can _ _ _ _ _ _ _ _ (t .lock-tests .ensures) (s .pre .1 .1 .rising) (sym (e .before .refused .ensures) ∙ e .if1 .left),
         ),
       ),
     )

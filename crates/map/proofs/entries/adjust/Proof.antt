@@ -1,10 +1,10 @@
 -- `map::entries::adjust` meets its contract: one leaf's numbers change.
-use Prim.Native.Nat.{ℕ, _+_, _-_}
+use Prim.Native.Nat.{_+_, _-_}
 use native.Mathlib.Omega.{arith}
 use mathlib.Core.Path.{_≡_, sym, ap, _∙_}
 use lib.ListN.{getD}
 use Rattle.index.specs.declared.leaves.Leaf.{Leaf as LeafWords}
-use Rattle.index.specs.LeafColumns.{outsideOf, pendingOf, leafPut}
+use Rattle.index.specs.LeafColumns.{hiddenOf, pendingOf, leafPut}
 use Rattle.index.specs.LeafColumnLaws.{column-getD}
 use Rattle.map.specs.EntryLaws.{adjusts}
 use borrow.Author.Needs.{needs}
@@ -18,14 +18,14 @@ leaf-at-requires c κs = search needs
 
 add-t7 : tie.Need-add-t7
 add-t7 c =
-    let e : c .before .before .leaf-at .result .outside ≡ getD (outsideOf (c .before .before .before .before .args .leaves .now)) (c .before .before .before .before .args .t .at) 0
-    = ap (λ (l : LeafWords). l .outside) (c .before .before .leaf-at .ensures) ∙ sym (column-getD 2 (c .before .before .before .before .args .leaves .now) (c .before .before .before .before .args .t .at)) in
+    let e : c .before .before .leaf-at .result .hidden ≡ getD (hiddenOf (c .before .before .before .before .args .leaves .now)) (c .before .before .before .before .args .t .at) 0
+    = ap (λ (l : LeafWords). l .hidden) (c .before .before .leaf-at .ensures) ∙ sym (column-getD 2 (c .before .before .before .before .args .leaves .now) (c .before .before .before .before .args .t .at)) in
     omega (arith, e, c .before .before .before .before .pre .1 .fits)
 
 sub-t8 : tie.Need-sub-t8
 sub-t8 c =
-    let e : c .before .before .before .leaf-at .result .outside ≡ getD (outsideOf (c .before .before .before .before .before .args .leaves .now)) (c .before .before .before .before .before .args .t .at) 0
-    = ap (λ (l : LeafWords). l .outside) (c .before .before .before .leaf-at .ensures) ∙ sym (column-getD 2 (c .before .before .before .before .before .args .leaves .now) (c .before .before .before .before .before .args .t .at)) in
+    let e : c .before .before .before .leaf-at .result .hidden ≡ getD (hiddenOf (c .before .before .before .before .before .args .leaves .now)) (c .before .before .before .before .before .args .t .at) 0
+    = ap (λ (l : LeafWords). l .hidden) (c .before .before .before .leaf-at .ensures) ∙ sym (column-getD 2 (c .before .before .before .before .before .args .leaves .now) (c .before .before .before .before .before .args .t .at)) in
     omega (arith, e, c .before .before .before .before .before .pre .1 .enough)
 
 add-t9 : tie.Need-add-t9
@@ -48,7 +48,7 @@ returns c =
     let s = c .before .before .before .before .before .before .before .before .before .before in
     adjusts (s .args .leaves .now) (s .args .t) _
     (c .put-leaf .ensures
-    ∙ ap (λ (l : LeafWords). leafPut (s .args .leaves .now) (s .args .t .at) (record { low = l .low; version = l .version; outside = l .outside + s .args .t .join - s .args .t .leave; pending = l .pending + s .args .t .pend - s .args .t .unpend }))
+    ∙ ap (λ (l : LeafWords). leafPut (s .args .leaves .now) (s .args .t .at) (record { low = l .low; version = l .version; hidden = l .hidden + s .args .t .hide - s .args .t .unhide; pending = l .pending + s .args .t .pend - s .args .t .unpend }))
     (c .before .before .before .before .before .before .before .before .leaf-at .ensures))
 
 pub adjust-spec : {M : Type 1} → statement M

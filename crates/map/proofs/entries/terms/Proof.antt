@@ -3,8 +3,8 @@ use mathlib.Core.Path.{ap, sym, _∙_}
 use mathlib.Core.Bool.{Bool}
 use Rattle.indexlet.specs.Words.{contentIn}
 use borrow.Author.Needs.{needs}
-use Rattle.map.specs.Entries.{outsideTerm}
-use Rattle.map.specs.EntryLaws.{same-truth, balance-still, balance-moved, term-most}
+use Rattle.map.specs.Entries.{hiddenTerm, outsideTerm}
+use Rattle.map.specs.EntryLaws.{hide-still, hide-moved, hide-most, balance-still, balance-moved, term-most}
 use Rattle.map.proofs.entries.terms.Statement.{statement}
 use Rattle.map.proofs.entries.terms.Tie as tie
 
@@ -17,24 +17,30 @@ waits-requires c κs = search needs
 waits-requires-2 : tie.Need-waits-requires-2
 waits-requires-2 c κs = search needs
 
-idle-requires : tie.Need-idle-requires
-idle-requires c κs = search needs
-
-idle-requires-2 : tie.Need-idle-requires-2
-idle-requires-2 c κs = search needs
+still-requires : tie.Need-still-requires
+still-requires c κs = search needs
 
 returns : tie.Need-returns
 returns c =
+    let like = sym (c .before .still .ensures) ∙ c .if1 .taken in
     record {
-      place = c .before .before .before .before .before .find-leaf .ensures;
-      pend = c .before .before .before .before .waits .ensures;
-      unpend = c .before .before .before .waits2 .ensures;
+      place = c .before .before .before .before .find-leaf .ensures;
+      pend = c .before .before .before .waits .ensures;
+      unpend = c .before .before .waits2 .ensures;
+      hide-most = search needs;
+      hide-balance = hide-still _ _ _ like;
       join-most = search needs;
-      balance = balance-still _ _ _ (sym (c .before .before .idle .ensures) ∙ same-truth _ _ (c .if1 .taken) ∙ c .before .idle2 .ensures);
+      balance = balance-still _ _ _ like;
     }
 
 lacks-requires : tie.Need-lacks-requires
 lacks-requires c κs = search needs
+
+hidden-term-requires : tie.Need-hidden-term-requires
+hidden-term-requires c κs = search needs
+
+hidden-term-requires-2 : tie.Need-hidden-term-requires-2
+hidden-term-requires-2 c κs = search needs
 
 outside-term-requires : tie.Need-outside-term-requires
 outside-term-requires c κs = search needs
@@ -44,14 +50,18 @@ outside-term-requires-2 c κs = search needs
 
 returns-2 : tie.Need-returns-2
 returns-2 c =
-    let s = c .before .before .before .before .before .before .before .before .before in
-    let n = c .before .before .lacks .ensures in
+    let s = c .before .before .before .before .before .before .before .before .before .before in
+    let n = c .before .before .before .before .lacks .ensures in
+    let hide = c .before .before .before .hidden-term .ensures ∙ ap (λ (b : Bool). hiddenTerm b (contentIn (s .args .c))) n in
+    let unhide = c .before .before .hidden-term2 .ensures ∙ ap (λ (b : Bool). hiddenTerm b (contentIn (s .args .old))) n in
     let join = c .before .outside-term .ensures ∙ ap (λ (b : Bool). outsideTerm b (contentIn (s .args .c))) n in
     let leave = c .outside-term2 .ensures ∙ ap (λ (b : Bool). outsideTerm b (contentIn (s .args .old))) n in
     record {
-      place = c .before .before .before .before .before .before .before .before .find-leaf .ensures;
-      pend = c .before .before .before .before .before .before .before .waits .ensures;
-      unpend = c .before .before .before .before .before .before .waits2 .ensures;
+      place = c .before .before .before .before .before .before .before .before .before .find-leaf .ensures;
+      pend = c .before .before .before .before .before .before .before .before .waits .ensures;
+      unpend = c .before .before .before .before .before .before .before .waits2 .ensures;
+      hide-most = hide-most _ _ _ hide;
+      hide-balance = hide-moved _ _ _ _ _ hide unhide;
       join-most = term-most _ _ _ join;
       balance = balance-moved _ _ _ _ _ join leave;
     }
@@ -63,10 +73,11 @@ terms-spec =
     find-leaf-requires
     waits-requires
     waits-requires-2
-    idle-requires
-    idle-requires-2
+    still-requires
     returns
     lacks-requires
+    hidden-term-requires
+    hidden-term-requires-2
     outside-term-requires
     outside-term-requires-2
     returns-2)

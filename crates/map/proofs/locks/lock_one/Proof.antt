@@ -1,12 +1,15 @@
--- `map::locks::lock_one` meets its contract: what is said is the content with the lock.
+-- `map::locks::lock_one` meets its contract: what is said is the content with the lock, for the write of the row.
+use native.Mathlib.Omega.{arith}
+use Rattle.indexlet.specs.Words.{contentIn}
 use Rattle.laws.specs.SlotLaws.{fits}
 use borrow.Author.Needs.{needs}
+use Rattle.map.specs.WriteWalks.{given}
 use Rattle.map.specs.LockLaws.{said-as, lock-said}
 use Rattle.map.proofs.locks.lock_one.Statement.{statement}
 use Rattle.map.proofs.locks.lock_one.Tie as tie
 
-key-at-requires : tie.Need-key-at-requires
-key-at-requires c κs = search needs
+write-at-requires : tie.Need-write-at-requires
+write-at-requires c κs = (c .pre .1 .0 .held, omega (arith, c .pre .1 .0 .few, c .pre .1 .1 .0))
 
 look-up-requires : tie.Need-look-up-requires
 look-up-requires c κs = search needs
@@ -21,13 +24,18 @@ set-content-requires : tie.Need-set-content-requires
 set-content-requires c κs = let s = c .before .before .before .before .before .before .before in (s .pre .0, (c .before .before .before .before .look-up .ensures .content, fits (s .pre .1 .1 .2)))
 
 returns : tie.Need-returns
-returns c = let s = c .before .before .before .before .before .before .before .before in said-as (c .set-content .ensures) (lock-said _ _ _ _ _ (c .before .before .before .before .before .before .before .key-at .ensures) (c .before .before .before .before .before .look-up .ensures .content) (s .args .w) (c .before .before .before .with-lock .ensures))
+returns c =
+    let s = c .before .before .before .before .before .before .before .before in
+    let r = c .before .before .before .before .before .before .before .write-at in
+    said-as (c .set-content .ensures)
+    (lock-said _ (s .args .w) _ (r .result) (contentIn (c .before .before .before .before .before .look-up .result .content)) _
+    (given (r .ensures) (s .pre .1 .1 .0)) (c .before .before .before .before .before .look-up .ensures .content) (c .before .before .before .with-lock .ensures))
 
 pub lock-one-spec : {M : Type 1} → statement M
 lock-one-spec =
     tie.close
     (tie.spec
-    key-at-requires
+    write-at-requires
     look-up-requires
     add-with-lock
     with-lock-requires

@@ -1,8 +1,5 @@
 -- `map::merge::merge` meets its contract: nothing is pending, or the walk, the settling and the count come together.
-use Prim.Native.Nat.{ℕ}
-use mathlib.Core.Path.{sym, ap, _∙_}
-use Rattle.index.specs.declared.leaves.Leaf.{Leaf as LeafWords}
-use Rattle.index.specs.LeafColumnLaws.{column-getD}
+use mathlib.Core.Path.{_∙_}
 use Rattle.map.specs.Merges.{merges-nothing, starting, ranging, resettling, recounting, merges-some}
 use Rattle.map.specs.MergeSettles.{pending-of, pending-some}
 use borrow.Author.Needs.{needs}
@@ -60,7 +57,7 @@ recount-requires c κs =
     let w = c .before .before .before .before .before .before .before .before .take-all in
     let r = c .before .before .before .before .before .resettle in
     recounting (s .args .k) (s .pre .0) (s .args .a) (i .result) (i .ensures) (pending-some _ _ (c .before .before .before .before .before .before .before .before .before .before .before .before .before .before .before .before .leaf-at .ensures) (c .before .before .before .before .before .before .before .before .before .before .before .before .before .before .if1 .left)) (w .last .0) (w .last .1 .0) (w .result) (w .ensures)
-    (r .last .0) (r .result .leaves) (r .result .version) (c .before .before .before .leaf-places .ensures) (r .ensures .settled) (r .ensures .outside) (r .ensures .pending)
+    (r .last .0) (r .result .leaves) (r .result .version) (c .before .before .before .leaf-places .ensures) (r .ensures .settled) (r .ensures .hidden) (r .ensures .pending)
 
 sub-take-versions : tie.Need-sub-take-versions
 sub-take-versions c = search needs
@@ -76,8 +73,8 @@ returns-2 c =
     let r = c .before .before .before .before .before .before .before .before .before .before .resettle in
     let n = c .before .before .before .before .recount in
     merges-some (s .args .k) (s .pre .0) (s .args .a) (i .result) (i .ensures) (pending-some _ _ (c .before .before .before .before .before .before .before .before .before .before .before .before .before .before .before .before .before .before .before .before .before .leaf-at .ensures) (c .before .before .before .before .before .before .before .before .before .before .before .before .before .before .before .before .before .before .before .if1 .left)) (w .last .0) (w .last .1 .0) (w .result) (w .ensures)
-    (r .last .0) (r .result .leaves) (r .result .version) (c .before .before .before .before .before .before .before .before .leaf-places .ensures) (r .ensures .settled) (r .ensures .outside) (r .ensures .pending)
-    (n .last .0) (n .result) (n .ensures) (c .before .take-versions .ensures .1)
+    (r .last .0) (r .result .leaves) (r .result .version) (c .before .before .before .before .before .before .before .before .leaf-places .ensures) (r .ensures .settled) (r .ensures .hidden) (r .ensures .pending)
+    (n .last .0) (n .ensures) (c .before .take-versions .ensures .1)
 
 pub merge-spec : {M : Type 1} → statement M
 merge-spec =

@@ -11,10 +11,10 @@ use Rattle.map.proofs.merge.take_all.Statement.{statement}
 use Rattle.map.proofs.merge.take_all.Tie as tie
 
 abbrev Inv-loop : tie.InvT-loop
-Inv-loop rows₀ slots₀ leaves n e m i r w₀ j₀ rows slots w j = Walking (placed (lowsOf leaves) m i) (recordsOf rows₀ n) (slotsOf slots₀) rows slots w j
+Inv-loop rows₀ slots₀ leaves n e out m i r w₀ j₀ rows slots w j = Walking (placed (lowsOf leaves) m i) (recordsOf rows₀ n) (slotsOf slots₀) rows slots w j
 
 abbrev μ-loop : tie.MeasureT-loop
-μ-loop rows₀ slots₀ leaves n e m i r w₀ j₀ rows slots w j = slotCount - j
+μ-loop rows₀ slots₀ leaves n e out m i r w₀ j₀ rows slots w j = slotCount - j
 
 loop-holds : tie.Need-loop-holds Inv-loop μ-loop
 loop-holds c = walk-start (placed (lowsOf (c .args .leaves .now)) (c .args .m) (c .args .i)) (c .pre .0)

@@ -1,8 +1,9 @@
 -- `map::merge::take_slot` meets its contract: the address lies in another leaf, or nothing is pending, or it is taken in.
+use native.Mathlib.Omega.{arith}
 use Rattle.indexlet.specs.Words.{contentIn}
 use Rattle.index.specs.Views.{recordFrom}
 use Rattle.phantomlet.specs.LeafCounts.{leaf-outside, leaf-inside, reaches-yes, reaches-no}
-use Rattle.map.specs.MergeWalks.{walk-outside, walk-lock, walk-on, left-fits, slot-room, write-room, rest-content}
+use Rattle.map.specs.MergeWalks.{walk-outside, walk-lock, walk-on, left-fits, slot-room, write-room, outside-fits, rest-content}
 use borrow.Author.Needs.{needs}
 use Rattle.map.proofs.merge.take_slot.Statement.{statement}
 use Rattle.map.proofs.merge.take_slot.Tie as tie
@@ -50,19 +51,24 @@ enter-requires c κs = let s = c .before .before .before .before .before .before
       (s .pre .0 .walking .number, slot-room (r .result) (s .pre .0 .walking .words) (r .ensures) k _),
     )
 
-add-t20 : tie.Need-add-t20
-add-t20 c = search needs
+outside-now-requires : tie.Need-outside-now-requires
+outside-now-requires c κs = let s = c .before .before .before .before .before .before .before .before .before .before .before .before .before in
+    let r = c .before .before .before .before .before .before .before .before .before .before .before .slot-at in
+    outside-fits (r .result) (s .pre .0 .walking .words) (r .ensures) (c .before .before .before .before .if2 .left) _ _ (s .pre .1 .1) (s .pre .0 .walking) (c .before .before .before .before .before .before .before .locked .ensures) (c .before .before .take-write .ensures)
+
+add-t24 : tie.Need-add-t24
+add-t24 c = let s = c .before .before .before .before .before .before .before .before .before .before .before .before .before .before .before in record { fits = omega (arith, s .pre .0 .walking .few, s .pre .1 .1) }
 
 returns-3 : tie.Need-returns-3
-returns-3 c = let s = c .before .before .before .before .before .before .before .before .before .before .before .before .before .before in
-    let r = c .before .before .before .before .before .before .before .before .before .before .before .before .slot-at in
-    let k = c .before .before .before .before .before .if2 .left in
-    let y = reaches-yes _ (s .args .r) (r .result .key) (c .before .before .before .before .before .before .before .before .before .before .before .reaches .ensures) (c .before .before .before .before .before .before .before .before .before .before .if1 .left) in
-    let x = c .before .before .before .before .before .before .before .before .locked in
-    let w = c .before .before .before .take-write in
-    let e = c .before .enter in
-    walk-on (r .result) (s .pre .0 .walking .words) (r .ensures) k (w .last .0) (e .last .0) (w .result) (e .result) (x .result) _ (s .pre .1 .1)
-    (leaf-inside (s .pre .1 .0) (r .result .key) (y .0) (y .1)) (x .ensures) (w .ensures) (rest-content (r .result .content)) (e .ensures)
+returns-3 c = let s = c .before .before .before .before .before .before .before .before .before .before .before .before .before .before .before in
+    let r = c .before .before .before .before .before .before .before .before .before .before .before .before .before .slot-at in
+    let k = c .before .before .before .before .before .before .if2 .left in
+    let y = reaches-yes _ (s .args .r) (r .result .key) (c .before .before .before .before .before .before .before .before .before .before .before .before .reaches .ensures) (c .before .before .before .before .before .before .before .before .before .before .before .if1 .left) in
+    let x = c .before .before .before .before .before .before .before .before .before .locked in
+    let w = c .before .before .before .before .take-write in
+    let e = c .before .before .enter in
+    walk-on (r .result) (s .pre .0 .walking .words) (r .ensures) k (w .last .0) (e .last .0) (w .result) (e .result) (x .result) _ _ (s .pre .1 .1)
+    (leaf-inside (s .pre .1 .0) (r .result .key) (y .0) (y .1)) (x .ensures) (w .ensures) (rest-content (r .result .content)) (e .ensures) (c .before .outside-now .ensures)
 
 pub take-slot-spec : {M : Type 1} → statement M
 take-slot-spec =
@@ -77,5 +83,6 @@ take-slot-spec =
     cast-a
     take-write-requires
     enter-requires
-    add-t20
+    outside-now-requires
+    add-t24
     returns-3)

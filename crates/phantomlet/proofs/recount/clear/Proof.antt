@@ -47,7 +47,7 @@ loop-again c =
     let b : s .args .to ≤ leafPlaces = s .pre .1 in
     let t = c .before .before .before .before .loop-test .taken in (
       cleared-on _ (l .inv .0) (l .inv .1) (omega arith)
-          (c .put-leaf .ensures ∙ ap (λ (x : LeafWords). leafPut (l .leaves) (l .x) (record { low = x .low; version = x .version; outside = 0; pending = 0 })) (c .before .before .leaf-at .ensures)),
+          (c .put-leaf .ensures ∙ ap (λ (x : LeafWords). leafPut (l .leaves) (l .x) (record { low = x .low; version = x .version; hidden = 0; pending = 0 })) (c .before .before .leaf-at .ensures)),
       omega arith,
       omega arith,
     )

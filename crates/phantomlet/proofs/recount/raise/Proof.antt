@@ -1,10 +1,10 @@
 -- `phantomlet::recount::raise` meets its contract.
-use Prim.Native.Nat.{ℕ, _+_}
+use Prim.Native.Nat.{_+_}
 use native.Mathlib.Omega.{arith}
 use mathlib.Core.Path.{_≡_, sym, ap, _∙_}
 use lib.ListN.{getD}
 use Rattle.index.specs.declared.leaves.Leaf.{Leaf as LeafWords}
-use Rattle.index.specs.LeafColumns.{outsideOf, pendingOf, leafPut}
+use Rattle.index.specs.LeafColumns.{hiddenOf, pendingOf, leafPut}
 use Rattle.index.specs.LeafColumnLaws.{column-getD}
 use Rattle.phantomlet.specs.LeafWrites.{raised}
 use borrow.Author.Needs.{needs}
@@ -19,8 +19,8 @@ leaf-at-requires c κs = search needs
 add-t8 : tie.Need-add-t8
 add-t8 c =
     let s = c .before .before .before in
-    let e : c .before .leaf-at .result .outside ≡ getD (outsideOf (s .args .leaves .now)) (s .args .at) 0
-    = ap (λ (l : LeafWords). l .outside) (c .before .leaf-at .ensures) ∙ sym (column-getD 2 (s .args .leaves .now) (s .args .at)) in
+    let e : c .before .leaf-at .result .hidden ≡ getD (hiddenOf (s .args .leaves .now)) (s .args .at) 0
+    = ap (λ (l : LeafWords). l .hidden) (c .before .leaf-at .ensures) ∙ sym (column-getD 2 (s .args .leaves .now) (s .args .at)) in
     omega (arith, e, s .pre .1 .0)
 
 add-t9 : tie.Need-add-t9
@@ -38,7 +38,7 @@ returns c =
     let s = c .before .before .before .before .before .before in
     raised
     (c .put-leaf .ensures
-    ∙ ap (λ (l : LeafWords). leafPut (s .args .leaves .now) (s .args .at) (record { low = l .low; version = l .version; outside = l .outside + s .args .x; pending = l .pending + s .args .w }))
+    ∙ ap (λ (l : LeafWords). leafPut (s .args .leaves .now) (s .args .at) (record { low = l .low; version = l .version; hidden = l .hidden + s .args .x; pending = l .pending + s .args .w }))
     (c .before .before .before .before .leaf-at .ensures))
 
 pub raise-spec : {M : Type 1} → statement M

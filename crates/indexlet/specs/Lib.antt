@@ -1,4 +1,4 @@
-pub mod Table
+pub mod Homes
 pub mod Words
 pub mod WordLaws
 pub mod Promises

@@ -1,10 +1,6 @@
--- `indexlet::home` meets its contract: each byte goes through the table by the table's rule.
-use Prim.Native.Nat.{_<_, _^_}
-use native.Mathlib.Omega.{arith}
+-- `indexlet::home` meets its contract: each byte goes through the table's formula.
 use borrow.Author.Needs.{needs}
-use Rattle.lists.specs.Tabulation.{tabFrom, tab}
-use Rattle.spec.specs.Slots.{tableEntry}
-use Rattle.indexlet.specs.Table.{step0-less, mix0-less, mix1-less, mix2-less, home-steps}
+use Rattle.indexlet.specs.Homes.{home-steps}
 use Rattle.indexlet.proofs.home.Statement.{statement}
 use Rattle.indexlet.proofs.home.Tie as tie
 
@@ -20,46 +16,29 @@ cast-b1 c = search needs
 cast-b0 : tie.Need-cast-b0
 cast-b0 c = search needs
 
-cast-h3 : tie.Need-cast-h3
-cast-h3 c = search needs
+table-entry-requires : tie.Need-table-entry-requires
+table-entry-requires c κs = search needs
 
-array-read-h3 : tie.Need-array-read-h3
-array-read-h3 c = search needs
+table-entry-requires-2 : tie.Need-table-entry-requires-2
+table-entry-requires-2 c κs = search needs
 
-narrow : (c : tie.Start) → c .args .a < 2 ^ 32
-narrow c = c .fits .a .fits
+table-entry-requires-3 : tie.Need-table-entry-requires-3
+table-entry-requires-3 c κs = search needs
 
-cast-h2 : tie.Need-cast-h2
-unfolding tab tabFrom tableEntry
-cast-h2 c = omega (arith, mix2-less (c .args .a) (narrow c))
-
-array-read-h2 : tie.Need-array-read-h2
-unfolding tab tabFrom tableEntry
-array-read-h2 c = mix2-less (c .args .a) (narrow c)
-
-cast-h1 : tie.Need-cast-h1
-unfolding tab tabFrom tableEntry
-cast-h1 c = omega (arith, mix1-less (c .args .a) (narrow c))
-
-array-read-h1 : tie.Need-array-read-h1
-unfolding tab tabFrom tableEntry
-array-read-h1 c = mix1-less (c .args .a) (narrow c)
+table-entry-requires-4 : tie.Need-table-entry-requires-4
+table-entry-requires-4 c κs = search needs
 
 cast-result : tie.Need-cast-result
-unfolding tab tabFrom tableEntry
-cast-result c = omega (arith, mix0-less (c .args .a) (narrow c))
-
-array-read-result : tie.Need-array-read-result
-unfolding tab tabFrom tableEntry
-array-read-result c = mix0-less (c .args .a) (narrow c)
-
-cast-result-2 : tie.Need-cast-result-2
-unfolding tab tabFrom tableEntry
-cast-result-2 c = omega (arith, step0-less (c .args .a) (narrow c))
+cast-result c = search needs
 
 returns : tie.Need-returns
-unfolding tab tabFrom tableEntry
-returns c = home-steps (c .args .a) (narrow c)
+returns c =
+    let third = c .before in
+    let second = third .before in
+    let first = second .before in
+    let start = first .before in
+    home-steps (start .args .a) _ _ _ _ (start .fits .a .fits)
+    (first .table-entry .ensures) (second .table-entry2 .ensures) (third .table-entry3 .ensures) (c .table-entry4 .ensures)
 
 pub home-spec : {M : Type 1} → statement M
 home-spec =
@@ -69,13 +48,9 @@ home-spec =
     cast-b2
     cast-b1
     cast-b0
-    cast-h3
-    array-read-h3
-    cast-h2
-    array-read-h2
-    cast-h1
-    array-read-h1
+    table-entry-requires
+    table-entry-requires-2
+    table-entry-requires-3
+    table-entry-requires-4
     cast-result
-    array-read-result
-    cast-result-2
     returns)

@@ -130,7 +130,7 @@ pub rising-assign : {A : Type 0} (k : ℕ) (o : Option A) (rs : List (Row A)) �
 unfolding Rising
 rising-assign k o rs f = from-assign k o rs zero-le f
 
--- how many rows there are then: one comes if the key had none, and one goes if it had
+-- whether a key has a row, as a number
 look-one : {A : Type 0} (r : Row A) (rs : List (Row A)) (k : ℕ) → r .key ≡ k → _≡_ {A = ℕ} (pick (present (look (r ∷ rs) k)) 1 0) 1
 look-one r rs k e = ap (λ (o : Option _). pick {A = ℕ} (present o) 1 0) (look-here r rs k e)
 
@@ -182,6 +182,7 @@ length-delete k (r ∷ rs) lo f =
     omega arith)
     (cases (same (r .key) k))
 
+-- how many rows there are after an assignment: one comes if the key had none, and one goes if it had
 pub length-assign : {A : Type 0} (k : ℕ) (o : Option A) (rs : List (Row A)) → Rising rs
     → length (assign k o rs) + pick (present (look rs k)) 1 0 ≡ length rs + pick (present o) 1 0
 unfolding assign Rising

@@ -8,7 +8,7 @@
 #include <inttypes.h>
 #include <stdio.h>
 
-/* A map is 106 KB: static memory suits it. */
+/* A map is 123 KB: static memory suits it. */
 static struct sections map;
 
 static void say(const char *step, enum sections_refusal refusal)
@@ -16,12 +16,15 @@ static void say(const char *step, enum sections_refusal refusal)
     printf("%s: %d, %s\n", step, refusal, sections_word(refusal));
 }
 
+/* Whose sections they are: two cores share the map. */
+enum { FIRST_CORE = 1, SECOND_CORE = 2 };
+
 /* A job edits, locks what it edited, validates and installs. Any of these may be refused; only then is there more to do. */
-static enum sections_refusal enter(uint32_t seat, uint32_t address, uint64_t length)
+static enum sections_refusal enter(uint32_t seat, uint32_t address, uint64_t length, uint16_t owner)
 {
     enum sections_refusal refusal = sections_begin(&map, seat);
     if (!refusal)
-        refusal = sections_put(&map, seat, address, length);
+        refusal = sections_put(&map, seat, address, length, owner);
     if (!refusal)
         refusal = sections_lock(&map, seat);
     if (!refusal)
@@ -34,14 +37,16 @@ static enum sections_refusal enter(uint32_t seat, uint32_t address, uint64_t len
 /* A scan writes into buffers of the caller. This many places always suffice; with fewer it may be refused by 8. */
 static uint32_t addresses[SECTIONS_SCAN_LIMIT];
 static uint64_t lengths[SECTIONS_SCAN_LIMIT];
-static const struct sections_buffers buffers = {addresses, SECTIONS_SCAN_LIMIT, lengths, SECTIONS_SCAN_LIMIT};
+static uint16_t owners[SECTIONS_SCAN_LIMIT];
+static const struct sections_buffers buffers = {addresses, SECTIONS_SCAN_LIMIT, lengths, SECTIONS_SCAN_LIMIT,
+                                                owners, SECTIONS_SCAN_LIMIT};
 
 static void look(uint32_t seat)
 {
     struct sections_count found = sections_scan(&map, seat, 0, 16383, &buffers);
     say("scan", found.refusal);
     for (size_t i = 0; i < found.count; i++)
-        printf("  section at %" PRIu32 ", %" PRIu64 " bytes\n", addresses[i], lengths[i]);
+        printf("  section at %" PRIu32 ", %" PRIu64 " bytes, owner %" PRIu16 "\n", addresses[i], lengths[i], owners[i]);
 }
 
 int main(void)
@@ -49,7 +54,7 @@ int main(void)
     sections_init(&map);
 
     /* The boot code, by a job at seat 0. */
-    say("enter", enter(0, 4096, 8192));
+    say("enter", enter(0, 4096, 8192, FIRST_CORE));
 
     /* A scan does not show what waits in the indexlet, so the job that relied on it is ended at its validation. */
     sections_begin(&map, 1);
@@ -63,9 +68,10 @@ int main(void)
     sections_begin(&map, 1);
     look(1);
 
-    /* A read gives a value, or says that there is none; and how many slots of the indexlet were examined for it. */
+    /* A read gives value and owner, or says that there is no record; and how many slots of the indexlet were examined for it. */
     struct sections_value here = sections_read(&map, 1, 4096), there = sections_read(&map, 1, 0);
-    printf("read: %" PRIu64 " bytes at 4096, %s at 0\n", here.value, there.present ? "something" : "nothing");
+    printf("read: %" PRIu64 " bytes of owner %" PRIu16 " at 4096, %s at 0\n", here.value, here.owner,
+           there.present ? "something" : "nothing");
     printf("slots examined: %" PRIu32 " and %" PRIu32 "\n", here.examined, there.examined);
 
     /* What a copy of the map goes through, the map does not see. */
@@ -77,7 +83,7 @@ int main(void)
     sections_install(&trial, 1);
 
     /* The job goes on in the map, and gets the next serial number. */
-    sections_put(&map, 1, 12288, 1024);
+    sections_put(&map, 1, 12288, 1024, SECOND_CORE);
     sections_lock(&map, 1);
     struct sections_serial job = sections_validate(&map, 1);
     say("validate", job.refusal);
@@ -87,14 +93,16 @@ int main(void)
     /* All present records, those that wait too. */
     struct sections_record r;
     for (bool more = sections_first(&map, &r); more; more = sections_after(&map, &r))
-        printf("address %" PRIu32 ", value %" PRIu64 ", stamp %" PRIu32 "\n", r.address, r.value, r.stamp);
+        printf("address %" PRIu32 ", value %" PRIu64 ", owner %" PRIu16 ", stamp %" PRIu32 "\n", r.address, r.value, r.owner,
+               r.stamp);
 
     /* A fold that picks its own leaf: the one whose edit has waited longest. With nothing waiting it counts 0. */
     fold = sections_fold_oldest(&map);
     printf("fold of the oldest: %zu waiting edit, then %zu\n", fold.count, sections_fold_oldest(&map).count);
 
-    /* A list of steps in one call, from a fresh map: four words for each answer. */
-    struct sections_code list[] = {sections_code_begin(0), sections_code_put(0, 4096, 32), sections_code_begin(0)};
+    /* A list of steps in one call, from a fresh map: five words for each answer. */
+    struct sections_code list[] = {sections_code_begin(0), sections_code_put(0, 4096, 32, FIRST_CORE),
+                                   sections_code_begin(0)};
     uint64_t answers[3 * SECTIONS_ANSWER_WORDS];
     struct sections_ran ran = sections_run(&trial, list, 3, NULL, answers, 3 * SECTIONS_ANSWER_WORDS, false);
     printf("list: %zu of 3 steps taken\n", ran.taken);
@@ -104,11 +112,11 @@ int main(void)
     sections_init_guarded(&trial);
     sections_begin(&trial, 0);
     sections_scan(&trial, 0, 0, 16383, &buffers);
-    sections_put(&trial, 0, 4096, 8192);
-    sections_put(&trial, 0, 12287, 1024);
+    sections_put(&trial, 0, 4096, 8192, FIRST_CORE);
+    sections_put(&trial, 0, 12287, 1024, SECOND_CORE);
     say("guarded lock", sections_lock(&trial, 0));
     sections_remove(&trial, 0, 12287);
-    sections_put(&trial, 0, 12288, 1024);
+    sections_put(&trial, 0, 12288, 1024, SECOND_CORE);
     say("guarded lock", sections_lock(&trial, 0));
     return ran.stop != SECTIONS_COMPLETE;
 }

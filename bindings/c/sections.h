@@ -8,7 +8,7 @@
  * lengths in bytes, and whatever steps it is given, no two present sections ever overlap. A job scans before it locks: each put
  * needs a scan that sees all sections that could reach into it. Lock refuses by 16, 17 or 18 what would break the promise.
  *
- * Every answer is as document 01 and request 102 have it, so long as the caller keeps this:
+ * Every answer is as document 01 and the requests have it, so long as the caller keeps this:
  * - A map is used after sections_init, sections_init_guarded or sections_run, and only these functions write it.
  * - One call at a time for a map. Different maps may be used at the same time.
  * - A map may be copied whole between calls, by assignment, memcpy or a file: it has no pointers. The copy goes on by itself.
@@ -41,12 +41,12 @@
 
 /* How many words an array of the map has: its rows, by the words of a row. */
 #define SECTIONS_CORE ((SECTIONS_SEATS + 2) * 5)
-#define SECTIONS_RECORDS (SECTIONS_MAP_LIMIT * 3)
+#define SECTIONS_RECORDS (SECTIONS_MAP_LIMIT * 4)
 #define SECTIONS_LEAVES ((SECTIONS_MAP_LIMIT + 1) * 4)
-#define SECTIONS_SLOTS (SECTIONS_SLOT_COUNT * 8)
-#define SECTIONS_READS (SECTIONS_SEATS * SECTIONS_READ_LIMIT * 4)
+#define SECTIONS_SLOTS (SECTIONS_SLOT_COUNT * 9)
+#define SECTIONS_READS (SECTIONS_SEATS * SECTIONS_READ_LIMIT * 5)
 #define SECTIONS_MARKS (SECTIONS_SEATS * SECTIONS_MARK_LIMIT * 7)
-#define SECTIONS_WRITES (SECTIONS_SEATS * SECTIONS_WRITE_LIMIT * 3)
+#define SECTIONS_WRITES (SECTIONS_SEATS * SECTIONS_WRITE_LIMIT * 4)
 
 struct sections {
     uint64_t core[SECTIONS_CORE];
@@ -83,7 +83,8 @@ enum sections_refusal {
     SECTIONS_UNFIT = 16,     /* its length is outside 1 to SECTIONS_LONGEST, or its end is past the highest address */
     SECTIONS_UNCOVERED = 17, /* no scan of the job covers from 65,535 addresses before the section, or 0, to its last byte */
     SECTIONS_OVERLAP = 18,   /* another section shares a byte, as the latest such scan found it, with the job's edits laid over */
-    /* Of a coded step alone: there is no such kind, a seat or an address is above 32 bits, or a scan has more places than lent. */
+    /* Of a coded step alone: there is no such kind, a seat or an address is above 32 bits, an owner above 16, or a scan has more
+     * places of a buffer than lent. */
     SECTIONS_MEANINGLESS = 99
 };
 
@@ -120,6 +121,7 @@ struct sections_value {
     enum sections_refusal refusal;
     bool present;
     uint64_t value;    /* if present */
+    uint16_t owner;    /* if present */
     uint32_t examined; /* slots of the indexlet that the look-up examined; 0 for the job's own edit */
 };
 
@@ -135,95 +137,105 @@ struct sections_serial {
     uint32_t serial; /* from 1 */
 };
 
-/* Where a scan puts its records, by rising address; the shorter buffer decides. Places past the count are left. */
+/* Where a scan puts its records, by rising address; the shortest buffer decides. Places past the count are left. */
 struct sections_buffers {
     uint32_t *addresses;
     size_t address_places;
     uint64_t *values;
     size_t value_places;
+    uint16_t *owners;
+    size_t owner_places;
 };
 
 /* A present record; its stamp is the serial number of the job that wrote it. */
 struct sections_record {
     uint32_t address;
     uint64_t value;
+    uint16_t owner;
     uint32_t stamp;
 };
 
 /* ---- Coded steps: what the library takes, and what a list for sections_run is made of. */
 
-#define SECTIONS_CODE_WORDS 6
+#define SECTIONS_CODE_WORDS 7
 
 struct sections_code {
     uint64_t words[SECTIONS_CODE_WORDS];
 };
 
-static inline struct sections_code sections_code_of(uint64_t kind, uint64_t a, uint64_t b, uint64_t c, uint64_t d, uint64_t e)
+static inline struct sections_code sections_code_of(uint64_t kind, uint64_t a, uint64_t b, uint64_t c, uint64_t d, uint64_t e,
+                                                    uint64_t f)
 {
-    struct sections_code code = {{kind, a, b, c, d, e}};
+    struct sections_code code = {{kind, a, b, c, d, e, f}};
     return code;
 }
 
 static inline struct sections_code sections_code_begin(uint32_t seat)
 {
-    return sections_code_of(0, seat, 0, 0, 0, 0);
+    return sections_code_of(0, seat, 0, 0, 0, 0, 0);
 }
 
 static inline struct sections_code sections_code_read(uint32_t seat, uint32_t address)
 {
-    return sections_code_of(1, seat, address, 0, 0, 0);
+    return sections_code_of(1, seat, address, 0, 0, 0, 0);
 }
 
 /* The places are those of the scan's own buffers, which are the first ones of the lent buffers. */
 static inline struct sections_code sections_code_scan(uint32_t seat, uint32_t lo, uint32_t hi, size_t address_places,
-                                                      size_t value_places)
+                                                      size_t value_places, size_t owner_places)
 {
-    return sections_code_of(2, seat, lo, hi, address_places, value_places);
+    return sections_code_of(2, seat, lo, hi, address_places, value_places, owner_places);
 }
 
-static inline struct sections_code sections_code_put(uint32_t seat, uint32_t address, uint64_t value)
+static inline struct sections_code sections_code_put(uint32_t seat, uint32_t address, uint64_t value, uint16_t owner)
 {
-    return sections_code_of(3, seat, address, value, 0, 0);
+    return sections_code_of(3, seat, address, value, owner, 0, 0);
 }
 
 static inline struct sections_code sections_code_remove(uint32_t seat, uint32_t address)
 {
-    return sections_code_of(4, seat, address, 0, 0, 0);
+    return sections_code_of(4, seat, address, 0, 0, 0, 0);
 }
 
 static inline struct sections_code sections_code_lock(uint32_t seat)
 {
-    return sections_code_of(5, seat, 0, 0, 0, 0);
+    return sections_code_of(5, seat, 0, 0, 0, 0, 0);
 }
 
 static inline struct sections_code sections_code_validate(uint32_t seat)
 {
-    return sections_code_of(6, seat, 0, 0, 0, 0);
+    return sections_code_of(6, seat, 0, 0, 0, 0, 0);
 }
 
 static inline struct sections_code sections_code_install(uint32_t seat)
 {
-    return sections_code_of(7, seat, 0, 0, 0, 0);
+    return sections_code_of(7, seat, 0, 0, 0, 0, 0);
 }
 
 static inline struct sections_code sections_code_abort(uint32_t seat)
 {
-    return sections_code_of(8, seat, 0, 0, 0, 0);
+    return sections_code_of(8, seat, 0, 0, 0, 0, 0);
 }
 
 static inline struct sections_code sections_code_fold(uint32_t address)
 {
-    return sections_code_of(9, address, 0, 0, 0, 0);
+    return sections_code_of(9, address, 0, 0, 0, 0, 0);
 }
 
 static inline struct sections_code sections_code_fold_oldest(void)
 {
-    return sections_code_of(10, 0, 0, 0, 0, 0);
+    return sections_code_of(10, 0, 0, 0, 0, 0, 0);
 }
 
-/* A coded answer: a number of enum sections_refusal, one of enum sections_told, what that says, and the slots that a granted read
- * examined, 0 for all other steps. */
-#define SECTIONS_ANSWER_WORDS 4
+/* A coded answer: a number of enum sections_refusal, one of enum sections_told, what that says, the owner of the record that a
+ * read found, and the slots that a granted read examined; these two are 0 otherwise. */
+#define SECTIONS_ANSWER_WORDS 5
+
+/* A record of a scan, in a list's answers: address, value, owner. */
+#define SECTIONS_SHOWN_WORDS 3
+
+/* A present record: address, value, owner, stamp. */
+#define SECTIONS_FOUND_WORDS 4
 
 enum sections_told {
     SECTIONS_TOLD_NOTHING = 0,
@@ -258,13 +270,13 @@ void sections_fresh(uint64_t core[], uint64_t records[], uint64_t leaves[], uint
                     uint64_t marks[], uint64_t writes[], bool guarded);
 
 void sections_step(uint64_t answer[], uint32_t *addresses, size_t address_places, uint64_t *values, size_t value_places,
-                   uint64_t core[], uint64_t records[], uint64_t leaves[], uint64_t slots[], uint64_t reads[],
-                   uint64_t marks[], uint64_t writes[], const uint64_t step[]);
+                   uint16_t *owners, size_t owner_places, uint64_t core[], uint64_t records[], uint64_t leaves[],
+                   uint64_t slots[], uint64_t reads[], uint64_t marks[], uint64_t writes[], const uint64_t step[]);
 
 uint64_t sections_replay(uint64_t counts[], uint64_t *out, size_t out_places, uint32_t *addresses, size_t address_places,
-                         uint64_t *values, size_t value_places, uint64_t core[], uint64_t records[], uint64_t leaves[],
-                         uint64_t slots[], uint64_t reads[], uint64_t marks[], uint64_t writes[], const uint64_t *steps,
-                         size_t step_words, bool guarded);
+                         uint64_t *values, size_t value_places, uint16_t *owners, size_t owner_places, uint64_t core[],
+                         uint64_t records[], uint64_t leaves[], uint64_t slots[], uint64_t reads[], uint64_t marks[],
+                         uint64_t writes[], const uint64_t *steps, size_t step_words, bool guarded);
 
 bool sections_next(uint64_t found[], const uint64_t core[], const uint64_t records[], const uint64_t leaves[],
                    const uint64_t slots[], const uint64_t reads[], const uint64_t marks[], const uint64_t writes[],
@@ -295,10 +307,17 @@ struct sections_answer {
     uint64_t words[SECTIONS_ANSWER_WORDS];
 };
 
+/* A place for each buffer. */
+struct sections_spare {
+    uint32_t address;
+    uint64_t value;
+    uint16_t owner;
+};
+
 /* The library takes no NULL: where there are 0 places it gets one that is not used. */
-static inline struct sections_buffers sections_lent(const struct sections_buffers *buffers, uint32_t *address, uint64_t *value)
+static inline struct sections_buffers sections_lent(const struct sections_buffers *buffers, struct sections_spare *spare)
 {
-    struct sections_buffers lent = {address, 0, value, 0};
+    struct sections_buffers lent = {&spare->address, 0, &spare->value, 0, &spare->owner, 0};
     if (buffers && buffers->address_places) {
         lent.addresses = buffers->addresses;
         lent.address_places = buffers->address_places;
@@ -307,6 +326,10 @@ static inline struct sections_buffers sections_lent(const struct sections_buffer
         lent.values = buffers->values;
         lent.value_places = buffers->value_places;
     }
+    if (buffers && buffers->owner_places) {
+        lent.owners = buffers->owners;
+        lent.owner_places = buffers->owner_places;
+    }
     return lent;
 }
 
@@ -314,12 +337,11 @@ static inline struct sections_buffers sections_lent(const struct sections_buffer
 static inline struct sections_answer sections_perform(struct sections *map, struct sections_code code,
                                                       const struct sections_buffers *buffers)
 {
-    uint32_t address = 0;
-    uint64_t value = 0;
-    struct sections_buffers lent = sections_lent(buffers, &address, &value);
+    struct sections_spare spare = {0, 0, 0};
+    struct sections_buffers lent = sections_lent(buffers, &spare);
     struct sections_answer answer;
-    sections_step(answer.words, lent.addresses, lent.address_places, lent.values, lent.value_places, SECTIONS_ARRAYS(map),
-                  code.words);
+    sections_step(answer.words, lent.addresses, lent.address_places, lent.values, lent.value_places, lent.owners,
+                  lent.owner_places, SECTIONS_ARRAYS(map), code.words);
     return answer;
 }
 
@@ -343,7 +365,7 @@ static inline struct sections_value sections_read(struct sections *map, uint32_t
 {
     struct sections_answer answer = sections_perform(map, sections_code_read(seat, address), NULL);
     struct sections_value value = {sections_refusal_of(answer), answer.words[1] == SECTIONS_TOLD_VALUE, answer.words[2],
-                                   (uint32_t)answer.words[3]};
+                                   (uint16_t)answer.words[3], (uint32_t)answer.words[4]};
     return value;
 }
 
@@ -351,13 +373,16 @@ static inline struct sections_value sections_read(struct sections *map, uint32_t
 static inline struct sections_count sections_scan(struct sections *map, uint32_t seat, uint32_t lo, uint32_t hi,
                                                   const struct sections_buffers *buffers)
 {
-    struct sections_code code = sections_code_scan(seat, lo, hi, buffers->address_places, buffers->value_places);
+    struct sections_code code =
+        sections_code_scan(seat, lo, hi, buffers->address_places, buffers->value_places, buffers->owner_places);
     return sections_count_of(sections_perform(map, code, buffers));
 }
 
-static inline enum sections_refusal sections_put(struct sections *map, uint32_t seat, uint32_t address, uint64_t value)
+/* The owner says whose section it is; to the map it is any number. */
+static inline enum sections_refusal sections_put(struct sections *map, uint32_t seat, uint32_t address, uint64_t value,
+                                                 uint16_t owner)
 {
-    return sections_refusal_of(sections_perform(map, sections_code_put(seat, address, value), NULL));
+    return sections_refusal_of(sections_perform(map, sections_code_put(seat, address, value, owner), NULL));
 }
 
 static inline enum sections_refusal sections_remove(struct sections *map, uint32_t seat, uint32_t address)
@@ -405,12 +430,13 @@ static inline struct sections_count sections_fold_oldest(struct sections *map)
 /* The first present record from an address on; false if there is none. */
 static inline bool sections_from(const struct sections *map, uint64_t address, struct sections_record *record)
 {
-    uint64_t found[3];
+    uint64_t found[SECTIONS_FOUND_WORDS];
     if (!sections_next(found, SECTIONS_ARRAYS(map), address))
         return false;
     record->address = (uint32_t)found[0];
     record->value = found[1];
-    record->stamp = (uint32_t)found[2];
+    record->owner = (uint16_t)found[2];
+    record->stamp = (uint32_t)found[3];
     return true;
 }
 
@@ -426,19 +452,20 @@ static inline bool sections_after(const struct sections *map, struct sections_re
 }
 
 /* Makes it a fresh map, guarded or not, and runs a list of steps on it. For each step the words of its answer go to `answers`,
- * and after those of a scan its addresses and values in pairs. A step is taken if `answers` has room for 4 words, or for a
- * scan's 4 and 2 for each place of its shorter buffer. */
+ * and after those of a scan the words of each record. A step is taken if `answers` has room for SECTIONS_ANSWER_WORDS, and of a
+ * scan for SECTIONS_SHOWN_WORDS more for each place of its shortest buffer. */
 static inline struct sections_ran sections_run(struct sections *map, const struct sections_code *steps, size_t count,
                                                const struct sections_buffers *buffers, uint64_t *answers,
                                                size_t answer_places, bool guarded)
 {
-    uint32_t address = 0;
-    uint64_t value = 0, counts[2];
-    struct sections_code none = sections_code_of(0, 0, 0, 0, 0, 0);
-    struct sections_buffers lent = sections_lent(buffers, &address, &value);
-    uint64_t stop = sections_replay(counts, answer_places ? answers : &value, answer_places, lent.addresses,
-                                    lent.address_places, lent.values, lent.value_places, SECTIONS_ARRAYS(map),
-                                    count ? steps->words : none.words, count * SECTIONS_CODE_WORDS, guarded);
+    struct sections_spare spare = {0, 0, 0};
+    uint64_t word = 0, counts[2];
+    struct sections_code none = sections_code_of(0, 0, 0, 0, 0, 0, 0);
+    struct sections_buffers lent = sections_lent(buffers, &spare);
+    uint64_t stop = sections_replay(counts, answer_places ? answers : &word, answer_places, lent.addresses,
+                                    lent.address_places, lent.values, lent.value_places, lent.owners, lent.owner_places,
+                                    SECTIONS_ARRAYS(map), count ? steps->words : none.words,
+                                    count * SECTIONS_CODE_WORDS, guarded);
     struct sections_ran ran = {(enum sections_stop)stop, (size_t)counts[0], (size_t)counts[1]};
     return ran;
 }

@@ -10,7 +10,8 @@
 static struct sections map;
 static uint32_t addresses[PLACES];
 static uint64_t values[PLACES];
-static const struct sections_buffers buffers = {addresses, PLACES, values, PLACES};
+static uint16_t owners[PLACES];
+static const struct sections_buffers buffers = {addresses, PLACES, values, PLACES, owners, PLACES};
 
 static uint64_t number(void)
 {
@@ -30,7 +31,7 @@ static void scan(uint32_t seat, uint32_t lo, uint32_t hi)
     struct sections_count found = sections_scan(&map, seat, lo, hi, &buffers);
     printf(found.refusal ? "%d" : "%d %zu", found.refusal, found.count);
     for (size_t i = 0; i < found.count; i++)
-        printf(" %" PRIu32 " %" PRIu64, addresses[i], values[i]);
+        printf(" %" PRIu32 " %" PRIu64 " %" PRIu16, addresses[i], values[i], owners[i]);
 }
 
 static void read(uint32_t seat, uint32_t address)
@@ -38,7 +39,7 @@ static void read(uint32_t seat, uint32_t address)
     struct sections_value read = sections_read(&map, seat, address);
     printf("%d", read.refusal);
     if (read.present)
-        printf(" %" PRIu64, read.value);
+        printf(" %" PRIu64 " %" PRIu16, read.value, read.owner);
     else if (!read.refusal)
         printf(" -");
     if (!read.refusal)
@@ -56,9 +57,10 @@ static void fold(struct sections_count folded)
     printf("%d %zu", folded.refusal, folded.count);
 }
 
-static void edit(char letter, uint32_t seat, uint32_t address)
+static void put(uint32_t seat, uint32_t address)
 {
-    printf("%d", letter == 'P' ? sections_put(&map, seat, address, number()) : sections_remove(&map, seat, address));
+    uint64_t value = number();
+    printf("%d", sections_put(&map, seat, address, value, (uint16_t)number()));
 }
 
 static void answer(char letter, uint32_t first)
@@ -76,7 +78,8 @@ static void answer(char letter, uint32_t first)
         second = number32();
         scan(first, second, number32());
         break;
-    default: edit(letter, first, number32());
+    case 'D': printf("%d", sections_remove(&map, first, number32())); break;
+    case 'P': put(first, number32()); break;
     }
 }
 
@@ -110,7 +113,7 @@ int main(void)
         count++;
     printf("E %zu", count);
     for (bool more = sections_first(&map, &r); more; more = sections_after(&map, &r))
-        printf(" %" PRIu32 " %" PRIu64, r.address, r.value);
+        printf(" %" PRIu32 " %" PRIu64 " %" PRIu16, r.address, r.value, r.owner);
     printf("\n");
     return 0;
 }

@@ -1,6 +1,6 @@
 //! Present contents, record by record.
 
-use crate::{declared, Address, Sections, SerialNumber, Value};
+use crate::{declared, Address, Owner, Sections, SerialNumber, Value};
 
 /// A present record.
 #[derive(Clone, Copy, PartialEq, Eq, Hash, Debug)]
@@ -9,6 +9,8 @@ pub struct Record {
     pub address: Address,
     /// What was put there.
     pub value: Value,
+    /// Whose section it is.
+    pub owner: Owner,
     /// The serial number of the job that wrote it.
     pub stamp: SerialNumber,
 }
@@ -27,13 +29,13 @@ impl Sections {
     /// # use sections::{Refusal, Sections};
     /// let mut map = Sections::new();
     /// map.begin(0)?;
-    /// map.put(0, 8192, 64)?;
-    /// map.put(0, 4096, 32)?;
+    /// map.put(0, 8192, 64, 2)?;
+    /// map.put(0, 4096, 32, 1)?;
     /// map.lock(0)?;
     /// map.validate(0)?;
     /// map.install(0)?;
-    /// let addresses: Vec<u32> = map.iter().map(|record| record.address).collect();
-    /// assert_eq!(addresses, [4096, 8192]);
+    /// let owners: Vec<(u32, u16)> = map.iter().map(|it| (it.address, it.owner)).collect();
+    /// assert_eq!(owners, [(4096, 1), (8192, 2)]);
     /// for record in &map {
     ///     assert_eq!(record.stamp.get(), 1);
     /// }
@@ -53,9 +55,10 @@ impl Iterator for Contents<'_> {
     type Item = Record;
 
     fn next(&mut self) -> Option<Record> {
-        let [address, value, stamp] = declared::next(&self.map.map, self.from)?;
+        let [address, value, owner, stamp] = declared::next(&self.map.map, self.from)?;
         self.from = address + 1;
-        Some(Record { address: address as Address, value, stamp: SerialNumber(stamp) })
+        let (address, owner) = (address as Address, owner as Owner);
+        Some(Record { address, value, owner, stamp: SerialNumber(stamp) })
     }
 }
 

@@ -6,11 +6,11 @@
 //! the other by serial number; a job for which that fails is refused.
 //!
 //! ```
-//! use sections::{Refusal, Sections};
+//! use sections::{Refusal, Section, Sections};
 //!
 //! let mut map = Sections::new();
 //! map.begin(0)?;
-//! map.put(0, 4096, 32)?;
+//! map.put(0, 4096, 32, 1)?;
 //! map.lock(0)?;
 //! let serial = map.validate(0)?;
 //! map.install(0)?;
@@ -25,7 +25,8 @@
 //! // A fold takes it into the index.
 //! assert_eq!(map.fold(4096)?, 1);
 //! map.begin(1)?;
-//! assert_eq!(map.scan_all(1, 4000, 5000)?, [(4096, 32)]);
+//! let section = Section { address: 4096, value: 32, owner: 1 };
+//! assert_eq!(map.scan_all(1, 4000, 5000)?, [section]);
 //! # Ok::<(), Refusal>(())
 //! ```
 //!
@@ -41,7 +42,7 @@ mod steps;
 
 pub use contents::{Contents, Record};
 pub use refusal::Refusal;
-pub use steps::{Answer, Reading, Step};
+pub use steps::{Answer, Reading, Section, Step};
 
 use declared::{Map, COUNT};
 use std::fmt;
@@ -56,6 +57,9 @@ pub type Address = u32;
 /// What a record holds: a section's length, to the map any number. In a guarded
 /// map it is counted in bytes, from 1 to [`LONGEST`].
 pub type Value = u64;
+
+/// Whose section it is, to the map any number.
+pub type Owner = u16;
 
 /// The bytes of the longest section of a guarded map.
 pub const LONGEST: Value = declared::LONGEST;
@@ -86,7 +90,7 @@ impl fmt::Display for SerialNumber {
     }
 }
 
-/// One map with its eight seats, 106 KB. A clone goes on by itself.
+/// One map with its eight seats, 123 KB. A clone goes on by itself.
 #[derive(Clone)]
 pub struct Sections {
     map: Box<Map>,
@@ -114,7 +118,7 @@ impl Sections {
     /// # use sections::{Refusal, Sections};
     /// let mut map = Sections::guarded();
     /// map.begin(0)?;
-    /// map.put(0, 4096, 32)?;
+    /// map.put(0, 4096, 32, 1)?;
     /// assert_eq!(map.lock(0), Err(Refusal::Uncovered));
     /// map.scan_all(0, 0, 9999)?;
     /// map.lock(0)?;
@@ -125,7 +129,7 @@ impl Sections {
     /// // The section's last byte is 4127.
     /// map.begin(1)?;
     /// map.scan_all(1, 0, 9999)?;
-    /// map.put(1, 4127, 100)?;
+    /// map.put(1, 4127, 100, 2)?;
     /// assert_eq!(map.lock(1), Err(Refusal::Overlap));
     ///
     /// // The refused job is still open, and may remove what is in its way.
@@ -146,34 +150,36 @@ impl Sections {
         self.call(Step::Begin { seat }).map(drop)
     }
 
-    /// The value at an address, or absent: the job's own edit, or else the present
+    /// The section at an address, or absent: the job's own edit, or else the present
     /// record, which is logged. And how many slots of the indexlet were examined for it.
     ///
     /// ```
-    /// # use sections::{Reading, Refusal, Sections};
+    /// # use sections::{Reading, Refusal, Section, Sections};
     /// let mut map = Sections::new();
     /// map.begin(0)?;
-    /// map.put(0, 4096, 32)?;
-    /// assert_eq!(map.read(0, 4096)?, Reading { value: Some(32), examined: 0 });
-    /// assert_eq!(map.read(0, 8192)?, Reading { value: None, examined: 1 });
+    /// map.put(0, 4096, 32, 1)?;
+    /// let section = Section { address: 4096, value: 32, owner: 1 };
+    /// assert_eq!(map.read(0, 4096)?, Reading { found: Some(section), examined: 0 });
+    /// assert_eq!(map.read(0, 8192)?, Reading { found: None, examined: 1 });
     /// # Ok::<(), Refusal>(())
     /// ```
     pub fn read(&mut self, seat: Seat, address: Address) -> Result<Reading, Refusal> {
-        self.call(Step::Read { seat, address }).map(reading)
+        self.call(Step::Read { seat, address }).map(|told| reading(address, told))
     }
 
-    /// The records from lo to hi, both included, into two buffers, of which the
-    /// shorter one decides: how many there are. Other places are left.
+    /// The records from lo to hi, both included, into three buffers, of which the
+    /// shortest one decides: how many there are. Other places are left.
     ///
     /// ```
     /// # use sections::{Refusal, Sections};
     /// let mut map = Sections::new();
     /// map.begin(0)?;
-    /// map.put(0, 4096, 32)?;
-    /// let (mut addresses, mut values) = ([0; 2], [0; 3]);
-    /// assert_eq!(map.scan(0, 0, 9999, &mut addresses, &mut values)?, 1);
-    /// assert_eq!((addresses, values), ([4096, 0], [32, 0, 0]));
-    /// assert_eq!(map.scan(0, 0, 9999, &mut [], &mut values), Err(Refusal::ShortBuffer));
+    /// map.put(0, 4096, 32, 1)?;
+    /// let (mut addresses, mut values, mut owners) = ([0; 2], [0; 3], [0; 1]);
+    /// assert_eq!(map.scan(0, 0, 9999, &mut addresses, &mut values, &mut owners)?, 1);
+    /// assert_eq!((addresses, values, owners), ([4096, 0], [32, 0, 0], [1]));
+    /// let short = map.scan(0, 0, 9999, &mut addresses, &mut values, &mut []);
+    /// assert_eq!(short, Err(Refusal::ShortBuffer));
     /// # Ok::<(), Refusal>(())
     /// ```
     pub fn scan(
@@ -183,12 +189,18 @@ impl Sections {
         hi: Address,
         addresses: &mut [Address],
         values: &mut [Value],
+        owners: &mut [Owner],
     ) -> Result<usize, Refusal> {
-        let places = (addresses.len(), values.len());
-        let step = Step::Scan { seat, lo, hi, addresses: places.0, values: places.1 };
-        let [_, count, _] =
-            granted(declared::step(&mut self.map, &step.code(), addresses, values))?;
-        Ok(count as usize)
+        let step = Step::Scan {
+            seat,
+            lo,
+            hi,
+            addresses: addresses.len(),
+            values: values.len(),
+            owners: owners.len(),
+        };
+        let words = declared::step(&mut self.map, &step.code(), addresses, values, owners);
+        granted(words).map(|[_, count, ..]| count as usize)
     }
 
     /// The same into a vector, with as many places as a scan can need.
@@ -197,15 +209,22 @@ impl Sections {
         seat: Seat,
         lo: Address,
         hi: Address,
-    ) -> Result<Vec<(Address, Value)>, Refusal> {
+    ) -> Result<Vec<Section>, Refusal> {
         let (mut addresses, mut values) = ([0; SCAN_LIMIT], [0; SCAN_LIMIT]);
-        let count = self.scan(seat, lo, hi, &mut addresses, &mut values)?;
-        Ok(addresses.into_iter().zip(values).take(count).collect())
+        let mut owners = [0; SCAN_LIMIT];
+        let count = self.scan(seat, lo, hi, &mut addresses, &mut values, &mut owners)?;
+        Ok(first(count, &addresses, &values, &owners))
     }
 
     /// An edit: a record at the address.
-    pub fn put(&mut self, seat: Seat, address: Address, value: Value) -> Result<(), Refusal> {
-        self.call(Step::Put { seat, address, value }).map(drop)
+    pub fn put(
+        &mut self,
+        seat: Seat,
+        address: Address,
+        value: Value,
+        owner: Owner,
+    ) -> Result<(), Refusal> {
+        self.call(Step::Put { seat, address, value, owner }).map(drop)
     }
 
     /// An edit: no record at the address.
@@ -221,7 +240,7 @@ impl Sections {
 
     /// Compares the log with the map, and takes the next serial number.
     pub fn validate(&mut self, seat: Seat) -> Result<SerialNumber, Refusal> {
-        self.call(Step::Validate { seat }).map(|[_, number, _]| SerialNumber(number))
+        self.call(Step::Validate { seat }).map(|[_, number, ..]| SerialNumber(number))
     }
 
     /// Lets the edits of a validated job into the indexlet, and frees the seat.
@@ -237,7 +256,7 @@ impl Sections {
     /// Takes all waiting edits of the leaf around an address into the index: how
     /// many there were.
     pub fn fold(&mut self, address: Address) -> Result<usize, Refusal> {
-        self.call(Step::Fold { address }).map(|[_, count, _]| count as usize)
+        self.call(Step::Fold { address }).map(|[_, count, ..]| count as usize)
     }
 
     /// The same of the leaf with the edit that has waited longest, counted from the
@@ -248,7 +267,7 @@ impl Sections {
     /// # use sections::{Refusal, Sections};
     /// let mut map = Sections::new();
     /// map.begin(0)?;
-    /// map.put(0, 4096, 32)?;
+    /// map.put(0, 4096, 32, 1)?;
     /// map.lock(0)?;
     /// map.validate(0)?;
     /// map.install(0)?;
@@ -257,7 +276,7 @@ impl Sections {
     /// # Ok::<(), Refusal>(())
     /// ```
     pub fn fold_oldest(&mut self) -> Result<usize, Refusal> {
-        self.call(Step::FoldOldest).map(|[_, count, _]| count as usize)
+        self.call(Step::FoldOldest).map(|[_, count, ..]| count as usize)
     }
 
     /// Any step, with buffers of its own for a scan.
@@ -266,21 +285,30 @@ impl Sections {
     /// # use sections::{Answer, Reading, Sections, Step};
     /// let mut map = Sections::new();
     /// assert_eq!(map.perform(Step::Begin { seat: 0 }), Ok(Answer::Granted));
-    /// let absent = Reading { value: None, examined: 1 };
+    /// let absent = Reading { found: None, examined: 1 };
     /// assert_eq!(map.perform(Step::Read { seat: 0, address: 9 }), Ok(Answer::Read(absent)));
     /// ```
     pub fn perform(&mut self, step: Step) -> Result<Answer, Refusal> {
-        let (mut addresses, mut values) = (vec![0; step.places().0], vec![0; step.places().1]);
-        let words = declared::step(&mut self.map, &step.code(), &mut addresses, &mut values);
+        let [m, n, o] = step.places();
+        let (mut addresses, mut values, mut owners) = (vec![0; m], vec![0; n], vec![0; o]);
+        let code = step.code();
+        let words = declared::step(&mut self.map, &code, &mut addresses, &mut values, &mut owners);
         let told = granted(words)?;
-        let count = if words[1] == COUNT { words[2] as usize } else { 0 };
-        Ok(step.answer(told, addresses.into_iter().zip(values).take(count).collect()))
+        let count = if told[0] == COUNT { told[1] as usize } else { 0 };
+        Ok(step.answer(told, first(count, &addresses, &values, &owners)))
     }
 
     /// A step that needs no buffers.
     fn call(&mut self, step: Step) -> Result<Told, Refusal> {
-        granted(declared::step(&mut self.map, &step.code(), &mut [], &mut []))
+        granted(declared::step(&mut self.map, &step.code(), &mut [], &mut [], &mut []))
     }
+}
+
+/// The sections in the first places.
+fn first(count: usize, addresses: &[Address], values: &[Value], owners: &[Owner]) -> Vec<Section> {
+    let section =
+        |at: usize| Section { address: addresses[at], value: values[at], owner: owners[at] };
+    (0..count).map(section).collect()
 }
 
 /// What is told, if the step was granted. A coded step of this crate has a meaning, so

@@ -1,10 +1,11 @@
 //! Steps and answers as data, for lists of them.
 
 use crate::declared::{Code, VALUE};
-use crate::{Address, Seat, SerialNumber, Value};
+use crate::{Address, Owner, Seat, SerialNumber, Value};
 
-/// What a granted step tells: which kind of number, that number, and slots examined.
-pub(crate) type Told = [u64; 3];
+/// What a granted step tells: which kind of number, that number, an owner, and slots
+/// examined.
+pub(crate) type Told = [u64; 4];
 
 /// A step with its arguments.
 #[derive(Clone, Copy, PartialEq, Eq, Hash, Debug)]
@@ -25,11 +26,13 @@ pub enum Step {
         hi: Address,
         addresses: usize,
         values: usize,
+        owners: usize,
     },
     Put {
         seat: Seat,
         address: Address,
         value: Value,
+        owner: Owner,
     },
     Remove {
         seat: Seat,
@@ -54,11 +57,22 @@ pub enum Step {
     FoldOldest,
 }
 
+/// A record as reads and scans show it.
+#[derive(Clone, Copy, PartialEq, Eq, Hash, Debug)]
+pub struct Section {
+    /// Where it starts.
+    pub address: Address,
+    /// What was put there.
+    pub value: Value,
+    /// Whose section it is.
+    pub owner: Owner,
+}
+
 /// What a granted read tells.
 #[derive(Clone, Copy, PartialEq, Eq, Hash, Debug)]
 pub struct Reading {
-    /// The value, or absent.
-    pub value: Option<Value>,
+    /// What is at the address, or `None`: absent.
+    pub found: Option<Section>,
     /// How many slots of the indexlet the look-up examined, 1 to 256: many, if it is
     /// crowded. 0 for the job's own edit.
     pub examined: usize,
@@ -72,8 +86,8 @@ pub enum Answer {
     Granted,
     /// Of a read.
     Read(Reading),
-    /// Of a scan: addresses and values, by rising address.
-    Found(Vec<(Address, Value)>),
+    /// Of a scan: sections by rising address.
+    Found(Vec<Section>),
     /// Of a validate.
     Serial(SerialNumber),
     /// Of a fold: how many edits it took into the index.
@@ -83,37 +97,40 @@ pub enum Answer {
 impl Step {
     pub(crate) fn code(self) -> Code {
         let (kind, numbers) = match self {
-            Step::Begin { seat } => (0, [seat.into(), 0, 0, 0, 0]),
-            Step::Read { seat, address } => (1, [seat.into(), address.into(), 0, 0, 0]),
-            Step::Scan { seat, lo, hi, addresses, values } => {
-                (2, [seat.into(), lo.into(), hi.into(), addresses as u64, values as u64])
+            Step::Begin { seat } => (0, [seat.into(), 0, 0, 0, 0, 0]),
+            Step::Read { seat, address } => (1, [seat.into(), address.into(), 0, 0, 0, 0]),
+            Step::Scan { seat, lo, hi, .. } => {
+                let [addresses, values, owners] = self.places().map(|places| places as u64);
+                (2, [seat.into(), lo.into(), hi.into(), addresses, values, owners])
             }
-            Step::Put { seat, address, value } => (3, [seat.into(), address.into(), value, 0, 0]),
-            Step::Remove { seat, address } => (4, [seat.into(), address.into(), 0, 0, 0]),
-            Step::Lock { seat } => (5, [seat.into(), 0, 0, 0, 0]),
-            Step::Validate { seat } => (6, [seat.into(), 0, 0, 0, 0]),
-            Step::Install { seat } => (7, [seat.into(), 0, 0, 0, 0]),
-            Step::Abort { seat } => (8, [seat.into(), 0, 0, 0, 0]),
-            Step::Fold { address } => (9, [address.into(), 0, 0, 0, 0]),
-            Step::FoldOldest => (10, [0; 5]),
+            Step::Put { seat, address, value, owner } => {
+                (3, [seat.into(), address.into(), value, owner.into(), 0, 0])
+            }
+            Step::Remove { seat, address } => (4, [seat.into(), address.into(), 0, 0, 0, 0]),
+            Step::Lock { seat } => (5, [seat.into(), 0, 0, 0, 0, 0]),
+            Step::Validate { seat } => (6, [seat.into(), 0, 0, 0, 0, 0]),
+            Step::Install { seat } => (7, [seat.into(), 0, 0, 0, 0, 0]),
+            Step::Abort { seat } => (8, [seat.into(), 0, 0, 0, 0, 0]),
+            Step::Fold { address } => (9, [address.into(), 0, 0, 0, 0, 0]),
+            Step::FoldOldest => (10, [0; 6]),
         };
-        let [a, b, c, d, e] = numbers;
-        [kind, a, b, c, d, e]
+        let [a, b, c, d, e, f] = numbers;
+        [kind, a, b, c, d, e, f]
     }
 
-    /// The places of a scan's buffers.
-    pub(crate) fn places(self) -> (usize, usize) {
+    /// The places of a scan's buffers: of addresses, of values and of owners.
+    pub(crate) fn places(self) -> [usize; 3] {
         match self {
-            Step::Scan { addresses, values, .. } => (addresses, values),
-            _ => (0, 0),
+            Step::Scan { addresses, values, owners, .. } => [addresses, values, owners],
+            _ => [0; 3],
         }
     }
 
-    /// What three words and a scan's records tell, if the step was granted.
-    pub(crate) fn answer(self, told: Told, found: Vec<(Address, Value)>) -> Answer {
-        let [_, value, _] = told;
+    /// What these words and a scan's records tell, if the step was granted.
+    pub(crate) fn answer(self, told: Told, found: Vec<Section>) -> Answer {
+        let [_, value, ..] = told;
         match self {
-            Step::Read { .. } => Answer::Read(reading(told)),
+            Step::Read { address, .. } => Answer::Read(reading(address, told)),
             Step::Scan { .. } => Answer::Found(found),
             Step::Validate { .. } => Answer::Serial(SerialNumber(value)),
             Step::Fold { .. } | Step::FoldOldest => Answer::Folded(value as usize),
@@ -123,6 +140,7 @@ impl Step {
 }
 
 /// What they tell of a read.
-pub(crate) fn reading([told, value, examined]: Told) -> Reading {
-    Reading { value: (told == VALUE).then_some(value), examined: examined as usize }
+pub(crate) fn reading(address: Address, [told, value, owner, examined]: Told) -> Reading {
+    let section = Section { address, value, owner: owner as Owner };
+    Reading { found: (told == VALUE).then_some(section), examined: examined as usize }
 }

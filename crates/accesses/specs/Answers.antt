@@ -6,6 +6,6 @@ use Rattle.accesses.specs.declared.reads.ReadAnswer.the-variants.{Value,
 
 -- document 01's answer
 abbrev pub readAnswer : ReadAnswer → Answer
-readAnswer (Value v n) = found (some (record { value = v })) n
+readAnswer (Value v o n) = found (some (record { value = v; owner = o })) n
 readAnswer (Absent n) = found none n
 readAnswer (Refused r) = refused r

@@ -1,5 +1,5 @@
 -- Put and remove, as they go: refused by 1, 2, 4 or 7, or the write stands in the worker's write set.
-use Prim.Native.Nat.{ℕ, _<_, _≤_}
+use Prim.Native.Nat.{ℕ, _%_, _<_, _≤_}
 use native.Mathlib.Omega.{arith}
 use mathlib.Core.Path.{_≡_, refl, sym, ap, _∙_, subst}
 use mathlib.Core.Logic.{_⊎_}
@@ -10,6 +10,8 @@ use lib.ListN.{length, getD, set}
 use Rattle.lists.specs.Tests.{both, maybe, present, less}
 use Rattle.lists.specs.TestLaws.{less-yes, less-no}
 use Rattle.lists.specs.Rows.{look, any}
+use Rattle.spec.specs.declared.PayloadWords.{PayloadWords}
+use Rattle.spec.specs.Payloads.{owners, noPayload}
 use Rattle.spec.specs.declared.Refusal.{Refusal}
 use Rattle.spec.specs.declared.Refusal.the-variants.{WritesFull}
 use Rattle.spec.specs.Refusals.{ends}
@@ -141,25 +143,25 @@ unfolding effect
 effect-editing σ w a (written p) = refl
 effect-editing σ w a deleted = refl
 
-pub edit-granted : {ws : List WriteRows} {us : WriteRows} {c o : Core} {w a kind value : ℕ} {x : Worker} {b : Bool} {n : ℕ} → Entered isOpen (c .workers) w x
-    → b ≡ fullAt (getD ws w []) (x .writes) a → b ≡ false → PutsWrite (getD ws w []) (x .writes) a kind value us n → o ≡ coreWith c w (withWrites x n)
-    → Edits ws c w a (writeOf kind value) (set ws w us) (record { core = o; answer = Granted })
+pub edit-granted : {ws : List WriteRows} {us : WriteRows} {c o : Core} {w a kind : ℕ} {v : PayloadWords} {x : Worker} {b : Bool} {n : ℕ} → Entered isOpen (c .workers) w x
+    → b ≡ fullAt (getD ws w []) (x .writes) a → b ≡ false → PutsWrite (getD ws w []) (x .writes) a kind v us n → o ≡ coreWith c w (withWrites x n)
+    → Edits ws c w a (writeOf kind v) (set ws w us) (record { core = o; answer = Granted })
 unfolding firstCause
-edit-granted {ws} {us} {c} {o} {w} {a} {kind} {value} {x} {b} {n} t q f p s =
+edit-granted {ws} {us} {c} {o} {w} {a} {kind} {v} {x} {b} {n} t q f p s =
     record {
       refines-so = λ l rs ls k.
-          subst (λ (o : Core). Refines l (logs rs ls ws) c (editing w a (writeOf kind value)) l (logs rs ls (set ws w us)) o (plainIn Granted)) (sym s)
+          subst (λ (o : Core). Refines l (logs rs ls ws) c (editing w a (writeOf kind v)) l (logs rs ls (set ws w us)) o (plainIn Granted)) (sym s)
           (let σ = stateOf l (logs rs ls ws) c in
-          let e = writeOf kind value in
+          let e = writeOf kind v in
           let g : Yields σ (editing w a e) (granted σ (editing w a e)) (effect σ (editing w a e))
           = yields-granted σ (editing w a e) (refusal-is l (logs rs ls ws) c w x k t a e b q ∙ cause-fails b WritesFull [] f) in
           let d : Yields σ (editing w a e) done (effect σ (editing w a e))
           = subst (λ (o : Answer). Yields σ (editing w a e) o (effect σ (editing w a e))) (granted-editing σ w a e) g in
           refines k d
           (state-with l (logs rs ls ws) (logs rs ls (set ws w us)) c w (withWrites x n)
-          (record { reads = λ v m d. refl; leaves = λ v m d. refl; scans = λ v m d. refl; writes = λ v m d. other-set (λ (s : WriteRows). writesOf s m) ws w us v d })
+          (record { reads = λ u m d. refl; leaves = λ u m d. refl; scans = λ u m d. refl; writes = λ u m d. other-set (λ (s : WriteRows). writesOf s m) ws w us u d })
           ∙ ap (withWorker σ w)
-          (write-in rs ls ws w x us n a kind value (k .stored .writes) (t .inside) p ∙ ap (writing a e) (sym (worker-is isOpen l (logs rs ls ws) c w x k t)))
+          (write-in rs ls ws w x us n a kind v (k .stored .writes) (t .inside) p ∙ ap (writing a e) (sym (worker-is isOpen l (logs rs ls ws) c w x k t)))
           ∙ sym (effect-editing σ w a e))
           (stored-worker l rs ls ws rs (set ws w us) c w (withWrites x n) (t .inside) (k .stored) (k .stored .reads) (each-set w us (k .stored .writes) (p .set .held))
           (let h : Within x = within isOpen l (logs rs ls ws) c w x k t in record { reads = h .reads; leaves = h .leaves; writes = p .set .room })
@@ -168,15 +170,17 @@ edit-granted {ws} {us} {c} {o} {w} {a} {kind} {value} {x} {b} {n} t q f p s =
 
 -- ---- the two steps
 
-pub put-refines : {ws us : List WriteRows} {c : Core} {w a : ℕ} {r : Done} {l : Lent} {rs : List ReadRows} {ls : List LeafSetRows} (value : ℕ) → Edits ws c w a (writeOf 1 value) us r
-    → Ready l (logs rs ls ws) c
-    → Refines l (logs rs ls ws) c (put w a (record { value = value })) l (logs rs ls us) (r .core) (plainIn (r .answer))
-put-refines {ws} {us} {c} {w} {a} {r} {l} {rs} {ls} value e k =
+pub put-refines : {ws us : List WriteRows} {c : Core} {w a : ℕ} {r : Done} {l : Lent} {rs : List ReadRows} {ls : List LeafSetRows} (value owner : ℕ) → owner < owners
+    → Edits ws c w a (writeOf 1 (record { value = value; owner = owner })) us r → Ready l (logs rs ls ws) c
+    → Refines l (logs rs ls ws) c (put w a (record { value = value; owner = owner })) l (logs rs ls us) (r .core) (plainIn (r .answer))
+put-refines {ws} {us} {c} {w} {a} {r} {l} {rs} {ls} value owner h e k =
     subst (λ (x : Write). Refines l (logs rs ls ws) c (editing w a x) l (logs rs ls us) (r .core) (plainIn (r .answer)))
-    (put-kind 1 value refl) (e .refines-so l rs ls k)
+    (put-kind 1 (record { value = value; owner = owner }) refl
+    ∙ ap (λ (n : ℕ). written (record { value = value; owner = n })) (let z : owner % owners ≡ owner = omega arith in z))
+    (e .refines-so l rs ls k)
 
-pub remove-refines : {ws us : List WriteRows} {c : Core} {w a : ℕ} {r : Done} {l : Lent} {rs : List ReadRows} {ls : List LeafSetRows} → Edits ws c w a (writeOf 2 0) us r
+pub remove-refines : {ws us : List WriteRows} {c : Core} {w a : ℕ} {r : Done} {l : Lent} {rs : List ReadRows} {ls : List LeafSetRows} → Edits ws c w a (writeOf 2 noPayload) us r
     → Ready l (logs rs ls ws) c → Refines l (logs rs ls ws) c (remove w a) l (logs rs ls us) (r .core) (plainIn (r .answer))
 remove-refines {ws} {us} {c} {w} {a} {r} {l} {rs} {ls} e k =
     subst (λ (x : Write). Refines l (logs rs ls ws) c (editing w a x) l (logs rs ls us) (r .core) (plainIn (r .answer)))
-    (deletion-kind 2 0 (λ q. let z : ⊥ = omega arith in z)) (e .refines-so l rs ls k)
+    (deletion-kind 2 noPayload (λ q. let z : ⊥ = omega arith in z)) (e .refines-so l rs ls k)

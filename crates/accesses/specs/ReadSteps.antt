@@ -1,5 +1,5 @@
 -- Read, as it goes: refused by 1, 2, 4 or 6, or it tells the worker's own write, or the current record, which is logged.
-use Prim.Native.Nat.{ℕ, _+_, _<_, _≤_}
+use Prim.Native.Nat.{ℕ, _+_, _%_, _<_, _≤_}
 use native.Mathlib.Omega.{arith}
 use mathlib.Core.Path.{_≡_, refl, sym, ap, _∙_, subst}
 use mathlib.Core.Bool.{Bool, true, false, not}
@@ -10,6 +10,8 @@ use lib.Seq.{set-getD}
 use Rattle.lists.specs.Tests.{pick, both, maybe, present, less}
 use Rattle.lists.specs.TestLaws.{less-yes, less-no}
 use Rattle.lists.specs.Rows.{row, look, any}
+use Rattle.spec.specs.Payloads.{owners, payloadIn}
+use Rattle.spec.specs.declared.PayloadWords.{PayloadWords}
 use Rattle.spec.specs.declared.Current.{Current}
 use Rattle.spec.specs.declared.Refusal.{Refusal}
 use Rattle.spec.specs.declared.Refusal.the-variants.{LogFull}
@@ -84,15 +86,15 @@ pub record TellsCurrent (rs : List ReadRows) (rows : RecordRows) (slots : SlotRo
 
 -- ---- what was seen
 
-pub shown-there : (s : Current) (n : ℕ) → s .there ≡ true → readAnswer (Value (s .value) n) ≡ found (payloadOf (recordIn s)) n
+pub shown-there : (s : Current) (n : ℕ) → s .there ≡ true → readAnswer (Value (s .payload .value) (s .payload .owner % owners) n) ≡ found (payloadOf (recordIn s)) n
 unfolding payloadOf
 shown-there s n e =
-    ap (λ (b : Bool). found (payloadOf (pick b (some (record { payload = record { value = s .value }; commit = s .commit })) none)) n) (sym e)
+    ap (λ (b : Bool). found (payloadOf (pick b (some (record { payload = payloadIn (s .payload); commit = s .commit })) none)) n) (sym e)
 
 pub shown-none : (s : Current) (n : ℕ) → s .there ≡ false → readAnswer (Absent n) ≡ found (payloadOf (recordIn s)) n
 unfolding payloadOf
 shown-none s n e =
-    ap (λ (b : Bool). found (payloadOf (pick b (some (record { payload = record { value = s .value }; commit = s .commit })) none)) n) (sym e)
+    ap (λ (b : Bool). found (payloadOf (pick b (some (record { payload = payloadIn (s .payload); commit = s .commit })) none)) n) (sym e)
 
 -- ---- the refusals
 
@@ -211,12 +213,12 @@ read-own {rs} {rows} {slots} {ws} {c} {w} {a} {x} e v t q s =
           (sym (ap (withWorker σ w) (logged-none (workerOf σ w)) ∙ worker-back σ w)) (k .stored));
     }
 
-pub read-put : {rs : List ReadRows} {rows : RecordRows} {slots : SlotRows} {ws : List WriteRows} {c : Core} {w a v : ℕ} {x : Worker} {f : Found}
+pub read-put : {rs : List ReadRows} {rows : RecordRows} {slots : SlotRows} {ws : List WriteRows} {c : Core} {w a : ℕ} {v : PayloadWords} {x : Worker} {f : Found}
     → Entered isOpen (c .workers) w x → f ≡ Put v → foundIn f ≡ look (writesIn ws w (x .writes)) a
-    → Tells rs rows slots ws c w a rs (record { core = c; answer = Value v 0 })
+    → Tells rs rows slots ws c w a rs (record { core = c; answer = Value (v .value) (v .owner % owners) 0 })
 unfolding ownView
 read-put {v} t e q =
-    read-own (written (record { value = v })) (Value v 0) t (sym q ∙ ap foundIn e) refl
+    read-own (written (payloadIn v)) (Value (v .value) (v .owner % owners) 0) t (sym q ∙ ap foundIn e) refl
 
 pub read-deletion : {rs : List ReadRows} {rows : RecordRows} {slots : SlotRows} {ws : List WriteRows} {c : Core} {w a : ℕ} {x : Worker} {f : Found}
     → Entered isOpen (c .workers) w x → f ≡ Deletion → foundIn f ≡ look (writesIn ws w (x .writes)) a

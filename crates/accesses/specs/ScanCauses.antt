@@ -1,7 +1,7 @@
 -- Why a scan is refused in the model, from what its tests told of the arrays.
-use Prim.Native.Nat.{ℕ, _+_, _≤_, min}
+use Prim.Native.Nat.{ℕ, _+_, _<_, _≤_}
 use native.Mathlib.Omega.{arith}
-use mathlib.Core.Path.{_≡_, refl, sym, ap, _∙_}
+use mathlib.Core.Path.{_≡_, refl, sym, ap, _∙_, subst}
 use mathlib.Core.Logic.{⊎-elim}
 use mathlib.Core.Bool.{Bool, true, false}
 use mathlib.Core.List.{List, [], _∷_}
@@ -16,7 +16,7 @@ use Rattle.spec.specs.Refusals.{ends}
 use Rattle.spec.specs.Records.{standard, Record, Write, ownView, payloadOf}
 use Rattle.spec.specs.Maps.{current, indexedBetween}
 use Rattle.spec.specs.Steps as model
-use Rattle.spec.specs.Steps.{State, workerOf, scan, isOpen, scanned, scanReads, scanVersions, scanLogFull, Cause, cause, noWorker, workerFree, wrongStage, causes, firstCause, refusal, refused}
+use Rattle.spec.specs.Steps.{Places, shortest, State, workerOf, scan, isOpen, scanned, scanReads, scanVersions, scanLogFull, Cause, cause, noWorker, workerFree, wrongStage, causes, firstCause, refusal, refused}
 use Rattle.laws.specs.WorkerLaws.{mild-cause}
 use Rattle.sets.specs.declared.workers.Worker.{Worker}
 use Rattle.sets.specs.Workers.{workerIn}
@@ -32,7 +32,7 @@ use Rattle.ranges.specs.Overlays.{overlay}
 use Rattle.ranges.specs.Parts.{length-walk}
 use Rattle.ranges.specs.Walks.{seenFrom, ownFrom, rest}
 use Rattle.ranges.specs.Scanning.{span, across, seenIn}
-use Rattle.ranges.specs.Plans.{Planning, shownOf, Measured, Declined, backward, full, short, Passed}
+use Rattle.ranges.specs.Plans.{Planning, shownOf, Measured, Declined, backward, full, short, Roomy, Passed}
 use Rattle.transactions.specs.declared.Core.{Core}
 use Rattle.transactions.specs.Answering.{cause-holds, cause-fails, front, front-first}
 use Rattle.transactions.specs.Admits.{Turned, Entered}
@@ -46,38 +46,43 @@ use Rattle.map.specs.Parts.{records-held, slots-held, leaves-listed}
 abbrev pub MeasuredIn : Lent → Logs → Core → ℕ → Worker → ℕ → ℕ → Task → Type 0
 MeasuredIn l g c w x lo hi t = Measured (l .rows) (l .lows) (l .slots) (getD (g .writes) w []) (c .sizes) x lo hi t
 
-abbrev pub DeclinedIn : Lent → Logs → Core → ℕ → Worker → ℕ → ℕ → ℕ → ℕ → Refusal → Type 0
-DeclinedIn l g c w x lo hi m n r = Declined (l .rows) (l .lows) (l .slots) (getD (g .writes) w []) (c .sizes) x lo hi m n r
+abbrev pub DeclinedIn : Lent → Logs → Core → ℕ → Worker → ℕ → ℕ → Places → Refusal → Type 0
+DeclinedIn l g c w x lo hi b r = Declined (l .rows) (l .lows) (l .slots) (getD (g .writes) w []) (c .sizes) x lo hi b r
 
-abbrev pub PassedIn : Lent → Logs → Core → ℕ → Worker → ℕ → ℕ → ℕ → ℕ → Task → Type 0
-PassedIn l g c w x lo hi m n t = Passed (l .rows) (l .lows) (l .slots) (getD (g .writes) w []) (c .sizes) x lo hi m n t
+abbrev pub PassedIn : Lent → Logs → Core → ℕ → Worker → ℕ → ℕ → Places → Task → Type 0
+PassedIn l g c w x lo hi b t = Passed (l .rows) (l .lows) (l .slots) (getD (g .writes) w []) (c .sizes) x lo hi b t
+
+-- what fits each buffer fits the shortest
+all-fit : {t : Task} {b : Places} → Roomy t b → t .count ≤ shortest b
+unfolding shortest
+all-fit {t} {b} r = omega (arith, r .addresses, r .values, r .owners)
 
 -- ---- the causes
 
 -- those that come after the worker's
-further : State → ℕ → ℕ → ℕ → ℕ → ℕ → List Cause
-further σ w lo hi m n =
+further : State → ℕ → ℕ → ℕ → Places → List Cause
+further σ w lo hi b =
     cause (less hi lo) Backward
     ∷ cause (scanLogFull σ w lo hi) LogFull
-    ∷ cause (less (min m n) (length (scanned σ w lo hi))) ShortBuffer
+    ∷ cause (less (shortest b) (length (scanned σ w lo hi))) ShortBuffer
     ∷ []
 
-scan-causes : (σ : State) (w lo hi m n : ℕ) (o : Option Refusal) → front isOpen σ w ≡ o
-    → refusal σ (scan w lo hi m n) ≡ maybe o (firstCause (further σ w lo hi m n)) some
+scan-causes : (σ : State) (w lo hi : ℕ) (b : Places) (o : Option Refusal) → front isOpen σ w ≡ o
+    → refusal σ (scan w lo hi b) ≡ maybe o (firstCause (further σ w lo hi b)) some
 unfolding refusal causes further
-scan-causes σ w lo hi m n o e =
-    front-first isOpen σ w (further σ w lo hi m n) ∙ ap (λ (p : Option Refusal). maybe p (firstCause (further σ w lo hi m n)) some) e
+scan-causes σ w lo hi b o e =
+    front-first isOpen σ w (further σ w lo hi b) ∙ ap (λ (p : Option Refusal). maybe p (firstCause (further σ w lo hi b)) some) e
 
-mild : (σ : State) (w lo hi m n : ℕ) (r : Refusal) → refusal σ (scan w lo hi m n) ≡ some r → ends r ≡ false
+mild : (σ : State) (w lo hi : ℕ) (b : Places) (r : Refusal) → refusal σ (scan w lo hi b) ≡ some r → ends r ≡ false
 unfolding refusal causes noWorker workerFree wrongStage any
-mild σ w lo hi m n r q = mild-cause (causes σ (scan w lo hi m n)) r refl q
+mild σ w lo hi b r q = mild-cause (causes σ (scan w lo hi b)) r refl q
 
 -- refused for the worker
-pub scan-turned : {l : Lent} {g : Logs} {c : Core} {w : ℕ} {r : Refusal} → Ready l g c → Turned isOpen (c .workers) w r → (lo hi m n : ℕ)
-    → Refines l g c (scan w lo hi m n) l g c (refused r)
-scan-turned {l} {g} {c} {w} {r} k t lo hi m n =
-    let q : refusal (stateOf l g c) (scan w lo hi m n) ≡ some r = scan-causes (stateOf l g c) w lo hi m n (some r) (t .front-is l g c refl) in
-    refines-refused k q (mild (stateOf l g c) w lo hi m n r q)
+pub scan-turned : {l : Lent} {g : Logs} {c : Core} {w : ℕ} {r : Refusal} → Ready l g c → Turned isOpen (c .workers) w r → (lo hi : ℕ) (b : Places)
+    → Refines l g c (scan w lo hi b) l g c (refused r)
+scan-turned {l} {g} {c} {w} {r} k t lo hi b =
+    let q : refusal (stateOf l g c) (scan w lo hi b) ≡ some r = scan-causes (stateOf l g c) w lo hi b (some r) (t .front-is l g c refl) in
+    refines-refused k q (mild (stateOf l g c) w lo hi b r q)
 
 either-last : (b : Bool) → either b true ≡ true
 either-last true = refl
@@ -167,51 +172,49 @@ module _ {l : Lent} {g : Logs} {c : Core} {w : ℕ} {x : Worker} (k : Ready l g 
         either (less-no {m = standard .readLimit} {n = x .reads + span (t .index)} (d .reads-fit) i)
         (less-no {m = standard .leafSetLimit} {n = x .leaves + span (t .met)} (d .leaves-fit) i))
 
-    module _ (m n : ℕ) where
-      past-front : refusal (stateOf l g c) (scan w lo hi m n) ≡ firstCause (further (stateOf l g c) w lo hi m n)
-      past-front = scan-causes (stateOf l g c) w lo hi m n none (e .front-is l g c refl)
+    module _ (b : Places) where
+      past-front : refusal (stateOf l g c) (scan w lo hi b) ≡ firstCause (further (stateOf l g c) w lo hi b)
+      past-front = scan-causes (stateOf l g c) w lo hi b none (e .front-is l g c refl)
 
       past-backward : lo ≤ hi
-          → refusal (stateOf l g c) (scan w lo hi m n)
-          ≡ firstCause (cause (scanLogFull (stateOf l g c) w lo hi) LogFull ∷ cause (less (min m n) (length (scanned (stateOf l g c) w lo hi))) ShortBuffer ∷ [])
+          → refusal (stateOf l g c) (scan w lo hi b)
+          ≡ firstCause (cause (scanLogFull (stateOf l g c) w lo hi) LogFull ∷ cause (less (shortest b) (length (scanned (stateOf l g c) w lo hi))) ShortBuffer ∷ [])
       unfolding further
       past-backward h = past-front ∙ cause-fails (less hi lo) Backward _ (less-no {m = hi} {n = lo} h)
 
       past-full : (t : Task) → MeasuredIn l g c w x lo hi t
-          → refusal (stateOf l g c) (scan w lo hi m n) ≡ firstCause (cause (less (min m n) (length (scanned (stateOf l g c) w lo hi))) ShortBuffer ∷ [])
+          → refusal (stateOf l g c) (scan w lo hi b) ≡ firstCause (cause (less (shortest b) (length (scanned (stateOf l g c) w lo hi))) ShortBuffer ∷ [])
       past-full t d = past-backward (d .forward) ∙ cause-fails (scanLogFull (stateOf l g c) w lo hi) LogFull _ (not-full t d)
 
       -- the refusal is the model's
-      declined-is : (r : Refusal) → DeclinedIn l g c w x lo hi m n r → refusal (stateOf l g c) (scan w lo hi m n) ≡ some r
+      declined-is : (r : Refusal) → DeclinedIn l g c w x lo hi b r → refusal (stateOf l g c) (scan w lo hi b) ≡ some r
       unfolding further
       declined-is r (backward q h) =
           past-front ∙ cause-holds (less hi lo) Backward _ (less-yes {m = hi} {n = lo} h) ∙ ap (λ (y : Refusal). some y) (sym q)
-      declined-is r (full q a b f s t h) =
+      declined-is r (full q a d f s t h) =
           past-backward f
           ∙ cause-holds (scanLogFull (stateOf l g c) w lo hi) LogFull _
-          (log-full a b s t
+          (log-full a d s t
           ∙ ⊎-elim
-          (λ i. ap (λ (d : Bool). either d (less (standard .leafSetLimit) (x .leaves + span b))) (less-yes {m = standard .readLimit} {n = x .reads + span a} i))
-          (λ i. ap (either (less (standard .readLimit) (x .reads + span a))) (less-yes {m = standard .leafSetLimit} {n = x .leaves + span b} i) ∙ either-last (less (standard .readLimit) (x .reads + span a)))
+          (λ i. ap (λ (f : Bool). either f (less (standard .leafSetLimit) (x .leaves + span d))) (less-yes {m = standard .readLimit} {n = x .reads + span a} i))
+          (λ i. ap (either (less (standard .readLimit) (x .reads + span a))) (less-yes {m = standard .leafSetLimit} {n = x .leaves + span d} i) ∙ either-last (less (standard .readLimit) (x .reads + span a)))
           h)
           ∙ ap (λ (y : Refusal). some y) (sym q)
       declined-is r (short q t d h) =
           past-full t d
-          ∙ cause-holds (less (min m n) (length (scanned (stateOf l g c) w lo hi))) ShortBuffer []
-          (less-yes {m = min m n} {n = length (scanned (stateOf l g c) w lo hi)}
-          (let s : t .count ≡ length (scanned (stateOf l g c) w lo hi) = count-is t d in ⊎-elim (λ i. omega arith) (λ i. omega arith) h))
+          ∙ cause-holds (less (shortest b) (length (scanned (stateOf l g c) w lo hi))) ShortBuffer []
+          (less-yes {m = shortest b} {n = length (scanned (stateOf l g c) w lo hi)}
+          (let s : t .count ≡ length (scanned (stateOf l g c) w lo hi) = count-is t d in subst (λ (n : ℕ). shortest b < n) s h))
           ∙ ap (λ (y : Refusal). some y) (sym q)
 
-      pub scan-declined : (r : Refusal) → DeclinedIn l g c w x lo hi m n r → Refines l g c (scan w lo hi m n) l g c (refused r)
-      scan-declined r d = refines-refused k (declined-is r d) (mild (stateOf l g c) w lo hi m n r (declined-is r d))
+      pub scan-declined : (r : Refusal) → DeclinedIn l g c w x lo hi b r → Refines l g c (scan w lo hi b) l g c (refused r)
+      scan-declined r d = refines-refused k (declined-is r d) (mild (stateOf l g c) w lo hi b r (declined-is r d))
 
       -- the tests pass
-      pub passed-is : (t : Task) → PassedIn l g c w x lo hi m n t → refusal (stateOf l g c) (scan w lo hi m n) ≡ none
+      pub passed-is : (t : Task) → PassedIn l g c w x lo hi b t → refusal (stateOf l g c) (scan w lo hi b) ≡ none
       unfolding firstCause
       passed-is t p =
           let s : t .count ≡ length (scanned (stateOf l g c) w lo hi) = count-is t (p .measured) in
-          let a : t .count ≤ m = p .roomy .addresses in
-          let b : t .count ≤ n = p .roomy .values in
           past-full t (p .measured)
-          ∙ cause-fails (less (min m n) (length (scanned (stateOf l g c) w lo hi))) ShortBuffer []
-          (less-no {m = min m n} {n = length (scanned (stateOf l g c) w lo hi)} (omega arith))
+          ∙ cause-fails (less (shortest b) (length (scanned (stateOf l g c) w lo hi))) ShortBuffer []
+          (less-no {m = shortest b} {n = length (scanned (stateOf l g c) w lo hi)} (subst (λ (n : ℕ). n ≤ shortest b) s (all-fit (p .roomy))))

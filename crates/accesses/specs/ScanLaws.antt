@@ -2,7 +2,6 @@
 use Prim.Native.Nat.{ℕ}
 use mathlib.Core.Path.{_≡_, sym, subst}
 use mathlib.Core.List.{List}
-use lib.ListN.{length}
 use Rattle.spec.specs.declared.Refusal.{Refusal}
 use Rattle.spec.specs.Steps.{listed, scan, isOpen}
 use Rattle.sets.specs.declared.workers.Worker.{Worker}
@@ -11,7 +10,7 @@ use Rattle.transactions.specs.declared.Core.{Core}
 use Rattle.accesses.specs.declared.scans.ScanAnswer.the-variants.{Count, Refused}
 use Rattle.ranges.specs.declared.plans.Task.{Task}
 use Rattle.transactions.specs.Admits.{Turned, Entered}
-use Rattle.ranges.specs.Buffers.{rowsIn}
+use Rattle.ranges.specs.Buffers.{Buffers, placesOf, rowsIn}
 use Rattle.ranges.specs.ShowLaws.{beyond-refl}
 use Rattle.sets.specs.Reads.{ReadRows}
 use Rattle.sets.specs.Leaves.{LeafSetRows}
@@ -24,26 +23,25 @@ use Rattle.accesses.specs.Scans.{Scans}
 -- ---- as it goes
 
 -- refused for the worker
-pub scans-turned : {l : Lent} {g : Logs} {c : Core} {w : ℕ} {r : Refusal} (lo hi : ℕ) (ks vs : List ℕ) → Ready l g c → Turned isOpen (c .workers) w r
-    → Scans l g c w lo hi ks vs g ks vs (record { core = c; answer = Refused r })
-scans-turned lo hi ks vs k t =
-    record { refines = scan-turned k t lo hi (length ks) (length vs); addresses = beyond-refl 0 ks; values = beyond-refl 0 vs }
+pub scans-turned : {l : Lent} {g : Logs} {c : Core} {w : ℕ} {r : Refusal} (lo hi : ℕ) (b : Buffers) → Ready l g c → Turned isOpen (c .workers) w r
+    → Scans l g c w lo hi b g b (record { core = c; answer = Refused r })
+scans-turned lo hi b k t =
+    record { refines = scan-turned k t lo hi (placesOf b); beyond = beyond-refl 0 b }
 
 -- refused for its range, its log or its buffers
-pub scans-declined : {l : Lent} {g : Logs} {c : Core} {w : ℕ} {x : Worker} {r : Refusal} (lo hi : ℕ) (ks vs : List ℕ) → Ready l g c → Entered isOpen (c .workers) w x
-    → DeclinedIn l g c w x lo hi (length ks) (length vs) r → Scans l g c w lo hi ks vs g ks vs (record { core = c; answer = Refused r })
-scans-declined {r} lo hi ks vs k e d =
-    record { refines = scan-declined k e lo hi (length ks) (length vs) r d; addresses = beyond-refl 0 ks; values = beyond-refl 0 vs }
+pub scans-declined : {l : Lent} {g : Logs} {c : Core} {w : ℕ} {x : Worker} {r : Refusal} (lo hi : ℕ) (b : Buffers) → Ready l g c → Entered isOpen (c .workers) w x
+    → DeclinedIn l g c w x lo hi (placesOf b) r → Scans l g c w lo hi b g b (record { core = c; answer = Refused r })
+scans-declined {r} lo hi b k e d =
+    record { refines = scan-declined k e lo hi (placesOf b) r d; beyond = beyond-refl 0 b }
 
 -- granted
-pub scans-granted : {l : Lent} {g : Logs} {c : Core} {w : ℕ} {x : Worker} {o : Core} {t : Task} {ks' vs' : List ℕ} {rs : ReadRows} {ls : LeafSetRows} {y : Worker} (lo hi : ℕ) (ks vs : List ℕ)
-    → Ready l g c → Entered isOpen (c .workers) w x → PassedIn l g c w x lo hi (length ks) (length vs) t → CarriedIn l g c w x t lo hi ks vs ks' vs' rs ls y → o ≡ coreWith c w y
-    → Scans l g c w lo hi ks vs (logging g w rs ls) ks' vs' (record { core = o; answer = Count (t .count) })
-scans-granted {l} {g} {c} {w} {t = t} {ks'} {vs'} {rs} {ls} {y} lo hi ks vs k e p d q =
+pub scans-granted : {l : Lent} {g : Logs} {c : Core} {w : ℕ} {x : Worker} {o : Core} {t : Task} {d : Buffers} {rs : ReadRows} {ls : LeafSetRows} {y : Worker} (lo hi : ℕ) (b : Buffers)
+    → Ready l g c → Entered isOpen (c .workers) w x → PassedIn l g c w x lo hi (placesOf b) t → CarriedIn l g c w x t lo hi b d rs ls y → o ≡ coreWith c w y
+    → Scans l g c w lo hi b (logging g w rs ls) d (record { core = o; answer = Count (t .count) })
+scans-granted {l} {g} {c} {w} {t = t} {d} {rs} {ls} {y} lo hi b k e p h q =
     record {
       refines =
-          subst (λ (z : Core). Refines l g c (scan w lo hi (length ks) (length vs)) l (logging g w rs ls) z (listed (rowsIn (t .count) ks' vs'))) (sym q)
-          (scan-granted k e lo hi t ks vs ks' vs' rs ls y p d);
-      addresses = d .fills .addresses;
-      values = d .fills .values;
+          subst (λ (z : Core). Refines l g c (scan w lo hi (placesOf b)) l (logging g w rs ls) z (listed (rowsIn (t .count) d))) (sym q)
+          (scan-granted k e lo hi t b d rs ls y p h);
+      beyond = h .fills .beyond;
     }

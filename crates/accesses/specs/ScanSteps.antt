@@ -33,7 +33,7 @@ use Rattle.queries.specs.QueryViews.{versionIn}
 use Rattle.queries.specs.ScanLaws.{length-leaves}
 use Rattle.ranges.specs.declared.plans.Task.{Task}
 use Rattle.ranges.specs.Parts.{length-walk, getD-walk}
-use Rattle.ranges.specs.Buffers.{rowsIn}
+use Rattle.ranges.specs.Buffers.{Buffers, placesOf, rowsIn}
 use Rattle.ranges.specs.Scanning.{span, across, seenIn, lowIn, marked}
 use Rattle.ranges.specs.LogLaws.{scan-remembered}
 use Rattle.ranges.specs.Plans.{scanMade, Carried}
@@ -93,18 +93,18 @@ some-there {xs = []} m = absurd (List·Memᴰ·not-nil m)
 some-there {xs = y ∷ ys} m = suc-le-suc zero-le
 
 -- what the scan of worker w left of its sets
-abbrev pub CarriedIn : Lent → Logs → Core → ℕ → Worker → Task → ℕ → ℕ → List ℕ → List ℕ → List ℕ → List ℕ → ReadRows → LeafSetRows → Worker → Type 0
-CarriedIn l g c w x t lo hi ks vs ks' vs' rs ls y =
+abbrev pub CarriedIn : Lent → Logs → Core → ℕ → Worker → Task → ℕ → ℕ → Buffers → Buffers → ReadRows → LeafSetRows → Worker → Type 0
+CarriedIn l g c w x t lo hi b b' rs ls y =
     Carried (l .rows) (l .lows) (l .versions) (l .slots) (getD (g .writes) w []) (c .sizes) x t lo hi
-    ks vs (getD (g .reads) w []) (getD (g .leaves) w []) ks' vs' rs ls y
+    b (getD (g .reads) w []) (getD (g .leaves) w []) b' rs ls y
 
 -- the arrays with these sets of worker w
 abbrev pub logging : Logs → ℕ → ReadRows → LeafSetRows → Logs
 logging g w rs ls = logs (set (g .reads) w rs) (set (g .leaves) w ls) (g .writes)
 
 module _ {l : Lent} {g : Logs} {c : Core} {w : ℕ} {x : Worker} (k : Ready l g c) (e : Entered isOpen (c .workers) w x)
-    (lo hi : ℕ) (t : Task) (ks vs ks' vs' : List ℕ) (rs : ReadRows) (ls : LeafSetRows) (y : Worker)
-    (p : PassedIn l g c w x lo hi (length ks) (length vs) t) (d : CarriedIn l g c w x t lo hi ks vs ks' vs' rs ls y) where
+    (lo hi : ℕ) (t : Task) (b b' : Buffers) (rs : ReadRows) (ls : LeafSetRows) (y : Worker)
+    (p : PassedIn l g c w x lo hi (placesOf b) t) (d : CarriedIn l g c w x t lo hi b b' rs ls y) where
   others : OthersSame g (logging g w rs ls) w
   others =
       record {
@@ -168,7 +168,7 @@ module _ {l : Lent} {g : Logs} {c : Core} {w : ℕ} {x : Worker} (k : Ready l g 
           ∙ ap (λ (cs : List Scan). scansIn (g .leaves) w (x .leaves) ++ cs) (scan-remembered (scanMade x t lo hi) (t .met) met-one)
           ∙ ap (λ (s : Scan). scansIn (g .leaves) w (x .leaves) ++ (s ∷ [])) same-scan
 
-  state-is : stateOf l (logging g w rs ls) (coreWith c w y) ≡ effect (stateOf l g c) (scan w lo hi (length ks) (length vs))
+  state-is : stateOf l (logging g w rs ls) (coreWith c w y) ≡ effect (stateOf l g c) (scan w lo hi (placesOf b))
   unfolding effect
   state-is = state-with l g (logging g w rs ls) c w y others ∙ ap (withWorker (stateOf l g c) w) logged-is
 
@@ -184,13 +184,13 @@ module _ {l : Lent} {g : Logs} {c : Core} {w : ℕ} {x : Worker} (k : Ready l g 
 
   own-lows : LowsStay (leavesIn (l .lows) (l .versions) (c .sizes .leaves)) ls (y .leaves)
   own-lows =
-      let b = k .stored .map .tables in
+      let q = k .stored .map .tables in
       let m : t .met .to ≤ c .sizes .leaves = p .measured .met .within in
       let n : length (leavesIn (l .lows) (l .versions) (c .sizes .leaves)) ≡ c .sizes .leaves
-      = length-leaves (l .lows) (l .versions) (c .sizes .leaves) (b .lows .room) (b .lows-size) (b .versions-size) in
+      = length-leaves (l .lows) (l .versions) (c .sizes .leaves) (q .lows .room) (q .lows-size) (q .versions-size) in
       lows-appended (leavesIn (l .lows) (l .versions) (c .sizes .leaves)) (getD (g .leaves) w []) ls (x .leaves) (y .leaves) (t .met)
-      (b .leaves) (omega arith) (d .logs-leaves .count)
-      (d .logs-leaves .versions-are (c .sizes .leaves) m (b .lows .room)) (d .logs-leaves .lows-are (c .sizes .leaves) m (b .lows .room))
+      (q .leaves) (omega arith) (d .logs-leaves .count)
+      (d .logs-leaves .versions-are (c .sizes .leaves) m (q .lows .room)) (d .logs-leaves .lows-are (c .sizes .leaves) m (q .lows .room))
       (subst (λ (a : Worker). LowsStay (leavesIn (l .lows) (l .versions) (c .sizes .leaves)) (getD (g .leaves) w []) (a .leaves)) (sym (e .is)) (k .stored .lows w (e .inside)))
 
   stored : Stored l (logging g w rs ls) (coreWith c w y)
@@ -201,11 +201,11 @@ module _ {l : Lent} {g : Logs} {c : Core} {w : ℕ} {x : Worker} (k : Ready l g 
       (subst (λ (s : LeafSetRows). LowsStay (leavesIn (l .lows) (l .versions) (c .sizes .leaves)) s (y .leaves))
       (sym (own-set (λ (s : LeafSetRows). s) (g .leaves) w ls (k .stored .leaves) (e .inside))) own-lows)
 
-  answer-is : granted (stateOf l g c) (scan w lo hi (length ks) (length vs)) ≡ listed (rowsIn (t .count) ks' vs')
+  answer-is : granted (stateOf l g c) (scan w lo hi (placesOf b)) ≡ listed (rowsIn (t .count) b')
   unfolding granted
   answer-is = ap (λ (os : List (Row Payload)). listed os) (sym (d .fills .rows-are ∙ scan-shown k e lo hi t (p .measured)))
 
-  pub scan-granted : Refines l g c (scan w lo hi (length ks) (length vs)) l (logging g w rs ls) (coreWith c w y) (listed (rowsIn (t .count) ks' vs'))
+  pub scan-granted : Refines l g c (scan w lo hi (placesOf b)) l (logging g w rs ls) (coreWith c w y) (listed (rowsIn (t .count) b'))
   scan-granted =
-      subst (Refines l g c (scan w lo hi (length ks) (length vs)) l (logging g w rs ls) (coreWith c w y)) answer-is
-      (refines k (yields-granted (stateOf l g c) (scan w lo hi (length ks) (length vs)) (passed-is k e lo hi (length ks) (length vs) t p)) state-is stored)
+      subst (Refines l g c (scan w lo hi (placesOf b)) l (logging g w rs ls) (coreWith c w y)) answer-is
+      (refines k (yields-granted (stateOf l g c) (scan w lo hi (placesOf b)) (passed-is k e lo hi (placesOf b) t p)) state-is stored)

@@ -11,6 +11,7 @@ use sets::workers::Worker;
 use sets::writes;
 use sets::writes::Found;
 use spec::Address;
+use spec::PayloadWords;
 use spec::Refusal;
 use spec::WRITE_LIMIT;
 use transactions::Core;
@@ -44,9 +45,16 @@ fn full(writes: &WriteSet, n: usize, a: Address) -> bool
 }
 
 // Both steps: the write is of kind 1 (a put) or 2 (a deletion).
-fn edit(writes: &mut WriteSets, c: Core, w: u32, a: Address, kind: u64, value: u64) -> Done
+fn edit(
+    writes: &mut WriteSets,
+    c: Core,
+    w: u32,
+    a: Address,
+    kind: u64,
+    payload: PayloadWords,
+) -> Done
     requires { ⌜ Writable (now writes) c ⌝ }
-    ensures { λ r. ⌜ Edits (now (writes .entry)) c w a (writeOf kind value) (now (writes .exit)) r ⌝ }
+    ensures { λ r. ⌜ Edits (now (writes .entry)) c w a (writeOf kind payload) (now (writes .exit)) r ⌝ }
 {
     let workers = c.workers;
     match admits::open(workers, w) {
@@ -63,7 +71,7 @@ fn edit(writes: &mut WriteSets, c: Core, w: u32, a: Address, kind: u64, value: u
                     answer: Plain::Refused(Refusal::WritesFull),
                 };
             }
-            let count = writes::put_write(&mut writes[v], n, a, kind, value);
+            let count = writes::put_write(&mut writes[v], n, a, kind, payload);
             let stage = x.stage;
             let y = Worker {
                 stage,
@@ -81,7 +89,7 @@ fn edit(writes: &mut WriteSets, c: Core, w: u32, a: Address, kind: u64, value: u
     }
 }
 
-// Worker w puts a value at an address.
+// Worker w puts a value at an address, for an owner.
 pub fn put(
     writes: &mut WriteSets,
     rows: &Records,
@@ -93,14 +101,19 @@ pub fn put(
     w: u32,
     a: Address,
     value: u64,
+    owner: u16,
 ) -> Done
     requires { ⌜ Ready (lent (now rows) (now leaves) (now slots)) (logs (now reads) (now leafsets) (now writes)) c ⌝ }
     ensures { λ r. ⌜ Refines (lent (now (rows .entry)) (now (leaves .entry)) (now (slots .entry)))
-        (logs (now (reads .entry)) (now (leafsets .entry)) (now (writes .entry))) c (put w a (record { value = value }))
+        (logs (now (reads .entry)) (now (leafsets .entry)) (now (writes .entry))) c (put w a (record { value = value; owner = owner }))
         (lent (now (rows .entry)) (now (leaves .entry)) (now (slots .entry)))
         (logs (now (reads .entry)) (now (leafsets .entry)) (now (writes .exit))) (r .core) (plainIn (r .answer)) ⌝ }
 {
-    edit(writes, c, w, a, 1, value)
+    let payload = PayloadWords {
+        value,
+        owner: owner as u64,
+    };
+    edit(writes, c, w, a, 1, payload)
 }
 
 // Worker w removes an address.
@@ -121,5 +134,6 @@ pub fn remove(
         (lent (now (rows .entry)) (now (leaves .entry)) (now (slots .entry)))
         (logs (now (reads .entry)) (now (leafsets .entry)) (now (writes .exit))) (r .core) (plainIn (r .answer)) ⌝ }
 {
-    edit(writes, c, w, a, 2, 0)
+    let payload = PayloadWords { value: 0, owner: 0 };
+    edit(writes, c, w, a, 2, payload)
 }

@@ -13,6 +13,7 @@ use sets::writes;
 use sets::writes::Found;
 use spec::Address;
 use spec::Current;
+use spec::OWNERS;
 use spec::READ_LIMIT;
 use spec::Refusal;
 use transactions::Core;
@@ -31,9 +32,9 @@ ghost use Rattle.transactions.specs.Admits.{Entered};
 ghost use Rattle.accesses.specs.ReadSteps.{Loggable, Readable, LogsCurrent, Tells, TellsCurrent};
 ghost use Rattle.accesses.specs.Answers.{readAnswer};
 
-// The answer of a read: a value, or none there, each with how many slots the look-up examined, or the refusal.
+// The answer of a read: a value and its owner, or none there, each with how many slots the look-up examined, or the refusal.
 pub enum ReadAnswer {
-    Value(u64, usize),
+    Value(u64, u16, usize),
     Absent(usize),
     Refused(Refusal),
 }
@@ -56,7 +57,8 @@ fn shown(seen: Current, examined: usize) -> ReadAnswer
     ensures { λ r. ⌜ readAnswer r ≡ found (payloadOf (recordIn seen)) examined ⌝ }
 {
     if seen.there {
-        return ReadAnswer::Value(seen.value, examined);
+        let v = seen.payload;
+        return ReadAnswer::Value(v.value, (v.owner % OWNERS) as u16, examined);
     }
     ReadAnswer::Absent(examined)
 }
@@ -147,9 +149,9 @@ fn tell(
             let v = w as usize;
             let own = writes::find_write(&writes[v], x.writes as usize, a);
             match own {
-                Found::Put(value) => ReadDone {
+                Found::Put(p) => ReadDone {
                     core: c,
-                    answer: ReadAnswer::Value(value, 0),
+                    answer: ReadAnswer::Value(p.value, (p.owner % OWNERS) as u16, 0),
                 },
                 Found::Deletion => ReadDone {
                     core: c,

@@ -16,6 +16,7 @@ use transactions::admits::Admit;
 ghost use Rattle.map.specs.Views.{lent};
 ghost use Rattle.transactions.specs.Views.{logs};
 ghost use Rattle.transactions.specs.Ready.{Ready};
+ghost use Rattle.ranges.specs.Buffers.{buffers};
 ghost use Rattle.accesses.specs.Scans.{Scans};
 
 // The answer: how many records are shown, or the refusal.
@@ -31,11 +32,11 @@ pub struct ScanDone {
 }
 
 // Worker w reads the records from lo to hi into the buffers: its own writes, and for all else the present records of the
-// index's addresses. What it passed is logged, and the scan is remembered. A
-// refused scan writes nothing.
+// index's addresses. What it passed is logged, and the scan is remembered. A refused scan writes nothing.
 pub fn scan(
     addresses: &mut [u32],
     values: &mut [u64],
+    owners: &mut [u16],
     reads: &mut ReadSets,
     leafsets: &mut LeafSets,
     rows: &Records,
@@ -49,8 +50,10 @@ pub fn scan(
 ) -> ScanDone
     requires { ⌜ Ready (lent (now rows) (now leaves) (now slots)) (logs (now reads) (now leafsets) (now writes)) c ⌝ }
     ensures { λ r. ⌜ Scans (lent (now (rows .entry)) (now (leaves .entry)) (now (slots .entry)))
-        (logs (now (reads .entry)) (now (leafsets .entry)) (now (writes .entry))) c w lo hi (now (addresses .entry)) (now (values .entry))
-        (logs (now (reads .exit)) (now (leafsets .exit)) (now (writes .entry))) (now (addresses .exit)) (now (values .exit)) r ⌝ }
+        (logs (now (reads .entry)) (now (leafsets .entry)) (now (writes .entry))) c w lo hi
+        (buffers (now (addresses .entry)) (now (values .entry)) (now (owners .entry)))
+        (logs (now (reads .exit)) (now (leafsets .exit)) (now (writes .entry)))
+        (buffers (now (addresses .exit)) (now (values .exit)) (now (owners .exit))) r ⌝ }
 {
     let workers = c.workers;
     let sizes = c.sizes;
@@ -61,9 +64,10 @@ pub fn scan(
         },
         Admit::Allowed(x) => {
             let v = w as usize;
-            let m = addresses.len();
-            let n = values.len();
-            match plans::measure(rows, leaves, slots, &writes[v], sizes, x, lo, hi, m, n) {
+            let k = addresses.len();
+            let m = values.len();
+            let n = owners.len();
+            match plans::measure(rows, leaves, slots, &writes[v], sizes, x, lo, hi, k, m, n) {
                 Plan::Refused(r) => ScanDone {
                     core: c,
                     answer: ScanAnswer::Refused(r),
@@ -72,6 +76,7 @@ pub fn scan(
                     let y = plans::carry_out(
                         addresses,
                         values,
+                        owners,
                         &mut reads[v],
                         &mut leafsets[v],
                         rows,

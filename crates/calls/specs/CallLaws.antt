@@ -2,7 +2,6 @@
 use mathlib.Core.Path.{_≡_, refl, sym, ap, _∙_, subst}
 use mathlib.Core.Bool.{Bool}
 use mathlib.Core.List.{List, _∷_}
-use lib.ListN.{length}
 use Rattle.spec.specs.Records.{standard}
 use Rattle.spec.specs.Maps.{MapState, contents}
 use Rattle.spec.specs.Steps.{State, Answer, fresh, final, history, next, answer, Event, stepsOf}
@@ -13,6 +12,7 @@ use Rattle.transactions.specs.declared.Core.{Core}
 use Rattle.transactions.specs.Views.{Logs, stateOf}
 use Rattle.transactions.specs.Ready.{Ready}
 use Rattle.transactions.specs.Starts.{Fresh}
+use Rattle.ranges.specs.Buffers.{placesOf}
 use Rattle.engine.specs.Performs.{stepIn}
 use Rattle.calls.specs.Calls.{Calls, no-call, call, eventOf, SerialCalls}
 
@@ -22,19 +22,19 @@ use Rattle.calls.specs.Calls.{Calls, no-call, call, eventOf, SerialCalls
 calls-state : {l l' : Lent} {g g' : Logs} {c c' : Core} {h : List Event} → Calls l g c h l' g' c' → stateOf l' g' c' ≡ final (stateOf l g c) (stepsOf h)
 unfolding final
 calls-state no-call = refl
-calls-state (call {h = h} o ks vs ks' vs' p q rest) = calls-state rest ∙ ap (λ (σ : State). final σ (stepsOf h)) (q .refines .state)
+calls-state (call {h = h} o b b' p q rest) = calls-state rest ∙ ap (λ (σ : State). final σ (stepsOf h)) (q .refines .state)
 
 calls-answers : {l l' : Lent} {g g' : Logs} {c c' : Core} {h : List Event} → Calls l g c h l' g' c' → h ≡ history (stateOf l g c) (stepsOf h)
 unfolding history
 calls-answers no-call = refl
-calls-answers (call {l = l} {g = g} {c = c} {h = h} o ks vs ks' vs' p q rest) =
-    let s = stepIn o (length ks) (length vs) in
-    ap (λ (t : List Event). eventOf o ks vs ks' vs' p ∷ t) (calls-answers rest ∙ ap (λ (σ : State). history σ (stepsOf h)) (q .refines .state))
+calls-answers (call {l = l} {g = g} {c = c} {h = h} o b b' p q rest) =
+    let s = stepIn o (placesOf b) in
+    ap (λ (t : List Event). eventOf o b b' p ∷ t) (calls-answers rest ∙ ap (λ (σ : State). history σ (stepsOf h)) (q .refines .state))
     ∙ ap (λ (a : Answer). record { step = s; answer = a } ∷ history (next (stateOf l g c) s) (stepsOf h)) (q .refines .says)
 
 calls-ready : {l l' : Lent} {g g' : Logs} {c c' : Core} {h : List Event} → Ready l g c → Calls l g c h l' g' c' → Ready l' g' c'
 calls-ready r no-call = r
-calls-ready r (call o ks vs ks' vs' p q rest) = calls-ready (q .refines .ready) rest
+calls-ready r (call o b b' p q rest) = calls-ready (q .refines .ready) rest
 
 -- ---- calls from a fresh map
 

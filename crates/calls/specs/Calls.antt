@@ -4,8 +4,6 @@
 use mathlib.Core.Path.{_≡_}
 use mathlib.Core.Bool.{Bool}
 use mathlib.Core.List.{List, [], _∷_}
-use Prim.Native.Nat.{ℕ}
-use lib.ListN.{length}
 use Rattle.spec.specs.Records.{standard}
 use Rattle.spec.specs.Maps.{contents}
 use Rattle.spec.specs.Steps.{fresh, final, history, Event, stepsOf}
@@ -14,19 +12,20 @@ use Rattle.map.specs.Views.{Lent, mapOf}
 use Rattle.transactions.specs.declared.Core.{Core}
 use Rattle.transactions.specs.Views.{Logs, stateOf}
 use Rattle.transactions.specs.Ready.{Ready}
+use Rattle.ranges.specs.Buffers.{Buffers, placesOf}
 use Rattle.engine.specs.declared.steps.Op.{Op}
 use Rattle.engine.specs.declared.steps.Performed.{Performed}
 use Rattle.engine.specs.Performs.{stepIn, replyIn, Performs}
 
 -- The step that a call takes, with the lengths of the buffers lent to it, and the answer that it gives, with what it left in them.
-abbrev pub eventOf : Op → List ℕ → List ℕ → List ℕ → List ℕ → Performed → Event
-eventOf o ks vs ks' vs' p = record { step = stepIn o (length ks) (length vs); answer = replyIn (p .reply) ks' vs' }
+abbrev pub eventOf : Op → Buffers → Buffers → Performed → Event
+eventOf o b b' p = record { step = stepIn o (placesOf b); answer = replyIn (p .reply) b' }
 
 -- The arrays and the core before the calls, their history, and the arrays and the core after them.
 pub data Calls : Lent → Logs → Core → List Event → Lent → Logs → Core → Type 0 where
   no-call : {l : Lent} {g : Logs} {c : Core} → Calls l g c [] l g c
-  call : {l l' l'' : Lent} {g g' g'' : Logs} {c c'' : Core} {h : List Event} (o : Op) (ks vs ks' vs' : List ℕ) (p : Performed)
-      → Performs l g c o ks vs l' g' ks' vs' p → Calls l' g' (p .core) h l'' g'' c'' → Calls l g c (eventOf o ks vs ks' vs' p ∷ h) l'' g'' c''
+  call : {l l' l'' : Lent} {g g' g'' : Logs} {c c'' : Core} {h : List Event} (o : Op) (b b' : Buffers) (p : Performed)
+      → Performs l g c o b l' g' b' p → Calls l' g' (p .core) h l'' g'' c'' → Calls l g c (eventOf o b b' p ∷ h) l'' g'' c''
 
 -- What holds of a history from a fresh map, guarded or not, and of the arrays and the core after it.
 pub record SerialCalls (guarded : Bool) (h : List Event) (l : Lent) (g : Logs) (c : Core) : Type 0 where

@@ -1,5 +1,5 @@
 -- What validate tests, over the arrays that it looks at.
-use Prim.Native.Nat.{ℕ, _+_, _<_, _≤_}
+use Prim.Native.Nat.{ℕ, _+_, _%_, _<_, _≤_}
 use mathlib.Core.Path.{_≡_, refl, sym, ap, _∙_, subst}
 use mathlib.Core.Bool.{Bool, true, false, not}
 use mathlib.Core.List.{[], _∷_}
@@ -9,6 +9,8 @@ use lib.ListN.{getD, set}
 use Rattle.lists.specs.Tests.{pick, both, same, less}
 use Rattle.lists.specs.TestLaws.{same-yes, same-no, less-yes, less-no}
 use Rattle.lists.specs.Rows.{Row, look, keys, has, any}
+use Rattle.spec.specs.Payloads.{owners, payloadIn}
+use Rattle.spec.specs.declared.PayloadWords.{PayloadWords}
 use Rattle.spec.specs.declared.Current.{Current}
 use Rattle.spec.specs.declared.Refusal.{Refusal}
 use Rattle.spec.specs.declared.Refusal.the-variants.{Changed, UnderLock, Phantom, Spent}
@@ -102,32 +104,40 @@ numbering c w x = takes c w x (less (c .counters .number) (standard .lastNumber)
 abbrev pub differing : Current → Current → Bool
 differing now then = not (sameRecord (recordIn now) (recordIn then))
 
-parts : (p q : Bool) (v u s t : ℕ)
+parts : (p q : Bool) (v u : PayloadWords) (s t : ℕ)
     → sameRecord (pick p (some (recordFrom v s)) none) (pick q (some (recordFrom u t)) none)
-    ≡ pick p (pick q (both (same v u) (same s t)) false) (pick q false true)
-unfolding sameRecord samePayload
+    ≡ pick p (pick q (both (samePayload (payloadIn v) (payloadIn u)) (same s t)) false) (pick q false true)
+unfolding sameRecord
 parts true true v u s t = refl
 parts true false v u s t = refl
 parts false true v u s t = refl
 parts false false v u s t = refl
 
+pub payloads-same : (p q : PayloadWords) {b : Bool} → p .value ≡ q .value → b ≡ eqb (p .owner % owners) (q .owner % owners) → b ≡ samePayload (payloadIn p) (payloadIn q)
+unfolding samePayload same
+payloads-same p q e f = f ∙ sym (ap (λ (x : Bool). both x (eqb (p .owner % owners) (q .owner % owners))) (same-yes e))
+
+pub payloads-differ : (p q : PayloadWords) → (p .value ≡ q .value → ⊥) → false ≡ samePayload (payloadIn p) (payloadIn q)
+unfolding samePayload
+payloads-differ p q h = sym (ap (λ (x : Bool). both x (same (p .owner % owners) (q .owner % owners))) (same-no h))
+
 module _ (a b : Current) where
   differ-is : (p q : Bool) → a .there ≡ p → b .there ≡ q
-      → differing a b ≡ not (pick p (pick q (both (same (a .value) (b .value)) (same (a .commit) (b .commit))) false) (pick q false true))
+      → differing a b ≡ not (pick p (pick q (both (samePayload (payloadIn (a .payload)) (payloadIn (b .payload))) (same (a .commit) (b .commit))) false) (pick q false true))
   differ-is p q e f =
-      ap not (parts (a .there) (b .there) (a .value) (b .value) (a .commit) (b .commit)
-      ∙ (λ i. pick (e i) (pick (f i) (both (same (a .value) (b .value)) (same (a .commit) (b .commit))) false) (pick (f i) false true)))
+      ap not (parts (a .there) (b .there) (a .payload) (b .payload) (a .commit) (b .commit)
+      ∙ (λ i. pick (e i) (pick (f i) (both (samePayload (payloadIn (a .payload)) (payloadIn (b .payload))) (same (a .commit) (b .commit))) false) (pick (f i) false true)))
 
-  pub differ-stamps : a .there ≡ true → b .there ≡ true → a .value ≡ b .value → not (eqb (a .commit) (b .commit)) ≡ differing a b
+  pub differ-stamps : a .there ≡ true → b .there ≡ true → samePayload (payloadIn (a .payload)) (payloadIn (b .payload)) ≡ true → not (eqb (a .commit) (b .commit)) ≡ differing a b
   differ-stamps e f h =
       sym
       (differ-is true true e f
-      ∙ ap (λ (x : Bool). not (both x (same (a .commit) (b .commit)))) (same-yes h)
+      ∙ ap (λ (x : Bool). not (both x (same (a .commit) (b .commit)))) h
       ∙ (unfold same in refl))
 
-  pub differ-values : a .there ≡ true → b .there ≡ true → (a .value ≡ b .value → ⊥) → true ≡ differing a b
-  differ-values e f h =
-      sym (differ-is true true e f ∙ ap (λ (x : Bool). not (both x (same (a .commit) (b .commit)))) (same-no h))
+  pub differ-payloads : a .there ≡ true → b .there ≡ true → samePayload (payloadIn (a .payload)) (payloadIn (b .payload)) ≡ false → true ≡ differing a b
+  differ-payloads e f h =
+      sym (differ-is true true e f ∙ ap (λ (x : Bool). not (both x (same (a .commit) (b .commit)))) h)
 
   pub differ-gone : a .there ≡ true → b .there ≡ false → true ≡ differing a b
   differ-gone e f = sym (differ-is true false e f)

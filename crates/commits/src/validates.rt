@@ -16,6 +16,8 @@ use sets::reads;
 use sets::workers::Worker;
 use spec::Current;
 use spec::LAST_NUMBER;
+use spec::OWNERS;
+use spec::PayloadWords;
 use spec::Refusal;
 use transactions::Core;
 use transactions::admits;
@@ -24,7 +26,8 @@ ghost use mathlib.Core.Path.{_≡_};
 ghost use mathlib.Core.Bool.{not};
 ghost use Prim.Native.Nat.{_<_, _≤_};
 ghost use Rattle.lists.specs.Rows.{any, keys};
-ghost use Rattle.spec.specs.Records.{standard, sameRecord};
+ghost use Rattle.spec.specs.Payloads.{payloadIn};
+ghost use Rattle.spec.specs.Records.{samePayload, standard, sameRecord};
 ghost use Rattle.spec.specs.Steps as model;
 ghost use Rattle.map.specs.Parts.{RecordsHeld, SlotsHeld};
 ghost use Rattle.map.specs.Views.{lent, mapOf};
@@ -54,13 +57,25 @@ enum Verdict {
     Refused(Refusal),
 }
 
-// A logged record and the current one differ: in presence, value or commit number.
+// Both say the same value and the same owner.
+fn same_payload(p: PayloadWords, q: PayloadWords) -> bool
+    ensures { λ r. ⌜ r ≡ samePayload (payloadIn p) (payloadIn q) ⌝ }
+{
+    if p.value == q.value {
+        return p.owner % OWNERS == q.owner % OWNERS;
+    }
+    false
+}
+
+// A logged record and the current one differ: in presence, payload or commit number.
 fn differs(now: Current, then: Current) -> bool
     ensures { λ r. ⌜ r ≡ not (sameRecord (recordIn now) (recordIn then)) ⌝ }
 {
     if now.there {
         if then.there {
-            if now.value == then.value {
+            let p = now.payload;
+            let q = then.payload;
+            if same_payload(p, q) {
                 return now.commit != then.commit;
             }
             return true;

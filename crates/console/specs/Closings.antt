@@ -1,4 +1,4 @@
--- The end of the input: how many records there can be, their pairs one after the other, and the last line.
+-- The end of the input: how many records there can be, their triples one after the other, and the last line.
 use Prim.Native.Nat.{ℕ, suc, _+_, _*_, _^_, _<_, _≤_}
 use native.Mathlib.Nat.{le-refl, le-trans, le-of-eq}
 use native.Mathlib.Omega.{arith}
@@ -16,6 +16,7 @@ use Rattle.lists.specs.Counting.{has-append, different-within}
 use Rattle.lists.specs.Options.{both-options, some-same}
 use Rattle.lists.specs.Texts.{Wrote}
 use Rattle.lists.specs.TextLaws.{wrote-join}
+use Rattle.spec.specs.declared.PayloadWords.{PayloadWords}
 use Rattle.spec.specs.Records.{Settings, Record}
 use Rattle.spec.specs.Slots.{Content, entries}
 use Rattle.spec.specs.Maps.{MapState, outcomeOf, current, contents}
@@ -28,8 +29,8 @@ use Rattle.queries.specs.declared.Next.the-variants.{At, Done}
 use Rattle.queries.specs.QueryViews.{mapWith}
 use Rattle.queries.specs.NextViews.{rowsFrom, nextIn, Follows}
 use Rattle.queries.specs.Contents.{firstFrom}
-use Rattle.script.specs.Output.{pair, pairs}
-use Rattle.script.specs.OutputLaws.{pair-most}
+use Rattle.script.specs.Output.{triple, triples}
+use Rattle.script.specs.OutputLaws.{triple-most}
 use Rattle.map.specs.Views.{recordFrom, SlotRows, RecordRows}
 
 -- ---- how many records there can be
@@ -112,36 +113,36 @@ module _ {A : Type 0} where
       (λ t. both-options (here k r rs (less-false (r .key) k t) .0) e)
       (cases (less (r .key) k))
 
--- ---- the pairs of all records
+-- ---- the triples of all records
 
 -- all records of the index and the indexlet; leaves play no part
 abbrev pub allRecords : RecordRows → ℕ → SlotRows → List (Row Record)
 allRecords rows n slots = contents (mapWith rows n slots [])
 
-abbrev pub pairsFor : List (Row Record) → List ℕ
-pairsFor rs = pairs (λ (r : Record). r .payload .value) rs
+abbrev pub triplesFor : List (Row Record) → List ℕ
+triplesFor rs = triples (λ (r : Record). r .payload) rs
 
 pub rising-all : (rows : RecordRows) (n : ℕ) (slots : SlotRows) → RecordsHeld rows n → Rising (allRecords rows n slots)
 rising-all rows n slots h = rising-contents (mapWith rows n slots []) (h .held .rising)
 
-pub next-at : {rows : RecordRows} {slots : SlotRows} {n k : ℕ} {r : Next} {a v u : ℕ} → Follows rows n slots k r → r ≡ At a v u
+pub next-at : {rows : RecordRows} {slots : SlotRows} {n k : ℕ} {r : Next} {a : ℕ} {v : PayloadWords} {u : ℕ} → Follows rows n slots k r → r ≡ At a v u
     → firstFrom k (allRecords rows n slots) ≡ some (row a (recordFrom v u))
 next-at f e = sym (f .next-is []) ∙ ap nextIn e
 
 pub next-done : {rows : RecordRows} {slots : SlotRows} {n k : ℕ} {r : Next} → Follows rows n slots k r → r ≡ Done → firstFrom k (allRecords rows n slots) ≡ none
 next-done f e = sym (f .next-is []) ∙ ap nextIn e
 
--- the pairs of all records are written
-pub record PairsPut (rs : List (Row Record)) (old : List ℕ) (at : ℕ) (new : List ℕ) (next : ℕ) : Type 0 where
-  pub wrote : Wrote old at (pairsFor rs) new next
-  pub most : next ≤ at + 42 * length rs
+-- the triples of all records are written
+pub record TriplesPut (rs : List (Row Record)) (old : List ℕ) (at : ℕ) (new : List ℕ) (next : ℕ) : Type 0 where
+  pub wrote : Wrote old at (triplesFor rs) new next
+  pub most : next ≤ at + 63 * length rs
 
--- the pairs of the records below address k are written
+-- the triples of the records below address k are written
 pub record Listing (rs : List (Row Record)) (old : List ℕ) (at k : ℕ) (new : List ℕ) (place : ℕ) : Type 0 where
   pub text : List ℕ
   pub wrote : Wrote old at text new place
-  pub rest : text ++ pairsFor (rowsFrom k rs) ≡ pairsFor rs
-  pub most : place + 42 * length (rowsFrom k rs) ≤ at + 42 * length rs
+  pub rest : text ++ triplesFor (rowsFrom k rs) ≡ triplesFor rs
+  pub most : place + 63 * length (rowsFrom k rs) ≤ at + 63 * length rs
 
 pub listing-start : (rs : List (Row Record)) (old : List ℕ) (at : ℕ) → Rising rs → at ≤ length old → Listing rs old at 0 old at
 unfolding Rising
@@ -150,16 +151,16 @@ listing-start rs old at f h =
     record {
       text = [];
       wrote = record { written = refl; within = omega arith; place = omega arith };
-      rest = ap pairsFor e;
+      rest = ap triplesFor e;
       most = let l : length (rowsFrom 0 rs) ≡ length rs = ap (λ (zs : List (Row Record)). length zs) e in omega arith;
     }
 
 module _ {rs : List (Row Record)} {old : List ℕ} {at k : ℕ} {mid : List ℕ} {place : ℕ} (f : Rising rs) (p : Listing rs old at k mid place)
-    {a v u : ℕ} (e : firstFrom k rs ≡ some (row a (recordFrom v u))) where
-  row-is : (rowsFrom k rs ≡ row a (recordFrom v u) ∷ rowsFrom (suc a) rs) × (k ≤ a)
-  row-is = unfold Rising in next-row k 0 rs (row a (recordFrom v u)) f e
+    {a : ℕ} {r : Record} (e : firstFrom k rs ≡ some (row a r)) where
+  row-is : (rowsFrom k rs ≡ row a r ∷ rowsFrom (suc a) rs) × (k ≤ a)
+  row-is = unfold Rising in next-row k 0 rs (row a r) f e
 
-  pub listing-room : at + 42 * length rs ≤ length old → length mid ≡ length old → place + 42 ≤ length mid
+  pub listing-room : at + 63 * length rs ≤ length old → length mid ≡ length old → place + 63 ≤ length mid
   listing-room h g =
       let l : length (rowsFrom k rs) ≡ suc (length (rowsFrom (suc a) rs)) = ap (λ (zs : List (Row Record)). length zs) (row-is .0) in
       let q = p .most in
@@ -168,32 +169,34 @@ module _ {rs : List (Row Record)} {old : List ℕ} {at k : ℕ} {mid : List ℕ}
   pub listing-above : k ≤ a
   listing-above = row-is .1
 
-  pub listing-on : {new : List ℕ} {next : ℕ} → a < 2 ^ 64 → v < 2 ^ 64 → Wrote mid place (pair a v) new next → Listing rs old at (a + 1) new next
-  unfolding pairs
-  listing-on {new} {next} x y w =
+  pub listing-on : {new : List ℕ} {next : ℕ} → a < 2 ^ 64 → r .payload .value < 2 ^ 64 → r .payload .owner < 2 ^ 64
+      → Wrote mid place (triple a (r .payload .value) (r .payload .owner)) new next → Listing rs old at (a + 1) new next
+  unfolding triples
+  listing-on {new} {next} x y o w =
       let s : a + 1 ≡ suc a = omega arith in
       let l : length (rowsFrom k rs) ≡ suc (length (rowsFrom (suc a) rs)) = ap (λ (zs : List (Row Record)). length zs) (row-is .0) in
       let l' : length (rowsFrom (a + 1) rs) ≡ length (rowsFrom (suc a) rs) = ap (λ (i : ℕ). length (rowsFrom i rs)) s in
       let q = p .most in
       let z = w .place in
-      let m : length (pair a v) ≤ 42 = pair-most a v x y in
+      let t = triple a (r .payload .value) (r .payload .owner) in
+      let m : length t ≤ 63 = triple-most a (r .payload .value) (r .payload .owner) x y o in
       record {
-        text = p .text ++ pair a v;
+        text = p .text ++ t;
         wrote = wrote-join (p .wrote) w;
         rest =
-            ap (λ (i : ℕ). p .text ++ pair a v ++ pairsFor (rowsFrom i rs)) s
-            ∙ append-assoc (p .text) (pair a v) (pairsFor (rowsFrom (suc a) rs))
-            ∙ ap (λ (zs : List (Row Record)). p .text ++ pairsFor zs) (sym (row-is .0))
+            ap (λ (i : ℕ). p .text ++ t ++ triplesFor (rowsFrom i rs)) s
+            ∙ append-assoc (p .text) t (triplesFor (rowsFrom (suc a) rs))
+            ∙ ap (λ (zs : List (Row Record)). p .text ++ triplesFor zs) (sym (row-is .0))
             ∙ p .rest;
         most = omega arith;
       }
 
 pub listing-end : {rs : List (Row Record)} {old : List ℕ} {at k : ℕ} {new : List ℕ} {place : ℕ} → Listing rs old at k new place → firstFrom k rs ≡ none
-    → PairsPut rs old at new place
-unfolding pairs
+    → TriplesPut rs old at new place
+unfolding triples
 listing-end {rs} {old} {at} {k} {new} {place} p e =
     let z : rowsFrom k rs ≡ [] = no-row k rs e in
     record {
-      wrote = subst (λ (t : List ℕ). Wrote old at t new place) (sym (append-nil (p .text)) ∙ ap (λ (zs : List (Row Record)). p .text ++ pairsFor zs) (sym z) ∙ p .rest) (p .wrote);
+      wrote = subst (λ (t : List ℕ). Wrote old at t new place) (sym (append-nil (p .text)) ∙ ap (λ (zs : List (Row Record)). p .text ++ triplesFor zs) (sym z) ∙ p .rest) (p .wrote);
       most = let q = p .most in omega arith;
     }

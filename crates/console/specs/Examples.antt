@@ -7,8 +7,8 @@ use mathlib.Core.Path.{_≡_, refl}
 use mathlib.Core.List.{List, [], _∷_}
 use Rattle.lists.specs.Tests.{same, less, atMost, within}
 use Rattle.spec.specs.Computing.{model}
-use Rattle.script.specs.Grammar.{firstWord, moreWords, isDigit, extend, number, numbers, noNumber, oneNumber, twoNumbers, threeNumbers, lineOf, lettered, meaning}
-use Rattle.script.specs.Output.{digitsWithin, decimal, field, pair, pairs, answerText, answerLine, endLine}
+use Rattle.script.specs.Grammar.{firstWord, moreWords, isDigit, extend, number, numbers, noNumber, oneNumber, twoNumbers, threeNumbers, fourNumbers, lineOf, lettered, meaning}
+use Rattle.script.specs.Output.{digitsWithin, decimal, field, triple, triples, answerText, answerLine, endLine}
 use Rattle.console.specs.Program.{writtenFrom, startsGuarded, output}
 
 -- the bytes of a text; every character here is one byte
@@ -18,15 +18,20 @@ bytes (text._∷_ c s) = code c ∷ bytes s
 
 pub record Answered : Type 0 where
   pub full-run :
-      output (bytes "B 0\nP 0 4096 32\nL 0\nV 0\nI 0\nB 1\nS 1 4000 5000\nL 1\nV 1\nM 4096\nB 1\nS 1 4000 5000\nL 1\nV 1\nI 1\n")
-      ≡ bytes "B 0\nP 0\nL 0\nV 0 1\nI 0\nB 0\nS 0 0\nL 0\nV 14\nM 0 1\nB 0\nS 0 1 4096 32\nL 0\nV 0 2\nI 0\nE 1 4096 32\n"
+      output (bytes "B 0\nP 0 4096 32 0\nL 0\nV 0\nI 0\nB 1\nS 1 4000 5000\nL 1\nV 1\nM 4096\nB 1\nS 1 4000 5000\nL 1\nV 1\nI 1\n")
+      ≡ bytes "B 0\nP 0\nL 0\nV 0 1\nI 0\nB 0\nS 0 0\nL 0\nV 14\nM 0 1\nB 0\nS 0 1 4096 32 0\nL 0\nV 0 2\nI 0\nE 1 4096 32 0\n"
   pub nothing : output [] ≡ bytes "E 0\n"
   -- a merge of the oldest has no number
-  pub oldest : output (bytes "B 0\nP 0 9 1\nL 0\nV 0\nI 0\nT\nT\n") ≡ bytes "B 0\nP 0\nL 0\nV 0 1\nI 0\nT 0 1\nT 0 0\nE 1 9 1\n"
+  pub oldest : output (bytes "B 0\nP 0 9 1 0\nL 0\nV 0\nI 0\nT\nT\n") ≡ bytes "B 0\nP 0\nL 0\nV 0 1\nI 0\nT 0 1\nT 0 0\nE 1 9 1 0\n"
+  -- request 106: a read, a scan and the end tell the owner; one of 65,536 is too wide
+  pub owned :
+      output (bytes "B 0\nP 0 4096 32 7\nL 0\nV 0\nI 0\nB 1\nR 1 4096\nR 1 4097\nM 0\nS 1 0 5000\n")
+      ≡ bytes "B 0\nP 0\nL 0\nV 0 1\nI 0\nB 0\nR 0 32 7 1\nR 0 - 1\nM 0 1\nS 0 1 4096 32 7\nE 1 4096 32 7\n"
+  pub owner-wide : output (bytes "B 0\nP 0 9 1 65536\n") ≡ bytes "B 0\n?\n"
   -- on a guarded map a put without a scan is not locked
   pub guarded :
-      output (bytes "G\nB 0\nP 0 4096 32\nL 0\nS 0 0 4127\nL 0\nV 0\nI 0\n")
-      ≡ bytes "G 0\nB 0\nP 0\nL 17\nS 0 1 4096 32\nL 0\nV 0 1\nI 0\nE 1 4096 32\n"
+      output (bytes "G\nB 0\nP 0 4096 32 0\nL 0\nS 0 0 4127\nL 0\nV 0\nI 0\n")
+      ≡ bytes "G 0\nB 0\nP 0\nL 17\nS 0 1 4096 32 0\nL 0\nV 0 1\nI 0\nE 1 4096 32 0\n"
   pub guarded-alone : output (bytes "G\n") ≡ bytes "G 0\nE 0\n"
   -- G is the whole first line, or malformed
   pub guarded-late : output (bytes "B 0\nG\n") ≡ bytes "B 0\n?\n"
@@ -39,12 +44,14 @@ pub record Answered : Type 0 where
   pub unended : output (bytes "B 0\nB 1") ≡ bytes "B 0\n?\n"
 
 pub answered : Answered
-unfolding model same less atMost within firstWord moreWords isDigit extend number numbers noNumber oneNumber twoNumbers threeNumbers lineOf lettered meaning digitsWithin decimal field pair pairs answerText answerLine endLine writtenFrom startsGuarded output
+unfolding model same less atMost within firstWord moreWords isDigit extend number numbers noNumber oneNumber twoNumbers threeNumbers fourNumbers lineOf lettered meaning digitsWithin decimal field triple triples answerText answerLine endLine writtenFrom startsGuarded output
 answered =
     record {
       full-run = refl;
       nothing = refl;
       oldest = refl;
+      owned = refl;
+      owner-wide = refl;
       guarded = refl;
       guarded-alone = refl;
       guarded-late = refl;

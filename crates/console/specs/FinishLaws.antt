@@ -22,17 +22,17 @@ use Rattle.console.specs.Program.{writtenFrom, startsGuarded}
 use Rattle.console.specs.ProgramLaws.{starts-clear}
 use Rattle.console.specs.Sessions.{Started, dueFor, due}
 use Rattle.console.specs.DueLaws.{due-unguarded}
-use Rattle.console.specs.Closings.{allRecords, pairsFor, PairsPut, contents-count}
+use Rattle.console.specs.Closings.{allRecords, triplesFor, TriplesPut, contents-count}
 use Rattle.console.specs.Finishes.{Finishes}
 
 -- ---- laws
 
--- `E`, the count, the pairs and a line feed
-pub end-wrote : {rs : List (Row Record)} {old a b new : List ℕ} {at i j k n : ℕ} → n ≡ length rs → Wrote old at (69 ∷ field n) a i → PairsPut rs a i b j
+-- `E`, the count, the triples and a line feed
+pub end-wrote : {rs : List (Row Record)} {old a b new : List ℕ} {at i j k n : ℕ} → n ≡ length rs → Wrote old at (69 ∷ field n) a i → TriplesPut rs a i b j
     → Wrote b j (10 ∷ []) new k → Wrote old at (endLine rs) new k
 unfolding endLine
 end-wrote {rs} {old} {a} {b} {new} {at} {i} {j} {k} {n} e x y z =
-    subst (λ (m : ℕ). Wrote old at ((69 ∷ field m) ++ pairsFor rs ++ (10 ∷ [])) new k) e (wrote-join (wrote-join x (y .wrote)) z)
+    subst (λ (m : ℕ). Wrote old at ((69 ∷ field m) ++ triplesFor rs ++ (10 ∷ [])) new k) e (wrote-join (wrote-join x (y .wrote)) z)
 
 pub records-fit : {l : Lent} {g : Logs} {c : Core} → Ready l g c → length (allRecords (l .rows) (c .sizes .records) (l .slots)) ≤ standard .mapLimit
 unfolding contents

@@ -9,9 +9,9 @@ use Rattle.script.specs.Parsing.{After}
 use Rattle.console.specs.declared.session.Session.{Session}
 use Rattle.console.specs.Sessions.{due}
 
--- the longest last line: a letter, a number, the pairs of a full map and a line feed
+-- the longest last line: a letter, a number, the triples of a full map and a line feed
 abbrev pub longestEnd : ℕ
-longestEnd = 23 + 42 * standard .mapLimit
+longestEnd = 23 + 63 * standard .mapLimit
 
 -- all that is still due was written, when no more input comes
 pub record Finishes (l : Lent) (g : Logs) (x : Session) (old new : List ℕ) (next : ℕ) : Type 0 where

@@ -1,12 +1,15 @@
 -- A step that is performed lists no more records than a scan's buffers have places.
 use Prim.Native.Nat.{ℕ, _≤_, min}
 use native.Mathlib.Omega.{arith}
-use mathlib.Core.Path.{_≡_, ap, _∙_}
+use mathlib.Core.Path.{_≡_, _∙_}
 use mathlib.Core.List.{List}
 use lib.ListN.{length}
+use Rattle.spec.specs.Steps as model
+use Rattle.spec.specs.Steps.{shortest}
 use Rattle.transactions.specs.declared.Core.{Core}
 use Rattle.map.specs.Views.{Lent}
 use Rattle.transactions.specs.Views.{Logs, stateOf}
+use Rattle.ranges.specs.Buffers.{Buffers, buffers, placesOf}
 use Rattle.engine.specs.declared.steps.Op.{Op}
 use Rattle.engine.specs.declared.steps.Performed.{Performed}
 use Rattle.engine.specs.Performs.{stepIn, placesIn, Performs}
@@ -19,13 +22,14 @@ use Rattle.console.specs.Replies.{Asks}
 -- ---- a line performed
 
 -- the step is the line's, when the buffers have their places
-pub step-is : {u : Line} {o : Op} (ks vs : List ℕ) → Asks u o → length ks ≡ places → length vs ≡ places
-    → stepIn o (length ks) (length vs) ≡ stepOf places u
-step-is {u} {o} ks vs a e f =
-    ap (λ (n : ℕ). stepIn o n (length vs)) e ∙ ap (λ (n : ℕ). stepIn o places n) f ∙ a .step places
+pub step-is : {u : Line} {o : Op} (ks vs os : List ℕ) → Asks u o → length ks ≡ places → length vs ≡ places → length os ≡ places
+    → stepIn o (placesOf (buffers ks vs os)) ≡ stepOf places u
+step-is {u} {o} ks vs os a e f h = (λ i. stepIn o (model.places (e i) (f i) (h i))) ∙ a .step places
 
-pub places-fit : {l l' : Lent} {g g' : Logs} {x : Core} {u : Line} {o : Op} {ks vs ks' vs' : List ℕ} {d : Performed}
-    → Asks u o → length ks ≡ places → length vs ≡ places → Performs l g x o ks vs l' g' ks' vs' d → placesIn (d .reply) ≤ places
-places-fit {l} {g = g} {x = x} {o = o} {ks} {vs} {ks'} {vs'} {d = d} a e f p =
-    let h : placesIn (d .reply) ≤ min (length ks) (length vs) = listings.places-fit (stateOf l g x) o (length ks) (length vs) (d .reply) ks' vs' (p .refines .says) in
+pub places-fit : {l l' : Lent} {g g' : Logs} {x : Core} {u : Line} {o : Op} {ks vs os : List ℕ} {b : Buffers} {d : Performed}
+    → Asks u o → length ks ≡ places → length vs ≡ places → length os ≡ places → Performs l g x o (buffers ks vs os) l' g' b d → placesIn (d .reply) ≤ places
+unfolding shortest
+places-fit {l} {g = g} {x = x} {o = o} {ks} {vs} {os} {b} {d} a e f m p =
+    let h : placesIn (d .reply) ≤ min (min (length ks) (length vs)) (length os)
+    = listings.places-fit (stateOf l g x) o (placesOf (buffers ks vs os)) (d .reply) b (p .refines .says) in
     omega arith

@@ -15,7 +15,7 @@ use Rattle.script.specs.Grammar.{meaning}
 use Rattle.script.specs.Parsing.{filled}
 use Rattle.script.specs.Output.{stepOf, answerLine, endLine, guardedAnswer, malformedLine}
 
--- the places of a scan's two buffers
+-- the places of a scan's three buffers
 abbrev pub places : ℕ
 places = 64
 
@@ -43,6 +43,6 @@ output input =
     (guardedAnswer ++ writtenFrom (fresh standard true) [] (drop 2 input))
     (writtenFrom (fresh standard false) [] input)
 
--- the longest line: a letter, two numbers, a scan's pairs and a line feed
+-- the longest line: a letter, two numbers, a scan's triples and a line feed
 abbrev pub longestLine : ℕ
-longestLine = 44 + 42 * places
+longestLine = 44 + 63 * places

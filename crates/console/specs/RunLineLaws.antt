@@ -18,6 +18,7 @@ use Rattle.map.specs.Views.{Lent}
 use Rattle.transactions.specs.declared.Core.{Core}
 use Rattle.transactions.specs.Views.{Logs, stateOf}
 use Rattle.transactions.specs.Ready.{Ready}
+use Rattle.ranges.specs.Buffers.{Buffers, buffers}
 use Rattle.engine.specs.declared.steps.Op.{Op}
 use Rattle.engine.specs.declared.steps.Performed.{Performed}
 use Rattle.engine.specs.Performs.{Performs}
@@ -207,12 +208,13 @@ module _ (l : Lent) (g : Logs) (x : Session) (input old : List ℕ) (t : Parsed)
       (cases (x .first))
 
   -- a line
-  pub turn-line : {u : Line} {o : Op} {ks vs ks' vs' : List ℕ} {l' : Lent} {g' : Logs} {d : Performed} {c : ℕ} {new : List ℕ} {at : ℕ}
-      → t .event ≡ event.Line u → Asks u o → length ks ≡ places → length vs ≡ places → Performs l g (x .core) o ks vs l' g' ks' vs' d
-      → c ≡ letterOf u → Replies c (d .reply) ks' vs' old (x .at) new at
+  pub turn-line : {u : Line} {o : Op} {ks vs os : List ℕ} {b' : Buffers} {l' : Lent} {g' : Logs} {d : Performed} {c : ℕ} {new : List ℕ} {at : ℕ}
+      → t .event ≡ event.Line u → Asks u o → length ks ≡ places → length vs ≡ places → length os ≡ places
+      → Performs l g (x .core) o (buffers ks vs os) l' g' b' d
+      → c ≡ letterOf u → Replies c (d .reply) b' old (x .at) new at
       → RunsLine l g x input old l' g' (record { core = d .core; parser = t .parser; next = t .next; at = at; stopped = false; first = false }) new
   unfolding Says due dueFor
-  turn-line {u} {o} {ks} {vs} {ks'} {vs'} {l'} {g'} {d} {c} {new} {at} e a b b' q j w =
+  turn-line {u} {o} {ks} {vs} {os} {b'} {l'} {g'} {d} {c} {new} {at} e a m m' m'' q j w =
       record {
         feeds =
             record {
@@ -222,7 +224,7 @@ module _ (l : Lent) (g : Logs) (x : Session) (input old : List ℕ) (t : Parsed)
               room = let y = w .wrote .within in let z = w .wrote .place in let v : length new ≡ length old = wrote-length (w .wrote) in omega arith;
               continues = λ seen s.
                   record {
-                    text = replyText c (d .reply) ks' vs';
+                    text = replyText c (d .reply) b';
                     wrote = w .wrote;
                     line = [];
                     after = fresh-line (says-as (event.Line u) e seen s .3);
@@ -241,16 +243,16 @@ module _ (l : Lent) (g : Logs) (x : Session) (input old : List ℕ) (t : Parsed)
       σ : State
       σ = stateOf l g (x .core)
 
-      text-is : answerLine u (answer σ (stepOf places u)) ≡ replyText c (d .reply) ks' vs'
+      text-is : answerLine u (answer σ (stepOf places u)) ≡ replyText c (d .reply) b'
       text-is =
           unfold answerLine replyText in
-          (λ i. sym j i ∷ answerText ((ap (answer σ) (sym (step-is ks vs a b b')) ∙ sym (q .refines .says)) i) ++ (10 ∷ []))
+          (λ i. sym j i ∷ answerText ((ap (answer σ) (sym (step-is ks vs os a m m' m'')) ∙ sym (q .refines .says)) i) ++ (10 ∷ []))
 
       state-is : next σ (stepOf places u) ≡ stateOf l' g' (d .core)
-      state-is = ap (next σ) (sym (step-is ks vs a b b')) ∙ sym (q .refines .state)
+      state-is = ap (next σ) (sym (step-is ks vs os a m m' m'')) ∙ sym (q .refines .state)
 
       line-told : (seen : List ℕ) (s : After seen (x .parser)) (rest : List ℕ)
-          → dueFor σ (x .first) seen (p seen s .taken ++ rest) ≡ replyText c (d .reply) ks' vs' ++ writtenFrom (stateOf l' g' (d .core)) [] rest
+          → dueFor σ (x .first) seen (p seen s .taken ++ rest) ≡ replyText c (d .reply) b' ++ writtenFrom (stateOf l' g' (d .core)) [] rest
       line-told seen s rest =
           let m = says-as (event.Line u) e seen s in
           due-line σ (x .first) (k .opening) seen (p seen s .taken) (s .unbroken) u (m .0) rest (m .1) (m .2)

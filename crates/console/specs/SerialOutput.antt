@@ -9,7 +9,7 @@ use Rattle.lists.specs.Tests.{pick, maybe, same}
 use Rattle.lists.specs.Rows.{Row}
 use Rattle.spec.specs.declared.Refusal.{Refusal}
 use Rattle.spec.specs.Records.{Payload, Record}
-use Rattle.spec.specs.Steps.{Step, begin, read, scan, put, remove, lock, validate, install, abort, merge, mergeOldest, Answer, refused, done, found, listed, numbered, counted, Event}
+use Rattle.spec.specs.Steps.{Places, Step, begin, read, scan, put, remove, lock, validate, install, abort, merge, mergeOldest, Answer, refused, done, found, listed, numbered, counted, Event}
 use Rattle.spec.specs.Claim.{SerialRun}
 use Rattle.script.specs.declared.Line.{Line}
 use Rattle.script.specs.Grammar.{meaning}
@@ -43,7 +43,7 @@ pub data Answers : Step → Answer → Type 0 where
   not-granted : (s : Step) (r : Refusal) → Answers s (refused r)
   begun : (w : ℕ) → Answers (begin w) done
   value : (w k : ℕ) (o : Option Payload) (n : ℕ) → Answers (read w k) (found o n)
-  records : (w lo hi m n : ℕ) (rs : List (Row Payload)) → Answers (scan w lo hi m n) (listed rs)
+  records : (w lo hi : ℕ) (b : Places) (rs : List (Row Payload)) → Answers (scan w lo hi b) (listed rs)
   written : (w k : ℕ) (p : Payload) → Answers (put w k p) done
   removed : (w k : ℕ) → Answers (remove w k) done
   locked : (w : ℕ) → Answers (lock w) done

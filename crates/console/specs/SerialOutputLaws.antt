@@ -26,7 +26,7 @@ granted-answers : (σ : State) (s : Step) → Answers s (granted σ s)
 unfolding granted
 granted-answers σ (begin w) = begun w
 granted-answers σ (read w k) = value w k _ _
-granted-answers σ (scan w lo hi m n) = records w lo hi m n _
+granted-answers σ (scan w lo hi b) = records w lo hi b _
 granted-answers σ (put w k p) = written w k p
 granted-answers σ (remove w k) = removed w k
 granted-answers σ (lock w) = locked w

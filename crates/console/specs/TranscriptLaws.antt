@@ -17,7 +17,7 @@ use Rattle.spec.specs.Records.{Payload, Record}
 use Rattle.spec.specs.Steps.{Step, begin, read, scan, put, remove, lock, validate, install, abort, merge, mergeOldest, Answer, refused, done, found, listed, numbered, counted, Event}
 use Rattle.script.specs.declared.Line.{Line}
 use Rattle.script.specs.Grammar.{isDigit}
-use Rattle.script.specs.Output.{decimal, field, absent, pair, pairs, answerText, answerLine, stepOf}
+use Rattle.script.specs.Output.{decimal, field, absent, triple, triples, answerText, answerLine, stepOf}
 use Rattle.script.specs.OutputLaws.{decimal-one, decimal-more}
 use Rattle.console.specs.Program.{places}
 use Rattle.console.specs.SerialOutput.{Answers, not-granted, begun, value, records, written, removed, locked, number, installed, aborted, count, oldest-count, Transcript, end-line, answer-line}
@@ -116,7 +116,7 @@ refusal-back Overlap = refl
 
 -- ---- answers
 
--- the kinds of answers: 0 refusals, 1 nothing told, 2 a value or none, 3 records, 4 a serial number, 5 a count
+-- the kinds of answers: 0 refusals, 1 nothing told, 2 a value and owner or none, 3 records, 4 a serial number, 5 a count
 abbrev kindOf : Answer → ℕ
 kindOf (refused r) = 0
 kindOf done = 1
@@ -129,7 +129,7 @@ kindOf (counted n) = 5
 abbrev grantedKind : Step → ℕ
 grantedKind (begin w) = 1
 grantedKind (read w k) = 2
-grantedKind (scan w lo hi m n) = 3
+grantedKind (scan w lo hi b) = 3
 grantedKind (put w k p) = 1
 grantedKind (remove w k) = 1
 grantedKind (lock w) = 1
@@ -174,7 +174,7 @@ kind-told (not-granted s r) = go r
     go Overlap = refl
 kind-told (begun w) = refl
 kind-told (value w k o x) = refl
-kind-told (records w lo hi m n rs) = refl
+kind-told (records w lo hi b rs) = refl
 kind-told (written w k p) = refl
 kind-told (removed w k) = refl
 kind-told (locked w) = refl
@@ -189,8 +189,8 @@ abbrev more : Answer → List ℕ
 more (refused r) = []
 more done = []
 more (found none x) = absent ++ field x
-more (found (some p) x) = field (p .value) ++ field x
-more (listed rs) = field (length rs) ++ pairs (λ (p : Payload). p .value) rs
+more (found (some p) x) = field (p .value) ++ field (p .owner) ++ field x
+more (listed rs) = field (length rs) ++ triples (λ (p : Payload). p) rs
 more (numbered n) = field n
 more (counted n) = field n
 
@@ -199,45 +199,62 @@ unfolding answerText
 text-is (refused r) = sym (append-nil (field (numberOf r)))
 text-is done = sym (append-nil (field 0))
 text-is (found none x) = append-assoc (field 0) absent (field x)
-text-is (found (some p) x) = append-assoc (field 0) (field (p .value)) (field x)
-text-is (listed rs) = append-assoc (field 0) (field (length rs)) (pairs (λ (p : Payload). p .value) rs)
+text-is (found (some p) x) =
+    ap (λ (t : List ℕ). t ++ field x) (append-assoc (field 0) (field (p .value)) (field (p .owner)))
+    ∙ append-assoc (field 0) (field (p .value) ++ field (p .owner)) (field x)
+text-is (listed rs) = append-assoc (field 0) (field (length rs)) (triples (λ (p : Payload). p) rs)
 text-is (numbered n) = refl
 text-is (counted n) = refl
 
 -- ---- records
 
+-- a record at the front
+abbrev rowFront : List ℕ → Front (Row Payload)
+rowFront t =
+    let k = fieldIn t in
+    let v = fieldIn (k .rest) in
+    let o = fieldIn (v .rest) in
+    got (row (k .read) (record { value = v .read; owner = o .read })) (o .rest)
+
 -- so many records at the front
 rowsFront : ℕ → List ℕ → Front (List (Row Payload))
 rowsFront zero t = got [] t
 rowsFront (suc n) t =
-    let k = fieldIn t in
-    let v = fieldIn (k .rest) in
-    let f = rowsFront n (v .rest) in
-    got (row (k .read) (record { value = v .read }) ∷ f .read) (f .rest)
+    let r = rowFront t in
+    let f = rowsFront n (r .rest) in
+    got (r .read ∷ f .read) (f .rest)
 
-stops-pairs : (rs : List (Row Payload)) (t : List ℕ) → Stops t → Stops (pairs (λ (p : Payload). p .value) rs ++ t)
-unfolding pairs pair field isDigit within atMost
-stops-pairs [] t h = h
-stops-pairs (r ∷ rs) t h = refl
+stops-triples : (rs : List (Row Payload)) (t : List ℕ) → Stops t → Stops (triples (λ (p : Payload). p) rs ++ t)
+unfolding triples triple field isDigit within atMost
+stops-triples [] t h = h
+stops-triples (r ∷ rs) t h = refl
 
 stops-field : (n : ℕ) (t : List ℕ) → Stops (field n ++ t)
 unfolding field isDigit within atMost
 stops-field n t = refl
 
-rows-front : (rs : List (Row Payload)) (t : List ℕ) → Stops t → rowsFront (length rs) (pairs (λ (p : Payload). p .value) rs ++ t) ≡ got rs t
-unfolding pairs pair rowsFront
+row-front : (k v o : ℕ) (t : List ℕ) → Stops t → rowFront (triple k v o ++ t) ≡ got (row k (record { value = v; owner = o })) t
+unfolding triple
+row-front k v o t h =
+    let last = field o ++ t in
+    let after = field v ++ last in
+    ap rowFront (append-assoc (field k ++ field v) (field o) t ∙ append-assoc (field k) (field v) last)
+    ∙ ap (λ (x : Front ℕ). let y = fieldIn (x .rest) in let z = fieldIn (y .rest) in got (row (x .read) (record { value = y .read; owner = z .read })) (z .rest))
+    (field-in k after (stops-field v last))
+    ∙ ap (λ (y : Front ℕ). let z = fieldIn (y .rest) in got (row k (record { value = y .read; owner = z .read })) (z .rest)) (field-in v last (stops-field o t))
+    ∙ ap (λ (z : Front ℕ). got (row k (record { value = v; owner = z .read })) (z .rest)) (field-in o t h)
+
+rows-front : (rs : List (Row Payload)) (t : List ℕ) → Stops t → rowsFront (length rs) (triples (λ (p : Payload). p) rs ++ t) ≡ got rs t
+unfolding triples rowsFront
 rows-front [] t h = refl
 rows-front (r ∷ rs) t h =
-    let after = pairs (λ (p : Payload). p .value) rs ++ t in
+    let one = triple (r .key) (r .item .value) (r .item .owner) in
+    let after = triples (λ (p : Payload). p) rs ++ t in
     let ih : rowsFront (length rs) after ≡ got rs t = rows-front rs t h in
-    let v : fieldIn (field (r .item .value) ++ after) ≡ got (r .item .value) after = field-in (r .item .value) after (stops-pairs rs t h) in
-    let k : fieldIn (field (r .key) ++ (field (r .item .value) ++ after)) ≡ got (r .key) (field (r .item .value) ++ after)
-    = field-in (r .key) (field (r .item .value) ++ after) (stops-field (r .item .value) after) in
-    ap (rowsFront (suc (length rs)))
-    (append-assoc (field (r .key) ++ field (r .item .value)) (pairs (λ (p : Payload). p .value) rs) t ∙ append-assoc (field (r .key)) (field (r .item .value)) after)
-    ∙ ap (λ (x : Front ℕ). let y = fieldIn (x .rest) in let f = rowsFront (length rs) (y .rest) in got (row (x .read) (record { value = y .read }) ∷ f .read) (f .rest)) k
-    ∙ ap (λ (y : Front ℕ). let f = rowsFront (length rs) (y .rest) in got (row (r .key) (record { value = y .read }) ∷ f .read) (f .rest)) v
-    ∙ ap (λ (f : Front (List (Row Payload))). got (row (r .key) (record { value = r .item .value }) ∷ f .read) (f .rest)) ih
+    ap (rowsFront (suc (length rs))) (append-assoc one (triples (λ (p : Payload). p) rs) t)
+    ∙ ap (λ (x : Front (Row Payload)). let f = rowsFront (length rs) (x .rest) in got (x .read ∷ f .read) (f .rest))
+    (row-front (r .key) (r .item .value) (r .item .owner) after (stops-triples rs t h))
+    ∙ ap (λ (f : Front (List (Row Payload))). got (r ∷ f .read) (f .rest)) ih
 
 -- ---- a line
 
@@ -249,11 +266,15 @@ head (b ∷ t) = b
 abbrev examinedFront : Option Payload → Front ℕ → Front Answer
 examinedFront o f = got (found o (f .read)) (f .rest)
 
--- a value, or `-`
+-- a value's owner, and the slots examined
+abbrev ownerFront : ℕ → Front ℕ → Front Answer
+ownerFront v f = examinedFront (some (record { value = v; owner = f .read })) (fieldIn (f .rest))
+
+-- a value and its owner, or `-`
 abbrev valueFront : Front ℕ → Front Answer
 valueFront f =
     pick (same (head (f .rest)) 45) (examinedFront none (fieldIn (tail (f .rest))))
-    (examinedFront (some (record { value = f .read })) (fieldIn (f .rest)))
+    (ownerFront (f .read) (fieldIn (f .rest)))
 
 abbrev recordsFront : Front ℕ → Front Answer
 recordsFront f = let g = rowsFront (f .read) (f .rest) in got (listed (g .read)) (g .rest)
@@ -277,14 +298,17 @@ answer-front (refused r) t = ap (λ (x : Refusal). got (refused x) (10 ∷ t)) (
 answer-front done t = refl
 answer-front (found none x) t = ap (examinedFront none) (field-in x (10 ∷ t) (stops-feed t))
 answer-front (found (some p) x) t =
-    let after = field x ++ (10 ∷ t) in
-    ap (λ (y : List ℕ). valueFront (fieldIn y)) (append-assoc (field (p .value)) (field x) (10 ∷ t))
-    ∙ ap valueFront (field-in (p .value) after (stops-field x (10 ∷ t)))
+    let last = field x ++ (10 ∷ t) in
+    let after = field (p .owner) ++ last in
+    ap (λ (y : List ℕ). valueFront (fieldIn y))
+    (append-assoc (field (p .value) ++ field (p .owner)) (field x) (10 ∷ t) ∙ append-assoc (field (p .value)) (field (p .owner)) last)
+    ∙ ap valueFront (field-in (p .value) after (stops-field (p .owner) last))
+    ∙ ap (ownerFront (p .value)) (field-in (p .owner) last (stops-field x (10 ∷ t)))
     ∙ ap (examinedFront (some p)) (field-in x (10 ∷ t) (stops-feed t))
 answer-front (listed rs) t =
-    let after = pairs (λ (p : Payload). p .value) rs ++ (10 ∷ t) in
-    ap (λ (x : List ℕ). recordsFront (fieldIn x)) (append-assoc (field (length rs)) (pairs (λ (p : Payload). p .value) rs) (10 ∷ t))
-    ∙ ap recordsFront (field-in (length rs) after (stops-pairs rs (10 ∷ t) (stops-feed t)))
+    let after = triples (λ (p : Payload). p) rs ++ (10 ∷ t) in
+    ap (λ (x : List ℕ). recordsFront (fieldIn x)) (append-assoc (field (length rs)) (triples (λ (p : Payload). p) rs) (10 ∷ t))
+    ∙ ap recordsFront (field-in (length rs) after (stops-triples rs (10 ∷ t) (stops-feed t)))
     ∙ ap (λ (g : Front (List (Row Payload))). got (listed (g .read)) (g .rest)) (rows-front rs (10 ∷ t) (stops-feed t))
 answer-front (numbered n) t = ap (λ (f : Front ℕ). got (numbered (f .read)) (f .rest)) (field-in n (10 ∷ t) (stops-feed t))
 answer-front (counted n) t = ap (λ (f : Front ℕ). got (counted (f .read)) (f .rest)) (field-in n (10 ∷ t) (stops-feed t))

@@ -9,6 +9,7 @@ use sets::LeafSets;
 use sets::ReadSets;
 use sets::WriteSets;
 use spec::ADDRESSES;
+use spec::OWNERS;
 ghost use Prim.Native.Nat.{_+_, _*_, _≤_};
 ghost use lib.ListN.{length};
 ghost use Rattle.lists.specs.Texts.{Wrote};
@@ -18,16 +19,16 @@ ghost use Rattle.map.specs.Views.{lent};
 ghost use Rattle.transactions.specs.Views.{logs};
 ghost use Rattle.transactions.specs.Ready.{Ready};
 ghost use Rattle.script.specs.Output.{endLine};
-ghost use Rattle.console.specs.Closings.{allRecords, PairsPut};
+ghost use Rattle.console.specs.Closings.{allRecords, TriplesPut};
 ghost use Rattle.console.specs.Sessions.{Started};
 ghost use Rattle.console.specs.Finishes.{longestEnd, Finishes};
 
-// The pairs of all records, by rising address.
+// The triples of all records, by rising address.
 fn put_records(out: &mut [u8], at: usize, rows: &Records, slots: &Slots, n: usize) -> usize
     requires { ⌜ RecordsHeld (now rows) n ⌝ }
     requires { ⌜ SlotsHeld (now slots) ⌝ }
-    requires { ⌜ at + 42 * length (allRecords (now rows) n (now slots)) ≤ length (now out) ⌝ }
-    ensures { λ r. ⌜ PairsPut (allRecords (now (rows .entry)) n (now (slots .entry))) (now (out .entry)) at (now (out .exit)) r ⌝ }
+    requires { ⌜ at + 63 * length (allRecords (now rows) n (now slots)) ≤ length (now out) ⌝ }
+    ensures { λ r. ⌜ TriplesPut (allRecords (now (rows .entry)) n (now (slots .entry))) (now (out .entry)) at (now (out .exit)) r ⌝ }
 {
     let mut place = at;
     let mut from: u64 = 0;
@@ -36,10 +37,11 @@ fn put_records(out: &mut [u8], at: usize, rows: &Records, slots: &Slots, n: usiz
         match next {
             Next::At {
                 address,
-                value,
+                payload,
                 commit: _,
             } => {
-                place = text::put_pair(out, place, address as u64, value);
+                let owner = (payload.owner % OWNERS) as u16;
+                place = text::put_triple(out, place, address as u64, payload.value, owner);
                 from = address as u64 + 1;
             }
             Next::Done => return place,
@@ -48,7 +50,7 @@ fn put_records(out: &mut [u8], at: usize, rows: &Records, slots: &Slots, n: usiz
     place
 }
 
-// `E`, how many records there are, and their pairs.
+// `E`, how many records there are, and their triples.
 fn put_contents(out: &mut [u8], at: usize, rows: &Records, slots: &Slots, n: usize) -> usize
     requires { ⌜ RecordsHeld (now rows) n ⌝ }
     requires { ⌜ SlotsHeld (now slots) ⌝ }

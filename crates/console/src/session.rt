@@ -25,8 +25,8 @@ ghost use Rattle.transactions.specs.Starts.{guardedCore};
 ghost use Rattle.console.specs.Program.{longestLine};
 ghost use Rattle.console.specs.Sessions.{Started, canGoOn, EndsMalformed, RunsGuard, RunsLine, Runs, Begins, withPlaces};
 
-// The longest line that is written: a letter, two numbers, a scan's pairs and a line feed.
-const LONGEST_LINE: usize = 44 + 42 * SCAN_PLACES;
+// The longest line that is written: a letter, two numbers, a scan's triples and a line feed.
+const LONGEST_LINE: usize = 44 + 63 * SCAN_PLACES;
 
 // What is kept from line to line: the engine's core, the parser, the place in the input, the place in the output, whether a
 // malformed line has ended the script, and whether the first line has not been read through, so that it may be `G`.
@@ -155,6 +155,7 @@ fn run_line(
     out: &mut [u8],
     addresses: &mut [u32; SCAN_PLACES],
     values: &mut [u64; SCAN_PLACES],
+    owners: &mut [u16; SCAN_PLACES],
     rows: &mut Records,
     leaves: &mut Leaves,
     slots: &mut Slots,
@@ -182,6 +183,7 @@ fn run_line(
             let done = steps::perform(
                 addresses,
                 values,
+                owners,
                 rows,
                 leaves,
                 slots,
@@ -193,7 +195,8 @@ fn run_line(
             );
             let reply = done.reply;
             let then = done.core;
-            let at = replies::write_reply(out, x.at, addresses, values, lines::letter_of(l), reply);
+            let letter = lines::letter_of(l);
+            let at = replies::write_reply(out, x.at, addresses, values, owners, letter, reply);
             Session {
                 core: then,
                 parser: after,
@@ -238,12 +241,14 @@ pub fn feed(
 {
     let mut addresses = [0u32; SCAN_PLACES];
     let mut values = [0u64; SCAN_PLACES];
+    let mut owners = [0u16; SCAN_PLACES];
     let mut x = start;
     while can_go_on(x.stopped, x.next, input.len(), x.at, out.len()) {
         x = run_line(
             out,
             &mut addresses,
             &mut values,
+            &mut owners,
             rows,
             leaves,
             slots,

@@ -1,11 +1,9 @@
 -- One step, whichever it is: what an operation and a reply mean, and what performing one promises.
 use Prim.Native.Nat.{ℕ}
 use mathlib.Core.Path.{_≡_}
-use mathlib.Core.List.{List}
 use mathlib.Core.Option.{none, some}
-use lib.ListN.{length}
 use Rattle.spec.specs.Steps as model
-use Rattle.spec.specs.Steps.{Step, Answer}
+use Rattle.spec.specs.Steps.{Places, Step, Answer}
 use Rattle.map.specs.Views.{Lent}
 use Rattle.transactions.specs.declared.Core.{Core}
 use Rattle.transactions.specs.declared.begins.Done.{Done}
@@ -30,39 +28,39 @@ use Rattle.engine.specs.declared.steps.Op.the-variants as op
 use Rattle.engine.specs.declared.steps.Reply.{Reply}
 use Rattle.engine.specs.declared.steps.Reply.the-variants as reply
 use Rattle.engine.specs.declared.steps.Performed.{Performed}
-use Rattle.ranges.specs.Buffers.{rowsIn, Beyond}
+use Rattle.ranges.specs.Buffers.{Buffers, placesOf, rowsIn, Beyond}
 use Rattle.accesses.specs.Scans.{places}
 use Rattle.transactions.specs.Views.{Logs}
 use Rattle.transactions.specs.Ready.{Refines}
 
--- document 01's step, with the lengths of the lent buffers
-abbrev pub stepIn : Op → ℕ → ℕ → Step
-stepIn (op.Begin w) m n = model.begin w
-stepIn (op.Access w (access.Read a)) m n = model.read w a
-stepIn (op.Access w (access.Scan lo hi)) m n = model.scan w lo hi m n
-stepIn (op.Access w (access.Put a v)) m n = model.put w a (record { value = v })
-stepIn (op.Access w (access.Remove a)) m n = model.remove w a
-stepIn (op.Ending w ending.Lock) m n = model.lock w
-stepIn (op.Ending w ending.Validate) m n = model.validate w
-stepIn (op.Ending w ending.Install) m n = model.install w
-stepIn (op.Ending w ending.Abort) m n = model.abort w
-stepIn (op.Merge a) m n = model.merge a
-stepIn op.MergeOldest m n = model.mergeOldest
+-- document 01's step, with the places of the lent buffers
+abbrev pub stepIn : Op → Places → Step
+stepIn (op.Begin w) b = model.begin w
+stepIn (op.Access w (access.Read a)) b = model.read w a
+stepIn (op.Access w (access.Scan lo hi)) b = model.scan w lo hi b
+stepIn (op.Access w (access.Put a v o)) b = model.put w a (record { value = v; owner = o })
+stepIn (op.Access w (access.Remove a)) b = model.remove w a
+stepIn (op.Ending w ending.Lock) b = model.lock w
+stepIn (op.Ending w ending.Validate) b = model.validate w
+stepIn (op.Ending w ending.Install) b = model.install w
+stepIn (op.Ending w ending.Abort) b = model.abort w
+stepIn (op.Merge a) b = model.merge a
+stepIn op.MergeOldest b = model.mergeOldest
 
 -- document 01's answer: of a scan, the first places of the buffers after it
-abbrev pub replyIn : Reply → List ℕ → List ℕ → Answer
-replyIn reply.Granted ks vs = model.done
-replyIn (reply.Value v n) ks vs = model.found (some (record { value = v })) n
-replyIn (reply.Absent n) ks vs = model.found none n
-replyIn (reply.Listed n) ks vs = model.listed (rowsIn n ks vs)
-replyIn (reply.Numbered n) ks vs = model.numbered n
-replyIn (reply.Counted n) ks vs = model.counted n
-replyIn (reply.Refused r) ks vs = model.refused r
+abbrev pub replyIn : Reply → Buffers → Answer
+replyIn reply.Granted b = model.done
+replyIn (reply.Value v o n) b = model.found (some (record { value = v; owner = o })) n
+replyIn (reply.Absent n) b = model.found none n
+replyIn (reply.Listed n) b = model.listed (rowsIn n b)
+replyIn (reply.Numbered n) b = model.numbered n
+replyIn (reply.Counted n) b = model.counted n
+replyIn (reply.Refused r) b = model.refused r
 
 -- how many places of each buffer a step may write
 abbrev pub placesIn : Reply → ℕ
 placesIn reply.Granted = 0
-placesIn (reply.Value v n) = 0
+placesIn (reply.Value v o n) = 0
 placesIn (reply.Absent n) = 0
 placesIn (reply.Listed n) = n
 placesIn (reply.Numbered n) = 0
@@ -71,15 +69,13 @@ placesIn (reply.Refused r) = 0
 
 -- A step taken: the arrays, the core and the buffers before it, and those after it. Every place of a buffer past those
 -- that a scan filled is as it was.
-pub record Performs (l : Lent) (g : Logs) (c : Core) (o : Op) (ks vs : List ℕ) (l' : Lent) (g' : Logs) (ks' vs' : List ℕ) (r : Performed) : Type 0 where
-  pub refines : Refines l g c (stepIn o (length ks) (length vs)) l' g' (r .core) (replyIn (r .reply) ks' vs')
-  pub addresses : Beyond (placesIn (r .reply)) ks ks'
-  pub values : Beyond (placesIn (r .reply)) vs vs'
+pub record Performs (l : Lent) (g : Logs) (c : Core) (o : Op) (b : Buffers) (l' : Lent) (g' : Logs) (b' : Buffers) (r : Performed) : Type 0 where
+  pub refines : Refines l g c (stepIn o (placesOf b)) l' g' (r .core) (replyIn (r .reply) b')
+  pub beyond : Beyond (placesIn (r .reply)) b b'
 
 -- A step that looks at no buffer, whatever they hold.
 pub record Quiet (l : Lent) (g : Logs) (c : Core) (o : Op) (l' : Lent) (g' : Logs) (r : Performed) : Type 0 where
-  pub refines :
-      (ks vs : List ℕ) → Refines l g c (stepIn o (length ks) (length vs)) l' g' (r .core) (replyIn (r .reply) ks vs)
+  pub refines : (b : Buffers) → Refines l g c (stepIn o (placesOf b)) l' g' (r .core) (replyIn (r .reply) b)
   pub places : placesIn (r .reply) ≡ 0
 
 -- ---- the replies of the eleven entries
@@ -89,7 +85,7 @@ plainReply plain.Granted = reply.Granted
 plainReply (plain.Refused r) = reply.Refused r
 
 abbrev pub readReply : ReadAnswer → Reply
-readReply (reading.Value v n) = reply.Value v n
+readReply (reading.Value v o n) = reply.Value v o n
 readReply (reading.Absent n) = reply.Absent n
 readReply (reading.Refused r) = reply.Refused r
 

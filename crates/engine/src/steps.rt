@@ -30,13 +30,14 @@ ghost use mathlib.Core.Path.{_≡_};
 ghost use Rattle.map.specs.Views.{lent};
 ghost use Rattle.transactions.specs.Views.{logs};
 ghost use Rattle.transactions.specs.Ready.{Ready};
+ghost use Rattle.ranges.specs.Buffers.{buffers};
 ghost use Rattle.engine.specs.Performs.{ofPlain, ofRead, ofScan, ofValidate, ofMerge, Quiet, Performs};
 
 // What a worker does within an open transaction. The buffers of a scan are lent beside it.
 pub enum Access {
     Read(Address),
     Scan(Address, Address),
-    Put(Address, u64),
+    Put(Address, u64, u16),
     Remove(Address),
 }
 
@@ -57,11 +58,11 @@ pub enum Op {
     MergeOldest,
 }
 
-// Its answer. A read tells a value, or none there, and how many slots it examined; a scan how many places of the buffers it
-// filled.
+// Its answer. A read tells a value and its owner, or none there, and how many slots it examined; a scan how many places
+// of each buffer it filled.
 pub enum Reply {
     Granted,
-    Value(u64, usize),
+    Value(u64, u16, usize),
     Absent(usize),
     Listed(usize),
     Numbered(u64),
@@ -98,9 +99,9 @@ fn of_read(d: ReadDone) -> Performed
     let core = d.core;
     let answer = d.answer;
     match answer {
-        ReadAnswer::Value(v, n) => Performed {
+        ReadAnswer::Value(v, o, n) => Performed {
             core,
-            reply: Reply::Value(v, n),
+            reply: Reply::Value(v, o, n),
         },
         ReadAnswer::Absent(n) => Performed {
             core,
@@ -161,6 +162,7 @@ fn of_merge(d: MergeDone) -> Performed
 fn take_access(
     addresses: &mut [u32],
     values: &mut [u64],
+    owners: &mut [u16],
     reads: &mut ReadSets,
     leafsets: &mut LeafSets,
     writes: &mut WriteSets,
@@ -173,9 +175,9 @@ fn take_access(
 ) -> Performed
     requires { ⌜ Ready (lent (now rows) (now leaves) (now slots)) (logs (now reads) (now leafsets) (now writes)) c ⌝ }
     ensures { λ r. ⌜ Performs (lent (now (rows .entry)) (now (leaves .entry)) (now (slots .entry)))
-        (logs (now (reads .entry)) (now (leafsets .entry)) (now (writes .entry))) c (Op.Access w x) (now (addresses .entry)) (now (values .entry))
+        (logs (now (reads .entry)) (now (leafsets .entry)) (now (writes .entry))) c (Op.Access w x) (buffers (now (addresses .entry)) (now (values .entry)) (now (owners .entry)))
         (lent (now (rows .entry)) (now (leaves .entry)) (now (slots .entry))) (logs (now (reads .exit)) (now (leafsets .exit)) (now (writes .exit)))
-        (now (addresses .exit)) (now (values .exit)) r ⌝ }
+        (buffers (now (addresses .exit)) (now (values .exit)) (now (owners .exit))) r ⌝ }
 {
     match x {
         Access::Read(a) => of_read(reads::read(
@@ -192,6 +194,7 @@ fn take_access(
         Access::Scan(lo, hi) => of_scan(scans::scan(
             addresses,
             values,
+            owners,
             reads,
             leafsets,
             rows,
@@ -203,7 +206,7 @@ fn take_access(
             lo,
             hi,
         )),
-        Access::Put(a, v) => of_plain(edits::put(
+        Access::Put(a, v, o) => of_plain(edits::put(
             writes,
             rows,
             leaves,
@@ -214,6 +217,7 @@ fn take_access(
             w,
             a,
             v,
+            o,
         )),
         Access::Remove(a) => of_plain(edits::remove(
             writes,
@@ -281,10 +285,11 @@ fn take_ending(
     }
 }
 
-// Any step. A seat may be any number, an address any, the buffers of any two lengths.
+// Any step. A seat may be any number, an address any, the buffers of any lengths.
 pub fn perform(
     addresses: &mut [u32],
     values: &mut [u64],
+    owners: &mut [u16],
     rows: &mut Records,
     leaves: &mut Leaves,
     slots: &mut Slots,
@@ -296,15 +301,16 @@ pub fn perform(
 ) -> Performed
     requires { ⌜ Ready (lent (now rows) (now leaves) (now slots)) (logs (now reads) (now leafsets) (now writes)) c ⌝ }
     ensures { λ r. ⌜ Performs (lent (now (rows .entry)) (now (leaves .entry)) (now (slots .entry)))
-        (logs (now (reads .entry)) (now (leafsets .entry)) (now (writes .entry))) c op (now (addresses .entry)) (now (values .entry))
+        (logs (now (reads .entry)) (now (leafsets .entry)) (now (writes .entry))) c op (buffers (now (addresses .entry)) (now (values .entry)) (now (owners .entry)))
         (lent (now (rows .exit)) (now (leaves .exit)) (now (slots .exit))) (logs (now (reads .exit)) (now (leafsets .exit)) (now (writes .exit)))
-        (now (addresses .exit)) (now (values .exit)) r ⌝ }
+        (buffers (now (addresses .exit)) (now (values .exit)) (now (owners .exit))) r ⌝ }
 {
     match op {
         Op::Begin(w) => of_plain(begins::begin(c, w)),
         Op::Access(w, x) => take_access(
             addresses,
             values,
+            owners,
             reads,
             leafsets,
             writes,

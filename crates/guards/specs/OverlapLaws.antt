@@ -80,17 +80,14 @@ any-append p (x ∷ xs) ys =
     by false b c = refl
 
 -- of the transaction's puts
-any-puts : (p : Row Payload → Bool) (ws : List (Row Write)) → any p (standing (mapItems ownView ws)) ≡ anyPut (λ (j m : ℕ). p (row j (record { value = m }))) ws
-unfolding any standing mapItems ownView ofPut anyPut
-any-puts p [] = refl
-any-puts p (r ∷ ws) = by (any-puts p ws) (r .item)
+any-puts : (k n : ℕ) (ws : List (Row Write)) → any (overlaps k n) (standing (mapItems ownView ws)) ≡ anyPut (overlapsAt k n) ws
+unfolding any standing mapItems ownView ofPut anyPut overlaps
+any-puts k n [] = refl
+any-puts k n (r ∷ ws) = by (any-puts k n ws) (r .item)
   where
-    test : ℕ → ℕ → Bool
-    test j m = p (row j (record { value = m }))
-
-    by : any p (standing (mapItems ownView ws)) ≡ anyPut test ws → (w : Write)
-        → any p (standing (row (r .key) (ownView w) ∷ mapItems ownView ws)) ≡ pick (ofPut test (r .key) w) true (anyPut test ws)
-    by e (written q) = ap (pick (p (row (r .key) q)) true) e
+    by : any (overlaps k n) (standing (mapItems ownView ws)) ≡ anyPut (overlapsAt k n) ws → (w : Write)
+        → any (overlaps k n) (standing (row (r .key) (ownView w) ∷ mapItems ownView ws)) ≡ pick (ofPut (overlapsAt k n) (r .key) w) true (anyPut (overlapsAt k n) ws)
+    by e (written q) = ap (pick (overlaps k n (row (r .key) q)) true) e
     by e deleted = e
 
 -- of what stands at the other addresses
@@ -112,7 +109,7 @@ any-laid : (k n : ℕ) (ws : List (Row Write)) (rs : List (Row (Option Record)))
 unfolding laidOver
 any-laid k n ws rs =
     any-append (overlaps k n) (standing (mapItems ownView ws)) (standing (mapItems payloadOf (filter (untouched ws) rs)))
-    ∙ (λ i. either (any-puts (overlaps k n) ws i) (any-logged k n ws rs i))
+    ∙ (λ i. either (any-puts k n ws i) (any-logged k n ws rs i))
 
 -- ---- the section that is put
 
@@ -175,26 +172,26 @@ module _ (rs : ReadRows) (k : ℕ) {m : ℕ} (s : Scanned) (e : m ≡ min (s .co
 
 module _ (ws : List (Row Write)) (k n : ℕ) (o : Observed) where
   -- by whether a record is present, and whether it overlaps
-  by-parts : (t m : Bool) → o .current .there ≡ t → overlapsAt k n (o .address) (o .current .value) ≡ m
+  by-parts : (t m : Bool) → o .current .there ≡ t → overlapsAt k n (o .address) (o .current .payload .value) ≡ m
       → both (not (present (look ws (o .address)))) (both t m) ≡ overlapsLogged ws k n (observedIn o)
-  unfolding overlapsLogged untouched payloadOf
+  unfolding overlapsLogged untouched payloadOf overlaps
   by-parts t m e f =
       sym (whole (o .current .there) ∙ (λ i. both (not (present (look ws (o .address)))) (both (e i) (f i))))
     where
       whole : (t : Bool)
-          → both (not (present (look ws (o .address)))) (maybe (payloadOf (recordOf t (o .current .value) (o .current .commit))) false (λ (p : Payload). overlaps k n (row (o .address) p)))
-          ≡ both (not (present (look ws (o .address)))) (both t (overlapsAt k n (o .address) (o .current .value)))
+          → both (not (present (look ws (o .address)))) (maybe (payloadOf (recordOf t (o .current .payload) (o .current .commit))) false (λ (p : Payload). overlaps k n (row (o .address) p)))
+          ≡ both (not (present (look ws (o .address)))) (both t (overlapsAt k n (o .address) (o .current .payload .value)))
       whole true = refl
       whole false = refl
 
   pub read-absent : o .current .there ≡ false → false ≡ overlapsLogged ws k n (observedIn o)
   read-absent e = sym (with-false (not (present (look ws (o .address))))) ∙ by-parts false _ e refl
 
-  pub read-apart : {b : Bool} → o .current .there ≡ true → b ≡ overlapsAt k n (o .address) (o .current .value) → b ≡ false → false ≡ overlapsLogged ws k n (observedIn o)
+  pub read-apart : {b : Bool} → o .current .there ≡ true → b ≡ overlapsAt k n (o .address) (o .current .payload .value) → b ≡ false → false ≡ overlapsLogged ws k n (observedIn o)
   read-apart e f g = sym (with-false (not (present (look ws (o .address))))) ∙ by-parts true false e (sym f ∙ g)
 
   -- by what a look-up of the own write finds
-  pub read-found : {b : Bool} {f g : Found} → o .current .there ≡ true → b ≡ overlapsAt k n (o .address) (o .current .value) → b ≡ true
+  pub read-found : {b : Bool} {f g : Found} → o .current .there ≡ true → b ≡ overlapsAt k n (o .address) (o .current .payload .value) → b ≡ true
       → f ≡ g → foundIn f ≡ look ws (o .address) → not (present (foundIn g)) ≡ overlapsLogged ws k n (observedIn o)
   read-found {g = g} e m t q h =
       sym (with-true (not (present (foundIn g))))

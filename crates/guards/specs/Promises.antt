@@ -16,16 +16,16 @@ use Rattle.guards.specs.declared.scans.Decision.the-variants.{By, Nothin
 
 -- what a test of addresses and lengths says of a row of a write set
 abbrev pub ofEntry : (ℕ → ℕ → Bool) → Entry → Bool
-ofEntry f e = ofPut f (e .address) (writeOf (e .kind) (e .value))
+ofEntry f e = ofPut f (e .address) (writeOf (e .kind) (e .payload))
 
 -- the scan that decides, or none
 abbrev pub decisionIn : Decision → Option Scan
 decisionIn (By s) = some (scannedIn s)
 decisionIn Nothing = none
 
--- the section of m bytes at j overlaps the one of n bytes at k
+-- the section of m bytes at j overlaps the one of n bytes at k, whoever owns them
 abbrev pub overlapsAt : ℕ → ℕ → ℕ → ℕ → Bool
-overlapsAt k n j m = overlaps k n (row j (record { value = m }))
+overlapsAt k n j m = overlaps k n (row j (record { value = m; owner = 0 }))
 
 -- the logged record overlaps it, and the transaction does not write at the record's address
 unfoldable pub overlapsLogged : List (Row Write) → ℕ → ℕ → Row (Option Record) → Bool

@@ -17,16 +17,16 @@ use Rattle.guards.specs.SearchLaws.{Searching, search-start, search-on, 
 -- ---- one write
 
 module _ (f : ℕ → ℕ → Bool) (e : Entry) where
-  pub of-put : e .kind ≡ 1 → ofEntry f e ≡ f (e .address) (e .value)
+  pub of-put : e .kind ≡ 1 → ofEntry f e ≡ f (e .address) (e .payload .value)
   unfolding ofPut
-  of-put h = ap (ofPut f (e .address)) (put-kind (e .kind) (e .value) h)
+  of-put h = ap (ofPut f (e .address)) (put-kind (e .kind) (e .payload) h)
 
-  pub entry-put : {b : Bool} → e .kind ≡ 1 → b ≡ f (e .address) (e .value) → b ≡ ofEntry f e
+  pub entry-put : {b : Bool} → e .kind ≡ 1 → b ≡ f (e .address) (e .payload .value) → b ≡ ofEntry f e
   entry-put h q = q ∙ sym (of-put h)
 
   pub entry-deletion : (e .kind ≡ 1 → ⊥) → false ≡ ofEntry f e
   unfolding ofPut
-  entry-deletion h = sym (ap (ofPut f (e .address)) (deletion-kind (e .kind) (e .value) h))
+  entry-deletion h = sym (ap (ofPut f (e .address)) (deletion-kind (e .kind) (e .payload) h))
 
 -- ---- all writes
 

@@ -29,7 +29,8 @@ fn unfit_write(e: Entry) -> bool
     ensures { λ r. ⌜ r ≡ ofEntry (unfit standard) e ⌝ }
 {
     if e.kind == 1 {
-        return unfit(e.address, e.value);
+        let v = e.payload;
+        return unfit(e.address, v.value);
     }
     false
 }

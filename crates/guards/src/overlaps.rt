@@ -41,7 +41,8 @@ fn write_overlaps(e: Entry, a: Address, len: u64) -> bool
     ensures { λ r. ⌜ r ≡ ofEntry (overlapsAt a len) e ⌝ }
 {
     if e.kind == 1 {
-        return overlaps(a, len, e.address, e.value);
+        let v = e.payload;
+        return overlaps(a, len, e.address, v.value);
     }
     false
 }
@@ -70,7 +71,8 @@ fn read_overlaps(writes: &WriteSet, n: usize, o: Observed, a: Address, len: u64)
 {
     let c = o.current;
     if c.there {
-        if overlaps(a, len, o.address, c.value) {
+        let v = c.payload;
+        if overlaps(a, len, o.address, v.value) {
             return match writes::find_write(writes, n, o.address) {
                 Found::Put(_) => false,
                 Found::Deletion => false,
@@ -138,12 +140,13 @@ fn overlapped_write(
     ensures { λ r. ⌜ r ≡ ofEntry (overlapped standard (readsOf (now (reads .entry)) k) (scansOf (now (leafset .entry)) m) (writesOf (now (writes .entry)) n)) e ⌝ }
 {
     if e.kind == 1 {
-        return match scans::deciding(leafset, m, e.address, e.value) {
+        let v = e.payload;
+        return match scans::deciding(leafset, m, e.address, v.value) {
             Decision::By(s) => {
-                if own_overlap(writes, n, e.address, e.value) {
+                if own_overlap(writes, n, e.address, v.value) {
                     return true;
                 }
-                logged_overlap(reads, k, writes, n, s, e.address, e.value)
+                logged_overlap(reads, k, writes, n, s, e.address, v.value)
             }
             Decision::Nothing => false,
         };

@@ -84,7 +84,8 @@ fn uncovered_write(leafset: &LeafSet, m: usize, e: Entry) -> bool
     ensures { λ r. ⌜ r ≡ ofEntry (uncovered standard (scansOf (now (leafset .entry)) m)) e ⌝ }
 {
     if e.kind == 1 {
-        return match deciding(leafset, m, e.address, e.value) {
+        let v = e.payload;
+        return match deciding(leafset, m, e.address, v.value) {
             Decision::By(_) => false,
             Decision::Nothing => true,
         };

@@ -12,6 +12,7 @@ use Rattle.lists.specs.Shifts.{moved, length-moved, put-in, taken-out}
 use Rattle.lists.specs.Places.{place, place-most, Present, Absent, look-present, look-absent, insert-present, insert-absent, delete-present, delete-absent}
 use Rattle.spec.specs.Records.{Record}
 use Rattle.index.specs.declared.rows.RecordRow.{RecordRow}
+use Rattle.spec.specs.declared.PayloadWords.{PayloadWords}
 use Rattle.index.specs.Views.{recordPlaces, RecordRows, recordFrom, noRow, rowOf, rowAt, stored, rowsOf, recordsOf, RecordsSorted, RecordsAre}
 use Rattle.index.specs.RecordPlaces.{AtPlace}
 use Rattle.index.specs.ViewLaws.{length-rows, rows-stored, rows-moved, length-records, record-at}
@@ -73,14 +74,14 @@ module _ (rows : RecordRows) (n k p : ℕ) (held : RecordsSorted rows n) (at : A
   holds-assign rows' n' o h e =
       record { held = record { room = h; rising = subst (Rising {A = Record}) (sym e) (rising-assign k o (recordsOf rows n) (held .rising)) }; same = e }
 
-  pub put-over : (rows' : RecordRows) (value commit : ℕ) → length rows ≡ recordPlaces → Present k (recordsOf rows n) noRow → p < n
-      → rows' ≡ stored rows p (record { address = k; value = value; commit = commit })
-      → RecordsAre rows' n (assign k (some (recordFrom value commit)) (recordsOf rows n))
+  pub put-over : (rows' : RecordRows) (v : PayloadWords) (commit : ℕ) → length rows ≡ recordPlaces → Present k (recordsOf rows n) noRow → p < n
+      → rows' ≡ stored rows p (record { address = k; payload = v; commit = commit })
+      → RecordsAre rows' n (assign k (some (recordFrom v commit)) (recordsOf rows n))
   unfolding assign
-  put-over rows' value commit all s h e =
-      let x : Record = recordFrom value commit in
+  put-over rows' v commit all s h e =
+      let x : Record = recordFrom v commit in
       holds-assign rows' n (some x) (held .room)
-      (written rows rows' all n p (record { address = k; value = value; commit = commit }) h e ∙ ap (λ (i : ℕ). set (recordsOf rows n) i (row k x)) (at .is)
+      (written rows rows' all n p (record { address = k; payload = v; commit = commit }) h e ∙ ap (λ (i : ℕ). set (recordsOf rows n) i (row k x)) (at .is)
       ∙ sym (insert-present k x (recordsOf rows n) noRow s))
 
   length-insert : (x : Record) → Absent k (recordsOf rows n) noRow → length (assign k (some x) (recordsOf rows n)) ≡ n + 1

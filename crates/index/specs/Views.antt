@@ -7,6 +7,8 @@ use lib.ListN.{take, drop, getD, set}
 use Rattle.lists.specs.Rows.{Row, row, keys, Rising}
 use Rattle.lists.specs.Tabulation.{tab}
 use Rattle.spec.specs.Records.{standard, Record}
+use Rattle.spec.specs.Payloads.{payloadIn, noPayload}
+use Rattle.spec.specs.declared.PayloadWords.{PayloadWords}
 use Rattle.spec.specs.Leaves.{Leaf}
 use Rattle.index.specs.declared.rows.RecordRow.{RecordRow}
 use Rattle.index.specs.declared.records.Found.{Found}
@@ -24,24 +26,24 @@ leafPlaces = recordPlaces + 1
 abbrev pub RecordRows : Type 0
 RecordRows = List (List ℕ)
 
--- the record that two words say
-abbrev pub recordFrom : ℕ → ℕ → Record
-recordFrom value commit = record { payload = record { value = value }; commit = commit }
+-- the record that a payload and a commit number make
+abbrev pub recordFrom : PayloadWords → ℕ → Record
+recordFrom v commit = record { payload = payloadIn v; commit = commit }
 
--- the row that three words say
-abbrev pub rowFrom : ℕ → ℕ → ℕ → Row Record
-rowFrom address value commit = row address (recordFrom value commit)
+-- the row that they make at an address
+abbrev pub rowFrom : ℕ → PayloadWords → ℕ → Row Record
+rowFrom address v commit = row address (recordFrom v commit)
 
 abbrev pub rowOf : RecordRow → Row Record
-rowOf r = rowFrom (r .address) (r .value) (r .commit)
+rowOf r = rowFrom (r .address) (r .payload) (r .commit)
 
 -- what is read past the end
 abbrev pub noRow : Row Record
-noRow = rowFrom 0 0 0
+noRow = rowFrom 0 noPayload 0
 
 -- what a row of words says
 abbrev pub rowIn : List ℕ → Row Record
-rowIn ws = rowFrom (getD ws 0 0) (getD ws 1 0) (getD ws 2 0)
+rowIn ws = rowFrom (getD ws 0 0) (record { value = getD ws 1 0; owner = getD ws 2 0 }) (getD ws 3 0)
 
 -- row i
 abbrev pub rowAt : RecordRows → ℕ → Row Record
@@ -49,7 +51,7 @@ rowAt rows i = rowIn (getD rows i [])
 
 -- the words of a row
 abbrev pub recordWords : RecordRow → List ℕ
-recordWords r = r .address ∷ r .value ∷ r .commit ∷ []
+recordWords r = r .address ∷ r .payload .value ∷ r .payload .owner ∷ r .commit ∷ []
 
 -- the rows with another one at place i
 abbrev pub stored : RecordRows → ℕ → RecordRow → RecordRows
@@ -80,7 +82,7 @@ pub record RecordsSorted (rows : RecordRows) (n : ℕ) : Type 0 where
 
 -- the record found, or none
 abbrev pub foundOf : Found → Option Record
-foundOf (At value commit) = some (recordFrom value commit)
+foundOf (At v commit) = some (recordFrom v commit)
 foundOf Nothing = none
 
 -- Rows that hold exactly these records.

@@ -11,8 +11,8 @@ pub mod records;
 pub mod rows;
 pub mod settles;
 
-// How many words a record has: its address, its value, its commit number.
-pub const RECORD_WORDS: usize = 3;
+// How many words a record has: its address, its value, its owner, its commit number.
+pub const RECORD_WORDS: usize = 4;
 
 // The records, a row each.
 pub type Records = [[u64; RECORD_WORDS]; MAP_LIMIT];

@@ -5,6 +5,7 @@ use crate::rows;
 use crate::rows::RecordRow;
 use spec::Address;
 use spec::MAP_LIMIT;
+use spec::PayloadWords;
 ghost use mathlib.Core.Path.{_≡_};
 ghost use mathlib.Core.Option.{none, some};
 ghost use Prim.Native.Nat.{_+_, _<_, _≤_};
@@ -19,7 +20,7 @@ ghost use Rattle.index.specs.Searches.{probed};
 
 // What a look-up finds.
 pub enum Found {
-    At { value: u64, commit: u64 },
+    At { payload: PayloadWords, commit: u64 },
     Nothing,
 }
 
@@ -83,8 +84,9 @@ pub fn find(rows: &Records, n: usize, a: Address) -> Found
     }
     let r = rows::get(rows, p);
     if r.address == a as u64 {
+        let payload = r.payload;
         return Found::At {
-            value: r.value,
+            payload,
             commit: r.commit,
         };
     }
@@ -103,16 +105,16 @@ fn insert(rows: &mut Records, n: usize, p: usize, r: RecordRow) -> usize
 }
 
 // Puts a record at an address, in place of one that stands there. Answers how many records there are now.
-pub fn put(rows: &mut Records, n: usize, a: Address, value: u64, commit: u64) -> usize
+pub fn put(rows: &mut Records, n: usize, a: Address, payload: PayloadWords, commit: u64) -> usize
     requires { ⌜ RecordsSorted (now rows) n ⌝ }
-    requires { ⌜ length (assign a (some (recordFrom value commit)) (recordsOf (now rows) n)) ≤ recordPlaces ⌝ }
-    ensures { λ r. ⌜ RecordsAre (now (rows .exit)) r (assign a (some (recordFrom value commit)) (recordsOf (now (rows .entry)) n)) ⌝ }
+    requires { ⌜ length (assign a (some (recordFrom payload commit)) (recordsOf (now rows) n)) ≤ recordPlaces ⌝ }
+    ensures { λ r. ⌜ RecordsAre (now (rows .exit)) r (assign a (some (recordFrom payload commit)) (recordsOf (now (rows .entry)) n)) ⌝ }
 {
     rows::record_places(rows);
     let p = locate(rows, n, a);
     let row = RecordRow {
         address: a as u64,
-        value,
+        payload,
         commit,
     };
     if n <= p {

@@ -1,6 +1,7 @@
 // Rows of words: all that touches the words of records.
 use crate::RECORD_WORDS;
 use crate::Records;
+use spec::PayloadWords;
 ghost use mathlib.Core.Path.{_≡_};
 ghost use Prim.Native.Nat.{_+_, _<_, _≤_};
 ghost use lib.ListN.{length};
@@ -10,7 +11,7 @@ ghost use Rattle.index.specs.Views.{recordPlaces, rowOf, rowAt, stored};
 // A record in words.
 pub struct RecordRow {
     pub address: u64,
-    pub value: u64,
+    pub payload: PayloadWords,
     pub commit: u64,
 }
 
@@ -32,10 +33,14 @@ pub fn get(rows: &Records, i: usize) -> RecordRow
     requires { ⌜ i < recordPlaces ⌝ }
     ensures { λ r. ⌜ rowOf r ≡ rowAt (now (rows .entry)) i ⌝ }
 {
+    let payload = PayloadWords {
+        value: rows[i][1],
+        owner: rows[i][2],
+    };
     RecordRow {
         address: rows[i][0],
-        value: rows[i][1],
-        commit: rows[i][2],
+        payload,
+        commit: rows[i][3],
     }
 }
 
@@ -44,7 +49,8 @@ pub fn store(rows: &mut Records, i: usize, r: RecordRow)
     requires { ⌜ i < recordPlaces ⌝ }
     ensures { λ _. ⌜ now (rows .exit) ≡ stored (now (rows .entry)) i r ⌝ }
 {
-    let row = [r.address, r.value, r.commit];
+    let v = r.payload;
+    let row = [r.address, v.value, v.owner, r.commit];
     rows[i] = row;
 }
 

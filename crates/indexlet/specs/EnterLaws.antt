@@ -70,7 +70,7 @@ look-hit ws a r s z e b g =
 
 -- it ended with nothing
 pub look-miss : (ws : SlotRows) (a : ℕ) (r : Sought) → SlotsHeld ws → r ≡ sought (slotsOf ws) a → slotCount ≤ r .at
-    → Looks ws a (record { content = record { kind = 0; value = 0; commit = 0; since = 0; lock = 0; forput = 0 }; examined = r .examined })
+    → Looks ws a (record { content = record { kind = 0; payload = record { value = 0; owner = 0 }; commit = 0; since = 0; lock = 0; forput = 0 }; examined = r .examined })
 unfolding lookedIn contentIn pendingIn holderIn
 look-miss ws a r z e b =
     record { searched = searched; content = content-none (slotsOf ws) a (sought-absent a (z .good) e b) }
@@ -79,7 +79,7 @@ look-miss ws a r z e b =
     ends = subst (λ (x : Sought). Ends (slotsOf ws) a x (search 4 (slotsOf ws) a)) (sym e) (search-ends (slotsOf ws) a)
 
     said : Content
-    said = contentIn (record { kind = 0; value = 0; commit = 0; since = 0; lock = 0; forput = 0 })
+    said = contentIn (record { kind = 0; payload = record { value = 0; owner = 0 }; commit = 0; since = 0; lock = 0; forput = 0 })
 
     searched : search 4 (slotsOf ws) a ≡ record { found = pick (isIdle said) none (some said); examined = r .examined }
     searched =
@@ -191,10 +191,10 @@ module _ (ws : SlotRows) (n a : ℕ) (c : ContentWords) (z : SlotsHeld ws) (q : 
 abbrev pub zeros : SlotRows
 zeros = replicate slotCount (replicate slotWords 0)
 
-zero-row : (i : ℕ) → i < slotCount → rowAt zeros i ≡ record { key = 0; content = record { kind = 0; value = 0; commit = 0; since = 0; lock = 0; forput = 0 }; overflow = 0 }
+zero-row : (i : ℕ) → i < slotCount → rowAt zeros i ≡ record { key = 0; content = record { kind = 0; payload = record { value = 0; owner = 0 }; commit = 0; since = 0; lock = 0; forput = 0 }; overflow = 0 }
 zero-row i h = ap rowIn (getD-replicate slotCount i (replicate slotWords 0) [] h)
 
-zero-slot : slotIn (record { key = 0; content = record { kind = 0; value = 0; commit = 0; since = 0; lock = 0; forput = 0 }; overflow = 0 }) ≡ emptySlot
+zero-slot : slotIn (record { key = 0; content = record { kind = 0; payload = record { value = 0; owner = 0 }; commit = 0; since = 0; lock = 0; forput = 0 }; overflow = 0 }) ≡ emptySlot
 unfolding slotIn contentIn isIdle pendingIn holderIn
 zero-slot = refl
 

@@ -76,7 +76,7 @@ pub idle-waiting : (c : ContentWords) → (c .kind ≡ 0 → ⊥) → isIdle (co
 unfolding isIdle contentIn pendingIn
 idle-waiting c n = go (c .kind) n
   where
-    go : (k : ℕ) → (k ≡ 0 → ⊥) → both (not (present (pendingIn k (c .value) (c .commit) (c .since)))) (not (present (holderIn (c .lock)))) ≡ false
+    go : (k : ℕ) → (k ≡ 0 → ⊥) → both (not (present (pendingIn k (c .payload) (c .commit) (c .since)))) (not (present (holderIn (c .lock)))) ≡ false
     go zero n = absurd (n refl)
     go (suc zero) n = refl
     go (suc (suc k)) n = refl
@@ -84,7 +84,7 @@ idle-waiting c n = go (c .kind) n
 pub idle-lock : (c : ContentWords) → c .kind ≡ 0 → isIdle (contentIn c) ≡ eqb (c .lock) 0
 unfolding isIdle contentIn pendingIn holderIn
 idle-lock c e =
-    ap (λ (k : ℕ). both (not (present (pendingIn k (c .value) (c .commit) (c .since)))) (not (present (holderIn (c .lock))))) e ∙ go (c .lock)
+    ap (λ (k : ℕ). both (not (present (pendingIn k (c .payload) (c .commit) (c .since)))) (not (present (holderIn (c .lock))))) e ∙ go (c .lock)
   where
     go : (l : ℕ) → not (present (holderIn l)) ≡ eqb l 0
     go zero = refl
@@ -116,6 +116,6 @@ holds-same a s e = go (isIdle (contentIn (s .content)))
     go true = refl
     go false = same-yes {m = s .key} {n = a} e
 
-pub idle-zero : isIdle (contentIn (record { kind = 0; value = 0; commit = 0; since = 0; lock = 0; forput = 0 })) ≡ true
+pub idle-zero : isIdle (contentIn (record { kind = 0; payload = record { value = 0; owner = 0 }; commit = 0; since = 0; lock = 0; forput = 0 })) ≡ true
 unfolding isIdle contentIn pendingIn holderIn
 idle-zero = refl

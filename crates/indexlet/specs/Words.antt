@@ -1,5 +1,5 @@
--- How the indexlet's slots stand in rows of words: its key, the kind of the pending write, its value, its commit
--- number, the install since which it waits, the lock, whether that is for a put, the overflow count.
+-- How the indexlet's slots stand in rows of words: its key, the kind of the pending write, its value, its owner,
+-- its commit number, the install since which it waits, the lock, whether that is for a put, the overflow count.
 use Prim.Native.Nat.{ℕ, zero, suc}
 use mathlib.Core.List.{List, [], _∷_}
 use mathlib.Core.Option.{Option, none, some}
@@ -7,6 +7,8 @@ use lib.Dec.{eqb}
 use lib.ListN.{getD, set}
 use Rattle.lists.specs.Tabulation.{tab}
 use Rattle.spec.specs.Records.{written, deleted}
+use Rattle.spec.specs.Payloads.{payloadIn}
+use Rattle.spec.specs.declared.PayloadWords.{PayloadWords}
 use Rattle.spec.specs.Slots.{slotCount, Pending, Content, Slot, kept}
 use Rattle.indexlet.specs.declared.Content.{Content as ContentWords}
 use Rattle.indexlet.specs.declared.Slot.{Slot as SlotWords}
@@ -17,12 +19,12 @@ SlotRows = List (List ℕ)
 
 -- how many words a row has
 abbrev pub slotWords : ℕ
-slotWords = 8
+slotWords = 9
 
--- the pending write with this kind, value and commit number, which waits since install t
-unfoldable pub pendingIn : ℕ → ℕ → ℕ → ℕ → Option Pending
+-- the pending write with this kind, payload and commit number, which waits since install t
+unfoldable pub pendingIn : ℕ → PayloadWords → ℕ → ℕ → Option Pending
 pendingIn zero v n t = none
-pendingIn (suc zero) v n t = some (record { write = written (record { value = v }); commit = n; since = t })
+pendingIn (suc zero) v n t = some (record { write = written (payloadIn v); commit = n; since = t })
 pendingIn (suc (suc k)) v n t = some (record { write = deleted; commit = n; since = t })
 
 -- the holder of a lock
@@ -34,7 +36,7 @@ holderIn (suc w) = some w
 unfoldable pub contentIn : ContentWords → Content
 contentIn c =
     record {
-      pending = pendingIn (c .kind) (c .value) (c .commit) (c .since);
+      pending = pendingIn (c .kind) (c .payload) (c .commit) (c .since);
       holder = holderIn (c .lock);
       forPut = eqb (c .forput) 1;
     }
@@ -48,8 +50,16 @@ abbrev pub rowIn : List ℕ → SlotWords
 rowIn ws =
     record {
       key = getD ws 0 0;
-      content = record { kind = getD ws 1 0; value = getD ws 2 0; commit = getD ws 3 0; since = getD ws 4 0; lock = getD ws 5 0; forput = getD ws 6 0 };
-      overflow = getD ws 7 0;
+      content =
+          record {
+            kind = getD ws 1 0;
+            payload = record { value = getD ws 2 0; owner = getD ws 3 0 };
+            commit = getD ws 4 0;
+            since = getD ws 5 0;
+            lock = getD ws 6 0;
+            forput = getD ws 7 0;
+          };
+      overflow = getD ws 8 0;
     }
 
 -- the row of slot i
@@ -59,7 +69,7 @@ rowAt ts i = rowIn (getD ts i [])
 -- the words of a row
 abbrev pub wordsOf : SlotWords → List ℕ
 wordsOf s =
-    s .key ∷ s .content .kind ∷ s .content .value ∷ s .content .commit ∷ s .content .since ∷ s .content .lock ∷ s .content .forput
+    s .key ∷ s .content .kind ∷ s .content .payload .value ∷ s .content .payload .owner ∷ s .content .commit ∷ s .content .since ∷ s .content .lock ∷ s .content .forput
     ∷ s .overflow ∷ []
 
 -- the rows with another one at slot i

@@ -1,6 +1,7 @@
 // The indexlet: 256 slots in lent rows. A row of words is a slot: its key, what is said of the key, its overflow count.
 // The promises speak of the model's slots (`slotsOf`, which reads the words) and of what the model does to them.
 use spec::Address;
+use spec::PayloadWords;
 ghost use mathlib.Core.Path.{_≡_};
 ghost use mathlib.Core.Bool.{false};
 ghost use Prim.Native.Nat.{_<_};
@@ -14,16 +15,16 @@ ghost use Rattle.indexlet.specs.Promises.{SlotsHeld, SlotsBecome, SlotsF
 // How many slots there are, and how many words a slot has.
 pub const SLOTS: usize = 256;
 
-pub const SLOT_WORDS: usize = 8;
+pub const SLOT_WORDS: usize = 9;
 
 // The slots, a row each.
 pub type Slots = [[u64; SLOT_WORDS]; SLOTS];
 
-// What is said of a key: a pending write (kind 0: none, 1: a put, else a deletion), its value and commit number, the install
-// since which the key waits, the lock (0: free, else its holder and one more), and whether the lock is for a put (1) or not.
+// What is said of a key: a pending write (kind 0: none, 1: a put, else a deletion), what it gives and its commit number, the
+// install since which the key waits, the lock (0: free, else its holder and one more), and whether the lock is for a put (1) or not.
 pub struct Content {
     pub kind: u64,
-    pub value: u64,
+    pub payload: PayloadWords,
     pub commit: u64,
     pub since: u64,
     pub lock: u64,
@@ -96,18 +97,22 @@ fn get(t: &Slots, i: usize) -> Slot
     requires { ⌜ i < slotCount ⌝ }
     ensures { λ r. ⌜ r ≡ rowAt (now (t .entry)) i ⌝ }
 {
+    let payload = PayloadWords {
+        value: t[i][2],
+        owner: t[i][3],
+    };
     let content = Content {
         kind: t[i][1],
-        value: t[i][2],
-        commit: t[i][3],
-        since: t[i][4],
-        lock: t[i][5],
-        forput: t[i][6],
+        payload,
+        commit: t[i][4],
+        since: t[i][5],
+        lock: t[i][6],
+        forput: t[i][7],
     };
     Slot {
         key: t[i][0],
         content,
-        overflow: t[i][7],
+        overflow: t[i][8],
     }
 }
 
@@ -117,10 +122,12 @@ fn put(t: &mut Slots, i: usize, s: Slot)
     ensures { λ _. ⌜ now (t .exit) ≡ store (now (t .entry)) i s ⌝ }
 {
     let c = s.content;
+    let v = c.payload;
     let row = [
         s.key,
         c.kind,
-        c.value,
+        v.value,
+        v.owner,
         c.commit,
         c.since,
         c.lock,
@@ -193,9 +200,10 @@ pub fn look_up(t: &Slots, a: Address) -> Looked
             examined: f.examined,
         };
     }
+    let payload = PayloadWords { value: 0, owner: 0 };
     let content = Content {
         kind: 0,
-        value: 0,
+        payload,
         commit: 0,
         since: 0,
         lock: 0,
@@ -262,9 +270,10 @@ fn release(t: &mut Slots, a: Address, h: usize, passed: usize)
     }
     let i = (h + passed) % SLOTS;
     let s = get(t, i);
+    let payload = PayloadWords { value: 0, owner: 0 };
     let nothing = Content {
         kind: 0,
-        value: 0,
+        payload,
         commit: 0,
         since: 0,
         lock: 0,

@@ -17,11 +17,13 @@ both-right false b e = clash e refl
 
 samePayload-true : (p q : Payload) → samePayload p q ≡ true → p ≡ q
 unfolding samePayload
-samePayload-true p q e = ap (λ (n : ℕ). record { value = n }) (same-true (p .value) (q .value) e)
+samePayload-true p q e =
+    ap (λ (n : ℕ). record { value = n; owner = p .owner }) (same-true (p .value) (q .value) (both-left _ (same (p .owner) (q .owner)) e))
+    ∙ ap (λ (n : ℕ). record { value = q .value; owner = n }) (same-true (p .owner) (q .owner) (both-right (same (p .value) (q .value)) _ e))
 
 samePayload-refl : (p : Payload) → samePayload p p ≡ true
 unfolding samePayload
-samePayload-refl p = same-refl (p .value)
+samePayload-refl p = ap (λ (b : Bool). both b (same (p .owner) (p .owner))) (same-refl (p .value)) ∙ same-refl (p .owner)
 
 pub sameRecord-true : (r s : Option Record) → sameRecord r s ≡ true → r ≡ s
 unfolding sameRecord

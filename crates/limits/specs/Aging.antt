@@ -55,7 +55,7 @@ refusable : (σ : State) (s : Step) (r : Refusal) → refusal σ s ≡ some r �
 unfolding refusal causes firstCause isMergeOldest
 refusable σ (begin w) r e = refl
 refusable σ (read w k) r e = refl
-refusable σ (scan w lo hi m n) r e = refl
+refusable σ (scan w lo hi b) r e = refl
 refusable σ (put w k p) r e = refl
 refusable σ (remove w k) r e = refl
 refusable σ (lock w) r e = refl
@@ -91,7 +91,7 @@ module _ {σ : State} (h : Kept σ) where
   unfolding effect withWorker withMap withCounters installCounted isMergeOldest takesIn
   granted-waits (begin w) e = inl (record { waits = λ k. refl; installs = refl; other = refl })
   granted-waits (read w j) e = inl (record { waits = λ k. refl; installs = refl; other = refl })
-  granted-waits (scan w lo hi m n) e = inl (record { waits = λ k. refl; installs = refl; other = refl })
+  granted-waits (scan w lo hi b) e = inl (record { waits = λ k. refl; installs = refl; other = refl })
   granted-waits (put w j p) e = inl (record { waits = λ k. refl; installs = refl; other = refl })
   granted-waits (remove w j) e = inl (record { waits = λ k. refl; installs = refl; other = refl })
   granted-waits (lock w) e =

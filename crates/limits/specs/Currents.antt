@@ -39,7 +39,7 @@ module _ {σ : State} (h : Kept σ) where
   unfolding effect merged withWorker withMap withCounters
   granted-current (begin w) e n k = refl
   granted-current (read w j) e n k = refl
-  granted-current (scan w lo hi p q) e n k = refl
+  granted-current (scan w lo hi b) e n k = refl
   granted-current (put w j p) e n k = refl
   granted-current (remove w j) e n k = refl
   granted-current (lock w) e n k =

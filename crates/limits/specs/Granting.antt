@@ -12,7 +12,7 @@ use Rattle.lists.specs.RowLaws.{has-any}
 use Rattle.spec.specs.declared.Stage.{Stage}
 use Rattle.spec.specs.Records.{Payload}
 use Rattle.spec.specs.Maps.{waitingWith, addressesWith}
-use Rattle.spec.specs.Steps.{State, workerOf, begin, read, scan, put, remove, lock, validate, install, abort, isFree, isOpen, isLocked, isChecked, ownWrite, scanReads, scanVersions, noWorker, readLogFull, scanLogFull, writesFull, lockedByOther, writeKeys, causes, refusal}
+use Rattle.spec.specs.Steps.{State, Places, workerOf, begin, read, scan, put, remove, lock, validate, install, abort, isFree, isOpen, isLocked, isChecked, ownWrite, scanReads, scanVersions, noWorker, readLogFull, scanLogFull, writesFull, lockedByOther, writeKeys, causes, refusal}
 use Rattle.laws.specs.WorkerLaws.{not-false, cause-passed, stage-passed}
 
 -- The worker is there, in a stage that passes the test.
@@ -61,9 +61,9 @@ pub record ScanFits (σ : State) (w lo hi : ℕ) : Type 0 where
   pub reads : length (workerOf σ w .reads) + length (scanReads σ lo hi) ≤ σ .settings .readLimit
   pub versions : length (workerOf σ w .versions) + length (scanVersions σ lo hi) ≤ σ .settings .leafSetLimit
 
-pub scan-passed : (σ : State) (w lo hi m n : ℕ) → refusal σ (scan w lo hi m n) ≡ none → AtStage isOpen σ w × ScanFits σ w lo hi
+pub scan-passed : (σ : State) (w lo hi : ℕ) (b : Places) → refusal σ (scan w lo hi b) ≡ none → AtStage isOpen σ w × ScanFits σ w lo hi
 unfolding refusal causes scanLogFull
-scan-passed σ w lo hi m n e =
+scan-passed σ w lo hi bs e =
     let a = stage-passed σ isOpen w _ e in
     let b = cause-passed _ _ (a .2) in
     let c = cause-passed _ _ (b .1) in

@@ -32,8 +32,8 @@ module _ {σ : State} (h : Kept σ) where
   unfolding effect
   granted-kept (begin w) e = begin-kept h w (begin-passed σ w e)
   granted-kept (read w k) e = let p = read-passed σ w k e in read-kept h w k (p .0) (p .1)
-  granted-kept (scan w lo hi m n) e =
-      let p = scan-passed σ w lo hi m n e in
+  granted-kept (scan w lo hi b) e =
+      let p = scan-passed σ w lo hi b e in
       logs-kept h w (p .0) (scanReads σ lo hi) (scanVersions σ lo hi) (remembered σ w lo hi ∷ []) (p .1 .reads) (p .1 .versions)
   granted-kept (put w k d) e = let p = put-passed σ w k d e in write-kept h w k (written d) (p .0) (p .1)
   granted-kept (remove w k) e = let p = remove-passed σ w k e in write-kept h w k deleted (p .0) (p .1)
@@ -74,7 +74,7 @@ next-settings σ s = go (refusal σ s) refl
     granted-settings : (x : Step) → effect σ x .settings ≡ σ .settings
     granted-settings (begin w) = unfold effect withWorker in refl
     granted-settings (read w k) = unfold effect withWorker in refl
-    granted-settings (scan w lo hi m n) = unfold effect withWorker in refl
+    granted-settings (scan w lo hi b) = unfold effect withWorker in refl
     granted-settings (put w k d) = unfold effect withWorker in refl
     granted-settings (remove w k) = unfold effect withWorker in refl
     granted-settings (lock w) = unfold effect withWorker withMap in refl

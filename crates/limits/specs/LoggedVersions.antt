@@ -66,7 +66,7 @@ module _ {σ : State} (k : Kept σ) (h : AllOld (σ .counters .version) (σ .wor
   unfolding effect installCounted withWorker withMap withCounters atStage logged writing checkedAs merged
   granted-old (begin w) = set-old (σ .counters .version) (σ .workers) w _ h (none-old (σ .counters .version))
   granted-old (read w j) = set-old (σ .counters .version) (σ .workers) w _ h (more-old _ (workerOf σ w .versions) [] (own w) (none-old _))
-  granted-old (scan w lo hi m n) =
+  granted-old (scan w lo hi b) =
       set-old (σ .counters .version) (σ .workers) w _ h
       (more-old _ (workerOf σ w .versions) (scanVersions σ lo hi) (own w) (unfold scanVersions in meeting-old (k .map .leaves) lo hi))
   granted-old (put w j p) = set-old (σ .counters .version) (σ .workers) w _ h (own w)

@@ -64,7 +64,7 @@ pub ends-validation : (σ : State) (s : Step) (r : Refusal) → refusal σ s ≡
 unfolding causes noWorker workerFree wrongStage any
 ends-validation σ (begin w) r e t = never-ends σ (begin w) r refl e t
 ends-validation σ (read w k) r e t = never-ends σ (read w k) r refl e t
-ends-validation σ (scan w lo hi m n) r e t = never-ends σ (scan w lo hi m n) r refl e t
+ends-validation σ (scan w lo hi b) r e t = never-ends σ (scan w lo hi b) r refl e t
 ends-validation σ (put w k p) r e t = never-ends σ (put w k p) r refl e t
 ends-validation σ (remove w k) r e t = never-ends σ (remove w k) r refl e t
 ends-validation σ (lock w) r e t = never-ends σ (lock w) r refl e t

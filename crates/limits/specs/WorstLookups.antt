@@ -43,7 +43,7 @@ module _ (σ : State) (d : Dense (σ .map .slots)) where
   unfolding effect granted takesOutBy isAbort withWorker withMap withCounters installCounted lockAll installAll withSlots
   granted-dense (begin w) t = d
   granted-dense (read w k) t = d
-  granted-dense (scan w lo hi m n) t = d
+  granted-dense (scan w lo hi b) t = d
   granted-dense (put w k p) t = d
   granted-dense (remove w k) t = d
   granted-dense (lock w) t = lock-dense d _ _ _

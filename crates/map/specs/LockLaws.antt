@@ -12,6 +12,8 @@ use lib.Dec.{eqb}
 use Rattle.lists.specs.Tests.{pick, maybe, present, same}
 use Rattle.lists.specs.Rows.{Row, look, keys, any, Different}
 use Rattle.lists.specs.RowLaws.{look-here}
+use Rattle.spec.specs.Payloads.{payloadIn}
+use Rattle.spec.specs.declared.PayloadWords.{PayloadWords}
 use Rattle.spec.specs.Records.{standard, Write, written, deleted, isPut}
 use Rattle.spec.specs.Slots.{slotCount, Pending, Content, isIdle, Slot, entries, contentOf, enter}
 use Rattle.spec.specs.Maps.{MapState, heldByOther, waitingWith, addressesWith, lockedFor, lockRow, withoutLock, unlockKey, waitingSince, installRow, each, withSlots, lockAll, unlockAll, installAll}
@@ -73,23 +75,23 @@ unfoldable pub holding : ℕ → ℕ → Content → Content
 holding lock kind c = record { pending = c .pending; holder = holderIn lock; forPut = eqb kind 1 }
 
 pub holding-words : (c : ContentWords) (lock kind : ℕ)
-    → contentIn (record { kind = c .kind; value = c .value; commit = c .commit; since = c .since; lock = lock; forput = kind }) ≡ holding lock kind (contentIn c)
+    → contentIn (record { kind = c .kind; payload = c .payload; commit = c .commit; since = c .since; lock = lock; forput = kind }) ≡ holding lock kind (contentIn c)
 unfolding contentIn holding
 holding-words c lock kind = refl
 
 -- a write of kind 1 is a put
-put-is : (kind value : ℕ) → eqb kind 1 ≡ isPut (writeOf kind value)
+put-is : (kind : ℕ) (v : PayloadWords) → eqb kind 1 ≡ isPut (writeOf kind v)
 unfolding writeOf same isPut
-put-is kind value = go (eqb kind 1)
+put-is kind v = go (eqb kind 1)
   where
-    go : (b : Bool) → b ≡ isPut (pick b (written (record { value = value })) deleted)
+    go : (b : Bool) → b ≡ isPut (pick b (written (payloadIn v)) deleted)
     go true = refl
     go false = refl
 
-holding-own : (c : Content) (w kind value : ℕ) → holding (w + 1) kind c ≡ lockedFor w (writeOf kind value) c
+holding-own : (c : Content) (w kind : ℕ) (v : PayloadWords) → holding (w + 1) kind c ≡ lockedFor w (writeOf kind v) c
 unfolding holding holderIn
-holding-own c w kind value =
-    λ i. record { pending = c .pending; holder = ap holderIn (add-one w) i; forPut = put-is kind value i }
+holding-own c w kind v =
+    λ i. record { pending = c .pending; holder = ap holderIn (add-one w) i; forPut = put-is kind v i }
 
 holding-none : (c : Content) → holding 0 0 c ≡ withoutLock c
 unfolding holding holderIn
@@ -162,7 +164,7 @@ pub lock-said : (ss : List Slot) (w : ℕ) (x : Row Write) (r : Entry) (old c : 
 unfolding lockRow
 lock-said ss w x r old c e o q =
     entered-as ss (ap (λ (y : Row Write). y .key) e)
-    (q ∙ holding-own old w (r .kind) (r .value) ∙ ap (lockedFor w (entryIn r .item)) (sym o)
+    (q ∙ holding-own old w (r .kind) (r .payload) ∙ ap (lockedFor w (entryIn r .item)) (sym o)
     ∙ ap (λ (y : Row Write). lockedFor w (y .item) (contentOf ss (y .key))) e)
 
 pub install-said : (ss : List Slot) (n t : ℕ) (x : Row Write) (r : Entry) (old c : Content) → entryIn r ≡ x → contentOf ss (r .address) ≡ old
@@ -191,7 +193,7 @@ kind-delete zero e = refl
 kind-delete (suc zero) e = absurd (e refl)
 kind-delete (suc (suc k)) e = refl
 
-pending-write : (k v n t : ℕ) → words.pendingIn (pendingKind k) v n t ≡ some (record { write = writeOf k v; commit = n; since = t })
+pending-write : (k : ℕ) (v : PayloadWords) (n t : ℕ) → words.pendingIn (pendingKind k) v n t ≡ some (record { write = writeOf k v; commit = n; since = t })
 unfolding pendingKind words.pendingIn
 pending-write zero v n t = ap (λ (x : Write). some (record { write = x; commit = n; since = t })) (sym (deletion-kind 0 v (λ e. absurd (omega arith))))
 pending-write (suc zero) v n t = ap (λ (x : Write). some (record { write = x; commit = n; since = t })) (sym (put-kind 1 v refl))
@@ -201,25 +203,25 @@ pending-write (suc (suc k)) v n t = ap (λ (x : Write). some (record { write = x
 module _ (c : ContentWords) (t : ℕ) where
   pub since-now : c .kind ≡ 0 → t ≡ waitingSince t (contentIn c .pending)
   unfolding contentIn words.pendingIn waitingSince
-  since-now e = sym (ap (λ (k : ℕ). maybe (words.pendingIn k (c .value) (c .commit) (c .since)) t (λ (q : Pending). q .since)) e)
+  since-now e = sym (ap (λ (k : ℕ). maybe (words.pendingIn k (c .payload) (c .commit) (c .since)) t (λ (q : Pending). q .since)) e)
 
   pub since-before : (c .kind ≡ 0 → ⊥) → c .since ≡ waitingSince t (contentIn c .pending)
   unfolding contentIn words.pendingIn waitingSince
   since-before n = go (c .kind) n
     where
-      go : (k : ℕ) → (k ≡ 0 → ⊥) → c .since ≡ maybe (words.pendingIn k (c .value) (c .commit) (c .since)) t (λ (q : Pending). q .since)
+      go : (k : ℕ) → (k ≡ 0 → ⊥) → c .since ≡ maybe (words.pendingIn k (c .payload) (c .commit) (c .since)) t (λ (q : Pending). q .since)
       go zero n = absurd (n refl)
       go (suc zero) n = refl
       go (suc (suc k)) n = refl
 
 pub installs : (r : Entry) (n t : ℕ) (old : Content) (k u : ℕ) → k ≡ pendingKind (r .kind) → u ≡ waitingSince t (old .pending)
-    → contentIn (record { kind = k; value = r .value; commit = n; since = u; lock = 0; forput = 0 }) ≡ installedAs n t (entryIn r) old
+    → contentIn (record { kind = k; payload = r .payload; commit = n; since = u; lock = 0; forput = 0 }) ≡ installedAs n t (entryIn r) old
 unfolding contentIn holderIn
 installs r n t old k u e f =
     ap (λ (o : Option Pending). record { pending = o; holder = none; forPut = false })
-    (ap (λ (x : ℕ). words.pendingIn x (r .value) n u) e
-    ∙ ap (words.pendingIn (pendingKind (r .kind)) (r .value) n) f
-    ∙ pending-write (r .kind) (r .value) n (waitingSince t (old .pending)))
+    (ap (λ (x : ℕ). words.pendingIn x (r .payload) n u) e
+    ∙ ap (words.pendingIn (pendingKind (r .kind)) (r .payload) n) f
+    ∙ pending-write (r .kind) (r .payload) n (waitingSince t (old .pending)))
 
 -- ---- the whole write set
 

@@ -19,6 +19,7 @@ use Rattle.lists.specs.Ascending.{keys-mem}
 use Rattle.lists.specs.Counting.{Within, different-within}
 use Rattle.lists.specs.Memberships.{member-has, has-left, has-right}
 use Rattle.lists.specs.Sums.{total-at, total-except}
+use Rattle.spec.specs.declared.PayloadWords.{PayloadWords}
 use Rattle.spec.specs.Records.{Record, outcome}
 use Rattle.spec.specs.Leaves.{Leaf}
 use Rattle.spec.specs.Slots.{slotCount, Pending, Content, isIdle, Slot, emptySlot, entries, contentOf, holds, enter, kept}
@@ -47,31 +48,31 @@ abbrev pub parts : List (Row Record) → List Leaf → List Slot → MapState
 parts rs ls ss = record { records = rs; leaves = ls; slots = ss }
 
 -- what a pending write of this kind leaves in the index
-unfoldable pub leaving : ℕ → ℕ → ℕ → Option Record
-leaving kind value commit = maybe (pendingIn kind value commit 0) none outcomeOf
+unfoldable pub leaving : ℕ → PayloadWords → ℕ → Option Record
+leaving kind v commit = maybe (pendingIn kind v commit 0) none outcomeOf
 
 -- whenever its waiting began
-leaving-since : (kind value commit t : ℕ) → maybe (pendingIn kind value commit t) none outcomeOf ≡ leaving kind value commit
+leaving-since : (kind : ℕ) (v : PayloadWords) (commit t : ℕ) → maybe (pendingIn kind v commit t) none outcomeOf ≡ leaving kind v commit
 unfolding leaving pendingIn outcomeOf
-leaving-since zero value commit t = refl
-leaving-since (suc zero) value commit t = refl
-leaving-since (suc (suc k)) value commit t = refl
+leaving-since zero v commit t = refl
+leaving-since (suc zero) v commit t = refl
+leaving-since (suc (suc k)) v commit t = refl
 
-pub leaving-put : (kind value commit : ℕ) → kind ≡ 1 → some (recordFrom value commit) ≡ leaving kind value commit
+pub leaving-put : (kind : ℕ) (v : PayloadWords) (commit : ℕ) → kind ≡ 1 → some (recordFrom v commit) ≡ leaving kind v commit
 unfolding leaving pendingIn outcomeOf outcome
-leaving-put kind value commit e = sym (ap (λ (k : ℕ). leaving k value commit) e)
+leaving-put kind v commit e = sym (ap (λ (k : ℕ). leaving k v commit) e)
 
-pub leaving-drop : (kind value commit : ℕ) → (kind ≡ 1 → ⊥) → none ≡ leaving kind value commit
+pub leaving-drop : (kind : ℕ) (v : PayloadWords) (commit : ℕ) → (kind ≡ 1 → ⊥) → none ≡ leaving kind v commit
 unfolding leaving pendingIn outcomeOf outcome
-leaving-drop zero value commit n = refl
-leaving-drop (suc zero) value commit n = absurd (n refl)
-leaving-drop (suc (suc k)) value commit n = refl
+leaving-drop zero v commit n = refl
+leaving-drop (suc zero) v commit n = absurd (n refl)
+leaving-drop (suc (suc k)) v commit n = refl
 
-kind-pending : (kind value commit t : ℕ) → (kind ≡ 0 → ⊥) → (p : Pending) × (pendingIn kind value commit t ≡ some p)
+kind-pending : (kind : ℕ) (v : PayloadWords) (commit t : ℕ) → (kind ≡ 0 → ⊥) → (p : Pending) × (pendingIn kind v commit t ≡ some p)
 unfolding pendingIn
-kind-pending zero value commit t n = absurd (n refl)
-kind-pending (suc zero) value commit t n = (_, refl)
-kind-pending (suc (suc k)) value commit t n = (_, refl)
+kind-pending zero v commit t n = absurd (n refl)
+kind-pending (suc zero) v commit t n = (_, refl)
+kind-pending (suc (suc k)) v commit t n = (_, refl)
 
 pub lock-none : (c : ContentWords) → c .lock ≡ 0 → _≡_ {A = ℕ} 0 (pick (present (contentIn c .holder)) 1 0)
 unfolding contentIn holderIn
@@ -346,7 +347,7 @@ walk-past {p} {rows} {slots} {w} {j} r f reads h t least most gone =
 
 takes-none : (p : ℕ → Bool) (k : ℕ) (c : ContentWords) → c .kind ≡ 0 → takes p (row k (contentIn c)) ≡ false
 unfolding takes contentIn pendingIn
-takes-none p k c e = ap (λ (n : ℕ). both (present (pendingIn n (c .value) (c .commit) (c .since))) (p k)) e
+takes-none p k c e = ap (λ (n : ℕ). both (present (pendingIn n (c .payload) (c .commit) (c .since))) (p k)) e
 
 both-false : (b : Bool) → both b false ≡ false
 both-false true = refl
@@ -392,7 +393,7 @@ walk-lock {p} {rows} {slots} {w} {j} r x reads h k b =
     let most : pick (present (contentIn (r .content) .holder)) 1 0 ≤ 1 = pick-most (present (contentIn (r .content) .holder)) in
     walk-past r (w .left + x) reads h (takes-none p (r .key) (r .content) k) (omega arith) (omega arith)
     (λ z e q. clash
-    (unlocked (contentIn (r .content)) x (ap (λ (n : ℕ). present (pendingIn n (r .content .value) (r .content .commit) (r .content .since))) k) b (omega arith))
+    (unlocked (contentIn (r .content)) x (ap (λ (n : ℕ). present (pendingIn n (r .content .payload) (r .content .commit) (r .content .since))) k) b (omega arith))
     (stands-as slots j r reads e q .0))
 
 weigh-nothing : (q : Row Content → Bool) (k : ℕ) (c : Content) → q (row k c) ≡ false → weigh q (kept k c) ≡ 0
@@ -402,11 +403,11 @@ weigh-nothing q k c e =
 -- an entry with a pending write
 module _ {slots : SlotRows} {j : ℕ} (r : SlotWords) (held : indexlet.SlotsHeld slots) (reads : indexlet.IsSlot slots j r) (kind : r .content .kind ≡ 0 → ⊥) where
   said : Pending
-  said = kind-pending (r .content .kind) (r .content .value) (r .content .commit) (r .content .since) kind .0
+  said = kind-pending (r .content .kind) (r .content .payload) (r .content .commit) (r .content .since) kind .0
 
   pending-is : contentIn (r .content) .pending ≡ some said
   unfolding contentIn said
-  pending-is = kind-pending (r .content .kind) (r .content .value) (r .content .commit) (r .content .since) kind .1
+  pending-is = kind-pending (r .content .kind) (r .content .payload) (r .content .commit) (r .content .since) kind .1
 
   busy : isIdle (contentIn (r .content)) ≡ false
   unfolding isIdle
@@ -423,15 +424,15 @@ module _ {slots : SlotRows} {j : ℕ} (r : SlotWords) (held : indexlet.SlotsHeld
 
   -- what enters the index and the indexlet is what the model merges
   merged-is : (rs rs' : List (Row Record)) (ls : List Leaf) (ss' : List Slot)
-      → rs' ≡ assign (r .key) (leaving (r .content .kind) (r .content .value) (r .content .commit)) rs
+      → rs' ≡ assign (r .key) (leaving (r .content .kind) (r .content .payload) (r .content .commit)) rs
       → ss' ≡ enter 4 (slotsOf slots) (r .key) (takenIn (contentIn (r .content)))
       → parts rs' ls ss' ≡ mergeEntry 4 (parts rs ls (slotsOf slots)) (row (r .key) (contentIn (r .content)))
   unfolding mergeEntry current leaving contentIn
   merged-is rs rs' ls ss' e f =
-      let cur : current (parts rs ls (slotsOf slots)) (r .key) ≡ leaving (r .content .kind) (r .content .value) (r .content .commit)
+      let cur : current (parts rs ls (slotsOf slots)) (r .key) ≡ leaving (r .content .kind) (r .content .payload) (r .content .commit)
       = ap (λ (o : Option Pending). maybe o (look rs (r .key)) outcomeOf) (ap (λ (c : Content). c .pending) content-is ∙ pending-is)
       ∙ sym (ap (λ (o : Option Pending). maybe o none outcomeOf) pending-is)
-      ∙ leaving-since (r .content .kind) (r .content .value) (r .content .commit) (r .content .since) in
+      ∙ leaving-since (r .content .kind) (r .content .payload) (r .content .commit) (r .content .since) in
       λ i. record {
         records = (e ∙ ap (λ (o : Option Record). assign (r .key) o rs) (sym cur)) i;
         leaves = ls;
@@ -477,18 +478,18 @@ module _ {slots : SlotRows} {j : ℕ} (r : SlotWords) (held : indexlet.SlotsHeld
 
   -- the index with the address's record, or without
   abbrev assigned : List (Row Record) → List (Row Record)
-  assigned rs = assign (r .key) (leaving (r .content .kind) (r .content .value) (r .content .commit)) rs
+  assigned rs = assign (r .key) (leaving (r .content .kind) (r .content .payload) (r .content .commit)) rs
 
-  look-assigned : (rs : List (Row Record)) → look (assigned rs) (r .key) ≡ leaving (r .content .kind) (r .content .value) (r .content .commit)
+  look-assigned : (rs : List (Row Record)) → look (assigned rs) (r .key) ≡ leaving (r .content .kind) (r .content .payload) (r .content .commit)
   look-assigned rs =
-      look-assign (r .key) (leaving (r .content .kind) (r .content .value) (r .content .commit)) rs (r .key)
-      ∙ ap (λ (b : Bool). pick b (leaving (r .content .kind) (r .content .value) (r .content .commit)) (look rs (r .key))) (same-refl (r .key))
+      look-assign (r .key) (leaving (r .content .kind) (r .content .payload) (r .content .commit)) rs (r .key)
+      ∙ ap (λ (b : Bool). pick b (leaving (r .content .kind) (r .content .payload) (r .content .commit)) (look rs (r .key))) (same-refl (r .key))
 
   -- what the entry counts before, and what is left of it after
   outside-moved : j < slotCount → (rs : List (Row Record))
       → howMany (lacking (assigned rs)) (enter 4 (slotsOf slots) (r .key) (takenIn (contentIn (r .content)))) + pick (not (present (look rs (r .key)))) 1 0
       ≡ howMany (lacking rs) (slotsOf slots)
-      + pick (not (present (contentIn (r .content) .holder))) 0 (pick (not (present (leaving (r .content .kind) (r .content .value) (r .content .commit)))) 1 0)
+      + pick (not (present (contentIn (r .content) .holder))) 0 (pick (not (present (leaving (r .content .kind) (r .content .payload) (r .content .commit)))) 1 0)
   unfolding lacking weigh
   outside-moved inside rs =
       let c : Content = contentIn (r .content) in
@@ -499,9 +500,9 @@ module _ {slots : SlotRows} {j : ℕ} (r : SlotWords) (held : indexlet.SlotsHeld
       = ap (λ (x : Content). weigh q' (kept (r .key) x)) content-is ∙ ap (λ (b : Bool). weigh q' (pick b none (some (row (r .key) c)))) busy in
       let test : howMany q' (slotsOf slots) + weigh (lacking rs) (some (row (r .key) c)) ≡ howMany (lacking rs) (slotsOf slots) + weigh q' (some (row (r .key) c))
       = test-moved inside (lacking rs) q' (λ e n. ap (λ (o : Option Record). not (present o))
-      (look-assign (r .key) (leaving (r .content .kind) (r .content .value) (r .content .commit)) rs (e .key)
-      ∙ ap (λ (b : Bool). pick b (leaving (r .content .kind) (r .content .value) (r .content .commit)) (look rs (e .key))) (same-no {m = r .key} {n = e .key} (λ y. n (sym y))))) in
-      let stays : weigh q' (kept (r .key) (takenIn c)) ≡ pick (not (present (c .holder))) 0 (pick (not (present (leaving (r .content .kind) (r .content .value) (r .content .commit)))) 1 0)
+      (look-assign (r .key) (leaving (r .content .kind) (r .content .payload) (r .content .commit)) rs (e .key)
+      ∙ ap (λ (b : Bool). pick b (leaving (r .content .kind) (r .content .payload) (r .content .commit)) (look rs (e .key))) (same-no {m = r .key} {n = e .key} (λ y. n (sym y))))) in
+      let stays : weigh q' (kept (r .key) (takenIn c)) ≡ pick (not (present (c .holder))) 0 (pick (not (present (leaving (r .content .kind) (r .content .payload) (r .content .commit)))) 1 0)
       = weigh-kept q' (r .key) (takenIn c) ∙ (unfold isIdle in ap (λ (o : Option Record). pick (not (present (c .holder))) 0 (pick (not (present o)) 1 0)) (look-assigned rs)) in
       let own : weigh (lacking rs) (some (row (r .key) c)) ≡ pick (not (present (look rs (r .key)))) 1 0 = refl in
       omega arith
@@ -514,16 +515,16 @@ module _ {slots : SlotRows} {j : ℕ} (r : SlotWords) (held : indexlet.SlotsHeld
   outside-put : j < slotCount → (rs rs' : List (Row Record)) (ss' : List Slot) → Rising rs → rs' ≡ assigned rs → ss' ≡ enter 4 (slotsOf slots) (r .key) (takenIn (contentIn (r .content)))
       → r .content .kind ≡ 1 → howMany (lacking rs') ss' + length rs' ≡ howMany (lacking rs) (slotsOf slots) + length rs
   outside-put inside rs rs' ss' f e v k =
-      let here : present (leaving (r .content .kind) (r .content .value) (r .content .commit)) ≡ true = ap present (sym (leaving-put (r .content .kind) (r .content .value) (r .content .commit) k)) in
+      let here : present (leaving (r .content .kind) (r .content .payload) (r .content .commit)) ≡ true = ap present (sym (leaving-put (r .content .kind) (r .content .payload) (r .content .commit) k)) in
       let moved : howMany (lacking rs') ss' + pick (not (present (look rs (r .key)))) 1 0
       ≡ howMany (lacking rs) (slotsOf slots)
-      + pick (not (present (contentIn (r .content) .holder))) 0 (pick (not (present (leaving (r .content .kind) (r .content .value) (r .content .commit)))) 1 0)
+      + pick (not (present (contentIn (r .content) .holder))) 0 (pick (not (present (leaving (r .content .kind) (r .content .payload) (r .content .commit)))) 1 0)
       = (λ i. howMany (lacking (e i)) (v i) + pick (not (present (look rs (r .key)))) 1 0) ∙ outside-moved inside rs in
-      let none-left : _≡_ {A = ℕ} (pick (not (present (contentIn (r .content) .holder))) 0 (pick (not (present (leaving (r .content .kind) (r .content .value) (r .content .commit)))) 1 0)) 0
+      let none-left : _≡_ {A = ℕ} (pick (not (present (contentIn (r .content) .holder))) 0 (pick (not (present (leaving (r .content .kind) (r .content .payload) (r .content .commit)))) 1 0)) 0
       = ap (λ (b : Bool). pick (not (present (contentIn (r .content) .holder))) 0 (pick (not b) 1 0)) here ∙ zeros (not (present (contentIn (r .content) .holder))) in
       let long : length rs' + pick (present (look rs (r .key))) 1 0 ≡ length rs + 1
       = ap (λ (x : List (Row Record)). length x + pick (present (look rs (r .key))) 1 0) e
-      ∙ length-assign (r .key) (leaving (r .content .kind) (r .content .value) (r .content .commit)) rs f
+      ∙ length-assign (r .key) (leaving (r .content .kind) (r .content .payload) (r .content .commit)) rs f
       ∙ ap (λ (b : Bool). length rs + pick b 1 0) here in
       let one : pick (present (look rs (r .key))) 1 0 + pick (not (present (look rs (r .key)))) 1 0 ≡ 1 = one-of (present (look rs (r .key))) in
       omega arith
@@ -536,16 +537,16 @@ module _ {slots : SlotRows} {j : ℕ} (r : SlotWords) (held : indexlet.SlotsHeld
   outside-drop : j < slotCount → (rs rs' : List (Row Record)) (ss' : List Slot) → Rising rs → rs' ≡ assigned rs → ss' ≡ enter 4 (slotsOf slots) (r .key) (takenIn (contentIn (r .content)))
       → (r .content .kind ≡ 1 → ⊥) → howMany (lacking rs') ss' + length rs' + 1 ≡ howMany (lacking rs) (slotsOf slots) + pick (present (contentIn (r .content) .holder)) 1 0 + length rs
   outside-drop inside rs rs' ss' f e v k =
-      let gone : present (leaving (r .content .kind) (r .content .value) (r .content .commit)) ≡ false = ap present (sym (leaving-drop (r .content .kind) (r .content .value) (r .content .commit) k)) in
+      let gone : present (leaving (r .content .kind) (r .content .payload) (r .content .commit)) ≡ false = ap present (sym (leaving-drop (r .content .kind) (r .content .payload) (r .content .commit) k)) in
       let moved : howMany (lacking rs') ss' + pick (not (present (look rs (r .key)))) 1 0
       ≡ howMany (lacking rs) (slotsOf slots)
-      + pick (not (present (contentIn (r .content) .holder))) 0 (pick (not (present (leaving (r .content .kind) (r .content .value) (r .content .commit)))) 1 0)
+      + pick (not (present (contentIn (r .content) .holder))) 0 (pick (not (present (leaving (r .content .kind) (r .content .payload) (r .content .commit)))) 1 0)
       = (λ i. howMany (lacking (e i)) (v i) + pick (not (present (look rs (r .key)))) 1 0) ∙ outside-moved inside rs in
-      let stays : _≡_ {A = ℕ} (pick (not (present (contentIn (r .content) .holder))) 0 (pick (not (present (leaving (r .content .kind) (r .content .value) (r .content .commit)))) 1 0)) (pick (present (contentIn (r .content) .holder)) 1 0)
+      let stays : _≡_ {A = ℕ} (pick (not (present (contentIn (r .content) .holder))) 0 (pick (not (present (leaving (r .content .kind) (r .content .payload) (r .content .commit)))) 1 0)) (pick (present (contentIn (r .content) .holder)) 1 0)
       = ap (λ (b : Bool). pick (not (present (contentIn (r .content) .holder))) 0 (pick (not b) 1 0)) gone ∙ turned (present (contentIn (r .content) .holder)) in
       let long : length rs' + pick (present (look rs (r .key))) 1 0 ≡ length rs + 0
       = ap (λ (x : List (Row Record)). length x + pick (present (look rs (r .key))) 1 0) e
-      ∙ length-assign (r .key) (leaving (r .content .kind) (r .content .value) (r .content .commit)) rs f
+      ∙ length-assign (r .key) (leaving (r .content .kind) (r .content .payload) (r .content .commit)) rs f
       ∙ ap (λ (b : Bool). length rs + pick b 1 0) gone in
       let one : pick (present (look rs (r .key))) 1 0 + pick (not (present (look rs (r .key)))) 1 0 ≡ 1 = one-of (present (look rs (r .key))) in
       omega arith
@@ -556,7 +557,7 @@ module _ {slots : SlotRows} {j : ℕ} (r : SlotWords) (held : indexlet.SlotsHeld
 
   pub outside-fits : {p : ℕ → Bool} {rs : List (Row Record)} {ss : List Slot} {rows rows' : RecordRows} {w : Walk} (n x : ℕ) → j < slotCount → Walking p rs ss rows slots w j
       → x ≡ pick (present (contentIn (r .content) .holder)) 1 0
-      → index.RecordsAre rows' n (assign (r .key) (leaving (r .content .kind) (r .content .value) (r .content .commit)) (recordsOf rows (w .records)))
+      → index.RecordsAre rows' n (assign (r .key) (leaving (r .content .kind) (r .content .payload) (r .content .commit)) (recordsOf rows (w .records)))
       → OutsideFits (w .outside) (w .records) n (r .content .kind) x
   outside-fits {rows = rows} {rows' = rows'} {w = w} n x inside g locks hold =
       let o : w .outside ≡ howMany (lacking (recordsOf rows (w .records))) (slotsOf slots) = g .outside-is in
@@ -596,7 +597,7 @@ module _ {slots : SlotRows} {j : ℕ} (r : SlotWords) (held : indexlet.SlotsHeld
 
   pub walk-on : {p : ℕ → Bool} {rows : RecordRows} {w : Walk} (rows' : RecordRows) (slots' : SlotRows) (n e x o : ℕ) (c : ContentWords) → j < slotCount → p (r .key) ≡ true
       → x ≡ pick (present (contentIn (r .content) .holder)) 1 0
-      → index.RecordsAre rows' n (assign (r .key) (leaving (r .content .kind) (r .content .value) (r .content .commit)) (recordsOf rows (w .records)))
+      → index.RecordsAre rows' n (assign (r .key) (leaving (r .content .kind) (r .content .payload) (r .content .commit)) (recordsOf rows (w .records)))
       → contentIn c ≡ takenIn (contentIn (r .content)) → indexlet.Enters slots (r .key) c slots' e
       → OutsideNow (w .outside) (w .records) n (r .content .kind) x o
       → WalksSlot p rows slots w j rows' slots' (walk n e (w .count + 1) (w .left + x) o)
@@ -634,8 +635,8 @@ module _ {slots : SlotRows} {j : ℕ} (r : SlotWords) (held : indexlet.SlotsHeld
               apart =
                   λ x f.
                   ap (λ (ks : List (Row Record)). look ks x) (hold .same)
-                  ∙ look-assign (r .key) (leaving (r .content .kind) (r .content .value) (r .content .commit)) (recordsOf rows (w .records)) x
-                  ∙ ap (λ (b : Bool). pick b (leaving (r .content .kind) (r .content .value) (r .content .commit)) (look (recordsOf rows (w .records)) x)) (other p t x f)
+                  ∙ look-assign (r .key) (leaving (r .content .kind) (r .content .payload) (r .content .commit)) (recordsOf rows (w .records)) x
+                  ∙ ap (λ (b : Bool). pick b (leaving (r .content .kind) (r .content .payload) (r .content .commit)) (look (recordsOf rows (w .records)) x)) (other p t x f)
                   ∙ g .apart x f;
               elsewhere = λ q f. ap (howMany q) (ent .view) ∙ many-apart q (contentIn c) (λ x. f (row (r .key) x) t) ∙ g .elsewhere q f;
               rest =
@@ -687,6 +688,6 @@ module _ {slots : SlotRows} {j : ℕ} (r : SlotWords) (held : indexlet.SlotsHeld
           omega arith)
           (cases (same (r .content .kind) 1))
 
-pub rest-content : (c : ContentWords) → contentIn (record { kind = 0; value = 0; commit = 0; since = 0; lock = c .lock; forput = c .forput }) ≡ takenIn (contentIn c)
+pub rest-content : (c : ContentWords) → contentIn (record { kind = 0; payload = record { value = 0; owner = 0 }; commit = 0; since = 0; lock = c .lock; forput = c .forput }) ≡ takenIn (contentIn c)
 unfolding contentIn pendingIn
 rest-content c = refl

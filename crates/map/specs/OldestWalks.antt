@@ -56,8 +56,8 @@ ages-past : (s : SlotWords) (ss : List Slot) → s .content .kind ≡ 0 → ages
 unfolding slotIn entries ages contentIn pendingIn
 ages-past s ss k = go (isIdle (contentIn (s .content)))
   where
-    nothing : pendingIn (s .content .kind) (s .content .value) (s .content .commit) (s .content .since) ≡ none
-    nothing = ap (λ (n : ℕ). pendingIn n (s .content .value) (s .content .commit) (s .content .since)) k
+    nothing : pendingIn (s .content .kind) (s .content .payload) (s .content .commit) (s .content .since) ≡ none
+    nothing = ap (λ (n : ℕ). pendingIn n (s .content .payload) (s .content .commit) (s .content .since)) k
 
     go : (b : Bool) → ages (maybe (pick b none (some (row (s .key) (contentIn (s .content))))) (entries ss) (λ (e : Row Content). e ∷ entries ss)) ≡ ages (entries ss)
     go true = refl
@@ -72,7 +72,7 @@ ages-here s ss n =
     ∙ go (s .content .kind) n
   where
     go : (k : ℕ) → (k ≡ 0 → ⊥)
-        → maybe (pendingIn k (s .content .value) (s .content .commit) (s .content .since)) (ages (entries ss)) (λ (p : Pending). row (s .key) (p .since) ∷ ages (entries ss))
+        → maybe (pendingIn k (s .content .payload) (s .content .commit) (s .content .since)) (ages (entries ss)) (λ (p : Pending). row (s .key) (p .since) ∷ ages (entries ss))
         ≡ row (s .key) (s .content .since) ∷ ages (entries ss)
     go zero n = absurd (n refl)
     go (suc zero) n = refl

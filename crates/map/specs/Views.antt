@@ -2,6 +2,7 @@
 use Prim.Native.Nat.{ℕ}
 use mathlib.Core.List.{List}
 use Rattle.lists.specs.Rows.{Row}
+use Rattle.spec.specs.declared.PayloadWords.{PayloadWords}
 use Rattle.spec.specs.Records.{Record}
 use Rattle.spec.specs.Leaves.{Leaf}
 use Rattle.spec.specs.Slots.{Slot}
@@ -46,9 +47,9 @@ byColumns rows lows versions hidden pending slots =
 abbrev pub lent : RecordRows → LeafRows → SlotRows → Lent
 lent rows leaves slots = byColumns rows (lowsOf leaves) (versionsOf leaves) (columns.hiddenOf leaves) (columns.pendingOf leaves) slots
 
--- a record of its value and its commit number
-abbrev pub recordFrom : ℕ → ℕ → Record
-recordFrom value commit = index.recordFrom value commit
+-- a record of its payload and its commit number
+abbrev pub recordFrom : PayloadWords → ℕ → Record
+recordFrom v commit = index.recordFrom v commit
 
 -- the records, the leaves and the slots that they hold
 abbrev pub recordsIn : RecordRows → ℕ → List (Row Record)

@@ -85,9 +85,10 @@ pub fn held(slots: &Slots, ws: &WriteSet, n: usize, w: u64) -> bool
 fn with_lock(c: indexlet::Content, lock: u64, kind: u64) -> indexlet::Content
     ensures { λ r. ⌜ contentIn r ≡ holding lock kind (contentIn c) ⌝ }
 {
+    let payload = c.payload;
     indexlet::Content {
         kind: c.kind,
-        value: c.value,
+        payload,
         commit: c.commit,
         since: c.since,
         lock,
@@ -172,9 +173,10 @@ fn waiting_since(t: u64, old: indexlet::Content) -> u64
 fn installed(r: Entry, number: u64, t: u64, old: indexlet::Content) -> indexlet::Content
     ensures { λ c. ⌜ contentIn c ≡ installedAs number t (entryIn r) (contentIn old) ⌝ }
 {
+    let payload = r.payload;
     indexlet::Content {
         kind: pending_kind(r.kind),
-        value: r.value,
+        payload,
         commit: number,
         since: waiting_since(t, old),
         lock: 0,

@@ -15,6 +15,7 @@ use indexlet::SLOTS;
 use phantomlet::recount;
 use phantomlet::recount::Reach;
 use spec::Address;
+use spec::PayloadWords;
 ghost use mathlib.Core.Path.{_≡_};
 ghost use mathlib.Core.Option.{some};
 ghost use Prim.Native.Nat.{_+_, _^_, _<_, _≤_};
@@ -61,13 +62,20 @@ pub struct Merged {
 }
 
 // A pending write enters the index: kind 1 puts a record, any other drops it. Answers how many records there are now.
-fn take_write(rows: &mut Records, n: usize, a: Address, kind: u64, value: u64, commit: u64) -> usize
+fn take_write(
+    rows: &mut Records,
+    n: usize,
+    a: Address,
+    kind: u64,
+    payload: PayloadWords,
+    commit: u64,
+) -> usize
     requires { ⌜ index-views.RecordsSorted (now rows) n ⌝ }
-    requires { ⌜ length (assign a (some (index-views.recordFrom value commit)) (index-views.recordsOf (now rows) n)) ≤ index-views.recordPlaces ⌝ }
-    ensures { λ r. ⌜ index-views.RecordsAre (now (rows .exit)) r (assign a (leaving kind value commit) (index-views.recordsOf (now (rows .entry)) n)) ⌝ }
+    requires { ⌜ length (assign a (some (index-views.recordFrom payload commit)) (index-views.recordsOf (now rows) n)) ≤ index-views.recordPlaces ⌝ }
+    ensures { λ r. ⌜ index-views.RecordsAre (now (rows .exit)) r (assign a (leaving kind payload commit) (index-views.recordsOf (now (rows .entry)) n)) ⌝ }
 {
     if kind == 1 {
-        return index::records::put(rows, n, a, value, commit);
+        return index::records::put(rows, n, a, payload, commit);
     }
     index::records::drop(rows, n, a)
 }
@@ -129,10 +137,12 @@ fn take_slot(
         };
     }
     let a = key as Address;
-    let n = take_write(rows, w.records, a, c.kind, c.value, c.commit);
+    let payload = c.payload;
+    let n = take_write(rows, w.records, a, c.kind, payload, c.commit);
+    let nothing = PayloadWords { value: 0, owner: 0 };
     let rest = indexlet::Content {
         kind: 0,
-        value: 0,
+        payload: nothing,
         commit: 0,
         since: 0,
         lock: c.lock,

@@ -282,22 +282,22 @@ module _ {rows : RecordRows} {lows : List ℕ} {slots : SlotRows} {n m : ℕ} {z
 
 pub waits-none : (c : ContentWords) → c .kind ≡ 0 → _≡_ {A = ℕ} 0 (pick (present (contentIn c .pending)) 1 0)
 unfolding contentIn pendingIn
-waits-none c e = sym (ap (λ (n : ℕ). pick {A = ℕ} (present (pendingIn n (c .value) (c .commit) (c .since))) 1 0) e)
+waits-none c e = sym (ap (λ (n : ℕ). pick {A = ℕ} (present (pendingIn n (c .payload) (c .commit) (c .since))) 1 0) e)
 
 pub waits-some : (c : ContentWords) → (c .kind ≡ 0 → ⊥) → _≡_ {A = ℕ} 1 (pick (present (contentIn c .pending)) 1 0)
 unfolding contentIn pendingIn
 waits-some c n = go (c .kind) n
   where
-    go : (k : ℕ) → (k ≡ 0 → ⊥) → _≡_ {A = ℕ} 1 (pick (present (pendingIn k (c .value) (c .commit) (c .since))) 1 0)
+    go : (k : ℕ) → (k ≡ 0 → ⊥) → _≡_ {A = ℕ} 1 (pick (present (pendingIn k (c .payload) (c .commit) (c .since))) 1 0)
     go zero n = absurd (n refl)
     go (suc zero) n = refl
     go (suc (suc k)) n = refl
 
-no-put : (c : ContentWords) → (c .kind ≡ 1 → ⊥) → maybe (pendingIn (c .kind) (c .value) (c .commit) (c .since)) false (λ (p : Pending). isPut (p .write)) ≡ false
+no-put : (c : ContentWords) → (c .kind ≡ 1 → ⊥) → maybe (pendingIn (c .kind) (c .payload) (c .commit) (c .since)) false (λ (p : Pending). isPut (p .write)) ≡ false
 unfolding pendingIn isPut
 no-put c n = go (c .kind) n
   where
-    go : (k : ℕ) → (k ≡ 1 → ⊥) → maybe (pendingIn k (c .value) (c .commit) (c .since)) false (λ (p : Pending). isPut (p .write)) ≡ false
+    go : (k : ℕ) → (k ≡ 1 → ⊥) → maybe (pendingIn k (c .payload) (c .commit) (c .since)) false (λ (p : Pending). isPut (p .write)) ≡ false
     go zero n = refl
     go (suc zero) n = absurd (n refl)
     go (suc (suc k)) n = refl
@@ -306,7 +306,7 @@ no-put c n = go (c .kind) n
 pub hides-pending : (c : ContentWords) → c .kind ≡ 1 → true ≡ hidesSome (contentIn c)
 unfolding hidesSome putPending contentIn pendingIn isPut
 hides-pending c e =
-    sym (ap (λ (k : ℕ). either (maybe (pendingIn k (c .value) (c .commit) (c .since)) false (λ (p : Pending). isPut (p .write))) (both (eqb (c .forput) 1) (present (holderIn (c .lock))))) e)
+    sym (ap (λ (k : ℕ). either (maybe (pendingIn k (c .payload) (c .commit) (c .since)) false (λ (p : Pending). isPut (p .write))) (both (eqb (c .forput) 1) (present (holderIn (c .lock))))) e)
 
 pub hides-free : (c : ContentWords) → (c .kind ≡ 1 → ⊥) → c .lock ≡ 0 → false ≡ hidesSome (contentIn c)
 unfolding hidesSome putPending contentIn pendingIn holderIn isPut

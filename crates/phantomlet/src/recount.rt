@@ -128,7 +128,7 @@ pub fn lacks(rows: &Records, n: usize, a: Address) -> bool
 {
     let there = index::records::find(rows, n, a);
     match there {
-        index::records::Found::At { value, commit } => false,
+        index::records::Found::At { payload, commit } => false,
         index::records::Found::Nothing => true,
     }
 }

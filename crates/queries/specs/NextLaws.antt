@@ -14,6 +14,7 @@ use Rattle.lists.specs.Rows.{Row, row, look, From, Rising}
 use Rattle.lists.specs.RowLaws.{look-here, look-there, look-low, look-nil}
 use Rattle.lists.specs.Options.{both-options, some-same}
 use Rattle.lists.specs.Places.{place}
+use Rattle.spec.specs.declared.PayloadWords.{PayloadWords}
 use Rattle.spec.specs.Records.{Record}
 use Rattle.spec.specs.Leaves.{Leaf}
 use Rattle.spec.specs.Slots.{slotCount, Content, isIdle, Slot, entries, kept}
@@ -321,7 +322,7 @@ module _ (rows : RecordRows) (n : ℕ) (slots : SlotRows) where
           clear = λ j g h ls.
               ⊎-elim
               (λ t. ap (current (mapWith rows n slots ls)) (same-true j c t) ∙ sym (s .record-is ls)
-              ∙ ap (λ (b : Bool). pick b (some (recordFrom (r .value) (r .commit))) none) e)
+              ∙ ap (λ (b : Bool). pick b (some (recordFrom (r .payload) (r .commit))) none) e)
               (λ t. let d : j ≡ c → ⊥ = same-false j c t in p .clear j g (omega arith) ls)
               (cases (same j c));
         }
@@ -345,13 +346,13 @@ module _ (rows : RecordRows) (n : ℕ) (slots : SlotRows) where
         }
 
     pub follows-at : (from c : ℕ) (r : Current) → Passed rows n slots from c → Sees rows n slots c r → r .there ≡ true
-        → Follows rows n slots from (At c (r .value) (r .commit))
+        → Follows rows n slots from (At c (r .payload) (r .commit))
     follows-at from c r p s e =
         record {
           next-is = λ ls.
               sym
-              (first-some from 0 (contents (mapWith rows n slots ls)) c (recordFrom (r .value) (r .commit)) (rising-all ls) (p .low)
-              (look-all ls c ∙ sym (s .record-is ls) ∙ ap (λ (b : Bool). pick b (some (recordFrom (r .value) (r .commit))) none) e)
+              (first-some from 0 (contents (mapWith rows n slots ls)) c (recordFrom (r .payload) (r .commit)) (rising-all ls) (p .low)
+              (look-all ls c ∙ sym (s .record-is ls) ∙ ap (λ (b : Bool). pick b (some (recordFrom (r .payload) (r .commit))) none) e)
               (λ i g h. look-all ls i ∙ p .clear i g h ls));
         }
 
@@ -367,15 +368,15 @@ module _ (rows : RecordRows) (n : ℕ) (slots : SlotRows) where
         }
 
     -- the next record, and how many there are after it
-    step : (k : ℕ) (r : Next) (a v u : ℕ) → Follows rows n slots k r → r ≡ At a v u → (ls : List Leaf)
+    step : (k : ℕ) (r : Next) (a : ℕ) (v : PayloadWords) (u : ℕ) → Follows rows n slots k r → r ≡ At a v u → (ls : List Leaf)
         → (length (rowsFrom k (contents (mapWith rows n slots ls))) ≡ suc (length (rowsFrom (suc a) (contents (mapWith rows n slots ls))))) × (k ≤ a)
     step k r a v u f e ls =
         from-next k 0 (contents (mapWith rows n slots ls)) (row a (recordFrom v u)) (rising-all ls) (sym (f .next-is ls) ∙ ap nextIn e)
 
-    pub next-above : (k : ℕ) (r : Next) (a v u : ℕ) → Follows rows n slots k r → r ≡ At a v u → k ≤ a
+    pub next-above : (k : ℕ) (r : Next) (a : ℕ) (v : PayloadWords) (u : ℕ) → Follows rows n slots k r → r ≡ At a v u → k ≤ a
     next-above k r a v u f e = step k r a v u f e [] .1
 
-    pub counted-on : (k count : ℕ) (r : Next) (a v u : ℕ) → Counted rows n slots k count → Follows rows n slots k r → r ≡ At a v u → Counted rows n slots (a + 1) (count + 1)
+    pub counted-on : (k count : ℕ) (r : Next) (a : ℕ) (v : PayloadWords) (u : ℕ) → Counted rows n slots k count → Follows rows n slots k r → r ≡ At a v u → Counted rows n slots (a + 1) (count + 1)
     counted-on k count r a v u c f e =
         record { small = (let q : k ≤ a = next-above k r a v u f e in let s : count ≤ k = c .small in omega arith); rest = λ ls. on ls }
       where

@@ -31,7 +31,7 @@ rowsFrom k [] = []
 rowsFrom k (r ∷ rs) = pick (less (r .key) k) (rowsFrom k rs) (r ∷ rs)
 
 abbrev pub nextIn : Next → Option (Row Record)
-nextIn (At address value commit) = some (row address (recordFrom value commit))
+nextIn (At address v commit) = some (row address (recordFrom v commit))
 nextIn Done = none
 
 -- r is the first of the contents from an address on

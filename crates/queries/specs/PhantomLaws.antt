@@ -16,6 +16,7 @@ use Rattle.lists.specs.Rows.{Row, look, keys, filter, has, Different}
 use Rattle.lists.specs.RowLaws.{has-keys, look-here, look-there, rising-different}
 use Rattle.lists.specs.Counting.{has-nil, has-cons}
 use Rattle.lists.specs.Options.{both-options, some-same}
+use Rattle.spec.specs.declared.PayloadWords.{PayloadWords}
 use Rattle.spec.specs.Leaves.{Leaf, firstLeaf, versionAt, live}
 use Rattle.spec.specs.Records.{Write, isPut}
 use Rattle.spec.specs.Slots.{Pending, Content, contentOf}
@@ -60,7 +61,7 @@ module _ (rows : RecordRows) (lows : List ℕ) (slots : SlotRows) (n m i a : ℕ
   unfolding contentIn putPending
   put-kind c e b q = ap (λ (x : Content). maybe (x .pending) false (λ (p : Pending). isPut (p .write))) e ∙ go (c .kind) ∙ q
     where
-      go : (k : ℕ) → maybe (pendingIn k (c .value) (c .commit) (c .since)) false (λ (p : Pending). isPut (p .write)) ≡ eqb k 1
+      go : (k : ℕ) → maybe (pendingIn k (c .payload) (c .commit) (c .since)) false (λ (p : Pending). isPut (p .write)) ≡ eqb k 1
       go zero = unfold pendingIn in refl
       go (suc zero) = unfold pendingIn isPut in refl
       go (suc (suc k)) = unfold pendingIn isPut in sym (ne-eqb (suc (suc k)) 1 (λ z. omega arith))
@@ -88,7 +89,7 @@ module _ (rows : RecordRows) (lows : List ℕ) (slots : SlotRows) (n m i a : ℕ
       number false 0
       (by-parts true _ (put-kind c e true (ap (λ (k : ℕ). eqb k 1) h)) refl ∙ none-of (same (lowPlace a (take m lows)) i)) refl
 
-  pub lock-only-found : (f : Found) (v u : ℕ) → f ≡ At v u → foundOf f ≡ look (recordsOf rows n) a → _≡_ {A = ℕ} 0 (pick (lockOnlyIn rows lows slots n m i a) 1 0)
+  pub lock-only-found : (f : Found) (v : PayloadWords) (u : ℕ) → f ≡ At v u → foundOf f ≡ look (recordsOf rows n) a → _≡_ {A = ℕ} 0 (pick (lockOnlyIn rows lows slots n m i a) 1 0)
   lock-only-found f v u e g =
       number false 0
       (by-parts _ true refl (ap present (sym g ∙ ap foundOf e)) ∙ ends (putPending (contentOf (slotsOf slots) a))) refl
@@ -111,12 +112,12 @@ module _ (rows : RecordRows) (lows : List ℕ) (slots : SlotRows) (n m i : ℕ) 
   pub own-removal : (e .kind ≡ 1 → ⊥) → _≡_ {A = ℕ} 0 (pick (ownPut rows lows slots n m i (entryIn e)) 1 0)
   unfolding ownPut isPut
   own-removal k =
-      sym (ap (λ (x : Write). pick {A = ℕ} (both (isPut x) (lockOnlyIn rows lows slots n m i (e .address))) 1 0) (deletion-kind (e .kind) (e .value) k))
+      sym (ap (λ (x : Write). pick {A = ℕ} (both (isPut x) (lockOnlyIn rows lows slots n m i (e .address))) 1 0) (deletion-kind (e .kind) (e .payload) k))
 
   pub own-put : {x : ℕ} → e .kind ≡ 1 → x ≡ pick (lockOnlyIn rows lows slots n m i (e .address)) 1 0 → x ≡ pick (ownPut rows lows slots n m i (entryIn e)) 1 0
   unfolding ownPut isPut
   own-put k q =
-      q ∙ sym (ap (λ (x : Write). pick {A = ℕ} (both (isPut x) (lockOnlyIn rows lows slots n m i (e .address))) 1 0) (sets.put-kind (e .kind) (e .value) k))
+      q ∙ sym (ap (λ (x : Write). pick {A = ℕ} (both (isPut x) (lockOnlyIn rows lows slots n m i (e .address))) 1 0) (sets.put-kind (e .kind) (e .payload) k))
 
 module _ (rows : RecordRows) (lows : List ℕ) (slots : SlotRows) (n m i : ℕ) (ws : WriteRows) (count : ℕ) where
   pub counting-start : Counting rows lows slots n m i ws count 0 0

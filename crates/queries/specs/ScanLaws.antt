@@ -121,7 +121,7 @@ look-from lo (r ∷ rs) (suc i) d f h =
 
 -- what the index has at the address of its row
 pub row-found : (rows : RecordRows) (n i : ℕ) (r : RecordRow) → RecordsSorted rows n → i < n → rowOf r ≡ rowAt rows i
-    → foundOf (At (r .value) (r .commit)) ≡ look (recordsOf rows n) (r .address)
+    → foundOf (At (r .payload) (r .commit)) ≡ look (recordsOf rows n) (r .address)
 unfolding Rising
 row-found rows n i r g h e =
     let q : rowOf r ≡ getD (recordsOf rows n) i noRow = e ∙ sym (record-at rows n i (g .room) h) in

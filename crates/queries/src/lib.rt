@@ -16,6 +16,7 @@ use sets::writes::Entry;
 use spec::ADDRESSES;
 use spec::Address;
 use spec::Current;
+use spec::PayloadWords;
 ghost use mathlib.Core.Path.{_≡_};
 ghost use Prim.Native.Nat.{ℕ, _<_, _≤_, min};
 ghost use Rattle.lists.specs.Tests.{pick};
@@ -46,7 +47,7 @@ pub struct Seen {
 pub enum Next {
     At {
         address: Address,
-        value: u64,
+        payload: PayloadWords,
         commit: u64,
     },
     Done,
@@ -64,10 +65,10 @@ pub fn see(rows: &Records, slots: &Slots, n: usize, a: Address) -> Seen
     if c.kind == 0 {
         let found = records::find(rows, n, a);
         match found {
-            Found::At { value, commit } => {
+            Found::At { payload, commit } => {
                 let current = Current {
                     there: true,
-                    value,
+                    payload,
                     commit,
                 };
                 return Seen {
@@ -76,9 +77,10 @@ pub fn see(rows: &Records, slots: &Slots, n: usize, a: Address) -> Seen
                 };
             }
             Found::Nothing => {
+                let payload = PayloadWords { value: 0, owner: 0 };
                 let current = Current {
                     there: false,
-                    value: 0,
+                    payload,
                     commit: 0,
                 };
                 return Seen {
@@ -88,9 +90,10 @@ pub fn see(rows: &Records, slots: &Slots, n: usize, a: Address) -> Seen
             }
         }
     }
+    let payload = c.payload;
     let current = Current {
         there: c.kind == 1,
-        value: c.value,
+        payload,
         commit: c.commit,
     };
     Seen {
@@ -140,16 +143,18 @@ pub fn seen_at(rows: &Records, slots: &Slots, n: usize, i: usize) -> Observed
     let looked = indexlet::look_up(slots, address);
     let c = looked.content;
     if c.kind == 0 {
+        let payload = there.payload;
         let current = Current {
             there: true,
-            value: there.value,
+            payload,
             commit: there.commit,
         };
         return Observed { address, current };
     }
+    let payload = c.payload;
     let current = Current {
         there: c.kind == 1,
-        value: c.value,
+        payload,
         commit: c.commit,
     };
     Observed { address, current }
@@ -220,7 +225,7 @@ fn lock_only_at(
     let found = records::find(rows, n, a);
     match found {
         Found::At {
-            value: _,
+            payload: _,
             commit: _,
         } => 0,
         Found::Nothing => 1,
@@ -360,9 +365,10 @@ pub fn next_record(rows: &Records, slots: &Slots, n: usize, from: u64) -> Next
         let address = c as Address;
         let r = current_record(rows, slots, n, address);
         if r.there {
+            let payload = r.payload;
             return Next::At {
                 address,
-                value: r.value,
+                payload,
                 commit: r.commit,
             };
         }
@@ -384,7 +390,7 @@ pub fn count_records(rows: &Records, slots: &Slots, n: usize) -> usize
         match next {
             Next::At {
                 address,
-                value: _,
+                payload: _,
                 commit: _,
             } => {
                 count += 1;

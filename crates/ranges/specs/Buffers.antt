@@ -1,4 +1,4 @@
--- What a scan's two buffers hold, and every place that it must leave.
+-- What a scan's three buffers hold, and every place that it must leave.
 use Prim.Native.Nat.{ℕ, _≤_}
 use mathlib.Core.Path.{_≡_}
 use mathlib.Core.List.{List}
@@ -6,12 +6,36 @@ use lib.ListN.{length, getD}
 use Rattle.lists.specs.Rows.{Row, row}
 use Rattle.lists.specs.Tabulation.{tab}
 use Rattle.spec.specs.Records.{Payload}
+use Rattle.spec.specs.Steps.{Places}
 
--- the first n places of two buffers, as rows
-unfoldable pub rowsIn : ℕ → List ℕ → List ℕ → List (Row Payload)
-rowsIn n ks vs = tab (λ (i : ℕ). row (getD ks i 0) (record { value = getD vs i 0 })) n
+-- the lent buffers, as lists
+pub record Buffers : Type 0 where
+  pub addresses : List ℕ
+  pub values : List ℕ
+  pub owners : List ℕ
 
--- Every place from n on is as it was, and there are as many.
-pub record Beyond (n : ℕ) (ks ls : List ℕ) : Type 0 where
+abbrev pub buffers : List ℕ → List ℕ → List ℕ → Buffers
+buffers ks vs os = record { addresses = ks; values = vs; owners = os }
+
+-- how many places they have
+abbrev pub placesOf : Buffers → Places
+placesOf b = record { addresses = length (b .addresses); values = length (b .values); owners = length (b .owners) }
+
+-- what place i of each holds
+abbrev pub rowIn : Buffers → ℕ → Row Payload
+rowIn b i = row (getD (b .addresses) i 0) (record { value = getD (b .values) i 0; owner = getD (b .owners) i 0 })
+
+-- the first n places, as rows
+unfoldable pub rowsIn : ℕ → Buffers → List (Row Payload)
+rowsIn n b = tab (rowIn b) n
+
+-- Of one buffer: every place from n on is as it was, and there are as many.
+pub record Unmoved (n : ℕ) (ks ls : List ℕ) : Type 0 where
   pub size : length ls ≡ length ks
   pub same : (p : ℕ) → n ≤ p → getD ls p 0 ≡ getD ks p 0
+
+-- Of each of them.
+pub record Beyond (n : ℕ) (b c : Buffers) : Type 0 where
+  pub addresses : Unmoved n (b .addresses) (c .addresses)
+  pub values : Unmoved n (b .values) (c .values)
+  pub owners : Unmoved n (b .owners) (c .owners)

@@ -6,6 +6,7 @@ use mathlib.Core.List.{List}
 use lib.ListN.{length}
 use Rattle.lists.specs.Rows.{Rising}
 use Rattle.spec.specs.Records.{standard, Write}
+use Rattle.spec.specs.Steps.{Places}
 use Rattle.sets.specs.declared.workers.Worker.{Worker}
 use Rattle.sets.specs.Writes.{WriteRows, WriteSetOrdered, writeIn, writesOf}
 use Rattle.map.specs.declared.Sizes.{Sizes}
@@ -13,6 +14,7 @@ use Rattle.queries.specs.declared.Range.{Range}
 use Rattle.ranges.specs.declared.plans.Task.{Task}
 use Rattle.ranges.specs.Parts.{take-rows}
 use Rattle.ranges.specs.Overlays.{rising-first}
+use Rattle.ranges.specs.Buffers.{Buffers, placesOf}
 use Rattle.ranges.specs.Walks.{ground, Walks, Room, Fills}
 use Rattle.ranges.specs.Scanning.{span, ReadsRoom, LeavesRoom}
 use Rattle.ranges.specs.Plans.{Planning, shownOf, Measured, Roomy, Planned}
@@ -43,9 +45,9 @@ module _ {rows : RecordRows} {lows : List ℕ} {slots : SlotRows} {ws : WriteRow
       record { listed = λ i l. leaf-listed (given .listed) i (le-trans l h); ordered = o; within = le-trans h (given .listed .listed .room); room = r }
 
 -- what the tests have measured, whatever the range was
-pub planned : {rows : RecordRows} {lows : List ℕ} {slots : SlotRows} {ws : WriteRows} {z : Sizes} {x : Worker} {lo hi : ℕ} {t : Task} {m n : ℕ}
-    → Measured rows lows slots ws z x lo hi t → Roomy t m n
-    → Planned rows lows slots ws z x t m n
+pub planned : {rows : RecordRows} {lows : List ℕ} {slots : SlotRows} {ws : WriteRows} {z : Sizes} {x : Worker} {lo hi : ℕ} {t : Task} {b : Places}
+    → Measured rows lows slots ws z x lo hi t → Roomy t b
+    → Planned rows lows slots ws z x t b
 planned {t} d r =
     record {
       index-ordered = d .index .ordered;
@@ -60,14 +62,15 @@ planned {t} d r =
       roomy = r;
     }
 
-module _ {rows : RecordRows} {lows : List ℕ} {slots : SlotRows} {ws : WriteRows} {z : Sizes} {x : Worker} {t : Task} (ks vs : List ℕ)
-    (p : Planned rows lows slots ws z x t (length ks) (length vs)) where
-  pub room : Room ks vs (shownOf rows slots ws z t)
+module _ {rows : RecordRows} {lows : List ℕ} {slots : SlotRows} {ws : WriteRows} {z : Sizes} {x : Worker} {t : Task} (b : Buffers)
+    (p : Planned rows lows slots ws z x t (placesOf b)) where
+  pub room : Room b (shownOf rows slots ws z t)
   room =
       record {
-        addresses = subst (λ (n : ℕ). n ≤ length ks) (p .count) (p .roomy .addresses);
-        values = subst (λ (n : ℕ). n ≤ length vs) (p .count) (p .roomy .values);
+        addresses = subst (λ (n : ℕ). n ≤ length (b .addresses)) (p .count) (p .roomy .addresses);
+        values = subst (λ (n : ℕ). n ≤ length (b .values)) (p .count) (p .roomy .values);
+        owners = subst (λ (n : ℕ). n ≤ length (b .owners)) (p .count) (p .roomy .owners);
       }
 
-  pub filled : (ks' vs' : List ℕ) (r : ℕ) → Fills ks vs (shownOf rows slots ws z t) ks' vs' r → Fills ks vs (shownOf rows slots ws z t) ks' vs' (t .count)
-  filled ks' vs' r f = subst (Fills ks vs (shownOf rows slots ws z t) ks' vs') (f .count ∙ sym (p .count)) f
+  pub filled : (c : Buffers) (r : ℕ) → Fills b (shownOf rows slots ws z t) c r → Fills b (shownOf rows slots ws z t) c (t .count)
+  filled c r f = subst (Fills b (shownOf rows slots ws z t) c) (f .count ∙ sym (p .count)) f

@@ -6,6 +6,7 @@ use mathlib.Core.List.{List}
 use lib.ListN.{length, getD}
 use Rattle.lists.specs.Rows.{Row}
 use Rattle.spec.specs.Records.{standard, Payload}
+use Rattle.spec.specs.Steps.{Places, shortest}
 use Rattle.spec.specs.declared.Refusal.{Refusal}
 use Rattle.spec.specs.declared.Refusal.the-variants.{Backward, LogFull, ShortBuffer}
 use Rattle.sets.specs.declared.workers.Worker.{Worker}
@@ -19,6 +20,7 @@ use Rattle.queries.specs.QueryViews.{Spans, Meets}
 use Rattle.ranges.specs.declared.plans.Task.{Task}
 use Rattle.ranges.specs.declared.plans.Plan.{Plan}
 use Rattle.ranges.specs.declared.plans.Plan.the-variants.{Refused, Go}
+use Rattle.ranges.specs.Buffers.{Buffers}
 use Rattle.ranges.specs.Walks.{Ground, ground, rest, Fills}
 use Rattle.ranges.specs.Scanning.{OwnSpans, span, seenIn, LogsRows, LogsLeaves}
 use Rattle.map.specs.Views.{SlotRows, RecordRows}
@@ -53,29 +55,30 @@ pub record Measured (rows : RecordRows) (lows : List ℕ) (slots : SlotRows) (ws
   pub count : t .count ≡ length (shownOf rows slots ws z t)
 
 -- the tests refuse
-pub data Declined (rows : RecordRows) (lows : List ℕ) (slots : SlotRows) (ws : WriteRows) (z : Sizes) (x : Worker) (lo hi m n : ℕ) (r : Refusal) : Type 0 where
-  backward : r ≡ Backward → hi < lo → Declined rows lows slots ws z x lo hi m n r
-  full : r ≡ LogFull → (a b : Range) → lo ≤ hi → Spans rows (z .records) lo hi a → Meets lows (z .leaves) lo hi b
-      → (standard .readLimit < x .reads + span a) ⊎ (standard .leafSetLimit < x .leaves + span b) → Declined rows lows slots ws z x lo hi m n r
-  short : r ≡ ShortBuffer → (t : Task) → Measured rows lows slots ws z x lo hi t → (m < t .count) ⊎ (n < t .count)
-      → Declined rows lows slots ws z x lo hi m n r
+pub data Declined (rows : RecordRows) (lows : List ℕ) (slots : SlotRows) (ws : WriteRows) (z : Sizes) (x : Worker) (lo hi : ℕ) (b : Places) (r : Refusal) : Type 0 where
+  backward : r ≡ Backward → hi < lo → Declined rows lows slots ws z x lo hi b r
+  full : r ≡ LogFull → (a d : Range) → lo ≤ hi → Spans rows (z .records) lo hi a → Meets lows (z .leaves) lo hi d
+      → (standard .readLimit < x .reads + span a) ⊎ (standard .leafSetLimit < x .leaves + span d) → Declined rows lows slots ws z x lo hi b r
+  short : r ≡ ShortBuffer → (t : Task) → Measured rows lows slots ws z x lo hi t → shortest b < t .count
+      → Declined rows lows slots ws z x lo hi b r
 
 -- places for what is shown
-pub record Roomy (t : Task) (m n : ℕ) : Type 0 where
-  pub addresses : t .count ≤ m
-  pub values : t .count ≤ n
+pub record Roomy (t : Task) (b : Places) : Type 0 where
+  pub addresses : t .count ≤ b .addresses
+  pub values : t .count ≤ b .values
+  pub owners : t .count ≤ b .owners
 
 -- they pass
-pub record Passed (rows : RecordRows) (lows : List ℕ) (slots : SlotRows) (ws : WriteRows) (z : Sizes) (x : Worker) (lo hi m n : ℕ) (t : Task) : Type 0 where
+pub record Passed (rows : RecordRows) (lows : List ℕ) (slots : SlotRows) (ws : WriteRows) (z : Sizes) (x : Worker) (lo hi : ℕ) (b : Places) (t : Task) : Type 0 where
   pub measured : Measured rows lows slots ws z x lo hi t
-  pub roomy : Roomy t m n
+  pub roomy : Roomy t b
 
-abbrev pub Plans : RecordRows → List ℕ → SlotRows → WriteRows → Sizes → Worker → ℕ → ℕ → ℕ → ℕ → Plan → Type 0
-Plans rows lows slots ws z x lo hi m n (Refused r) = Declined rows lows slots ws z x lo hi m n r
-Plans rows lows slots ws z x lo hi m n (Go t) = Passed rows lows slots ws z x lo hi m n t
+abbrev pub Plans : RecordRows → List ℕ → SlotRows → WriteRows → Sizes → Worker → ℕ → ℕ → Places → Plan → Type 0
+Plans rows lows slots ws z x lo hi b (Refused r) = Declined rows lows slots ws z x lo hi b r
+Plans rows lows slots ws z x lo hi b (Go t) = Passed rows lows slots ws z x lo hi b t
 
 -- the same, whatever the range was
-pub record Planned (rows : RecordRows) (lows : List ℕ) (slots : SlotRows) (ws : WriteRows) (z : Sizes) (x : Worker) (t : Task) (m n : ℕ) : Type 0 where
+pub record Planned (rows : RecordRows) (lows : List ℕ) (slots : SlotRows) (ws : WriteRows) (z : Sizes) (x : Worker) (t : Task) (b : Places) : Type 0 where
   pub index-ordered : t .index .from ≤ t .index .to
   pub index-within : t .index .to ≤ z .records
   pub met-ordered : t .met .from ≤ t .met .to
@@ -85,7 +88,7 @@ pub record Planned (rows : RecordRows) (lows : List ℕ) (slots : SlotRows) (ws 
   pub reads-fit : x .reads + span (t .index) ≤ standard .readLimit
   pub leaves-fit : x .leaves + span (t .met) ≤ standard .leafSetLimit
   pub count : t .count ≡ length (shownOf rows slots ws z t)
-  pub roomy : Roomy t m n
+  pub roomy : Roomy t b
 
 -- the scan from lo to hi, as the transaction remembers it
 abbrev pub scanMade : Worker → Task → ℕ → ℕ → Scanned
@@ -93,8 +96,8 @@ scanMade x t lo hi = record { lo = lo; hi = hi; from = x .reads; count = span (t
 
 -- the buffers and the worker's sets after the scan, and the worker with its new counts
 pub record Carried (rows : RecordRows) (lows versions : List ℕ) (slots : SlotRows) (ws : WriteRows) (z : Sizes) (x : Worker) (t : Task) (lo hi : ℕ)
-    (ks vs : List ℕ) (rs : ReadRows) (ls : LeafSetRows) (ks' vs' : List ℕ) (rs' : ReadRows) (ls' : LeafSetRows) (y : Worker) : Type 0 where
-  pub fills : Fills ks vs (shownOf rows slots ws z t) ks' vs' (t .count)
+    (b : Buffers) (rs : ReadRows) (ls : LeafSetRows) (c : Buffers) (rs' : ReadRows) (ls' : LeafSetRows) (y : Worker) : Type 0 where
+  pub fills : Fills b (shownOf rows slots ws z t) c (t .count)
   pub logs-rows : LogsRows rs (x .reads) (seenIn rows (z .records) slots) (t .index) rs' (y .reads)
   pub logs-leaves : LogsLeaves ls (x .leaves) lows versions (t .met) (scanMade x t lo hi) ls' (y .leaves)
   pub worker : y ≡ record { stage = x .stage; number = x .number; reads = y .reads; leaves = y .leaves; writes = x .writes }

@@ -1,5 +1,5 @@
 -- The laws of a scan's two loops over its walk: how many are shown, and what is written to the buffers.
-use Prim.Native.Nat.{ℕ, suc, _+_, _<_, _≤_, zero-le}
+use Prim.Native.Nat.{ℕ, suc, _+_, _%_, _<_, _≤_, zero-le}
 use native.Mathlib.Nat.{le-refl, le-trans}
 use native.Mathlib.Numerals.{add-one}
 use native.Mathlib.Omega.{arith}
@@ -14,16 +14,17 @@ use Rattle.lists.specs.TestLaws.{cases}
 use Rattle.lists.specs.Rows.{Row, row}
 use Rattle.lists.specs.Tabulation.{tab, tabFrom}
 use Rattle.lists.specs.Shifts.{tab-same, tab-snoc, length-tab}
+use Rattle.spec.specs.Payloads.{owners, payloadIn}
 use Rattle.spec.specs.Records.{Payload}
 use Rattle.ranges.specs.declared.walks.Turn.{Turn}
 use Rattle.ranges.specs.Overlays.{shown}
 use Rattle.ranges.specs.Walks.{Ground, rest, Walks, Inside, turnIn, ComesNext, Fits, Shows, Room, Fills, Counting, Filling}
-use Rattle.ranges.specs.Buffers.{rowsIn, Beyond}
+use Rattle.ranges.specs.Buffers.{Buffers, buffers, rowIn, rowsIn, Unmoved, Beyond}
 use Rattle.ranges.specs.WalkLaws.{rest-end}
 
 -- ---- one turn
 
-turn-some : (x : Turn) (rs : List (Row Payload)) → x .there ≡ true → shown (turnIn x) rs ≡ row (x .address) (record { value = x .value }) ∷ rs
+turn-some : (x : Turn) (rs : List (Row Payload)) → x .there ≡ true → shown (turnIn x) rs ≡ row (x .address) (payloadIn (x .payload)) ∷ rs
 unfolding shown turnIn
 turn-some x rs e = rw e
 
@@ -49,7 +50,7 @@ turn-split : (x : Turn) (xs rs : List (Row Payload)) → (xs ++ shown (turnIn x)
 turn-split x xs rs =
     ⊎-elim
     (λ e. ap (λ (zs : List (Row Payload)). (xs ++ zs) ++ rs) (turn-some x [] e)
-    ∙ append-assoc xs (row (x .address) (record { value = x .value }) ∷ []) rs
+    ∙ append-assoc xs (row (x .address) (payloadIn (x .payload)) ∷ []) rs
     ∙ ap (λ (zs : List (Row Payload)). xs ++ zs) (sym (turn-some x rs e)))
     (λ e. ap (λ (zs : List (Row Payload)). (xs ++ zs) ++ rs) (turn-none x [] e)
     ∙ ap (λ (zs : List (Row Payload)). zs ++ rs) (append-nil xs)
@@ -86,113 +87,138 @@ module _ (g : Ground) (h : Walks g) (from start : ℕ) where
 
 -- ---- buffers
 
-pub beyond-refl : (n : ℕ) (ks : List ℕ) → Beyond n ks ks
-beyond-refl n ks = record { size = refl; same = λ p l. refl }
+unmoved-refl : (n : ℕ) (ks : List ℕ) → Unmoved n ks ks
+unmoved-refl n ks = record { size = refl; same = λ p l. refl }
 
-beyond-on : {n m : ℕ} {ks ls us : List ℕ} → n ≤ m → Beyond n ks ls → Beyond m ls us → Beyond m ks us
-beyond-on l a b = record { size = b .size ∙ a .size; same = λ p k. b .same p k ∙ a .same p (le-trans l k) }
+pub beyond-refl : (n : ℕ) (b : Buffers) → Beyond n b b
+beyond-refl n b =
+    record { addresses = unmoved-refl n (b .addresses); values = unmoved-refl n (b .values); owners = unmoved-refl n (b .owners) }
 
-beyond-set : (ks : List ℕ) (at x : ℕ) → Beyond (at + 1) ks (set ks at x)
-beyond-set ks at x =
+unmoved-on : {n m : ℕ} {ks ls us : List ℕ} → n ≤ m → Unmoved n ks ls → Unmoved m ls us → Unmoved m ks us
+unmoved-on l a b = record { size = b .size ∙ a .size; same = λ p k. b .same p k ∙ a .same p (le-trans l k) }
+
+beyond-on : {n m : ℕ} {b c d : Buffers} → n ≤ m → Beyond n b c → Beyond m c d → Beyond m b d
+beyond-on l x y =
+    record {
+      addresses = unmoved-on l (x .addresses) (y .addresses);
+      values = unmoved-on l (x .values) (y .values);
+      owners = unmoved-on l (x .owners) (y .owners);
+    }
+
+unmoved-set : (ks : List ℕ) (at x : ℕ) → Unmoved (at + 1) ks (set ks at x)
+unmoved-set ks at x =
     record { size = length-set ks at x; same = λ p l. getD-set-other ks at p x 0 (λ e. let z : ⊥ = omega arith in z) }
 
-module _ (ks vs : List ℕ) (at : ℕ) (x : Turn) where
-  pub show-there : at < length ks → at < length vs → x .there ≡ true → Shows ks vs at x (set ks at (x .address)) (set vs at (x .value)) (at + 1)
-  show-there l k e =
-      record { forth = omega arith; rows-are = rows-are; addresses = beyond-set ks at (x .address); values = beyond-set vs at (x .value) }
+module _ (b : Buffers) (at : ℕ) (x : Turn) where
+  pub show-there : at < length (b .addresses) → at < length (b .values) → at < length (b .owners) → x .there ≡ true
+      → Shows b at x
+      (buffers (set (b .addresses) at (x .address)) (set (b .values) at (x .payload .value)) (set (b .owners) at (x .payload .owner % owners)))
+      (at + 1)
+  show-there l k m e =
+      record {
+        forth = omega arith;
+        rows-are = rows-are;
+        beyond =
+            record {
+              addresses = unmoved-set (b .addresses) at (x .address);
+              values = unmoved-set (b .values) at (x .payload .value);
+              owners = unmoved-set (b .owners) at (x .payload .owner % owners);
+            };
+      }
     where
-      ls : List ℕ
-      ls = set ks at (x .address)
-
-      us : List ℕ
-      us = set vs at (x .value)
-
-      f : ℕ → Row Payload
-      f i = row (getD ls i 0) (record { value = getD us i 0 })
+      c : Buffers
+      c = buffers (set (b .addresses) at (x .address)) (set (b .values) at (x .payload .value)) (set (b .owners) at (x .payload .owner % owners))
 
       apart : (i : ℕ) → i < at → i ≡ at → ⊥
       apart i b q = let z : ⊥ = omega arith in z
 
-      earlier : tab f at ≡ rowsIn at ks vs
+      made : {a a' v v' o o' : ℕ} → a ≡ a' → v ≡ v' → o ≡ o'
+          → row {A = Payload} a (record { value = v; owner = o }) ≡ row {A = Payload} a' (record { value = v'; owner = o' })
+      made p q r = λ i. row {A = Payload} (p i) (record { value = q i; owner = r i })
+
+      earlier : tab (rowIn c) at ≡ rowsIn at b
       earlier = unfold rowsIn in
-          tab-same f (λ (i : ℕ). row (getD ks i 0) (record { value = getD vs i 0 })) at
-          (λ i b. ap (λ (a : ℕ). row a (record { value = getD us i 0 })) (getD-set-other ks at i (x .address) 0 (apart i b))
-          ∙ ap (λ (v : ℕ). row (getD ks i 0) (record { value = v })) (getD-set-other vs at i (x .value) 0 (apart i b)))
+          tab-same (rowIn c) (rowIn b) at
+          (λ i l. made
+          (getD-set-other (b .addresses) at i (x .address) 0 (apart i l))
+          (getD-set-other (b .values) at i (x .payload .value) 0 (apart i l))
+          (getD-set-other (b .owners) at i (x .payload .owner % owners) 0 (apart i l)))
 
-      last : f at ≡ row (x .address) (record { value = x .value })
+      last : rowIn c at ≡ row (x .address) (payloadIn (x .payload))
       last =
-          ap (λ (a : ℕ). row a (record { value = getD us at 0 })) (getD-set-same ks at (x .address) 0 l)
-          ∙ ap (λ (v : ℕ). row (x .address) (record { value = v })) (getD-set-same vs at (x .value) 0 k)
+          made (getD-set-same (b .addresses) at (x .address) 0 l) (getD-set-same (b .values) at (x .payload .value) 0 k)
+          (getD-set-same (b .owners) at (x .payload .owner % owners) 0 m)
 
-      whole : rowsIn (at + 1) ls us ≡ tab f (at + 1)
+      whole : rowsIn (at + 1) c ≡ tab (rowIn c) (at + 1)
       whole = unfold rowsIn in refl
 
-      rows-are : rowsIn (at + 1) ls us ≡ rowsIn at ks vs ++ shown (turnIn x) []
+      rows-are : rowsIn (at + 1) c ≡ rowsIn at b ++ shown (turnIn x) []
       rows-are =
           whole
-          ∙ ap (tab f) (add-one at)
-          ∙ tab-snoc f at
-          ∙ ap (λ (zs : List (Row Payload)). zs ++ (f at ∷ [])) earlier
-          ∙ ap (λ (r : Row Payload). rowsIn at ks vs ++ (r ∷ [])) last
-          ∙ ap (λ (zs : List (Row Payload)). rowsIn at ks vs ++ zs) (sym (turn-some x [] e))
+          ∙ ap (tab (rowIn c)) (add-one at)
+          ∙ tab-snoc (rowIn c) at
+          ∙ ap (λ (zs : List (Row Payload)). zs ++ (rowIn c at ∷ [])) earlier
+          ∙ ap (λ (r : Row Payload). rowsIn at b ++ (r ∷ [])) last
+          ∙ ap (λ (zs : List (Row Payload)). rowsIn at b ++ zs) (sym (turn-some x [] e))
 
-  pub show-none : x .there ≡ false → Shows ks vs at x ks vs at
+  pub show-none : x .there ≡ false → Shows b at x b at
   show-none e =
       record {
         forth = le-refl at;
-        rows-are = sym (ap (λ (zs : List (Row Payload)). rowsIn at ks vs ++ zs) (turn-none x [] e) ∙ append-nil (rowsIn at ks vs));
-        addresses = beyond-refl at ks;
-        values = beyond-refl at vs;
+        rows-are = sym (ap (λ (zs : List (Row Payload)). rowsIn at b ++ zs) (turn-none x [] e) ∙ append-nil (rowsIn at b));
+        beyond = beyond-refl at b;
       }
 
 -- ---- filling
 
-pub length-rows : (n : ℕ) (ks vs : List ℕ) → length (rowsIn n ks vs) ≡ n
+pub length-rows : (n : ℕ) (b : Buffers) → length (rowsIn n b) ≡ n
 unfolding rowsIn
-length-rows n ks vs = length-tab (λ (i : ℕ). row (getD ks i 0) (record { value = getD vs i 0 })) n
+length-rows n b = length-tab (rowIn b) n
 
-module _ (g : Ground) (h : Walks g) (from start : ℕ) (ks vs : List ℕ) where
-  pub filling-start : Inside (g .bounds) from start → Filling g from start ks vs ks vs from start 0
+module _ (g : Ground) (h : Walks g) (from start : ℕ) (b : Buffers) where
+  pub filling-start : Inside (g .bounds) from start → Filling g from start b b from start 0
   unfolding rowsIn tab tabFrom
-  filling-start at = record { inside = at; all = refl; addresses = beyond-refl 0 ks; values = beyond-refl 0 vs }
+  filling-start at = record { inside = at; all = refl; beyond = beyond-refl 0 b }
 
-  filled : (ls us : List ℕ) (i j at : ℕ) → Filling g from start ks vs ls us i j at → at + length (rest g i j) ≡ length (rest g from start)
-  filled ls us i j at f =
-      ap (λ (n : ℕ). n + length (rest g i j)) (sym (length-rows at ls us)) ∙ sym (length-append (rowsIn at ls us) (rest g i j)) ∙ ap length (f .all)
+  filled : (c : Buffers) (i j at : ℕ) → Filling g from start b c i j at → at + length (rest g i j) ≡ length (rest g from start)
+  filled c i j at f =
+      ap (λ (n : ℕ). n + length (rest g i j)) (sym (length-rows at c)) ∙ sym (length-append (rowsIn at c) (rest g i j)) ∙ ap length (f .all)
 
-  pub filling-fits : (ls us : List ℕ) (i j at : ℕ) (x : Turn) → Room ks vs (rest g from start) → Filling g from start ks vs ls us i j at → ComesNext g i j x → Fits ls us at x
-  filling-fits ls us i j at x r f s =
-      let a : length (rest g from start) ≤ length ks = r .addresses in
-      let b : length (rest g from start) ≤ length vs = r .values in
-      let c : length ls ≡ length ks = f .addresses .size in
-      let d : length us ≡ length vs = f .values .size in
-      record { addresses = λ e. let k : at < length (rest g from start) = under e in omega arith; values = λ e. let k : at < length (rest g from start) = under e in omega arith }
+  pub filling-fits : (c : Buffers) (i j at : ℕ) (x : Turn) → Room b (rest g from start) → Filling g from start b c i j at → ComesNext g i j x → Fits c at x
+  filling-fits c i j at x r f s =
+      record {
+        addresses = λ e. inside (b .addresses) (c .addresses) (r .addresses) (f .beyond .addresses .size) (under e);
+        values = λ e. inside (b .values) (c .values) (r .values) (f .beyond .values .size) (under e);
+        owners = λ e. inside (b .owners) (c .owners) (r .owners) (f .beyond .owners .size) (under e);
+      }
     where
       under : x .there ≡ true → at < length (rest g from start)
       under e =
           let l : length (rest g i j) ≡ suc (length (rest g (x .i) (x .j))) = ap length (s .rest-is ∙ turn-some x (rest g (x .i) (x .j)) e) in
-          let q : at + length (rest g i j) ≡ length (rest g from start) = filled ls us i j at f in
+          let q : at + length (rest g i j) ≡ length (rest g from start) = filled c i j at f in
           omega arith
 
-  pub filling-on : (ls us : List ℕ) (i j at : ℕ) (x : Turn) (ls' us' : List ℕ) (r : ℕ) → Filling g from start ks vs ls us i j at → ComesNext g i j x
-      → Shows ls us at x ls' us' r → Filling g from start ks vs ls' us' (x .i) (x .j) r
-  filling-on ls us i j at x ls' us' r f s t =
+      inside : (ks ls : List ℕ) → length (rest g from start) ≤ length ks → length ls ≡ length ks → at < length (rest g from start) → at < length ls
+      inside ks ls p q l = omega arith
+
+  pub filling-on : (c : Buffers) (i j at : ℕ) (x : Turn) (d : Buffers) (r : ℕ) → Filling g from start b c i j at → ComesNext g i j x
+      → Shows c at x d r → Filling g from start b d (x .i) (x .j) r
+  filling-on c i j at x d r f s t =
       record {
         inside = s .inside;
         all =
             ap (λ (zs : List (Row Payload)). zs ++ rest g (x .i) (x .j)) (t .rows-are)
-            ∙ turn-split x (rowsIn at ls us) (rest g (x .i) (x .j))
-            ∙ ap (λ (zs : List (Row Payload)). rowsIn at ls us ++ zs) (sym (s .rest-is))
+            ∙ turn-split x (rowsIn at c) (rest g (x .i) (x .j))
+            ∙ ap (λ (zs : List (Row Payload)). rowsIn at c ++ zs) (sym (s .rest-is))
             ∙ f .all;
-        addresses = beyond-on (t .forth) (f .addresses) (t .addresses);
-        values = beyond-on (t .forth) (f .values) (t .values);
+        beyond = beyond-on (t .forth) (f .beyond) (t .beyond);
       }
 
-  pub filling-end : (ls us : List ℕ) (i j at : ℕ) → Filling g from start ks vs ls us i j at → g .bounds .to + g .bounds .end ≤ i + j
-      → Fills ks vs (rest g from start) ls us at
-  filling-end ls us i j at f l =
-      let a : i ≤ g .bounds .to = f .inside .index in
-      let b : j ≤ g .bounds .end = f .inside .own in
+  pub filling-end : (c : Buffers) (i j at : ℕ) → Filling g from start b c i j at → g .bounds .to + g .bounds .end ≤ i + j
+      → Fills b (rest g from start) c at
+  filling-end c i j at f l =
+      let p : i ≤ g .bounds .to = f .inside .index in
+      let q : j ≤ g .bounds .end = f .inside .own in
       let e : rest g i j ≡ [] = rest-end g h i j (omega arith) (omega arith) in
-      let w : rowsIn at ls us ≡ rest g from start = sym (append-nil (rowsIn at ls us)) ∙ ap (λ (zs : List (Row Payload)). rowsIn at ls us ++ zs) (sym e) ∙ f .all in
-      record { count = sym (length-rows at ls us) ∙ ap length w; rows-are = w; addresses = f .addresses; values = f .values }
+      let w : rowsIn at c ≡ rest g from start = sym (append-nil (rowsIn at c)) ∙ ap (λ (zs : List (Row Payload)). rowsIn at c ++ zs) (sym e) ∙ f .all in
+      record { count = sym (length-rows at c) ∙ ap length w; rows-are = w; beyond = f .beyond }

@@ -10,6 +10,7 @@ use lib.Dec.{eqb}
 use Rattle.lists.specs.Tests.{pick, same}
 use Rattle.lists.specs.Rows.{Row, row, mapItems, From, Rising}
 use Rattle.lists.specs.RowLaws.{from-mapItems}
+use Rattle.spec.specs.Payloads.{payloadIn}
 use Rattle.spec.specs.Records.{Payload, Record, Write, written, deleted, ownView, payloadOf}
 use Rattle.spec.specs.Maps.{current}
 use Rattle.sets.specs.declared.writes.Entry.{Entry}
@@ -28,13 +29,13 @@ use Rattle.ranges.specs.Walks.{Ground, seenFrom, ownFrom, rest, Walks, I
 
 -- ---- what a turn shows
 
-pay-pick : (b : Bool) (v c : ℕ)
-    → pick b (some (record { value = v })) none ≡ payloadOf (pick b (some (record { payload = record { value = v }; commit = c })) none)
+pay-pick : (b : Bool) (v : Payload) (c : ℕ)
+    → pick b (some v) none ≡ payloadOf (pick b (some (record { payload = v; commit = c })) none)
 unfolding payloadOf
 pay-pick true v c = refl
 pay-pick false v c = refl
 
-own-pick : (b : Bool) (v : ℕ) → pick b (some (record { value = v })) none ≡ ownView (pick b (written (record { value = v })) deleted)
+own-pick : (b : Bool) (v : Payload) → pick b (some v) none ≡ ownView (pick b (written v) deleted)
 unfolding ownView
 own-pick true v = refl
 own-pick false v = refl
@@ -49,11 +50,11 @@ owned r = row (r .key) (ownView (r .item))
 
 index-shows : (s : Observed) (i j : ℕ) → turnIn (indexTurn s i j) ≡ paid (observedIn s)
 unfolding turnIn paid
-index-shows s i j = ap (λ (o : Option Payload). row (s .address) o) (pay-pick (s .current .there) (s .current .value) (s .current .commit))
+index-shows s i j = ap (λ (o : Option Payload). row (s .address) o) (pay-pick (s .current .there) (payloadIn (s .current .payload)) (s .current .commit))
 
 own-shows : (e : Entry) (i j : ℕ) → turnIn (ownTurn e i j) ≡ owned (entryIn e)
 unfolding turnIn owned writeOf same
-own-shows e i j = ap (λ (o : Option Payload). row (e .address) o) (own-pick (eqb (e .kind) 1) (e .value))
+own-shows e i j = ap (λ (o : Option Payload). row (e .address) o) (own-pick (eqb (e .kind) 1) (payloadIn (e .payload)))
 
 -- ---- the two lists
 

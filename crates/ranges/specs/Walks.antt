@@ -9,6 +9,7 @@ use lib.ListN.{length, drop}
 use lib.Dec.{eqb}
 use Rattle.lists.specs.Tests.{pick}
 use Rattle.lists.specs.Rows.{Row, row, mapItems}
+use Rattle.spec.specs.Payloads.{payloadIn}
 use Rattle.spec.specs.Records.{Payload, Record, Write, ownView, payloadOf}
 use Rattle.sets.specs.declared.writes.Entry.{Entry}
 use Rattle.sets.specs.declared.reads.Observed.{Observed}
@@ -19,7 +20,7 @@ use Rattle.ranges.specs.declared.walks.Turn.{Turn}
 use Rattle.ranges.specs.Overlays.{shown, overlay}
 use Rattle.map.specs.Views.{SlotRows, RecordRows}
 use Rattle.map.specs.Parts.{RecordsHeld, SlotsHeld}
-use Rattle.ranges.specs.Buffers.{rowsIn, Beyond}
+use Rattle.ranges.specs.Buffers.{Buffers, rowsIn, Beyond}
 
 -- What is walked over: the rows of the index, of the slots and of the worker's write set, and where the walk ends.
 pub record Ground : Type 0 where
@@ -59,14 +60,14 @@ pub record Inside (b : Bounds) (i j : ℕ) : Type 0 where
 
 abbrev pub indexTurn : Observed → ℕ → ℕ → Turn
 indexTurn s i j =
-    record { i = i; j = j; there = s .current .there; address = s .address; value = s .current .value }
+    record { i = i; j = j; there = s .current .there; address = s .address; payload = s .current .payload }
 
 abbrev pub ownTurn : Entry → ℕ → ℕ → Turn
-ownTurn e i j = record { i = i; j = j; there = eqb (e .kind) 1; address = e .address; value = e .value }
+ownTurn e i j = record { i = i; j = j; there = eqb (e .kind) 1; address = e .address; payload = e .payload }
 
 -- its address, and what is shown there
 unfoldable pub turnIn : Turn → Row (Option Payload)
-turnIn r = row (r .address) (pick (r .there) (some (record { value = r .value })) none)
+turnIn r = row (r .address) (pick (r .there) (some (payloadIn (r .payload))) none)
 
 -- r comes next
 pub record ComesNext (g : Ground) (i j : ℕ) (r : Turn) : Type 0 where
@@ -75,28 +76,28 @@ pub record ComesNext (g : Ground) (i j : ℕ) (r : Turn) : Type 0 where
   pub rest-is : rest g i j ≡ shown (turnIn r) (rest g (r .i) (r .j))
 
 -- there is a place for what is shown
-pub record Fits (ks vs : List ℕ) (at : ℕ) (x : Turn) : Type 0 where
-  pub addresses : x .there ≡ true → at < length ks
-  pub values : x .there ≡ true → at < length vs
+pub record Fits (b : Buffers) (at : ℕ) (x : Turn) : Type 0 where
+  pub addresses : x .there ≡ true → at < length (b .addresses)
+  pub values : x .there ≡ true → at < length (b .values)
+  pub owners : x .there ≡ true → at < length (b .owners)
 
 -- the buffers after what is shown was written behind the first `at` places, and how many are written now
-pub record Shows (ks vs : List ℕ) (at : ℕ) (x : Turn) (ls us : List ℕ) (r : ℕ) : Type 0 where
+pub record Shows (b : Buffers) (at : ℕ) (x : Turn) (c : Buffers) (r : ℕ) : Type 0 where
   pub forth : at ≤ r
-  pub rows-are : rowsIn r ls us ≡ rowsIn at ks vs ++ shown (turnIn x) []
-  pub addresses : Beyond r ks ls
-  pub values : Beyond r vs us
+  pub rows-are : rowsIn r c ≡ rowsIn at b ++ shown (turnIn x) []
+  pub beyond : Beyond r b c
 
 -- the buffers after the rows were written, and how many there are
-pub record Fills (ks vs : List ℕ) (rs : List (Row Payload)) (ls us : List ℕ) (r : ℕ) : Type 0 where
+pub record Fills (b : Buffers) (rs : List (Row Payload)) (c : Buffers) (r : ℕ) : Type 0 where
   pub count : r ≡ length rs
-  pub rows-are : rowsIn r ls us ≡ rs
-  pub addresses : Beyond r ks ls
-  pub values : Beyond r vs us
+  pub rows-are : rowsIn r c ≡ rs
+  pub beyond : Beyond r b c
 
 -- there are places for the rows
-pub record Room (ks vs : List ℕ) (rs : List (Row Payload)) : Type 0 where
-  pub addresses : length rs ≤ length ks
-  pub values : length rs ≤ length vs
+pub record Room (b : Buffers) (rs : List (Row Payload)) : Type 0 where
+  pub addresses : length rs ≤ length (b .addresses)
+  pub values : length rs ≤ length (b .values)
+  pub owners : length rs ≤ length (b .owners)
 
 -- ---- loops
 
@@ -107,8 +108,7 @@ pub record Counting (g : Ground) (from start i j count : ℕ) : Type 0 where
   pub all : count + length (rest g i j) ≡ length (rest g from start)
 
 -- those written and those left are all
-pub record Filling (g : Ground) (from start : ℕ) (ks vs ls us : List ℕ) (i j at : ℕ) : Type 0 where
+pub record Filling (g : Ground) (from start : ℕ) (b c : Buffers) (i j at : ℕ) : Type 0 where
   pub inside : Inside (g .bounds) i j
-  pub all : rowsIn at ls us ++ rest g i j ≡ rest g from start
-  pub addresses : Beyond at ks ls
-  pub values : Beyond at vs us
+  pub all : rowsIn at c ++ rest g i j ≡ rest g from start
+  pub beyond : Beyond at b c

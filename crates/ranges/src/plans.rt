@@ -18,11 +18,12 @@ use spec::LEAF_SET_LIMIT;
 use spec::READ_LIMIT;
 use spec::Refusal;
 ghost use Prim.Native.Nat.{_≤_};
-ghost use lib.ListN.{length};
+ghost use Rattle.spec.specs.Steps.{places};
 ghost use Rattle.sets.specs.Reads.{ReadSetHeld};
 ghost use Rattle.sets.specs.Leaves.{LeafSetHeld};
 ghost use Rattle.sets.specs.Writes.{WriteSetOrdered};
 ghost use Rattle.map.specs.Views.{lowsOf, versionsOf};
+ghost use Rattle.ranges.specs.Buffers.{buffers, placesOf};
 ghost use Rattle.ranges.specs.Scanning.{OwnSpans};
 ghost use Rattle.ranges.specs.Plans.{Planning, Plans, Planned, Carried};
 
@@ -58,7 +59,7 @@ fn writes_between(writes: &WriteSet, n: usize, lo: Address, hi: Address) -> Rang
     Range { from, to }
 }
 
-// Tests a scan of a worker with m and n places for addresses and values, and finds what it has to do. Nothing is written.
+// Tests a scan of a worker with k, m and n places for addresses, values and owners, and finds what it has to do. Nothing is written.
 pub fn measure(
     rows: &Records,
     leaves: &Leaves,
@@ -68,11 +69,12 @@ pub fn measure(
     x: Worker,
     lo: Address,
     hi: Address,
+    k: usize,
     m: usize,
     n: usize,
 ) -> Plan
     requires { ⌜ Planning (now rows) (lowsOf (now leaves)) (now slots) (now writes) z x ⌝ }
-    ensures { λ r. ⌜ Plans (now (rows .entry)) (lowsOf (now (leaves .entry))) (now (slots .entry)) (now (writes .entry)) z x lo hi m n r ⌝ }
+    ensures { λ r. ⌜ Plans (now (rows .entry)) (lowsOf (now (leaves .entry))) (now (slots .entry)) (now (writes .entry)) z x lo hi (places k m n) r ⌝ }
 {
     if hi < lo {
         return Plan::Refused(Refusal::Backward);
@@ -92,6 +94,9 @@ pub fn measure(
         end: own.to,
     };
     let count = walks::count_shown(rows, slots, writes, b, index.from, own.from);
+    if k < count {
+        return Plan::Refused(Refusal::ShortBuffer);
+    }
     if m < count {
         return Plan::Refused(Refusal::ShortBuffer);
     }
@@ -111,6 +116,7 @@ pub fn measure(
 pub fn carry_out(
     addresses: &mut [u32],
     values: &mut [u64],
+    owners: &mut [u16],
     reads: &mut ReadSet,
     leafset: &mut LeafSet,
     rows: &Records,
@@ -124,12 +130,12 @@ pub fn carry_out(
     hi: Address,
 ) -> Worker
     requires { ⌜ Planning (now rows) (lowsOf (now leaves)) (now slots) (now writes) z x ⌝ }
-    requires { ⌜ Planned (now rows) (lowsOf (now leaves)) (now slots) (now writes) z x t (length (now addresses)) (length (now values)) ⌝ }
+    requires { ⌜ Planned (now rows) (lowsOf (now leaves)) (now slots) (now writes) z x t (placesOf (buffers (now addresses) (now values) (now owners))) ⌝ }
     requires { ⌜ ReadSetHeld (now reads) ⌝ }
     requires { ⌜ LeafSetHeld (now leafset) ⌝ }
     ensures { λ r. ⌜ Carried (now (rows .entry)) (lowsOf (now (leaves .entry))) (versionsOf (now (leaves .entry))) (now (slots .entry)) (now (writes .entry)) z x t lo hi
-        (now (addresses .entry)) (now (values .entry)) (now (reads .entry)) (now (leafset .entry))
-        (now (addresses .exit)) (now (values .exit)) (now (reads .exit)) (now (leafset .exit)) r ⌝ }
+        (buffers (now (addresses .entry)) (now (values .entry)) (now (owners .entry))) (now (reads .entry)) (now (leafset .entry))
+        (buffers (now (addresses .exit)) (now (values .exit)) (now (owners .exit))) (now (reads .exit)) (now (leafset .exit)) r ⌝ }
 {
     let index = t.index;
     let met = t.met;
@@ -143,6 +149,7 @@ pub fn carry_out(
     walks::fill(
         addresses,
         values,
+        owners,
         rows,
         slots,
         writes,

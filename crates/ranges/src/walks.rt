@@ -7,10 +7,13 @@ use sets::reads::Observed;
 use sets::writes;
 use sets::writes::Entry;
 use spec::Address;
+use spec::OWNERS;
+use spec::PayloadWords;
 ghost use mathlib.Core.Path.{_≡_};
 ghost use Prim.Native.Nat.{_+_, _<_};
 ghost use lib.ListN.{length};
 ghost use Rattle.lists.specs.Tests.{pick};
+ghost use Rattle.ranges.specs.Buffers.{buffers};
 ghost use Rattle.ranges.specs.Walks.{ground, rest, Walks, Inside, ComesNext, indexTurn, ownTurn, Fits, Shows, Room, Fills};
 
 // How many records the index has, and where the walk ends: places of the index and of the worker's writes.
@@ -20,37 +23,39 @@ pub struct Bounds {
     pub end: usize,
 }
 
-// One turn: the places after it, its address, and the value shown there, if one is.
+// One turn: the places after it, its address, and what is shown there, if anything is.
 pub struct Turn {
     pub i: usize,
     pub j: usize,
     pub there: bool,
     pub address: Address,
-    pub value: u64,
+    pub payload: PayloadWords,
 }
 
 fn of_index(s: Observed, i: usize, j: usize) -> Turn
     ensures { λ r. ⌜ r ≡ indexTurn s i j ⌝ }
 {
     let c = s.current;
+    let payload = c.payload;
     Turn {
         i,
         j,
         there: c.there,
         address: s.address,
-        value: c.value,
+        payload,
     }
 }
 
 fn of_write(e: Entry, i: usize, j: usize) -> Turn
     ensures { λ r. ⌜ r ≡ ownTurn e i j ⌝ }
 {
+    let payload = e.payload;
     Turn {
         i,
         j,
         there: e.kind == 1,
         address: e.address,
-        value: e.value,
+        payload,
     }
 }
 
@@ -116,22 +121,26 @@ pub fn count_shown(
 }
 
 // Writes what a turn shows behind the first `at` places. Answers how many are written now.
-fn show(addresses: &mut [u32], values: &mut [u64], at: usize, x: Turn) -> usize
-    requires { ⌜ Fits (now addresses) (now values) at x ⌝ }
-    ensures { λ r. ⌜ Shows (now (addresses .entry)) (now (values .entry)) at x (now (addresses .exit)) (now (values .exit)) r ⌝ }
+fn show(addresses: &mut [u32], values: &mut [u64], owners: &mut [u16], at: usize, x: Turn) -> usize
+    requires { ⌜ Fits (buffers (now addresses) (now values) (now owners)) at x ⌝ }
+    ensures { λ r. ⌜ Shows (buffers (now (addresses .entry)) (now (values .entry)) (now (owners .entry))) at x
+        (buffers (now (addresses .exit)) (now (values .exit)) (now (owners .exit))) r ⌝ }
 {
     if x.there {
+        let v = x.payload;
         addresses[at] = x.address;
-        values[at] = x.value;
+        values[at] = v.value;
+        owners[at] = (v.owner % OWNERS) as u16;
         return at + 1;
     }
     at
 }
 
-// Writes what the walk shows, addresses and values, from the first place on. Answers how many.
+// Writes what the walk shows, addresses, values and owners, from the first place on. Answers how many.
 pub fn fill(
     addresses: &mut [u32],
     values: &mut [u64],
+    owners: &mut [u16],
     rows: &Records,
     slots: &Slots,
     writes: &WriteSet,
@@ -141,15 +150,17 @@ pub fn fill(
 ) -> usize
     requires { ⌜ Walks (ground (now rows) (now slots) (now writes) b) ⌝ }
     requires { ⌜ Inside b from start ⌝ }
-    requires { ⌜ Room (now addresses) (now values) (rest (ground (now rows) (now slots) (now writes) b) from start) ⌝ }
-    ensures { λ r. ⌜ Fills (now (addresses .entry)) (now (values .entry)) (rest (ground (now (rows .entry)) (now (slots .entry)) (now (writes .entry)) b) from start) (now (addresses .exit)) (now (values .exit)) r ⌝ }
+    requires { ⌜ Room (buffers (now addresses) (now values) (now owners)) (rest (ground (now rows) (now slots) (now writes) b) from start) ⌝ }
+    ensures { λ r. ⌜ Fills (buffers (now (addresses .entry)) (now (values .entry)) (now (owners .entry)))
+        (rest (ground (now (rows .entry)) (now (slots .entry)) (now (writes .entry)) b) from start)
+        (buffers (now (addresses .exit)) (now (values .exit)) (now (owners .exit))) r ⌝ }
 {
     let mut i = from;
     let mut j = start;
     let mut at = 0;
     while i + j < b.to + b.end {
         let x = next(rows, slots, writes, b, i, j);
-        at = show(addresses, values, at, x);
+        at = show(addresses, values, owners, at, x);
         i = x.i;
         j = x.j;
     }

@@ -2,11 +2,11 @@
 use Prim.Native.Nat.{ℕ, _^_, _<_, _≤_, zero-le}
 use mathlib.Core.Path.{_≡_, refl, sym, ap, _∙_, subst}
 use mathlib.Core.Bool.{Bool, true, false}
-use mathlib.Core.List.{List}
-use lib.ListN.{length}
 use Rattle.lists.specs.Tests.{pick, both, same, less, atMost}
 use Rattle.lists.specs.TestLaws.{same-yes, same-no, less-yes, less-no, atMost-yes, atMost-no, atMost-true}
+use Rattle.spec.specs.Steps.{Places, places}
 use Rattle.map.specs.Views.{Lent}
+use Rattle.ranges.specs.Buffers.{Buffers, placesOf}
 use Rattle.transactions.specs.declared.Core.{Core}
 use Rattle.transactions.specs.Views.{Logs}
 use Rattle.engine.specs.declared.steps.Access.the-variants as access
@@ -19,85 +19,101 @@ use Rattle.replay.specs.declared.codes.Code.{Code}
 use Rattle.replay.specs.declared.decodes.Decoded.{Decoded}
 use Rattle.replay.specs.declared.decodes.Decoded.the-variants.{Meant, Meaningless}
 use Rattle.replay.specs.declared.codes.Coded.{Coded}
-use Rattle.replay.specs.Codes.{decodedScan, decodedAccess, decodedNumbered, decoded, codedOf, noMeaning, PerformsFirst, CodedStep}
+use Rattle.replay.specs.Codes.{meantWith, meantAlone, decodedScan, decodedPut, decodedAccess, decodedNumbered, decoded, codedOf, noMeaning, PerformsFirst, CodedStep}
+use Rattle.replay.specs.PartLaws.{Lends}
 
 -- ---- what a code means, by the number of its kind
 
-abbrev pub accessBy : ℕ → ℕ → ℕ → Code → Decoded
-accessBy x m n k =
-    pick (same x 1) (Meant (op.Access (k .a) (access.Read (k .b))) 0 0)
-    (pick (same x 2) (decodedScan m n k)
-    (pick (same x 3) (Meant (op.Access (k .a) (access.Put (k .b) (k .c))) 0 0)
-    (pick (same x 4) (Meant (op.Access (k .a) (access.Remove (k .b))) 0 0) Meaningless)))
+abbrev pub accessBy : ℕ → Places → Code → Decoded
+accessBy x m k =
+    pick (same x 1) (meantAlone (op.Access (k .a) (access.Read (k .b))))
+    (pick (same x 2) (decodedScan m k)
+    (pick (same x 3) (decodedPut k)
+    (pick (same x 4) (meantAlone (op.Access (k .a) (access.Remove (k .b)))) Meaningless)))
 
-abbrev pub codeBy : ℕ → ℕ → ℕ → Code → Decoded
-codeBy x m n k =
-    pick (same x 0) (Meant (op.Begin (k .a)) 0 0)
-    (pick (same x 5) (Meant (op.Ending (k .a) ending.Lock) 0 0)
-    (pick (same x 6) (Meant (op.Ending (k .a) ending.Validate) 0 0)
-    (pick (same x 7) (Meant (op.Ending (k .a) ending.Install) 0 0)
-    (pick (same x 8) (Meant (op.Ending (k .a) ending.Abort) 0 0)
-    (pick (same x 9) (Meant (op.Merge (k .a)) 0 0) (decodedAccess m n k))))))
+abbrev pub codeBy : ℕ → Places → Code → Decoded
+codeBy x m k =
+    pick (same x 0) (meantAlone (op.Begin (k .a)))
+    (pick (same x 5) (meantAlone (op.Ending (k .a) ending.Lock))
+    (pick (same x 6) (meantAlone (op.Ending (k .a) ending.Validate))
+    (pick (same x 7) (meantAlone (op.Ending (k .a) ending.Install))
+    (pick (same x 8) (meantAlone (op.Ending (k .a) ending.Abort))
+    (pick (same x 9) (meantAlone (op.Merge (k .a))) (decodedAccess m k))))))
+
+abbrev scanIn : Code → Decoded
+scanIn k = meantWith (op.Access (k .a) (access.Scan (k .b) (k .c))) (places (k .d) (k .e) (k .f))
 
 -- ---- by the tests that the code makes
 
-module _ (m n : ℕ) (k : Code) where
+module _ (k : Code) where
+  pub put-wide : 2 ^ 16 ≤ k .d → Meaningless ≡ decodedPut k
+  unfolding decodedPut
+  put-wide h = rw (less-no h)
+
+  pub put-meant : k .d < 2 ^ 16 → meantAlone (op.Access (k .a) (access.Put (k .b) (k .c) (k .d))) ≡ decodedPut k
+  unfolding decodedPut
+  put-meant h = rw (less-yes h)
+
+module _ (m : Places) (k : Code) where
   -- by its tests
-  scan-is : (x y z : Bool) → less (k .c) (2 ^ 32) ≡ x → atMost (k .d) m ≡ y → atMost (k .e) n ≡ z
-      → pick (both x (both y z)) (Meant (op.Access (k .a) (access.Scan (k .b) (k .c))) (k .d) (k .e)) Meaningless ≡ decodedScan m n k
+  scan-is : (x y z u : Bool) → less (k .c) (2 ^ 32) ≡ x → atMost (k .d) (m .addresses) ≡ y → atMost (k .e) (m .values) ≡ z → atMost (k .f) (m .owners) ≡ u
+      → pick (both x (both y (both z u))) (scanIn k) Meaningless ≡ decodedScan m k
   unfolding decodedScan
-  scan-is x y z e f g = rw (e, f, g)
+  scan-is x y z u e f g h = rw (e, f, g, h)
 
-  pub scan-wide : 2 ^ 32 ≤ k .c → Meaningless ≡ decodedScan m n k
-  scan-wide h = scan-is false _ _ (less-no h) refl refl
+  pub scan-wide : 2 ^ 32 ≤ k .c → Meaningless ≡ decodedScan m k
+  scan-wide h = scan-is false _ _ _ (less-no h) refl refl refl
 
-  pub scan-addresses : m < k .d → k .c < 2 ^ 32 → Meaningless ≡ decodedScan m n k
-  scan-addresses f h = scan-is true false _ (less-yes h) (atMost-no f) refl
+  pub scan-addresses : m .addresses < k .d → k .c < 2 ^ 32 → Meaningless ≡ decodedScan m k
+  scan-addresses f h = scan-is true false _ _ (less-yes h) (atMost-no f) refl refl
 
-  pub scan-values : n < k .e → k .d ≤ m → k .c < 2 ^ 32 → Meaningless ≡ decodedScan m n k
-  scan-values g f h = scan-is true true false (less-yes h) (atMost-yes f) (atMost-no g)
+  pub scan-values : m .values < k .e → k .d ≤ m .addresses → k .c < 2 ^ 32 → Meaningless ≡ decodedScan m k
+  scan-values g f h = scan-is true true false _ (less-yes h) (atMost-yes f) (atMost-no g) refl
 
-  pub scan-meant : k .e ≤ n → k .d ≤ m → k .c < 2 ^ 32 → Meant (op.Access (k .a) (access.Scan (k .b) (k .c))) (k .d) (k .e) ≡ decodedScan m n k
-  scan-meant g f h = scan-is true true true (less-yes h) (atMost-yes f) (atMost-yes g)
+  pub scan-owners : m .owners < k .f → k .e ≤ m .values → k .d ≤ m .addresses → k .c < 2 ^ 32 → Meaningless ≡ decodedScan m k
+  scan-owners e g f h = scan-is true true true false (less-yes h) (atMost-yes f) (atMost-yes g) (atMost-no e)
+
+  pub scan-meant : k .f ≤ m .owners → k .e ≤ m .values → k .d ≤ m .addresses → k .c < 2 ^ 32 → scanIn k ≡ decodedScan m k
+  scan-meant e g f h = scan-is true true true true (less-yes h) (atMost-yes f) (atMost-yes g) (atMost-yes e)
 
   -- ---- read, scan, put, remove
 
-  pub access-wide : 2 ^ 32 ≤ k .b → Meaningless ≡ decodedAccess m n k
+  pub access-wide : 2 ^ 32 ≤ k .b → Meaningless ≡ decodedAccess m k
   unfolding decodedAccess
   access-wide h = rw (less-no h)
 
   -- by its kind
-  pub access-kind : (x : ℕ) → k .kind ≡ x → k .b < 2 ^ 32 → accessBy x m n k ≡ decodedAccess m n k
+  pub access-kind : (x : ℕ) → k .kind ≡ x → k .b < 2 ^ 32 → accessBy x m k ≡ decodedAccess m k
   unfolding decodedAccess
-  access-kind x e h = rw (less-yes h) (ap (λ (y : ℕ). accessBy y m n k) (sym e))
+  access-kind x e h = rw (less-yes h) (ap (λ (y : ℕ). accessBy y m k) (sym e))
 
-  pub access-other : (k .kind ≡ 1 → ⊥) → (k .kind ≡ 2 → ⊥) → (k .kind ≡ 3 → ⊥) → (k .kind ≡ 4 → ⊥) → k .b < 2 ^ 32 → Meaningless ≡ decodedAccess m n k
+  pub access-other : (k .kind ≡ 1 → ⊥) → (k .kind ≡ 2 → ⊥) → (k .kind ≡ 3 → ⊥) → (k .kind ≡ 4 → ⊥) → k .b < 2 ^ 32 → Meaningless ≡ decodedAccess m k
   unfolding decodedAccess
   access-other x y z u h = rw (less-yes h, same-no x, same-no y, same-no z, same-no u)
 
   -- ---- all steps
 
-  pub code-wide : 2 ^ 32 ≤ k .a → Meaningless ≡ decodedNumbered m n k
+  pub code-wide : 2 ^ 32 ≤ k .a → Meaningless ≡ decodedNumbered m k
   unfolding decodedNumbered
   code-wide h = rw (less-no h)
 
-  pub code-kind : (x : ℕ) → k .kind ≡ x → k .a < 2 ^ 32 → codeBy x m n k ≡ decodedNumbered m n k
+  pub code-kind : (x : ℕ) → k .kind ≡ x → k .a < 2 ^ 32 → codeBy x m k ≡ decodedNumbered m k
   unfolding decodedNumbered
-  code-kind x e h = rw (less-yes h) (ap (λ (y : ℕ). codeBy y m n k) (sym e))
+  code-kind x e h = rw (less-yes h) (ap (λ (y : ℕ). codeBy y m k) (sym e))
 
   pub code-other : (k .kind ≡ 0 → ⊥) → (k .kind ≡ 5 → ⊥) → (k .kind ≡ 6 → ⊥) → (k .kind ≡ 7 → ⊥) → (k .kind ≡ 8 → ⊥) → (k .kind ≡ 9 → ⊥)
-      → k .a < 2 ^ 32 → decodedAccess m n k ≡ decodedNumbered m n k
+      → k .a < 2 ^ 32 → decodedAccess m k ≡ decodedNumbered m k
   unfolding decodedNumbered
   code-other x y z u v w h = rw (less-yes h, same-no x, same-no y, same-no z, same-no u, same-no v, same-no w)
 
   -- a fold of the oldest, or a step with numbers
-  pub code-oldest : k .kind ≡ 10 → Meant op.MergeOldest 0 0 ≡ decoded m n k
+  pub code-oldest : k .kind ≡ 10 → meantAlone op.MergeOldest ≡ decoded m k
   unfolding decoded
   code-oldest e = rw (same-yes {m = k .kind} {n = 10} e)
 
-  pub code-numbered : {d : Decoded} → (k .kind ≡ 10 → ⊥) → d ≡ decodedNumbered m n k → d ≡ decoded m n k
+  pub code-numbered : {d : Decoded} → (k .kind ≡ 10 → ⊥) → d ≡ decodedNumbered m k → d ≡ decoded m k
   unfolding decoded
-  code-numbered x e = e ∙ sym (ap (λ (b : Bool). pick b (Meant op.MergeOldest 0 0) (decodedNumbered m n k)) (same-no x))
+  code-numbered x e = e ∙ sym (ap (λ (b : Bool). pick b (meantAlone op.MergeOldest) (decodedNumbered m k)) (same-no x))
 
 -- ---- replies
 
@@ -106,87 +122,100 @@ reply-is e = ap codedOf (sym e)
 
 -- ---- the places that a code wants are lent
 
-abbrev Lends : ℕ → ℕ → Decoded → Type 0
-Lends m n (Meant o p q) = (p ≤ m) × (q ≤ n)
-Lends m n Meaningless = Unit {0}
+abbrev LendsFor : Places → Decoded → Type 0
+LendsFor m (Meant o p q s) = Lends m (places p q s)
+LendsFor m Meaningless = Unit {0}
 
-pick-lends : (m n : ℕ) (b : Bool) (x y : Decoded) → Lends m n x → Lends m n y → Lends m n (pick b x y)
-pick-lends m n true x y h k = h
-pick-lends m n false x y h k = k
+lends-none : (m : Places) → Lends m (places 0 0 0)
+lends-none m = record { addresses = zero-le; values = zero-le; owners = zero-le }
 
-scan-lends : (m n : ℕ) (k : Code) → Lends m n (decodedScan m n k)
+pick-lends : (m : Places) (b : Bool) (x y : Decoded) → LendsFor m x → LendsFor m y → LendsFor m (pick b x y)
+pick-lends m true x y h k = h
+pick-lends m false x y h k = k
+
+scan-lends : (m : Places) (k : Code) → LendsFor m (decodedScan m k)
 unfolding decodedScan
-scan-lends m n k = go (less (k .c) (2 ^ 32)) (atMost (k .d) m) (atMost (k .e) n) refl refl
+scan-lends m k =
+    go (less (k .c) (2 ^ 32)) (atMost (k .d) (m .addresses)) (atMost (k .e) (m .values)) (atMost (k .f) (m .owners)) refl refl refl
   where
-    go : (x y z : Bool) → atMost (k .d) m ≡ y → atMost (k .e) n ≡ z
-        → Lends m n (pick (both x (both y z)) (Meant (op.Access (k .a) (access.Scan (k .b) (k .c))) (k .d) (k .e)) Meaningless)
-    go true true true f g = (atMost-true (k .d) m f, atMost-true (k .e) n g)
-    go true true false f g = tt
-    go true false z f g = tt
-    go false y z f g = tt
+    go : (x y z u : Bool) → atMost (k .d) (m .addresses) ≡ y → atMost (k .e) (m .values) ≡ z → atMost (k .f) (m .owners) ≡ u
+        → LendsFor m (pick (both x (both y (both z u))) (scanIn k) Meaningless)
+    go true true true true f g h =
+        record {
+          addresses = atMost-true (k .d) (m .addresses) f;
+          values = atMost-true (k .e) (m .values) g;
+          owners = atMost-true (k .f) (m .owners) h;
+        }
+    go true true true false f g h = tt
+    go true true false u f g h = tt
+    go true false z u f g h = tt
+    go false y z u f g h = tt
 
-access-lends : (m n : ℕ) (k : Code) → Lends m n (decodedAccess m n k)
+put-lends : (m : Places) (k : Code) → LendsFor m (decodedPut k)
+unfolding decodedPut
+put-lends m k = pick-lends m (less (k .d) (2 ^ 16)) _ _ (lends-none m) tt
+
+access-lends : (m : Places) (k : Code) → LendsFor m (decodedAccess m k)
 unfolding decodedAccess
-access-lends m n k =
-    pick-lends m n (less (k .b) (2 ^ 32)) _ _
-    (pick-lends m n (same (k .kind) 1) _ _ (zero-le, zero-le)
-    (pick-lends m n (same (k .kind) 2) _ _ (scan-lends m n k)
-    (pick-lends m n (same (k .kind) 3) _ _ (zero-le, zero-le) (pick-lends m n (same (k .kind) 4) _ _ (zero-le, zero-le) tt))))
+access-lends m k =
+    pick-lends m (less (k .b) (2 ^ 32)) _ _
+    (pick-lends m (same (k .kind) 1) _ _ (lends-none m)
+    (pick-lends m (same (k .kind) 2) _ _ (scan-lends m k)
+    (pick-lends m (same (k .kind) 3) _ _ (put-lends m k) (pick-lends m (same (k .kind) 4) _ _ (lends-none m) tt))))
     tt
 
-numbered-lends : (m n : ℕ) (k : Code) → Lends m n (decodedNumbered m n k)
+numbered-lends : (m : Places) (k : Code) → LendsFor m (decodedNumbered m k)
 unfolding decodedNumbered
-numbered-lends m n k =
-    pick-lends m n (less (k .a) (2 ^ 32)) _ _
-    (pick-lends m n (same (k .kind) 0) _ _ (zero-le, zero-le)
-    (pick-lends m n (same (k .kind) 5) _ _ (zero-le, zero-le)
-    (pick-lends m n (same (k .kind) 6) _ _ (zero-le, zero-le)
-    (pick-lends m n (same (k .kind) 7) _ _ (zero-le, zero-le)
-    (pick-lends m n (same (k .kind) 8) _ _ (zero-le, zero-le)
-    (pick-lends m n (same (k .kind) 9) _ _ (zero-le, zero-le) (access-lends m n k)))))))
+numbered-lends m k =
+    pick-lends m (less (k .a) (2 ^ 32)) _ _
+    (pick-lends m (same (k .kind) 0) _ _ (lends-none m)
+    (pick-lends m (same (k .kind) 5) _ _ (lends-none m)
+    (pick-lends m (same (k .kind) 6) _ _ (lends-none m)
+    (pick-lends m (same (k .kind) 7) _ _ (lends-none m)
+    (pick-lends m (same (k .kind) 8) _ _ (lends-none m)
+    (pick-lends m (same (k .kind) 9) _ _ (lends-none m) (access-lends m k)))))))
     tt
 
-lends : (m n : ℕ) (k : Code) → Lends m n (decoded m n k)
+lends : (m : Places) (k : Code) → LendsFor m (decoded m k)
 unfolding decoded
-lends m n k = pick-lends m n (same (k .kind) 10) _ _ (zero-le, zero-le) (numbered-lends m n k)
+lends m k = pick-lends m (same (k .kind) 10) _ _ (lends-none m) (numbered-lends m k)
 
-pub meant-lends : (m n : ℕ) (k : Code) {d : Decoded} {o : Op} {p q : ℕ} → d ≡ decoded m n k → d ≡ Meant o p q → (p ≤ m) × (q ≤ n)
-meant-lends m n k e f = subst (Lends m n) (sym e ∙ f) (lends m n k)
+pub meant-lends : (m : Places) (k : Code) {d : Decoded} {o : Op} {p q s : ℕ} → d ≡ decoded m k → d ≡ Meant o p q s → Lends m (places p q s)
+meant-lends m k e f = subst (LendsFor m) (sym e ∙ f) (lends m k)
 
 -- ---- a step
 
-abbrev TheSame : Op → ℕ → ℕ → Decoded → Type 0
-TheSame o m n (Meant o' m' n') = (o ≡ o') × (m ≡ m') × (n ≡ n')
-TheSame o m n Meaningless = ⊥
+abbrev TheSame : Op → Places → Decoded → Type 0
+TheSame o w (Meant o' p q s) = (o ≡ o') × (w ≡ places p q s)
+TheSame o w Meaningless = ⊥
 
-meant-same : {o o' : Op} {m m' n n' : ℕ} → Meant o m n ≡ Meant o' m' n' → (o ≡ o') × (m ≡ m') × (n ≡ n')
-meant-same {o} {m = m} {n = n} e = subst (TheSame o m n) e (refl, refl, refl)
+meant-same : {o o' : Op} {w w' : Places} → meantWith o w ≡ meantWith o' w' → (o ≡ o') × (w ≡ w')
+meant-same {o} {w = w} e = subst (TheSame o w) e (refl, refl)
 
-meant-not : {o : Op} {m n : ℕ} → Meant o m n ≡ Meaningless → ⊥
-meant-not {o} {m} {n} e = subst (TheSame o m n) e (refl, refl, refl)
+meant-not : {o : Op} {w : Places} → meantWith o w ≡ Meaningless → ⊥
+meant-not {o} {w} e = subst (TheSame o w) e (refl, refl)
 
-pub step-meant : {l l' : Lent} {g g' : Logs} {c : Core} {k : Code} {ks vs ks' vs' : List ℕ} {d : Decoded} {o : Op} {m n : ℕ} (p : Performed) {a : Coded}
-    → d ≡ decoded (length ks) (length vs) k → d ≡ Meant o m n → PerformsFirst l g c o m n ks vs l' g' ks' vs' p → a ≡ codedOf (p .reply)
-    → CodedStep l g c k ks vs l' g' ks' vs' (record { core = p .core; answer = a })
-step-meant {l} {l'} {g} {g'} {c} {k} {ks} {vs} {ks'} {vs'} {d} {o} {m} {n} p e f h q =
+pub step-meant : {l l' : Lent} {g g' : Logs} {c : Core} {k : Code} {b b' : Buffers} {d : Decoded} {o : Op} {m n q : ℕ} (p : Performed) {a : Coded}
+    → d ≡ decoded (placesOf b) k → d ≡ Meant o m n q → PerformsFirst l g c o (places m n q) b l' g' b' p → a ≡ codedOf (p .reply)
+    → CodedStep l g c k b l' g' b' (record { core = p .core; answer = a })
+step-meant {l} {l'} {g} {g'} {c} {k} {b} {b'} {d} {o} {m} {n} {q} p e f h r =
     record {
       meant =
-          λ o' m' n' j. let s = meant-same (sym f ∙ e ∙ j) in
+          λ o' w j. let s = meant-same {w = places m n q} (sym f ∙ e ∙ j) in
           record {
             reply = p .reply;
             performs =
-                subst (λ (x : Op). PerformsFirst l g c x m' n' ks vs l' g' ks' vs' p) (s .0)
-                (subst (λ (x : ℕ). PerformsFirst l g c o x n' ks vs l' g' ks' vs' p) (s .1)
-                (subst (λ (x : ℕ). PerformsFirst l g c o m x ks vs l' g' ks' vs' p) (s .2) h));
-            answer = q;
+                subst (λ (x : Op). PerformsFirst l g c x w b l' g' b' p) (s .0)
+                (subst (λ (x : Places). PerformsFirst l g c o x b l' g' b' p) (s .1) h);
+            answer = r;
           };
-      meaningless = λ j. absurd (meant-not (sym f ∙ e ∙ j));
+      meaningless = λ j. absurd (meant-not {w = places m n q} (sym f ∙ e ∙ j));
     }
 
-pub step-meaningless : {l : Lent} {g : Logs} {c : Core} {k : Code} {ks vs : List ℕ} {d : Decoded} → d ≡ decoded (length ks) (length vs) k → d ≡ Meaningless
-    → CodedStep l g c k ks vs l g ks vs (record { core = c; answer = noMeaning })
+pub step-meaningless : {l : Lent} {g : Logs} {c : Core} {k : Code} {b : Buffers} {d : Decoded} → d ≡ decoded (placesOf b) k → d ≡ Meaningless
+    → CodedStep l g c k b l g b (record { core = c; answer = noMeaning })
 step-meaningless e f =
     record {
-      meant = λ o m n j. absurd (meant-not (sym j ∙ sym e ∙ f));
-      meaningless = λ j. record { map = refl; logs = refl; addresses = refl; values = refl; outcome = refl };
+      meant = λ o w j. absurd (meant-not {w = w} (sym j ∙ sym e ∙ f));
+      meaningless = λ j. record { map = refl; logs = refl; buffers = refl; outcome = refl };
     }

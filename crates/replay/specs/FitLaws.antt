@@ -1,5 +1,5 @@
 -- Whether the longest answer finds room.
-use Prim.Native.Nat.{ℕ, _-_, _/_, _<_, _≤_, min}
+use Prim.Native.Nat.{ℕ, _-_, _/_, _<_, _≤_}
 use native.Mathlib.Omega.{arith}
 use mathlib.Core.Path.{_≡_, sym, ap, _∙_}
 use mathlib.Core.Bool.{Bool, true, false, not}
@@ -7,32 +7,46 @@ use mathlib.Core.Logic.{⊎-elim}
 use lib.Dec.{leb}
 use Rattle.lists.specs.Tests.{less, atMost}
 use Rattle.lists.specs.TestLaws.{less-yes, less-no, less-true, less-false, atMost-true, atMost-false, cases, clash}
+use Rattle.spec.specs.Steps.{Places, shortest}
 use Rattle.replay.specs.Replays.{longestAnswer}
 
-pub fits-few : (room m n : ℕ) → room < 4 → false ≡ not (less room (longestAnswer m n))
-fits-few room m n h = ap not (sym (less-yes {m = room} {n = longestAnswer m n} (let k : room < longestAnswer m n = omega arith in k)))
+module _ (room : ℕ) (w : Places) where
+  pub fits-few : room < 5 → false ≡ not (less room (longestAnswer w))
+  fits-few h = ap not (sym (less-yes {m = room} {n = longestAnswer w} (let k : room < longestAnswer w = omega arith in k)))
 
--- half the room, less the four words
-pub fits-half : (room m n p : ℕ) → 4 ≤ room → p ≡ min m n → leb p ((room - 4) / 2) ≡ not (less room (longestAnswer m n))
-unfolding atMost
-fits-half room m n p h e =
-    ⊎-elim
-    (λ t. let l : p ≤ (room - 4) / 2 = atMost-true p ((room - 4) / 2) t in
-    t ∙ ap not (sym (less-no {m = room} {n = longestAnswer m n} (let k : longestAnswer m n ≤ room = omega arith in k))))
-    (λ t. let l : (room - 4) / 2 < p = atMost-false p ((room - 4) / 2) t in
-    t ∙ ap not (sym (less-yes {m = room} {n = longestAnswer m n} (let k : room < longestAnswer m n = omega arith in k))))
-    (cases (atMost p ((room - 4) / 2)))
+  enough : longestAnswer w ≤ room → true ≡ not (less room (longestAnswer w))
+  enough h = ap not (sym (less-no {m = room} {n = longestAnswer w} h))
 
-pub fits-yes : {b : Bool} (room m n : ℕ) → b ≡ not (less room (longestAnswer m n)) → not b ≡ false → longestAnswer m n ≤ room
-fits-yes room m n e t =
-    ⊎-elim
-    (λ l. clash (ap not (e ∙ ap not l)) t)
-    (λ l. less-false room (longestAnswer m n) l)
-    (cases (less room (longestAnswer m n)))
+  -- the places wanted against a third of the room, less the five words
+  pub fits-addresses : 5 ≤ room → w .addresses ≤ (room - 5) / 3 → true ≡ not (less room (longestAnswer w))
+  unfolding shortest
+  fits-addresses h k = enough (let z : longestAnswer w ≤ room = omega arith in z)
 
-pub fits-no : {b : Bool} (room m n : ℕ) → b ≡ not (less room (longestAnswer m n)) → not b ≡ true → room < longestAnswer m n
-fits-no room m n e t =
-    ⊎-elim
-    (λ l. less-true room (longestAnswer m n) l)
-    (λ l. clash t (ap not (e ∙ ap not l)))
-    (cases (less room (longestAnswer m n)))
+  pub fits-values : 5 ≤ room → w .values ≤ (room - 5) / 3 → true ≡ not (less room (longestAnswer w))
+  unfolding shortest
+  fits-values h k = enough (let z : longestAnswer w ≤ room = omega arith in z)
+
+  pub fits-owners : 5 ≤ room → (room - 5) / 3 < w .addresses → (room - 5) / 3 < w .values
+      → leb (w .owners) ((room - 5) / 3) ≡ not (less room (longestAnswer w))
+  unfolding atMost shortest
+  fits-owners h a v =
+      ⊎-elim
+      (λ t. let l : w .owners ≤ (room - 5) / 3 = atMost-true (w .owners) ((room - 5) / 3) t in
+      t ∙ enough (let z : longestAnswer w ≤ room = omega arith in z))
+      (λ t. let l : (room - 5) / 3 < w .owners = atMost-false (w .owners) ((room - 5) / 3) t in
+      t ∙ ap not (sym (less-yes {m = room} {n = longestAnswer w} (let k : room < longestAnswer w = omega arith in k))))
+      (cases (atMost (w .owners) ((room - 5) / 3)))
+
+  pub fits-yes : {b : Bool} → b ≡ not (less room (longestAnswer w)) → not b ≡ false → longestAnswer w ≤ room
+  fits-yes e t =
+      ⊎-elim
+      (λ l. clash (ap not (e ∙ ap not l)) t)
+      (λ l. less-false room (longestAnswer w) l)
+      (cases (less room (longestAnswer w)))
+
+  pub fits-no : {b : Bool} → b ≡ not (less room (longestAnswer w)) → not b ≡ true → room < longestAnswer w
+  fits-no e t =
+      ⊎-elim
+      (λ l. less-true room (longestAnswer w) l)
+      (λ l. clash t (ap not (e ∙ ap not l)))
+      (cases (less room (longestAnswer w)))

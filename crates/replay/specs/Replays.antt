@@ -1,6 +1,6 @@
 -- A list of coded steps, run from a fresh map: which steps are taken, what is written, and what the run promises, demand 3
 -- included.
-use Prim.Native.Nat.{ℕ, _+_, _-_, _*_, min}
+use Prim.Native.Nat.{ℕ, _+_, _-_, _*_}
 use mathlib.Core.Path.{_≡_}
 use mathlib.Core.Bool.{Bool}
 use mathlib.Core.List.{List, [], _∷_, _++_, map}
@@ -11,9 +11,10 @@ use Rattle.lists.specs.Rows.{Row}
 use Rattle.lists.specs.Texts.{Wrote}
 use Rattle.spec.specs.Records.{standard, Payload}
 use Rattle.spec.specs.Maps.{contents}
-use Rattle.spec.specs.Steps.{State, Step, fresh, Answer, refused, done, found, listed, numbered, counted, answer, next, Event}
+use Rattle.spec.specs.Steps.{Places, places, shortest, State, Step, fresh, Answer, refused, done, found, listed, numbered, counted, answer, next, Event}
 use Rattle.spec.specs.Claim.{SerialRun}
 use Rattle.map.specs.Views.{Lent, mapOf}
+use Rattle.ranges.specs.Buffers.{Buffers, placesOf}
 use Rattle.transactions.specs.Views.{Logs, stateOf}
 use Rattle.transactions.specs.Ready.{Ready}
 use Rattle.engine.specs.declared.steps.Op.{Op}
@@ -44,36 +45,37 @@ event s a = record { step = s; answer = a }
 abbrev pub followedBy : Event → Ran → Ran
 followedBy e r = record { events = e ∷ r .events; stop = r .stop; state = r .state }
 
-abbrev pub byMeaning : Decoded → Ran → (Op → ℕ → ℕ → Ran) → Ran
-byMeaning (Meant o p q) r f = f o p q
+abbrev pub byMeaning : Decoded → Ran → (Op → Places → Ran) → Ran
+byMeaning (Meant o p q s) r f = f o (places p q s)
 byMeaning Meaningless r f = r
 
 -- the words of a step
 abbrev pub stepWords : ℕ
-stepWords = 6
+stepWords = 7
 
-abbrev pub codeOf : ℕ → ℕ → ℕ → ℕ → ℕ → ℕ → Code
-codeOf k a b c d e = record { kind = k; a = a; b = b; c = c; d = d; e = e }
+abbrev pub codeOf : ℕ → ℕ → ℕ → ℕ → ℕ → ℕ → ℕ → Code
+codeOf k a b c d e f = record { kind = k; a = a; b = b; c = c; d = d; e = e; f = f }
 
 -- the longest answer of a step that wants so many places, in words
-abbrev pub longestAnswer : ℕ → ℕ → ℕ
-longestAnswer p q = 4 + 2 * min p q
+abbrev pub longestAnswer : Places → ℕ
+longestAnswer w = 5 + 3 * shortest w
 
--- The run of a list of words, so many to a step, from a state, with lent scan buffers of m and n places and room for so many
+-- The run of a list of words, so many to a step, from a state, with lent scan buffers of m places and room for so many
 -- words of answers. It stops at a code with no meaning, where the longest answer of a step would find no room, or at the end;
 -- words that make no whole code have no meaning.
-unfoldable pub ran : ℕ → ℕ → State → ℕ → List ℕ → Ran
-ran m n σ room [] = ended stop.Complete σ
-ran m n σ room (k ∷ []) = ended stop.Meaningless σ
-ran m n σ room (k ∷ a ∷ []) = ended stop.Meaningless σ
-ran m n σ room (k ∷ a ∷ b ∷ []) = ended stop.Meaningless σ
-ran m n σ room (k ∷ a ∷ b ∷ c ∷ []) = ended stop.Meaningless σ
-ran m n σ room (k ∷ a ∷ b ∷ c ∷ d ∷ []) = ended stop.Meaningless σ
-ran m n σ room (k ∷ a ∷ b ∷ c ∷ d ∷ e ∷ ws) =
-    byMeaning (decoded m n (codeOf k a b c d e)) (ended stop.Meaningless σ)
-    (λ (o : Op) (p q : ℕ). pick (less room (longestAnswer p q)) (ended stop.Full σ)
-    (followedBy (event (stepIn o p q) (answer σ (stepIn o p q)))
-    (ran m n (next σ (stepIn o p q)) (room - length (wordsOf (answer σ (stepIn o p q)))) ws)))
+unfoldable pub ran : Places → State → ℕ → List ℕ → Ran
+ran m σ room [] = ended stop.Complete σ
+ran m σ room (k ∷ []) = ended stop.Meaningless σ
+ran m σ room (k ∷ a ∷ []) = ended stop.Meaningless σ
+ran m σ room (k ∷ a ∷ b ∷ []) = ended stop.Meaningless σ
+ran m σ room (k ∷ a ∷ b ∷ c ∷ []) = ended stop.Meaningless σ
+ran m σ room (k ∷ a ∷ b ∷ c ∷ d ∷ []) = ended stop.Meaningless σ
+ran m σ room (k ∷ a ∷ b ∷ c ∷ d ∷ e ∷ []) = ended stop.Meaningless σ
+ran m σ room (k ∷ a ∷ b ∷ c ∷ d ∷ e ∷ f ∷ ws) =
+    byMeaning (decoded m (codeOf k a b c d e f)) (ended stop.Meaningless σ)
+    (λ (o : Op) (w : Places). pick (less room (longestAnswer w)) (ended stop.Full σ)
+    (followedBy (event (stepIn o w) (answer σ (stepIn o w)))
+    (ran m (next σ (stepIn o w)) (room - length (wordsOf (answer σ (stepIn o w)))) ws)))
 
 -- ---- what is written
 
@@ -102,22 +104,30 @@ addressOf r = r .key
 abbrev pub valueOf : Row Payload → ℕ
 valueOf r = r .item .value
 
+abbrev pub ownerOf : Row Payload → ℕ
+ownerOf r = r .item .owner
+
+-- the scan buffers after the steps
+pub record BuffersBecome (es : List Event) (b b' : Buffers) : Type 0 where
+  pub addresses : b' .addresses ≡ leftIn addressOf es (b .addresses)
+  pub values : b' .values ≡ leftIn valueOf es (b .values)
+  pub owners : b' .owners ≡ leftIn ownerOf es (b .owners)
+
 -- ---- what is promised
 
 -- The run of these words, with these buffers, from a fresh map, guarded or not.
-abbrev pub runOf : Bool → List ℕ → List ℕ → List ℕ → List ℕ → Ran
-runOf guarded words ks vs out = ran (length ks) (length vs) (fresh standard guarded) (length out) words
+abbrev pub runOf : Bool → List ℕ → Buffers → List ℕ → Ran
+runOf guarded words b out = ran (placesOf b) (fresh standard guarded) (length out) words
 
 -- Whether the map is guarded, the words of the steps, the scan buffers and the answer buffer before, the arrays, the buffers and the outcome after.
-pub record Replays (guarded : Bool) (words ks vs out : List ℕ) (l : Lent) (g : Logs) (ks' vs' out' : List ℕ) (r : Replayed) : Type 0 where
+pub record Replays (guarded : Bool) (words : List ℕ) (b : Buffers) (out : List ℕ) (l : Lent) (g : Logs) (b' : Buffers) (out' : List ℕ) (r : Replayed) : Type 0 where
   pub ready : Ready l g (r .core)
   -- the steps that the run takes are taken, and why no more
-  pub state : stateOf l g (r .core) ≡ runOf guarded words ks vs out .state
-  pub stop : r .stop ≡ runOf guarded words ks vs out .stop
-  pub taken : r .taken ≡ length (runOf guarded words ks vs out .events)
+  pub state : stateOf l g (r .core) ≡ runOf guarded words b out .state
+  pub stop : r .stop ≡ runOf guarded words b out .stop
+  pub taken : r .taken ≡ length (runOf guarded words b out .events)
   -- their answers are written, and nothing past them
-  pub answers : Wrote out 0 (allWords (runOf guarded words ks vs out .events)) out' (r .written)
-  pub addresses : ks' ≡ leftIn addressOf (runOf guarded words ks vs out .events) ks
-  pub values : vs' ≡ leftIn valueOf (runOf guarded words ks vs out .events) vs
+  pub answers : Wrote out 0 (allWords (runOf guarded words b out .events)) out' (r .written)
+  pub buffers : BuffersBecome (runOf guarded words b out .events) b b'
   -- demand 3, of these steps, these answers and the contents after them
-  pub serial : SerialRun (runOf guarded words ks vs out .events) (contents (mapOf l (r .core .sizes)))
+  pub serial : SerialRun (runOf guarded words b out .events) (contents (mapOf l (r .core .sizes)))

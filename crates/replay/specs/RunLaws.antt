@@ -1,5 +1,5 @@
 -- One code of a run: what its words are, and what taking it makes of the run.
-use Prim.Native.Nat.{ℕ, suc, _+_, _-_, _*_, _<_, _≤_, min}
+use Prim.Native.Nat.{ℕ, suc, _+_, _-_, _*_, _<_, _≤_}
 use native.Mathlib.Omega.{arith}
 use mathlib.Core.Path.{_≡_, refl, sym, ap, _∙_, subst}
 use mathlib.Core.List.{List, [], _∷_, _++_, append-nil}
@@ -7,25 +7,26 @@ use lib.ListN.{length, getD, drop}
 use lib.Seq.{drop-cons}
 use Rattle.lists.specs.TestLaws.{less-yes, less-no}
 use Rattle.lists.specs.Texts.{Wrote}
-use Rattle.spec.specs.Steps.{State, Answer, answer, next, Event}
+use Rattle.spec.specs.Steps.{Places, places, State, Answer, answer, next, Event}
 use Rattle.map.specs.Views.{Lent}
+use Rattle.ranges.specs.Buffers.{Buffers, placesOf}
 use Rattle.transactions.specs.declared.Core.{Core}
 use Rattle.transactions.specs.Views.{Logs, stateOf}
 use Rattle.transactions.specs.Ready.{Ready}
 use Rattle.engine.specs.declared.steps.Op.{Op}
 use Rattle.engine.specs.declared.steps.Performed.{Performed}
-use Rattle.engine.specs.Performs.{stepIn, replyIn, placesIn}
+use Rattle.engine.specs.Performs.{stepIn, replyIn}
 use Rattle.replay.specs.declared.codes.Code.{Code}
 use Rattle.replay.specs.declared.decodes.Decoded.{Decoded}
 use Rattle.replay.specs.declared.decodes.Decoded.the-variants.{Meant, Meaningless}
 use Rattle.replay.specs.declared.runs.Stop.{Stop}
 use Rattle.replay.specs.declared.runs.Stop.the-variants as stop
 use Rattle.replay.specs.declared.runs.AfterCode.{AfterCode}
-use Rattle.replay.specs.Codes.{decoded, wordsOf, PerformsFirst}
+use Rattle.replay.specs.Codes.{meantWith, decoded, wordsOf, PerformsFirst}
 use Rattle.replay.specs.CodeLaws.{meant-lends}
-use Rattle.replay.specs.PartLaws.{performs-with}
-use Rattle.replay.specs.Replays.{Ran, ended, event, followedBy, stepWords, codeOf, longestAnswer, ran, allWords, leftIn, addressOf, valueOf, listedIn}
-use Rattle.replay.specs.ShownLaws.{shown-addresses, shown-values, roomy}
+use Rattle.replay.specs.PartLaws.{Lends, performs-with}
+use Rattle.replay.specs.Replays.{Ran, ended, event, followedBy, stepWords, codeOf, longestAnswer, ran, allWords, leftIn, BuffersBecome}
+use Rattle.replay.specs.ShownLaws.{shown, roomy}
 use Rattle.replay.specs.Words.{Roomy}
 
 -- ---- codes
@@ -34,11 +35,11 @@ use Rattle.replay.specs.Words.{Roomy}
 abbrev pub codeAt : List ℕ → ℕ → Code
 codeAt ws i =
     codeOf (getD ws (stepWords * i) 0) (getD ws (stepWords * i + 1) 0) (getD ws (stepWords * i + 2) 0)
-    (getD ws (stepWords * i + 3) 0) (getD ws (stepWords * i + 4) 0) (getD ws (stepWords * i + 5) 0)
+    (getD ws (stepWords * i + 3) 0) (getD ws (stepWords * i + 4) 0) (getD ws (stepWords * i + 5) 0) (getD ws (stepWords * i + 6) 0)
 
 -- a code in words, and the words after it
 abbrev pub wordsFrom : Code → List ℕ → List ℕ
-wordsFrom k ws = k .kind ∷ k .a ∷ k .b ∷ k .c ∷ k .d ∷ k .e ∷ ws
+wordsFrom k ws = k .kind ∷ k .a ∷ k .b ∷ k .c ∷ k .d ∷ k .e ∷ k .f ∷ ws
 
 drop-one : (ws : List ℕ) (i j : ℕ) (rest : List ℕ) → i < length ws → suc i ≡ j → drop j ws ≡ rest → drop i ws ≡ getD ws i 0 ∷ rest
 drop-one ws i j rest h e f = drop-cons ws i 0 h ∙ ap (λ (xs : List ℕ). getD ws i 0 ∷ xs) (ap (λ (k : ℕ). drop k ws) e ∙ f)
@@ -51,25 +52,26 @@ drop-code ws i h =
     (drop-one ws (stepWords * i + 2) (stepWords * i + 3) _ (omega arith) (omega arith)
     (drop-one ws (stepWords * i + 3) (stepWords * i + 4) _ (omega arith) (omega arith)
     (drop-one ws (stepWords * i + 4) (stepWords * i + 5) _ (omega arith) (omega arith)
-    (drop-one ws (stepWords * i + 5) (stepWords * (i + 1)) _ (omega arith) (omega arith) refl)))))
+    (drop-one ws (stepWords * i + 5) (stepWords * i + 6) _ (omega arith) (omega arith)
+    (drop-one ws (stepWords * i + 6) (stepWords * (i + 1)) _ (omega arith) (omega arith) refl))))))
 
 -- ---- the run, by what its first code means
 
-module _ (m n : ℕ) (σ : State) (room : ℕ) (k : Code) (ws : List ℕ) where
-  ran-unmeant : decoded m n k ≡ Meaningless → ran m n σ room (wordsFrom k ws) ≡ ended stop.Meaningless σ
+module _ (m : Places) (σ : State) (room : ℕ) (k : Code) (ws : List ℕ) where
+  ran-unmeant : decoded m k ≡ Meaningless → ran m σ room (wordsFrom k ws) ≡ ended stop.Meaningless σ
   unfolding ran
   ran-unmeant e = rw e
 
-  ran-full : (o : Op) (p q : ℕ) → decoded m n k ≡ Meant o p q → room < longestAnswer p q → ran m n σ room (wordsFrom k ws) ≡ ended stop.Full σ
+  ran-full : (o : Op) (w : Places) → decoded m k ≡ meantWith o w → room < longestAnswer w → ran m σ room (wordsFrom k ws) ≡ ended stop.Full σ
   unfolding ran
-  ran-full o p q e h = rw (e, less-yes h)
+  ran-full o w e h = rw (e, less-yes h)
 
-  ran-meant : (o : Op) (p q : ℕ) → decoded m n k ≡ Meant o p q → longestAnswer p q ≤ room
-      → ran m n σ room (wordsFrom k ws)
-      ≡ followedBy (event (stepIn o p q) (answer σ (stepIn o p q)))
-      (ran m n (next σ (stepIn o p q)) (room - length (wordsOf (answer σ (stepIn o p q)))) ws)
+  ran-meant : (o : Op) (w : Places) → decoded m k ≡ meantWith o w → longestAnswer w ≤ room
+      → ran m σ room (wordsFrom k ws)
+      ≡ followedBy (event (stepIn o w) (answer σ (stepIn o w)))
+      (ran m (next σ (stepIn o w)) (room - length (wordsOf (answer σ (stepIn o w)))) ws)
   unfolding ran
-  ran-meant o p q e h = rw (e, less-no h)
+  ran-meant o w e h = rw (e, less-no h)
 
 -- ---- one code
 
@@ -90,82 +92,81 @@ tally stop.Meaningless = 0
 tally stop.Full = 0
 
 -- One code: the arrays, the core, the buffers and the place before it, those after it, and the steps taken, none or one.
-pub record TakesCode (l : Lent) (g : Logs) (c : Core) (k : Code) (ks vs out : List ℕ) (at : ℕ) (l' : Lent) (g' : Logs) (ks' vs' out' : List ℕ) (t : AfterCode) : Type 0 where
+pub record TakesCode (l : Lent) (g : Logs) (c : Core) (k : Code) (b : Buffers) (out : List ℕ) (at : ℕ) (l' : Lent) (g' : Logs) (b' : Buffers) (out' : List ℕ) (t : AfterCode) : Type 0 where
   pub events : List Event
   pub ready : Ready l' g' (t .core)
   pub wrote : Wrote out at (allWords events) out' (t .at)
   pub run :
-      (ws : List ℕ) → ran (length ks) (length vs) (stateOf l g c) (length out - at) (wordsFrom k ws)
-      ≡ chained events (t .stop) (stateOf l' g' (t .core)) (ran (length ks) (length vs) (stateOf l' g' (t .core)) (length out - t .at) ws)
+      (ws : List ℕ) → ran (placesOf b) (stateOf l g c) (length out - at) (wordsFrom k ws)
+      ≡ chained events (t .stop) (stateOf l' g' (t .core)) (ran (placesOf b) (stateOf l' g' (t .core)) (length out - t .at) ws)
   pub count : length events ≡ tally (t .stop)
-  pub addresses : ks' ≡ leftIn addressOf events ks
-  pub values : vs' ≡ leftIn valueOf events vs
+  pub buffers : BuffersBecome events b b'
 
 wrote-nothing : (out : List ℕ) (at : ℕ) → at ≤ length out → Wrote out at (allWords []) out at
 unfolding allWords
 wrote-nothing out at h = record { written = refl; within = omega arith; place = omega arith }
 
 -- no step is taken
-not-taken : {l : Lent} {g : Logs} {c : Core} {k : Code} (ks vs out : List ℕ) (at : ℕ) (x : Stop) → Ready l g c → at ≤ length out → 0 ≡ tally x
-    → ((ws : List ℕ) → ran (length ks) (length vs) (stateOf l g c) (length out - at) (wordsFrom k ws)
-    ≡ chained [] x (stateOf l g c) (ran (length ks) (length vs) (stateOf l g c) (length out - at) ws))
-    → TakesCode l g c k ks vs out at l g ks vs out (record { core = c; at = at; stop = x })
+not-taken : {l : Lent} {g : Logs} {c : Core} {k : Code} (b : Buffers) (out : List ℕ) (at : ℕ) (x : Stop) → Ready l g c → at ≤ length out → 0 ≡ tally x
+    → ((ws : List ℕ) → ran (placesOf b) (stateOf l g c) (length out - at) (wordsFrom k ws)
+    ≡ chained [] x (stateOf l g c) (ran (placesOf b) (stateOf l g c) (length out - at) ws))
+    → TakesCode l g c k b out at l g b out (record { core = c; at = at; stop = x })
 unfolding leftIn
-not-taken ks vs out at x r h z f =
-    record { events = []; ready = r; wrote = wrote-nothing out at h; run = f; count = z; addresses = refl; values = refl }
+not-taken b out at x r h z f =
+    record {
+      events = [];
+      ready = r;
+      wrote = wrote-nothing out at h;
+      run = f;
+      count = z;
+      buffers = record { addresses = refl; values = refl; owners = refl };
+    }
 
-pub code-unmeant : {l : Lent} {g : Logs} {c : Core} {k : Code} {d : Decoded} (ks vs out : List ℕ) (at : ℕ) → Ready l g c → at ≤ length out
-    → d ≡ decoded (length ks) (length vs) k → d ≡ Meaningless
-    → TakesCode l g c k ks vs out at l g ks vs out (record { core = c; at = at; stop = stop.Meaningless })
-code-unmeant {l} {g} {c} {k} ks vs out at r h e u =
-    not-taken ks vs out at stop.Meaningless r h refl
-    (λ ws. ran-unmeant (length ks) (length vs) (stateOf l g c) (length out - at) k ws (sym e ∙ u))
+pub code-unmeant : {l : Lent} {g : Logs} {c : Core} {k : Code} {d : Decoded} (b : Buffers) (out : List ℕ) (at : ℕ) → Ready l g c → at ≤ length out
+    → d ≡ decoded (placesOf b) k → d ≡ Meaningless
+    → TakesCode l g c k b out at l g b out (record { core = c; at = at; stop = stop.Meaningless })
+code-unmeant {l} {g} {c} {k} b out at r h e u =
+    not-taken b out at stop.Meaningless r h refl
+    (λ ws. ran-unmeant (placesOf b) (stateOf l g c) (length out - at) k ws (sym e ∙ u))
 
-pub code-full : {l : Lent} {g : Logs} {c : Core} {k : Code} {d : Decoded} {o : Op} {m n : ℕ} (ks vs out : List ℕ) (at : ℕ) → Ready l g c → at ≤ length out
-    → d ≡ decoded (length ks) (length vs) k → d ≡ Meant o m n → length out - at < longestAnswer m n
-    → TakesCode l g c k ks vs out at l g ks vs out (record { core = c; at = at; stop = stop.Full })
-code-full {l} {g} {c} {k} {o = o} {m = m} {n = n} ks vs out at r h e u f =
-    not-taken ks vs out at stop.Full r h refl
-    (λ ws. ran-full (length ks) (length vs) (stateOf l g c) (length out - at) k ws o m n (sym e ∙ u) f)
+pub code-full : {l : Lent} {g : Logs} {c : Core} {k : Code} {d : Decoded} {o : Op} {m n q : ℕ} (b : Buffers) (out : List ℕ) (at : ℕ) → Ready l g c → at ≤ length out
+    → d ≡ decoded (placesOf b) k → d ≡ Meant o m n q → length out - at < longestAnswer (places m n q)
+    → TakesCode l g c k b out at l g b out (record { core = c; at = at; stop = stop.Full })
+code-full {l} {g} {c} {k} {o = o} {m = m} {n = n} {q = q} b out at r h e u f =
+    not-taken b out at stop.Full r h refl
+    (λ ws. ran-full (placesOf b) (stateOf l g c) (length out - at) k ws o (places m n q) (sym e ∙ u) f)
 
 -- room for the reply of a step that was taken
-pub performs-roomy : {l l' : Lent} {g g' : Logs} {c : Core} {o : Op} {m n : ℕ} {ks vs ks' vs' : List ℕ} {p : Performed} (out : List ℕ) (at : ℕ)
-    → (m ≤ length ks) × (n ≤ length vs) → PerformsFirst l g c o m n ks vs l' g' ks' vs' p → at ≤ length out → longestAnswer m n ≤ length out - at
-    → Roomy (p .reply) ks' vs' out at
-performs-roomy {m = m} {n = n} {ks = ks} {vs = vs} {ks' = ks'} {vs' = vs'} {p = p} out at b h i f =
-    let w = performs-with b h in
-    roomy (p .reply) m n ks vs ks' vs' out at (w .few) b (w .addresses .size) (w .values .size) i f
+pub performs-roomy : {l l' : Lent} {g g' : Logs} {c : Core} {o : Op} {w : Places} {b b' : Buffers} {p : Performed} (out : List ℕ) (at : ℕ)
+    → Lends (placesOf b) w → PerformsFirst l g c o w b l' g' b' p → at ≤ length out → longestAnswer w ≤ length out - at
+    → Roomy (p .reply) b' out at
+performs-roomy {w = w} {b = b} {b' = b'} {p = p} out at n h i f =
+    let z = performs-with n h in
+    roomy (p .reply) w b b' out at (z .few) n (z .beyond) i f
 
-pub code-taken : {l l' : Lent} {g g' : Logs} {c : Core} {k : Code} {d : Decoded} {o : Op} {m n : ℕ} {ks vs ks' vs' out out' : List ℕ} {at j : ℕ} (p : Performed)
-    → longestAnswer m n ≤ length out - at → d ≡ decoded (length ks) (length vs) k → d ≡ Meant o m n → PerformsFirst l g c o m n ks vs l' g' ks' vs' p
-    → Wrote out at (wordsOf (replyIn (p .reply) ks' vs')) out' j
-    → TakesCode l g c k ks vs out at l' g' ks' vs' out' (record { core = p .core; at = j; stop = stop.Complete })
-unfolding leftIn allWords
-code-taken {l} {l'} {g} {g'} {c} {k} {d} {o} {m} {n} {ks} {vs} {ks'} {vs'} {out} {out'} {at} {j} p f e u h w =
-    let b : (m ≤ length ks) × (n ≤ length vs) = meant-lends (length ks) (length vs) k e u in
-    let z = performs-with b h in
+pub code-taken : {l l' : Lent} {g g' : Logs} {c : Core} {k : Code} {d : Decoded} {o : Op} {m n q : ℕ} {b b' : Buffers} {out out' : List ℕ} {at j : ℕ} (p : Performed)
+    → longestAnswer (places m n q) ≤ length out - at → d ≡ decoded (placesOf b) k → d ≡ Meant o m n q
+    → PerformsFirst l g c o (places m n q) b l' g' b' p → Wrote out at (wordsOf (replyIn (p .reply) b')) out' j
+    → TakesCode l g c k b out at l' g' b' out' (record { core = p .core; at = j; stop = stop.Complete })
+unfolding allWords
+code-taken {l} {l'} {g} {g'} {c} {k} {d} {o} {m} {n} {q} {b} {b'} {out} {out'} {at} {j} p f e u h r =
+    let w = places m n q in
+    let inside : Lends (placesOf b) (places m n q) = meant-lends (placesOf b) k e u in
+    let z = performs-with inside h in
     let σ = stateOf l g c in
-    let s = stepIn o m n in
-    let a : replyIn (p .reply) ks' vs' ≡ answer σ s = z .refines .says in
-    let few : placesIn (p .reply) ≤ min m n = z .few in
-    let inside : m ≤ length ks = b .0 in
-    let inside' : n ≤ length vs = b .1 in
-    let place : j ≡ at + length (wordsOf (replyIn (p .reply) ks' vs')) = w .place in
+    let s = stepIn o w in
+    let a : replyIn (p .reply) b' ≡ answer σ s = z .refines .says in
+    let place : j ≡ at + length (wordsOf (replyIn (p .reply) b')) = r .place in
     let left : length out - at - length (wordsOf (answer σ s)) ≡ length out - j
-    = ap (λ (x : Answer). length out - at - length (wordsOf x)) (sym a) ∙ (let q : length out - at - length (wordsOf (replyIn (p .reply) ks' vs')) ≡ length out - j = omega arith in q) in
+    = ap (λ (x : Answer). length out - at - length (wordsOf x)) (sym a) ∙ (let y : length out - at - length (wordsOf (replyIn (p .reply) b')) ≡ length out - j = omega arith in y) in
     record {
       events = event s (answer σ s) ∷ [];
       ready = z .refines .ready;
-      wrote = subst (λ (x : List ℕ). Wrote out at x out' j) (ap wordsOf a ∙ sym (append-nil (wordsOf (answer σ s)))) w;
+      wrote = subst (λ (x : List ℕ). Wrote out at x out' j) (ap wordsOf a ∙ sym (append-nil (wordsOf (answer σ s)))) r;
       run =
-          λ ws. ran-meant (length ks) (length vs) σ (length out - at) k ws o m n (sym e ∙ u) f
-          ∙ ap (λ (x : State). followedBy (event s (answer σ s)) (ran (length ks) (length vs) x (length out - at - length (wordsOf (answer σ s))) ws)) (sym (z .refines .state))
-          ∙ ap (λ (x : ℕ). followedBy (event s (answer σ s)) (ran (length ks) (length vs) (stateOf l' g' (p .core)) x ws)) left;
+          λ ws. ran-meant (placesOf b) σ (length out - at) k ws o w (sym e ∙ u) f
+          ∙ ap (λ (x : State). followedBy (event s (answer σ s)) (ran (placesOf b) x (length out - at - length (wordsOf (answer σ s))) ws)) (sym (z .refines .state))
+          ∙ ap (λ (x : ℕ). followedBy (event s (answer σ s)) (ran (placesOf b) (stateOf l' g' (p .core)) x ws)) left;
       count = refl;
-      addresses =
-          shown-addresses (p .reply) ks ks' vs' (let q : placesIn (p .reply) ≤ length ks = omega arith in q) (z .addresses)
-          ∙ ap (λ (x : Answer). listedIn addressOf x ks) a;
-      values =
-          shown-values (p .reply) vs ks' vs' (let q : placesIn (p .reply) ≤ length vs = omega arith in q) (z .values)
-          ∙ ap (λ (x : Answer). listedIn valueOf x vs) a;
+      buffers = subst (λ (x : Answer). BuffersBecome (event s x ∷ []) b b') a (shown (p .reply) s w b b' (z .few) inside (z .beyond));
     }

@@ -1,40 +1,41 @@
 -- Document 01's starred runs, of the engine: one fact about `replay`, over the table of crate `spec`.
 use Prim.Native.Nat.{ℕ}
 use mathlib.Core.Path.{_≡_, refl, sym, ap, _∙_, subst}
-use mathlib.Core.Bool.{Bool}
+use mathlib.Core.Bool.{Bool, false}
 use mathlib.Core.List.{List, [], _∷_, _++_}
 use lib.ListN.{length}
-use Rattle.lists.specs.Rows.{Row}
+use Rattle.lists.specs.Rows.{Row, row}
 use Rattle.lists.specs.Texts.{Wrote}
 use Rattle.spec.specs.Records.{standard, Record}
 use Rattle.spec.specs.Leaves.{cuts}
 use Rattle.spec.specs.Slots.{homeSlot}
 use Rattle.spec.specs.Maps.{contents}
-use Rattle.spec.specs.Steps.{State, Step, begin, read, scan, put, remove, lock, validate, install, abort, merge, mergeOldest, fresh, final, Event, stepsOf}
+use Rattle.spec.specs.Steps.{Places, shortest, State, Step, begin, read, scan, put, remove, lock, validate, install, abort, merge, mergeOldest, fresh, final, Event, stepsOf}
 use Rattle.spec.specs.Computing.{model}
-use Rattle.spec.specs.Runs.{Run, home, leaves, script, starred, Holds}
+use Rattle.spec.specs.Runs.{wide, owned, ownersTold, Run, home, leaves, script, starred, Holds}
 use Rattle.map.specs.Views.{Lent, mapOf}
+use Rattle.ranges.specs.Buffers.{Buffers, placesOf}
 use Rattle.transactions.specs.Views.{Logs, stateOf}
 use Rattle.calls.specs.CallLaws.{map-in}
 use Rattle.replay.specs.declared.runs.Stop.the-variants as stop
 use Rattle.replay.specs.declared.runs.Replayed.{Replayed}
-use Rattle.replay.specs.Codes.{decodedScan, decodedAccess, decoded, decodedNumbered, pairWords, wordsOf}
+use Rattle.replay.specs.Codes.{decodedScan, decodedPut, decodedAccess, decoded, decodedNumbered, listedWords, wordsOf}
 use Rattle.replay.specs.Replays.{Ran, ran, allWords, Replays}
 use Rattle.replay.specs.LoopLaws.{ran-model}
 
 -- a step in coded form
 abbrev pub codeFor : Step → List ℕ
-codeFor (begin w) = 0 ∷ w ∷ 0 ∷ 0 ∷ 0 ∷ 0 ∷ []
-codeFor (read w k) = 1 ∷ w ∷ k ∷ 0 ∷ 0 ∷ 0 ∷ []
-codeFor (scan w lo hi m n) = 2 ∷ w ∷ lo ∷ hi ∷ m ∷ n ∷ []
-codeFor (put w k p) = 3 ∷ w ∷ k ∷ p .value ∷ 0 ∷ 0 ∷ []
-codeFor (remove w k) = 4 ∷ w ∷ k ∷ 0 ∷ 0 ∷ 0 ∷ []
-codeFor (lock w) = 5 ∷ w ∷ 0 ∷ 0 ∷ 0 ∷ 0 ∷ []
-codeFor (validate w) = 6 ∷ w ∷ 0 ∷ 0 ∷ 0 ∷ 0 ∷ []
-codeFor (install w) = 7 ∷ w ∷ 0 ∷ 0 ∷ 0 ∷ 0 ∷ []
-codeFor (abort w) = 8 ∷ w ∷ 0 ∷ 0 ∷ 0 ∷ 0 ∷ []
-codeFor (merge a) = 9 ∷ a ∷ 0 ∷ 0 ∷ 0 ∷ 0 ∷ []
-codeFor mergeOldest = 10 ∷ 0 ∷ 0 ∷ 0 ∷ 0 ∷ 0 ∷ []
+codeFor (begin w) = 0 ∷ w ∷ 0 ∷ 0 ∷ 0 ∷ 0 ∷ 0 ∷ []
+codeFor (read w k) = 1 ∷ w ∷ k ∷ 0 ∷ 0 ∷ 0 ∷ 0 ∷ []
+codeFor (scan w lo hi b) = 2 ∷ w ∷ lo ∷ hi ∷ b .addresses ∷ b .values ∷ b .owners ∷ []
+codeFor (put w k p) = 3 ∷ w ∷ k ∷ p .value ∷ p .owner ∷ 0 ∷ 0 ∷ []
+codeFor (remove w k) = 4 ∷ w ∷ k ∷ 0 ∷ 0 ∷ 0 ∷ 0 ∷ []
+codeFor (lock w) = 5 ∷ w ∷ 0 ∷ 0 ∷ 0 ∷ 0 ∷ 0 ∷ []
+codeFor (validate w) = 6 ∷ w ∷ 0 ∷ 0 ∷ 0 ∷ 0 ∷ 0 ∷ []
+codeFor (install w) = 7 ∷ w ∷ 0 ∷ 0 ∷ 0 ∷ 0 ∷ 0 ∷ []
+codeFor (abort w) = 8 ∷ w ∷ 0 ∷ 0 ∷ 0 ∷ 0 ∷ 0 ∷ []
+codeFor (merge a) = 9 ∷ a ∷ 0 ∷ 0 ∷ 0 ∷ 0 ∷ 0 ∷ []
+codeFor mergeOldest = 10 ∷ 0 ∷ 0 ∷ 0 ∷ 0 ∷ 0 ∷ 0 ∷ []
 
 abbrev pub codesFor : List Event → List ℕ
 codesFor [] = []
@@ -46,10 +47,7 @@ pub record Shows (h : List Event) (rs : List (Row Record)) (out : List ℕ) (l :
   pub answers : Wrote out 0 (allWords h) out' (r .written)
   pub same-contents : contents (mapOf l (r .core .sizes)) ≡ rs
 
--- the places of each scan buffer, and the words of room, in what is said of the rows
-abbrev pub places : ℕ
-places = 64
-
+-- the words of room in what is said of the rows; the places are those in which every scan fits
 abbrev pub room : ℕ
 room = 4096
 
@@ -58,8 +56,8 @@ abbrev pub HoldsOf : Run → Type 0
 HoldsOf (home a h) = homeSlot (standard .bytes) a ≡ h
 HoldsOf (leaves n ns) = cuts standard n ≡ ns
 HoldsOf (script b h rs) =
-    (ks vs out : List ℕ) (l : Lent) (g : Logs) (ks' vs' out' : List ℕ) (r : Replayed)
-    → length ks ≡ places → length vs ≡ places → length out ≡ room → Replays b (codesFor h) ks vs out l g ks' vs' out' r
+    (d : Buffers) (out : List ℕ) (l : Lent) (g : Logs) (d' : Buffers) (out' : List ℕ) (r : Replayed)
+    → placesOf d ≡ wide → length out ≡ room → Replays b (codesFor h) d out l g d' out' r
     → Shows h rs out l out' r
 
 abbrev pub AllHoldOf : List Run → Type 0
@@ -68,19 +66,18 @@ AllHoldOf (r ∷ rs) = HoldsOf r × AllHoldOf rs
 
 -- a script's steps are all taken, and answered as the table says
 abbrev Runs : Bool → List Event → Type 0
-Runs b h = (ran places places (fresh standard b) room (codesFor h) .events ≡ h) × (ran places places (fresh standard b) room (codesFor h) .stop ≡ stop.Complete)
+Runs b h = (ran wide (fresh standard b) room (codesFor h) .events ≡ h) × (ran wide (fresh standard b) room (codesFor h) .stop ≡ stop.Complete)
 
 shows : (b : Bool) (h : List Event) (rs : List (Row Record)) → Runs b h → Holds (script b h rs) → HoldsOf (script b h rs)
-shows b h rs e k ks vs out l g ks' vs' out' r n m o p =
-    let run = ran places places (fresh standard b) room (codesFor h) in
-    let same : ran (length ks) (length vs) (fresh standard b) (length out) (codesFor h) ≡ run
-    = ap (λ (m : ℕ). ran m (length vs) (fresh standard b) (length out) (codesFor h)) n
-    ∙ ap (λ (n : ℕ). ran places n (fresh standard b) (length out) (codesFor h)) m
-    ∙ ap (λ (n : ℕ). ran places places (fresh standard b) n (codesFor h)) o in
+shows b h rs e k d out l g d' out' r m o p =
+    let run = ran wide (fresh standard b) room (codesFor h) in
+    let same : ran (placesOf d) (fresh standard b) (length out) (codesFor h) ≡ run
+    = ap (λ (w : Places). ran w (fresh standard b) (length out) (codesFor h)) m
+    ∙ ap (λ (n : ℕ). ran wide (fresh standard b) n (codesFor h)) o in
     let state : stateOf l g (r .core) ≡ final (fresh standard b) (stepsOf h)
     = p .state
     ∙ ap (λ (x : Ran). x .state) same
-    ∙ sym (ran-model places places (fresh standard b) room (codesFor h) .state)
+    ∙ sym (ran-model wide (fresh standard b) room (codesFor h) .state)
     ∙ ap (λ (es : List Event). final (fresh standard b) (stepsOf es)) (e .0) in
     record {
       complete = p .stop ∙ ap (λ (x : Ran). x .stop) same ∙ e .1;
@@ -89,6 +86,11 @@ shows b h rs e k ks vs out l g ks' vs' out' r n m o p =
     }
 
 pub starred-replay : AllHoldOf starred
-unfolding model ran decoded decodedNumbered decodedAccess decodedScan wordsOf pairWords
+unfolding model shortest ran decoded decodedNumbered decodedAccess decodedScan decodedPut wordsOf listedWords
 starred-replay =
     (refl, (refl, (refl, (refl, (refl, (refl, (refl, (shows _ _ _ (refl, refl) (refl, refl), (shows _ _ _ (refl, refl) (refl, refl), (shows _ _ _ (refl, refl) (refl, refl), (shows _ _ _ (refl, refl) (refl, refl), (shows _ _ _ (refl, refl) (refl, refl), (shows _ _ _ (refl, refl) (refl, refl), (shows _ _ _ (refl, refl) (refl, refl), tt))))))))))))))
+
+-- Request 106's run too: owners in numbers, and a scan that the third buffer decides.
+pub owners-replay : HoldsOf (script false ownersTold (row 7 (record { payload = owned 5 65535; commit = 2 }) ∷ []))
+unfolding model shortest ran decoded decodedNumbered decodedAccess decodedScan decodedPut wordsOf listedWords
+owners-replay = shows _ _ _ (refl, refl) (refl, refl)

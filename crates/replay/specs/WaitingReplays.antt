@@ -10,15 +10,16 @@ use Rattle.spec.specs.Records.{standard}
 use Rattle.spec.specs.Steps.{Step, fresh, stepsOf}
 use Rattle.spec.specs.Waiting.{waitsSince, oldestMerges, TakenWithin}
 use Rattle.map.specs.Views.{Lent, mapOf}
+use Rattle.ranges.specs.Buffers.{Buffers, placesOf}
 use Rattle.transactions.specs.Views.{Logs, stateOf}
 use Rattle.calls.specs.WaitingCalls.{reached-waiting}
 use Rattle.replay.specs.declared.runs.Replayed.{Replayed}
 use Rattle.replay.specs.Replays.{runOf, Replays}
 use Rattle.replay.specs.LoopLaws.{ran-model}
 
-pub replay-waiting : {b : Bool} {words ks vs out : List ℕ} {l : Lent} {g : Logs} {ks' vs' out' : List ℕ} {r : Replayed} → Replays b words ks vs out l g ks' vs' out' r
+pub replay-waiting : {x : Bool} {words : List ℕ} {b : Buffers} {out : List ℕ} {l : Lent} {g : Logs} {b' : Buffers} {out' : List ℕ} {r : Replayed} → Replays x words b out l g b' out' r
     → (k t : ℕ) → waitsSince (mapOf l (r .core .sizes)) k ≡ some t → (ts : List Step) → standard .waitingLimit ≤ oldestMerges ts
     → TakenWithin (stateOf l g (r .core)) k (standard .waitingLimit) ts
-replay-waiting {b} {words} {ks} {vs} {out} {l} {g} {r = r} h k t w ts m =
-    reached-waiting l g (r .core) b (stepsOf (runOf b words ks vs out .events))
-    (h .state ∙ sym (ran-model (length ks) (length vs) (fresh standard b) (length out) words .state)) k t w ts m
+replay-waiting {x} {words} {b} {out} {l} {g} {r = r} h k t w ts m =
+    reached-waiting l g (r .core) x (stepsOf (runOf x words b out .events))
+    (h .state ∙ sym (ran-model (placesOf b) (fresh standard x) (length out) words .state)) k t w ts m

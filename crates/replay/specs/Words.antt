@@ -1,30 +1,30 @@
--- What is asked and promised of putting an answer into words: its four, and a scan's records.
+-- What is asked and promised of putting an answer into words: its five, and a scan's records.
 use Prim.Native.Nat.{ℕ, _+_, _*_, _≤_}
 use mathlib.Core.List.{List, [], _∷_}
 use lib.ListN.{length}
-use Rattle.ranges.specs.Buffers.{rowsIn}
+use Rattle.spec.specs.Steps.{shortest}
+use Rattle.ranges.specs.Buffers.{Buffers, placesOf, rowsIn}
 use Rattle.engine.specs.declared.steps.Reply.{Reply}
 use Rattle.engine.specs.declared.steps.Reply.the-variants as reply
 use Rattle.engine.specs.Performs.{placesIn}
 use Rattle.replay.specs.declared.codes.Coded.{Coded}
-use Rattle.replay.specs.Codes.{pairWords}
+use Rattle.replay.specs.Codes.{listedWords}
 
--- the four words of every answer
+-- the five words of every answer
 abbrev pub headWords : Coded → List ℕ
-headWords a = a .number ∷ a .told ∷ a .value ∷ a .examined ∷ []
+headWords a = a .number ∷ a .told ∷ a .value ∷ a .owner ∷ a .examined ∷ []
 
 -- the words of a scan's records
-abbrev pub rowWords : Reply → List ℕ → List ℕ → List ℕ
-rowWords reply.Granted ks vs = []
-rowWords (reply.Value v x) ks vs = []
-rowWords (reply.Absent x) ks vs = []
-rowWords (reply.Listed n) ks vs = pairWords (rowsIn n ks vs)
-rowWords (reply.Numbered n) ks vs = []
-rowWords (reply.Counted n) ks vs = []
-rowWords (reply.Refused r) ks vs = []
+abbrev pub rowWords : Reply → Buffers → List ℕ
+rowWords reply.Granted b = []
+rowWords (reply.Value v o x) b = []
+rowWords (reply.Absent x) b = []
+rowWords (reply.Listed n) b = listedWords (rowsIn n b)
+rowWords (reply.Numbered n) b = []
+rowWords (reply.Counted n) b = []
+rowWords (reply.Refused r) b = []
 
 -- There is room for a reply: a scan's places are in the buffers, and its words in the answer buffer.
-pub record Roomy (p : Reply) (ks vs out : List ℕ) (at : ℕ) : Type 0 where
-  pub addresses : placesIn p ≤ length ks
-  pub values : placesIn p ≤ length vs
-  pub words : at + 4 + 2 * placesIn p ≤ length out
+pub record Roomy (p : Reply) (b : Buffers) (out : List ℕ) (at : ℕ) : Type 0 where
+  pub places : placesIn p ≤ shortest (placesOf b)
+  pub words : at + 5 + 3 * placesIn p ≤ length out

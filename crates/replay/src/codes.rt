@@ -13,16 +13,17 @@ use transactions::Core;
 ghost use Rattle.map.specs.Views.{lent};
 ghost use Rattle.transactions.specs.Views.{logs};
 ghost use Rattle.transactions.specs.Ready.{Ready};
+ghost use Rattle.ranges.specs.Buffers.{buffers};
 ghost use Rattle.replay.specs.Codes.{CodedStep};
 
 // How many words a step has.
-pub const STEP_WORDS: usize = 6;
+pub const STEP_WORDS: usize = 7;
 
 pub type StepWords = [u64; STEP_WORDS];
 
 // A step: what it is, 0 to 9 in document 01's order (begin, read, scan, put, remove, lock, validate, install, abort, fold),
-// 10 a fold of the oldest, and its numbers in the order of a script line; then, of a scan, how many places of the address buffer and of the value
-// buffer it wants. A number that the step does not have is not looked at.
+// 10 a fold of the oldest, and its numbers in the order of a script line; then, of a scan, how many places it wants of the buffers
+// for addresses, values and owners. A number that the step does not have is not looked at.
 pub struct Code {
     pub kind: u64,
     pub a: u64,
@@ -30,14 +31,17 @@ pub struct Code {
     pub c: u64,
     pub d: u64,
     pub e: u64,
+    pub f: u64,
 }
 
 // An answer: document 01's number, 0 if granted; what is told beside it (0 nothing, 1 a value, 2 absence, 3 the count of
-// a scan, 4 a serial number, 5 the count of a fold); that number; and how many slots a read examined.
+// a scan, 4 a serial number, 5 the count of a fold); that number; the owner beside a value; and how many slots a read examined.
+// What an answer does not have is 0.
 pub struct Coded {
     pub number: u64,
     pub told: u64,
     pub value: u64,
+    pub owner: u64,
     pub examined: u64,
 }
 
@@ -55,6 +59,7 @@ pub const MEANINGLESS: u64 = 99;
 pub fn step(
     addresses: &mut [u32],
     values: &mut [u64],
+    owners: &mut [u16],
     rows: &mut Records,
     leaves: &mut Leaves,
     slots: &mut Slots,
@@ -66,16 +71,18 @@ pub fn step(
 ) -> Stepped
     requires { ⌜ Ready (lent (now rows) (now leaves) (now slots)) (logs (now reads) (now leafsets) (now writes)) c ⌝ }
     ensures { λ r. ⌜ CodedStep (lent (now (rows .entry)) (now (leaves .entry)) (now (slots .entry)))
-        (logs (now (reads .entry)) (now (leafsets .entry)) (now (writes .entry))) c k (now (addresses .entry)) (now (values .entry))
+        (logs (now (reads .entry)) (now (leafsets .entry)) (now (writes .entry))) c k
+        (buffers (now (addresses .entry)) (now (values .entry)) (now (owners .entry)))
         (lent (now (rows .exit)) (now (leaves .exit)) (now (slots .exit))) (logs (now (reads .exit)) (now (leafsets .exit)) (now (writes .exit)))
-        (now (addresses .exit)) (now (values .exit)) r ⌝ }
+        (buffers (now (addresses .exit)) (now (values .exit)) (now (owners .exit))) r ⌝ }
 {
-    let d = decodes::decode(k, addresses.len(), values.len());
+    let d = decodes::decode(k, addresses.len(), values.len(), owners.len());
     match d {
-        Decoded::Meant(op, m, n) => {
+        Decoded::Meant(op, m, n, q) => {
             let p = parts::perform_first(
                 addresses,
                 values,
+                owners,
                 rows,
                 leaves,
                 slots,
@@ -86,6 +93,7 @@ pub fn step(
                 op,
                 m,
                 n,
+                q,
             );
             let core = p.core;
             let reply = p.reply;
@@ -98,6 +106,7 @@ pub fn step(
                 number: MEANINGLESS,
                 told: 0,
                 value: 0,
+                owner: 0,
                 examined: 0,
             },
         },

@@ -9,17 +9,20 @@ use sets::LeafSets;
 use sets::ReadSets;
 use sets::WriteSets;
 use transactions::Core;
-ghost use Prim.Native.Nat.{_≤_};
-ghost use lib.ListN.{length};
+ghost use Rattle.spec.specs.Steps.{places};
 ghost use Rattle.map.specs.Views.{lent};
 ghost use Rattle.transactions.specs.Views.{logs};
 ghost use Rattle.transactions.specs.Ready.{Ready};
+ghost use Rattle.ranges.specs.Buffers.{buffers, placesOf};
 ghost use Rattle.replay.specs.Codes.{PerformsFirst};
+ghost use Rattle.replay.specs.PartLaws.{Lends};
 
-// Performs a step with the first m places of the address buffer and the first n of the value buffer.
+// Performs a step with the first m places of the address buffer, the first n of the value buffer and the first q of the owner
+// buffer.
 pub fn perform_first(
     addresses: &mut [u32],
     values: &mut [u64],
+    owners: &mut [u16],
     rows: &mut Records,
     leaves: &mut Leaves,
     slots: &mut Slots,
@@ -30,17 +33,20 @@ pub fn perform_first(
     op: Op,
     m: usize,
     n: usize,
+    q: usize,
 ) -> Performed
     requires { ⌜ Ready (lent (now rows) (now leaves) (now slots)) (logs (now reads) (now leafsets) (now writes)) c ⌝ }
-    requires { ⌜ (m ≤ length (now addresses)) × (n ≤ length (now values)) ⌝ }
+    requires { ⌜ Lends (placesOf (buffers (now addresses) (now values) (now owners))) (places m n q) ⌝ }
     ensures { λ r. ⌜ PerformsFirst (lent (now (rows .entry)) (now (leaves .entry)) (now (slots .entry)))
-        (logs (now (reads .entry)) (now (leafsets .entry)) (now (writes .entry))) c op m n (now (addresses .entry)) (now (values .entry))
+        (logs (now (reads .entry)) (now (leafsets .entry)) (now (writes .entry))) c op (places m n q)
+        (buffers (now (addresses .entry)) (now (values .entry)) (now (owners .entry)))
         (lent (now (rows .exit)) (now (leaves .exit)) (now (slots .exit))) (logs (now (reads .exit)) (now (leafsets .exit)) (now (writes .exit)))
-        (now (addresses .exit)) (now (values .exit)) r ⌝ }
+        (buffers (now (addresses .exit)) (now (values .exit)) (now (owners .exit))) r ⌝ }
 {
     steps::perform(
         &mut addresses[..m],
         &mut values[..n],
+        &mut owners[..q],
         rows,
         leaves,
         slots,

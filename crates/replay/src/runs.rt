@@ -18,10 +18,12 @@ ghost use mathlib.Core.Bool.{not};
 ghost use Prim.Native.Nat.{_+_, _*_, _%_, _^_, _<_, _≤_};
 ghost use lib.ListN.{length};
 ghost use Rattle.lists.specs.Tests.{less};
+ghost use Rattle.spec.specs.Steps.{places};
 ghost use Rattle.map.specs.Views.{lent};
 ghost use Rattle.transactions.specs.Views.{logs};
 ghost use Rattle.transactions.specs.Ready.{Ready};
 ghost use Rattle.transactions.specs.Starts.{Fresh};
+ghost use Rattle.ranges.specs.Buffers.{buffers};
 ghost use Rattle.replay.specs.Replays.{stepWords, longestAnswer, Replays};
 ghost use Rattle.replay.specs.RunLaws.{codeAt, TakesCode};
 ghost use Rattle.replay.specs.LoopLaws.{restStop};
@@ -48,18 +50,21 @@ struct AfterCode {
     stop: Stop,
 }
 
-// There is room for the longest answer of a step that wants m and n places.
-fn fits(room: usize, m: usize, n: usize) -> bool
-    ensures { λ r. ⌜ r ≡ not (less room (longestAnswer m n)) ⌝ }
+// There is room for the longest answer of a step that wants m, n and q places: one of these numbers is small enough.
+fn fits(room: usize, m: usize, n: usize, q: usize) -> bool
+    ensures { λ r. ⌜ r ≡ not (less room (longestAnswer (places m n q))) ⌝ }
 {
-    if room < 4 {
+    if room < 5 {
         return false;
     }
-    let half = (room - 4) / 2;
-    if m < n {
-        return m <= half;
+    let third = (room - 5) / 3;
+    if m <= third {
+        return true;
     }
-    n <= half
+    if n <= third {
+        return true;
+    }
+    q <= third
 }
 
 // The code at place i, which is not the largest number.
@@ -75,6 +80,7 @@ fn code_at(steps: &[u64], i: usize) -> Code
         c: steps[STEP_WORDS * i + 3],
         d: steps[STEP_WORDS * i + 4],
         e: steps[STEP_WORDS * i + 5],
+        f: steps[STEP_WORDS * i + 6],
     }
 }
 
@@ -83,6 +89,7 @@ fn take_code(
     out: &mut [u64],
     addresses: &mut [u32],
     values: &mut [u64],
+    owners: &mut [u16],
     rows: &mut Records,
     leaves: &mut Leaves,
     slots: &mut Slots,
@@ -96,14 +103,15 @@ fn take_code(
     requires { ⌜ Ready (lent (now rows) (now leaves) (now slots)) (logs (now reads) (now leafsets) (now writes)) c ⌝ }
     requires { ⌜ at ≤ length (now out) ⌝ }
     ensures { λ r. ⌜ TakesCode (lent (now (rows .entry)) (now (leaves .entry)) (now (slots .entry)))
-        (logs (now (reads .entry)) (now (leafsets .entry)) (now (writes .entry))) c k (now (addresses .entry)) (now (values .entry)) (now (out .entry)) at
+        (logs (now (reads .entry)) (now (leafsets .entry)) (now (writes .entry))) c k
+        (buffers (now (addresses .entry)) (now (values .entry)) (now (owners .entry))) (now (out .entry)) at
         (lent (now (rows .exit)) (now (leaves .exit)) (now (slots .exit))) (logs (now (reads .exit)) (now (leafsets .exit)) (now (writes .exit)))
-        (now (addresses .exit)) (now (values .exit)) (now (out .exit)) r ⌝ }
+        (buffers (now (addresses .exit)) (now (values .exit)) (now (owners .exit))) (now (out .exit)) r ⌝ }
 {
-    let d = decodes::decode(k, addresses.len(), values.len());
+    let d = decodes::decode(k, addresses.len(), values.len(), owners.len());
     match d {
-        Decoded::Meant(op, m, n) => {
-            if !fits(out.len() - at, m, n) {
+        Decoded::Meant(op, m, n, q) => {
+            if !fits(out.len() - at, m, n, q) {
                 return AfterCode {
                     core: c,
                     at,
@@ -113,6 +121,7 @@ fn take_code(
             let p = parts::perform_first(
                 addresses,
                 values,
+                owners,
                 rows,
                 leaves,
                 slots,
@@ -123,10 +132,11 @@ fn take_code(
                 op,
                 m,
                 n,
+                q,
             );
             let core = p.core;
             let reply = p.reply;
-            let next = words::put_answer_words(out, at, addresses, values, reply);
+            let next = words::put_answer_words(out, at, addresses, values, owners, reply);
             AfterCode {
                 core,
                 at: next,
@@ -156,6 +166,7 @@ fn take_all(
     out: &mut [u64],
     addresses: &mut [u32],
     values: &mut [u64],
+    owners: &mut [u16],
     rows: &mut Records,
     leaves: &mut Leaves,
     slots: &mut Slots,
@@ -166,9 +177,10 @@ fn take_all(
     start: Core,
 ) -> Replayed
     requires { ⌜ Fresh (lent (now rows) (now leaves) (now slots)) (logs (now reads) (now leafsets) (now writes)) (start .guarded) start ⌝ }
-    ensures { λ r. ⌜ Replays (start .guarded) (now (steps .entry)) (now (addresses .entry)) (now (values .entry)) (now (out .entry))
+    ensures { λ r. ⌜ Replays (start .guarded) (now (steps .entry))
+        (buffers (now (addresses .entry)) (now (values .entry)) (now (owners .entry))) (now (out .entry))
         (lent (now (rows .exit)) (now (leaves .exit)) (now (slots .exit))) (logs (now (reads .exit)) (now (leafsets .exit)) (now (writes .exit)))
-        (now (addresses .exit)) (now (values .exit)) (now (out .exit)) r ⌝ }
+        (buffers (now (addresses .exit)) (now (values .exit)) (now (owners .exit))) (now (out .exit)) r ⌝ }
 {
     let count = steps.len() / STEP_WORDS;
     let mut core = start;
@@ -180,6 +192,7 @@ fn take_all(
             out,
             addresses,
             values,
+            owners,
             rows,
             leaves,
             slots,
@@ -231,6 +244,7 @@ pub fn replay(
     out: &mut [u64],
     addresses: &mut [u32],
     values: &mut [u64],
+    owners: &mut [u16],
     rows: &mut Records,
     leaves: &mut Leaves,
     slots: &mut Slots,
@@ -240,15 +254,17 @@ pub fn replay(
     steps: &[u64],
     guarded: bool,
 ) -> Replayed
-    ensures { λ r. ⌜ Replays guarded (now (steps .entry)) (now (addresses .entry)) (now (values .entry)) (now (out .entry))
+    ensures { λ r. ⌜ Replays guarded (now (steps .entry))
+        (buffers (now (addresses .entry)) (now (values .entry)) (now (owners .entry))) (now (out .entry))
         (lent (now (rows .exit)) (now (leaves .exit)) (now (slots .exit))) (logs (now (reads .exit)) (now (leafsets .exit)) (now (writes .exit)))
-        (now (addresses .exit)) (now (values .exit)) (now (out .exit)) r ⌝ }
+        (buffers (now (addresses .exit)) (now (values .exit)) (now (owners .exit))) (now (out .exit)) r ⌝ }
 {
     let start = starts::fresh_state(rows, leaves, slots, reads, leafsets, writes, guarded);
     take_all(
         out,
         addresses,
         values,
+        owners,
         rows,
         leaves,
         slots,

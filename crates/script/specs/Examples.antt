@@ -10,13 +10,14 @@ use mathlib.Core.List.{List, [], _∷_, _++_, map}
 use mathlib.Core.Option.{none, some}
 use Rattle.lists.specs.Tests.{same, less, atMost, within}
 use Rattle.lists.specs.Rows.{row}
+use Rattle.spec.specs.Records.{Payload}
 use Rattle.spec.specs.Steps.{Answer, refused, done, found, listed, numbered, counted, Event}
 use Rattle.spec.specs.Runs.{fullRun, oldestMerged, value, entryOf, event}
 use Rattle.spec.specs.declared.Refusal.the-variants.{NoWorker, Phantom}
 use Rattle.script.specs.declared.Line.{Line}
 use Rattle.script.specs.declared.Line.the-variants.{Begin, Read, Scan, Put, Remove, Lock, Validate, Install, Abort, Merge, MergeOldest}
-use Rattle.script.specs.Grammar.{firstWord, moreWords, isDigit, extend, number, numbers, noNumber, oneNumber, twoNumbers, threeNumbers, lineOf, lettered, meaning, guardLine, isGuard}
-use Rattle.script.specs.Output.{digitsWithin, decimal, field, pair, pairs, stepOf, answerText, answerLine, endLine, guardedAnswer}
+use Rattle.script.specs.Grammar.{firstWord, moreWords, isDigit, extend, number, numbers, noNumber, oneNumber, twoNumbers, threeNumbers, fourNumbers, lineOf, lettered, meaning, guardLine, isGuard}
+use Rattle.script.specs.Output.{digitsWithin, decimal, field, triple, triples, stepOf, answerText, answerLine, endLine, guardedAnswer}
 
 -- the bytes of a text; every character here is one byte
 abbrev bytes : String → List ℕ
@@ -37,7 +38,7 @@ case r l a w = record { reads = r; line = l; answer = a; writes = w }
 abbrev pub run : List Case
 run =
     case "B 0" (Begin 0) done "B 0\n"
-    ∷ case "P 0 4096 32" (Put 0 4096 32) done "P 0\n"
+    ∷ case "P 0 4096 32 0" (Put 0 4096 32 0) done "P 0\n"
     ∷ case "L 0" (Lock 0) done "L 0\n"
     ∷ case "V 0" (Validate 0) (numbered 1) "V 0 1\n"
     ∷ case "I 0" (Install 0) done "I 0\n"
@@ -47,7 +48,7 @@ run =
     ∷ case "V 1" (Validate 1) (refused Phantom) "V 14\n"
     ∷ case "M 4096" (Merge 4096) (counted 1) "M 0 1\n"
     ∷ case "B 1" (Begin 1) done "B 0\n"
-    ∷ case "S 1 4000 5000" (Scan 1 4000 5000) (listed (row 4096 (value 32) ∷ [])) "S 0 1 4096 32\n"
+    ∷ case "S 1 4000 5000" (Scan 1 4000 5000) (listed (row 4096 (value 32) ∷ [])) "S 0 1 4096 32 0\n"
     ∷ case "L 1" (Lock 1) done "L 0\n"
     ∷ case "V 1" (Validate 1) (numbered 2) "V 0 2\n"
     ∷ case "I 1" (Install 1) done "I 0\n"
@@ -60,15 +61,28 @@ oldest = case "T" MergeOldest (counted 2) "T 0 2\n" ∷ case "T" MergeOldest (co
 -- more lines: the other letters, leading zeros, the widest numbers, and a read's two answers, with the slots examined
 abbrev pub more : List Case
 more =
-    case "R 0007 0" (Read 7 0) (found (some (value 18446744073709551615)) 1) "R 0 18446744073709551615 1\n"
+    case "R 0007 0" (Read 7 0) (found (some (value 18446744073709551615)) 1) "R 0 18446744073709551615 0 1\n"
     ∷ case "R 1 4294967295" (Read 1 4294967295) (found none 256) "R 0 - 256\n"
     ∷ case "D 8 10" (Remove 8 10) (refused NoWorker) "D 1\n"
     ∷ case "A 3" (Abort 3) done "A 0\n"
-    ∷ case "P 4294967295 1 18446744073709551615" (Put 4294967295 1 18446744073709551615) done "P 0\n"
+    ∷ case "P 4294967295 1 18446744073709551615 65535" (Put 4294967295 1 18446744073709551615 65535) done "P 0\n"
+    ∷ []
+
+-- a payload with an owner
+abbrev owned : ℕ → ℕ → Payload
+owned v o = record { value = v; owner = o }
+
+-- request 106's lines: a put's owner, and the owner in a read's answer and in a scan's
+abbrev pub owners : List Case
+owners =
+    case "P 0 4096 32 7" (Put 0 4096 32 7) done "P 0\n"
+    ∷ case "R 0 4096" (Read 0 4096) (found (some (owned 32 7)) 1) "R 0 32 7 1\n"
+    ∷ case "S 0 4000 5000" (Scan 0 4000 5000) (listed (row 4096 (owned 32 7) ∷ [])) "S 0 1 4096 32 7\n"
+    ∷ case "S 0 0 9" (Scan 0 0 9) (listed (row 3 (owned 30 65535) ∷ row 5 (owned 50 0) ∷ [])) "S 0 2 3 30 65535 5 50 0\n"
     ∷ []
 
 abbrev pub cases : List Case
-cases = run ++ oldest ++ more
+cases = run ++ oldest ++ more ++ owners
 
 -- malformed lines
 abbrev pub malformed : List String
@@ -98,12 +112,18 @@ malformed =
     ∷ "T 0"
     ∷ "TT"
     ∷ "t"
-    ∷ "P 0 0 0 0"
+    ∷ "P 0 0 0"
+    ∷ "P 0 0 0 "
+    ∷ "P 0 0 0 0 0"
+    ∷ "S 0 0 0 0"
     ∷ "B 4294967296"
     ∷ "R 0 4294967296"
     ∷ "S 0 0 4294967296"
-    ∷ "P 0 4294967296 0"
-    ∷ "P 0 0 18446744073709551616"
+    ∷ "P 4294967296 0 0 0"
+    ∷ "P 0 4294967296 0 0"
+    ∷ "P 0 0 18446744073709551616 0"
+    ∷ "P 0 0 0 65536"
+    ∷ "P 0 0 0 18446744073709551616"
     ∷ []
 
 -- the step that the line asks for, with its answer
@@ -123,11 +143,11 @@ pub record Written : Type 0 where
   pub guard-is : isGuard guardLine ≡ true
   pub guarded : guardedAnswer ≡ bytes "G 0\n"
   pub not-guard : map (λ (s : String). isGuard (bytes s)) malformed ≡ map (λ (s : String). false) malformed
-  pub end : endLine (entryOf 4096 32 1 ∷ []) ≡ bytes "E 1 4096 32\n"
+  pub end : endLine (entryOf 4096 32 1 ∷ row 4128 (record { payload = owned 8 7; commit = 2 }) ∷ []) ≡ bytes "E 2 4096 32 0 4128 8 7\n"
   pub nothing : endLine [] ≡ bytes "E 0\n"
 
 pub written : Written
-unfolding same less atMost within firstWord moreWords isDigit extend number numbers noNumber oneNumber twoNumbers threeNumbers lineOf lettered meaning isGuard digitsWithin decimal field pair pairs answerText answerLine endLine
+unfolding same less atMost within firstWord moreWords isDigit extend number numbers noNumber oneNumber twoNumbers threeNumbers fourNumbers lineOf lettered meaning isGuard digitsWithin decimal field triple triples answerText answerLine endLine
 written =
     record {
       model = refl;

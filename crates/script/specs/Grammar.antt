@@ -61,11 +61,14 @@ oneNumber c a =
 unfoldable pub twoNumbers : ℕ → ℕ → ℕ → Option Line
 twoNumbers c a b = pick (same c 82) (some (Read a b)) (pick (same c 68) (some (Remove a b)) none)
 
--- S seat lo hi; P seat address value, whose value has 64 bits
+-- S seat lo hi
 unfoldable pub threeNumbers : ℕ → ℕ → ℕ → ℕ → Option Line
-threeNumbers c a b d =
-    pick (same c 83) (pick (less d (2 ^ 32)) (some (Scan a b d)) none)
-    (pick (same c 80) (pick (less d (2 ^ 64)) (some (Put a b d)) none) none)
+threeNumbers c a b d = pick (same c 83) (pick (less d (2 ^ 32)) (some (Scan a b d)) none) none
+
+-- P seat address value owner; the value has 64 bits, and the owner, request 106's, 16
+unfoldable pub fourNumbers : ℕ → ℕ → ℕ → ℕ → ℕ → Option Line
+fourNumbers c a b d e =
+    pick (same c 80) (pick (both (less d (2 ^ 64)) (less e (2 ^ 16))) (some (Put a b d e)) none) none
 
 -- a letter with its numbers; seat and address have 32 bits
 unfoldable pub lineOf : ℕ → List ℕ → Option Line
@@ -73,7 +76,8 @@ lineOf c [] = noNumber c
 lineOf c (a ∷ []) = pick (less a (2 ^ 32)) (oneNumber c a) none
 lineOf c (a ∷ b ∷ []) = pick (both (less a (2 ^ 32)) (less b (2 ^ 32))) (twoNumbers c a b) none
 lineOf c (a ∷ b ∷ d ∷ []) = pick (both (less a (2 ^ 32)) (less b (2 ^ 32))) (threeNumbers c a b d) none
-lineOf c (a ∷ b ∷ d ∷ e ∷ ns) = none
+lineOf c (a ∷ b ∷ d ∷ e ∷ []) = pick (both (less a (2 ^ 32)) (less b (2 ^ 32))) (fourNumbers c a b d e) none
+lineOf c (a ∷ b ∷ d ∷ e ∷ f ∷ ns) = none
 
 -- the first word is a letter
 unfoldable pub lettered : List ℕ → List ℕ → Option Line

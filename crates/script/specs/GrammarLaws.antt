@@ -10,10 +10,10 @@ use Rattle.lists.specs.Tests.{pick, both, maybe, same, less, within, atMost}
 use Rattle.lists.specs.TestLaws.{cases, clash, same-no, same-refl, less-no, atMost-yes, atMost-no, atMost-true}
 use lib.Seq.{append-snoc}
 use Rattle.script.specs.declared.Line.{Line}
-use Rattle.script.specs.declared.Line.the-variants.{MergeOldest}
+use Rattle.script.specs.declared.Line.the-variants.{Put, MergeOldest}
 use Rattle.script.specs.declared.Fields.{Fields}
-use Rattle.script.specs.declared.Fields.the-variants.{None, One, Two}
-use Rattle.script.specs.Grammar.{firstWord, moreWords, isDigit, extend, number, numbers, noNumber, oneNumber, twoNumbers, threeNumbers, lineOf, lettered, meaning, isGuard}
+use Rattle.script.specs.declared.Fields.the-variants.{None, One, Two, Three}
+use Rattle.script.specs.Grammar.{firstWord, moreWords, isDigit, extend, number, numbers, noNumber, oneNumber, twoNumbers, threeNumbers, fourNumbers, lineOf, lettered, meaning, isGuard}
 use Rattle.script.specs.Parsing.{filled, values, numberOn, fieldsOn, letterOn, aloneOn}
 
 -- ---- bytes
@@ -87,22 +87,39 @@ pick-same false x = refl
 
 three-wide : (c a b m : ℕ) → 2 ^ 64 ≤ m → threeNumbers c a b m ≡ none
 unfolding threeNumbers
-three-wide c a b m h =
-    rw (less-no {m = m} {n = 2 ^ 32} (omega arith), less-no {m = m} {n = 2 ^ 64} h)
-    (ap (pick (same c 83) none) (pick-same (same c 80) none) ∙ pick-same (same c 83) none)
+three-wide c a b m h = rw (less-no {m = m} {n = 2 ^ 32} (omega arith)) (pick-same (same c 83) none)
 
--- of two numbers that must have 32 bits, and one that must have 64 at most, one is too wide
+four-wide : (c a b m x : ℕ) → 2 ^ 64 ≤ m → fourNumbers c a b m x ≡ none
+unfolding fourNumbers
+four-wide c a b m x h = rw (less-no {m = m} {n = 2 ^ 64} h) (pick-same (same c 80) none)
+
+four-wide' : (c a b d m : ℕ) → 2 ^ 64 ≤ m → fourNumbers c a b d m ≡ none
+unfolding fourNumbers
+four-wide' c a b d m h =
+    rw (less-no {m = m} {n = 2 ^ 16} (omega arith))
+    (ap (λ (o : Option Line). pick (same c 80) o none) (none-wide (less d (2 ^ 64))) ∙ pick-same (same c 80) none)
+  where
+    none-wide : (x : Bool) → pick (both x false) (some (Put a b d m)) none ≡ none
+    none-wide true = refl
+    none-wide false = refl
+
+-- no number of a line has more than 64 bits
 line-wide : (c : ℕ) (f : Fields) (m : ℕ) (ms : List ℕ) → 2 ^ 64 ≤ m → lineOf c (values f ++ (m ∷ ms)) ≡ none
-unfolding lineOf threeNumbers
+unfolding lineOf
 line-wide c None m [] h = rw (less-no {m = m} {n = 2 ^ 32} (omega arith))
 line-wide c None m (x ∷ []) h = rw (less-no {m = m} {n = 2 ^ 32} (omega arith))
 line-wide c None m (x ∷ y ∷ []) h = rw (less-no {m = m} {n = 2 ^ 32} (omega arith))
-line-wide c None m (x ∷ y ∷ z ∷ ms) h = refl
+line-wide c None m (x ∷ y ∷ z ∷ []) h = rw (less-no {m = m} {n = 2 ^ 32} (omega arith))
+line-wide c None m (x ∷ y ∷ z ∷ u ∷ ms) h = refl
 line-wide c (One a) m [] h = ⊎-elim (λ t. rw (t, less-no {m = m} {n = 2 ^ 32} (omega arith))) (λ t. rw t) (cases (less a (2 ^ 32)))
 line-wide c (One a) m (x ∷ []) h = ⊎-elim (λ t. rw (t, less-no {m = m} {n = 2 ^ 32} (omega arith))) (λ t. rw t) (cases (less a (2 ^ 32)))
-line-wide c (One a) m (x ∷ y ∷ ms) h = refl
+line-wide c (One a) m (x ∷ y ∷ []) h = ⊎-elim (λ t. rw (t, less-no {m = m} {n = 2 ^ 32} (omega arith))) (λ t. rw t) (cases (less a (2 ^ 32)))
+line-wide c (One a) m (x ∷ y ∷ z ∷ ms) h = refl
 line-wide c (Two a b) m [] h = ap (λ (o : Option Line). pick (both (less a (2 ^ 32)) (less b (2 ^ 32))) o none) (three-wide c a b m h) ∙ pick-same (both (less a (2 ^ 32)) (less b (2 ^ 32))) none
-line-wide c (Two a b) m (x ∷ ms) h = refl
+line-wide c (Two a b) m (x ∷ []) h = ap (λ (o : Option Line). pick (both (less a (2 ^ 32)) (less b (2 ^ 32))) o none) (four-wide c a b m x h) ∙ pick-same (both (less a (2 ^ 32)) (less b (2 ^ 32))) none
+line-wide c (Two a b) m (x ∷ y ∷ ms) h = refl
+line-wide c (Three a b d) m [] h = ap (λ (o : Option Line). pick (both (less a (2 ^ 32)) (less b (2 ^ 32))) o none) (four-wide' c a b d m h) ∙ pick-same (both (less a (2 ^ 32)) (less b (2 ^ 32))) none
+line-wide c (Three a b d) m (x ∷ ms) h = refl
 
 module _ (c : ℕ) (ns : List ℕ) where
   on-none : (d : Bool) (n : ℕ) (l : List ℕ) → numberOn d n (firstWord l) ≡ none → fieldsOn c ns d n l ≡ none
@@ -164,12 +181,12 @@ fields-wide c f d n b l e h = fields-digit c (values f) d n b l e ∙ big (n * 1
     big : (k : ℕ) → 2 ^ 64 ≤ k → fieldsOn c (values f) true k l ≡ none
     big k g = over k g (numberOn true k (firstWord l)) (numbers (moreWords l)) refl
 
--- so does a fourth one
-pub fields-four : (c x y z : ℕ) (l : List ℕ) → fieldsOn c (x ∷ y ∷ z ∷ []) false 0 l ≡ none
+-- so does a fifth one
+pub fields-five : (c x y z u : ℕ) (l : List ℕ) → fieldsOn c (x ∷ y ∷ z ∷ u ∷ []) false 0 l ≡ none
 unfolding fieldsOn lineOf
-fields-four c x y z l = go (numberOn false 0 (firstWord l)) (numbers (moreWords l))
+fields-five c x y z u l = go (numberOn false 0 (firstWord l)) (numbers (moreWords l))
   where
-    go : (o : Option ℕ) (q : Option (List ℕ)) → maybe o none (λ (m : ℕ). maybe q none (λ (ms : List ℕ). lineOf c ((x ∷ y ∷ z ∷ []) ++ (m ∷ ms)))) ≡ none
+    go : (o : Option ℕ) (q : Option (List ℕ)) → maybe o none (λ (m : ℕ). maybe q none (λ (ms : List ℕ). lineOf c ((x ∷ y ∷ z ∷ u ∷ []) ++ (m ∷ ms)))) ≡ none
     go none q = refl
     go (some m) none = refl
     go (some m) (some ms) = refl
@@ -238,11 +255,12 @@ unfolding lineOf noNumber same
 oldest-alone = refl
 
 oldest-numbers : (m : ℕ) (ms : List ℕ) → lineOf 84 (m ∷ ms) ≡ none
-unfolding lineOf oneNumber twoNumbers threeNumbers same
+unfolding lineOf oneNumber twoNumbers threeNumbers fourNumbers same
 oldest-numbers a [] = pick-same (less a (2 ^ 32)) none
 oldest-numbers a (b ∷ []) = pick-same (both (less a (2 ^ 32)) (less b (2 ^ 32))) none
 oldest-numbers a (b ∷ d ∷ []) = pick-same (both (less a (2 ^ 32)) (less b (2 ^ 32))) none
-oldest-numbers a (b ∷ d ∷ e ∷ ms) = refl
+oldest-numbers a (b ∷ d ∷ e ∷ []) = pick-same (both (less a (2 ^ 32)) (less b (2 ^ 32))) none
+oldest-numbers a (b ∷ d ∷ e ∷ f ∷ ms) = refl
 
 pub oldest-letter : (l : List ℕ) → meaning (84 ∷ l) ≡ aloneOn MergeOldest l
 unfolding aloneOn
@@ -256,11 +274,12 @@ other-alone c t = rw (same-no t)
 
 -- G
 guard-numbers : (m : ℕ) (ms : List ℕ) → lineOf 71 (m ∷ ms) ≡ none
-unfolding lineOf oneNumber twoNumbers threeNumbers same
+unfolding lineOf oneNumber twoNumbers threeNumbers fourNumbers same
 guard-numbers a [] = pick-same (less a (2 ^ 32)) none
 guard-numbers a (b ∷ []) = pick-same (both (less a (2 ^ 32)) (less b (2 ^ 32))) none
 guard-numbers a (b ∷ d ∷ []) = pick-same (both (less a (2 ^ 32)) (less b (2 ^ 32))) none
-guard-numbers a (b ∷ d ∷ e ∷ ms) = refl
+guard-numbers a (b ∷ d ∷ e ∷ []) = pick-same (both (less a (2 ^ 32)) (less b (2 ^ 32))) none
+guard-numbers a (b ∷ d ∷ e ∷ f ∷ ms) = refl
 
 -- no step begins with it
 pub guard-letter : (l : List ℕ) → meaning (71 ∷ l) ≡ none

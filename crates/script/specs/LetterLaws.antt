@@ -9,7 +9,7 @@ use Rattle.lists.specs.TestLaws.{same-no, less-yes, less-no}
 use Rattle.script.specs.declared.Line.{Line}
 use Rattle.script.specs.declared.Fields.{Fields}
 use Rattle.script.specs.declared.Event.the-variants as event
-use Rattle.script.specs.Grammar.{oneNumber, twoNumbers, threeNumbers, lineOf}
+use Rattle.script.specs.Grammar.{oneNumber, twoNumbers, threeNumbers, fourNumbers, lineOf}
 use Rattle.script.specs.Parsing.{values}
 use Rattle.script.specs.Tokens.{told}
 
@@ -33,6 +33,10 @@ one-other c a b l v i x m h = rw (less-yes h, same-no b, same-no l, same-no v, s
 both-wide : (x y : Bool) (o : Option Line) → y ≡ false → pick (both x y) o none ≡ none
 both-wide true y o e = rw e
 both-wide false y o e = refl
+
+pick-none : (x : Bool) → _≡_ {A = Option Line} none (pick x none none)
+pick-none true = refl
+pick-none false = refl
 
 pub two-wide : (c a b : ℕ) → 2 ^ 32 ≤ a → event.Malformed ≡ told (lineOf c (a ∷ b ∷ []))
 unfolding lineOf
@@ -60,25 +64,53 @@ pub three-wide' : (c a b d : ℕ) → 2 ^ 32 ≤ b → event.Malformed ≡ told 
 unfolding lineOf
 three-wide' c a b d h = sym (ap told (both-wide (less a (2 ^ 32)) (less b (2 ^ 32)) (threeNumbers c a b d) (less-no h)))
 
-three-letter : (c k a b d : ℕ) → c ≡ k → a < 2 ^ 32 → b < 2 ^ 32 → told (threeNumbers k a b d) ≡ told (lineOf c (a ∷ b ∷ d ∷ []))
+three-letter : (c a b d : ℕ) → c ≡ 83 → a < 2 ^ 32 → b < 2 ^ 32 → told (threeNumbers 83 a b d) ≡ told (lineOf c (a ∷ b ∷ d ∷ []))
 unfolding lineOf
-three-letter c k a b d e h g = rw (less-yes h, less-yes g) (ap (λ (x : ℕ). told (threeNumbers x a b d)) (sym e))
-
-pub three-put : (c a b d : ℕ) → c ≡ 80 → a < 2 ^ 32 → b < 2 ^ 32 → d < 2 ^ 64 → event.Line (Line.Put a b d) ≡ told (lineOf c (a ∷ b ∷ d ∷ []))
-unfolding threeNumbers same
-three-put c a b d e h g w = ap (λ (x : Bool). told (pick x (some (Line.Put a b d)) none)) (sym (less-yes w)) ∙ three-letter c 80 a b d e h g
+three-letter c a b d e h g = rw (less-yes h, less-yes g) (ap (λ (x : ℕ). told (threeNumbers x a b d)) (sym e))
 
 pub three-scan : (c a b d : ℕ) → c ≡ 83 → a < 2 ^ 32 → b < 2 ^ 32 → d < 2 ^ 32 → event.Line (Line.Scan a b d) ≡ told (lineOf c (a ∷ b ∷ d ∷ []))
 unfolding threeNumbers same
-three-scan c a b d e h g w = ap (λ (x : Bool). told (pick x (some (Line.Scan a b d)) none)) (sym (less-yes w)) ∙ three-letter c 83 a b d e h g
+three-scan c a b d e h g w = ap (λ (x : Bool). told (pick x (some (Line.Scan a b d)) none)) (sym (less-yes w)) ∙ three-letter c a b d e h g
 
 pub three-scan-wide : (c a b d : ℕ) → c ≡ 83 → a < 2 ^ 32 → b < 2 ^ 32 → 2 ^ 32 ≤ d → event.Malformed ≡ told (lineOf c (a ∷ b ∷ d ∷ []))
 unfolding threeNumbers same
-three-scan-wide c a b d e h g w = ap (λ (x : Bool). told (pick x (some (Line.Scan a b d)) none)) (sym (less-no w)) ∙ three-letter c 83 a b d e h g
+three-scan-wide c a b d e h g w = ap (λ (x : Bool). told (pick x (some (Line.Scan a b d)) none)) (sym (less-no w)) ∙ three-letter c a b d e h g
 
-pub three-other : (c a b d : ℕ) → (c ≡ 80 → ⊥) → (c ≡ 83 → ⊥) → a < 2 ^ 32 → b < 2 ^ 32 → event.Malformed ≡ told (lineOf c (a ∷ b ∷ d ∷ []))
+pub three-other : (c a b d : ℕ) → (c ≡ 83 → ⊥) → event.Malformed ≡ told (lineOf c (a ∷ b ∷ d ∷ []))
 unfolding lineOf threeNumbers
-three-other c a b d p s h g = rw (less-yes h, less-yes g, same-no s, same-no p)
+three-other c a b d s = rw (same-no s) (ap told (pick-none (both (less a (2 ^ 32)) (less b (2 ^ 32)))))
+
+-- ---- four numbers
+
+pub four-wide : (c a b d o : ℕ) → 2 ^ 32 ≤ a → event.Malformed ≡ told (lineOf c (a ∷ b ∷ d ∷ o ∷ []))
+unfolding lineOf
+four-wide c a b d o h = rw (less-no h)
+
+pub four-wide' : (c a b d o : ℕ) → 2 ^ 32 ≤ b → event.Malformed ≡ told (lineOf c (a ∷ b ∷ d ∷ o ∷ []))
+unfolding lineOf
+four-wide' c a b d o h = sym (ap told (both-wide (less a (2 ^ 32)) (less b (2 ^ 32)) (fourNumbers c a b d o) (less-no h)))
+
+four-letter : (c a b d o : ℕ) → c ≡ 80 → a < 2 ^ 32 → b < 2 ^ 32 → told (fourNumbers 80 a b d o) ≡ told (lineOf c (a ∷ b ∷ d ∷ o ∷ []))
+unfolding lineOf
+four-letter c a b d o e h g = rw (less-yes h, less-yes g) (ap (λ (x : ℕ). told (fourNumbers x a b d o)) (sym e))
+
+pub four-put : (c a b d o : ℕ) → c ≡ 80 → a < 2 ^ 32 → b < 2 ^ 32 → d < 2 ^ 64 → o < 2 ^ 16
+    → event.Line (Line.Put a b d o) ≡ told (lineOf c (a ∷ b ∷ d ∷ o ∷ []))
+unfolding fourNumbers same
+four-put c a b d o e h g v w =
+    let t : both (less d (2 ^ 64)) (less o (2 ^ 16)) ≡ true = rw (less-yes v) (less-yes w) in
+    ap (λ (x : Bool). told (pick x (some (Line.Put a b d o)) none)) (sym t)
+    ∙ four-letter c a b d o e h g
+
+pub four-put-wide : (c a b d o : ℕ) → c ≡ 80 → a < 2 ^ 32 → b < 2 ^ 32 → 2 ^ 16 ≤ o → event.Malformed ≡ told (lineOf c (a ∷ b ∷ d ∷ o ∷ []))
+unfolding fourNumbers same
+four-put-wide c a b d o e h g w =
+    sym (ap told (both-wide (less d (2 ^ 64)) (less o (2 ^ 16)) (some (Line.Put a b d o)) (less-no w)))
+    ∙ four-letter c a b d o e h g
+
+pub four-other : (c a b d o : ℕ) → (c ≡ 80 → ⊥) → event.Malformed ≡ told (lineOf c (a ∷ b ∷ d ∷ o ∷ []))
+unfolding lineOf fourNumbers
+four-other c a b d o p = rw (same-no p) (ap told (pick-none (both (less a (2 ^ 32)) (less b (2 ^ 32)))))
 
 -- ---- any count
 

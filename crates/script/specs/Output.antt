@@ -7,7 +7,7 @@ use Rattle.lists.specs.Tests.{pick, less}
 use Rattle.lists.specs.Rows.{Row}
 use Rattle.spec.specs.Refusals.{numberOf}
 use Rattle.spec.specs.Records.{Payload, Record}
-use Rattle.spec.specs.Steps.{Step, begin, read, scan, put, remove, lock, validate, install, abort, merge, mergeOldest, Answer, refused, done, found, listed, numbered, counted}
+use Rattle.spec.specs.Steps.{places, Step, begin, read, scan, put, remove, lock, validate, install, abort, merge, mergeOldest, Answer, refused, done, found, listed, numbered, counted}
 use Rattle.script.specs.declared.Line.{Line}
 use Rattle.script.specs.declared.Line.the-variants.{Begin, Read, Scan, Put, Remove, Lock, Validate, Install, Abort, Merge, MergeOldest}
 
@@ -32,9 +32,9 @@ field n = 32 ∷ decimal n
 abbrev pub absent : List ℕ
 absent = 32 ∷ 45 ∷ []
 
--- an address and a value
-unfoldable pub pair : ℕ → ℕ → List ℕ
-pair k v = field k ++ field v
+-- an address, a value and an owner
+unfoldable pub triple : ℕ → ℕ → ℕ → List ℕ
+triple k v o = field k ++ field v ++ field o
 
 -- ---- lines
 
@@ -43,7 +43,7 @@ abbrev pub letterOf : Line → ℕ
 letterOf (Begin w) = 66
 letterOf (Read w k) = 82
 letterOf (Scan w lo hi) = 83
-letterOf (Put w k v) = 80
+letterOf (Put w k v o) = 80
 letterOf (Remove w k) = 68
 letterOf (Lock w) = 76
 letterOf (Validate w) = 86
@@ -52,38 +52,39 @@ letterOf (Abort w) = 65
 letterOf (Merge k) = 77
 letterOf MergeOldest = 84
 
--- the step that a line asks for; a scan's two buffers have so many places
+-- the step that a line asks for; a scan's three buffers have n places each
 abbrev pub stepOf : ℕ → Line → Step
-stepOf places (Begin w) = begin w
-stepOf places (Read w k) = read w k
-stepOf places (Scan w lo hi) = scan w lo hi places places
-stepOf places (Put w k v) = put w k (record { value = v })
-stepOf places (Remove w k) = remove w k
-stepOf places (Lock w) = lock w
-stepOf places (Validate w) = validate w
-stepOf places (Install w) = install w
-stepOf places (Abort w) = abort w
-stepOf places (Merge k) = merge k
-stepOf places MergeOldest = mergeOldest
+stepOf n (Begin w) = begin w
+stepOf n (Read w k) = read w k
+stepOf n (Scan w lo hi) = scan w lo hi (places n n n)
+stepOf n (Put w k v o) = put w k (record { value = v; owner = o })
+stepOf n (Remove w k) = remove w k
+stepOf n (Lock w) = lock w
+stepOf n (Validate w) = validate w
+stepOf n (Install w) = install w
+stepOf n (Abort w) = abort w
+stepOf n (Merge k) = merge k
+stepOf n MergeOldest = mergeOldest
 
--- the address of each row, and the value of its item
-unfoldable pub pairs : {A : Type 0} → (A → ℕ) → List (Row A) → List ℕ
-pairs v [] = []
-pairs v (r ∷ rs) = pair (r .key) (v (r .item)) ++ pairs v rs
+-- the address of each row, and the payload of its item
+unfoldable pub triples : {A : Type 0} → (A → Payload) → List (Row A) → List ℕ
+triples p [] = []
+triples p (r ∷ rs) = triple (r .key) (p (r .item) .value) (p (r .item) .owner) ++ triples p rs
 
--- addresses and values side by side
-unfoldable pub pairsOf : List ℕ → List ℕ → List ℕ
-pairsOf [] vs = []
-pairsOf (k ∷ ks) [] = []
-pairsOf (k ∷ ks) (v ∷ vs) = pair k v ++ pairsOf ks vs
+-- addresses, values and owners side by side
+unfoldable pub triplesOf : List ℕ → List ℕ → List ℕ → List ℕ
+triplesOf [] vs os = []
+triplesOf (k ∷ ks) [] os = []
+triplesOf (k ∷ ks) (v ∷ vs) [] = []
+triplesOf (k ∷ ks) (v ∷ vs) (o ∷ os) = triple k v o ++ triplesOf ks vs os
 
 -- the answer number, 0 if granted, and what a granted step adds
 unfoldable pub answerText : Answer → List ℕ
 answerText (refused r) = field (numberOf r)
 answerText done = field 0
 answerText (found none x) = field 0 ++ absent ++ field x
-answerText (found (some p) x) = field 0 ++ field (p .value) ++ field x
-answerText (listed rs) = field 0 ++ field (length rs) ++ pairs (λ (p : Payload). p .value) rs
+answerText (found (some p) x) = field 0 ++ field (p .value) ++ field (p .owner) ++ field x
+answerText (listed rs) = field 0 ++ field (length rs) ++ triples (λ (p : Payload). p) rs
 answerText (numbered n) = field 0 ++ field n
 answerText (counted n) = field 0 ++ field n
 
@@ -91,9 +92,9 @@ answerText (counted n) = field 0 ++ field n
 unfoldable pub answerLine : Line → Answer → List ℕ
 answerLine l a = letterOf l ∷ answerText a ++ (10 ∷ [])
 
--- at the end `E`, the number of present records, and the pairs
+-- at the end `E`, the number of present records, and their triples
 unfoldable pub endLine : List (Row Record) → List ℕ
-endLine rs = 69 ∷ field (length rs) ++ pairs (λ (r : Record). r .payload .value) rs ++ (10 ∷ [])
+endLine rs = 69 ∷ field (length rs) ++ triples (λ (r : Record). r .payload) rs ++ (10 ∷ [])
 
 -- for the line G, request 102's, which is always granted
 abbrev pub guardedAnswer : List ℕ

@@ -1,4 +1,4 @@
--- Decimal digits, how many there are, and what is written for a number, for pairs and for an answer.
+-- Decimal digits, how many there are, and what is written for a number, for triples and for an answer.
 use Prim.Native.Nat.{ℕ, zero, suc, _+_, _-_, _*_, _/_, _%_, _^_, _<_, _≤_}
 use native.Mathlib.Nat.{le-refl, pow-suc}
 use native.Mathlib.Numerals.{add-one}
@@ -12,7 +12,7 @@ use Rattle.lists.specs.Tests.{pick, less}
 use Rattle.lists.specs.TestLaws.{cases, less-yes, less-no, less-true, less-false}
 use Rattle.lists.specs.Texts.{Wrote}
 use Rattle.lists.specs.TextLaws.{wrote-join}
-use Rattle.script.specs.Output.{digitsWithin, decimal, field, pair, pairsOf}
+use Rattle.script.specs.Output.{digitsWithin, decimal, field, triple, triplesOf}
 
 -- ---- the equations that a reader expects
 
@@ -194,48 +194,57 @@ pub field-most : (n : ℕ) → n < 2 ^ 64 → length (field n) ≤ 21
 unfolding field
 field-most n h = let e : length (decimal n) ≤ 20 = decimal-word n h in omega arith
 
--- ---- pairs
+-- ---- triples
 
-pub pair-most : (k v : ℕ) → k < 2 ^ 64 → v < 2 ^ 64 → length (pair k v) ≤ 42
-unfolding pair
-pair-most k v h g =
-    let e : length (field k ++ field v) ≡ length (field k) + length (field v) = length-append (field k) (field v) in
-    omega (arith, field-most k h, field-most v g)
+pub triple-most : (k v o : ℕ) → k < 2 ^ 64 → v < 2 ^ 64 → o < 2 ^ 64 → length (triple k v o) ≤ 63
+unfolding triple
+triple-most k v o h g f =
+    let e : length (field k ++ field v ++ field o) ≡ length (field k ++ field v) + length (field o) = length-append (field k ++ field v) (field o) in
+    let d : length (field k ++ field v) ≡ length (field k) + length (field v) = length-append (field k) (field v) in
+    omega (arith, field-most k h, field-most v g, field-most o f)
 
-pairs-snoc : (ks vs : List ℕ) (k v : ℕ) → length ks ≡ length vs → pairsOf (ks ++ (k ∷ [])) (vs ++ (v ∷ [])) ≡ pairsOf ks vs ++ pair k v
-unfolding pairsOf
-pairs-snoc [] [] k v e = append-nil (pair k v)
-pairs-snoc [] (y ∷ vs) k v e = absurd (omega arith)
-pairs-snoc (x ∷ ks) [] k v e = absurd (omega arith)
-pairs-snoc (x ∷ ks) (y ∷ vs) k v e =
-    ap (λ (l : List ℕ). pair x y ++ l) (pairs-snoc ks vs k v (omega arith))
-    ∙ sym (append-assoc (pair x y) (pairsOf ks vs) (pair k v))
+triples-snoc : (ks vs os : List ℕ) (k v o : ℕ) → length ks ≡ length vs → length ks ≡ length os
+    → triplesOf (ks ++ (k ∷ [])) (vs ++ (v ∷ [])) (os ++ (o ∷ [])) ≡ triplesOf ks vs os ++ triple k v o
+unfolding triplesOf
+triples-snoc [] [] [] k v o e d = append-nil (triple k v o)
+triples-snoc [] [] (z ∷ os) k v o e d = absurd (omega arith)
+triples-snoc [] (y ∷ vs) os k v o e d = absurd (omega arith)
+triples-snoc (x ∷ ks) [] os k v o e d = absurd (omega arith)
+triples-snoc (x ∷ ks) (y ∷ vs) [] k v o e d = absurd (omega arith)
+triples-snoc (x ∷ ks) (y ∷ vs) (z ∷ os) k v o e d =
+    ap (λ (l : List ℕ). triple x y z ++ l) (triples-snoc ks vs os k v o (omega arith) (omega arith))
+    ∙ sym (append-assoc (triple x y z) (triplesOf ks vs os) (triple k v o))
 
--- one pair more
-pairs-more : (ks vs : List ℕ) (i : ℕ) → i < length ks → i < length vs
-    → pairsOf (take (i + 1) ks) (take (i + 1) vs) ≡ pairsOf (take i ks) (take i vs) ++ pair (getD ks i 0) (getD vs i 0)
-pairs-more ks vs i h g =
-    rw (add-one, take-suc ks i 0 h, take-suc vs i 0 g)
-    (pairs-snoc (take i ks) (take i vs) (getD ks i 0) (getD vs i 0) (length-take-le i ks (omega arith) ∙ sym (length-take-le i vs (omega arith))))
+-- one triple more
+triples-more : (ks vs os : List ℕ) (i : ℕ) → i < length ks → i < length vs → i < length os
+    → triplesOf (take (i + 1) ks) (take (i + 1) vs) (take (i + 1) os)
+    ≡ triplesOf (take i ks) (take i vs) (take i os) ++ triple (getD ks i 0) (getD vs i 0) (getD os i 0)
+triples-more ks vs os i h g f =
+    let e : length (take i ks) ≡ i = length-take-le i ks (omega arith) in
+    rw (add-one, take-suc ks i 0 h, take-suc vs i 0 g, take-suc os i 0 f)
+    (triples-snoc (take i ks) (take i vs) (take i os) (getD ks i 0) (getD vs i 0) (getD os i 0)
+    (e ∙ sym (length-take-le i vs (omega arith))) (e ∙ sym (length-take-le i os (omega arith))))
 
--- the first i pairs are written
-pub record Pairing (ks vs old : List ℕ) (at : ℕ) (new : List ℕ) (next i : ℕ) : Type 0 where
-  pub wrote : Wrote old at (pairsOf (take i ks) (take i vs)) new next
-  pub most : next ≤ at + 42 * i
+-- the first i triples are written
+pub record Listing (ks vs os old : List ℕ) (at : ℕ) (new : List ℕ) (next i : ℕ) : Type 0 where
+  pub wrote : Wrote old at (triplesOf (take i ks) (take i vs) (take i os)) new next
+  pub most : next ≤ at + 63 * i
 
-pub pairing-none : (ks vs l : List ℕ) (at : ℕ) → at ≤ length l → Pairing ks vs l at l at 0
-unfolding pairsOf
-pairing-none ks vs l at h = record { wrote = record { written = refl; within = omega arith; place = omega arith }; most = omega arith }
+pub listing-none : (ks vs os l : List ℕ) (at : ℕ) → at ≤ length l → Listing ks vs os l at l at 0
+unfolding triplesOf
+listing-none ks vs os l at h = record { wrote = record { written = refl; within = omega arith; place = omega arith }; most = omega arith }
 
-pub pairing-on : {ks vs l m n : List ℕ} {at j k : ℕ} (i : ℕ) → Pairing ks vs l at m j i → i < length ks → i < length vs
-    → getD ks i 0 < 2 ^ 64 → getD vs i 0 < 2 ^ 64 → Wrote m j (pair (getD ks i 0) (getD vs i 0)) n k → Pairing ks vs l at n k (i + 1)
-pairing-on {ks} {vs} {l} {m} {n} {at} {j} {k} i p h g a b w =
+pub listing-on : {ks vs os l m n : List ℕ} {at j k : ℕ} (i : ℕ) → Listing ks vs os l at m j i → i < length ks → i < length vs → i < length os
+    → getD ks i 0 < 2 ^ 64 → getD vs i 0 < 2 ^ 64 → getD os i 0 < 2 ^ 64
+    → Wrote m j (triple (getD ks i 0) (getD vs i 0) (getD os i 0)) n k → Listing ks vs os l at n k (i + 1)
+listing-on {ks} {vs} {os} {l} {m} {n} {at} {j} {k} i p h g f a b c w =
     record {
-      wrote = rw (pairs-more ks vs i h g) (wrote-join (p .wrote) w);
-      most = let q = p .most in let e = w .place in omega (arith, pair-most (getD ks i 0) (getD vs i 0) a b);
+      wrote = rw (triples-more ks vs os i h g f) (wrote-join (p .wrote) w);
+      most = let q = p .most in let e = w .place in omega (arith, triple-most (getD ks i 0) (getD vs i 0) (getD os i 0) a b c);
     }
 
-pub pairing-end : {ks vs l m : List ℕ} {at j : ℕ} (i n : ℕ) → Pairing ks vs l at m j i → i ≤ n → n ≤ i → Wrote l at (pairsOf (take n ks) (take n vs)) m j
-pairing-end {ks} {vs} {l} {m} {at} {j} i n p h g =
+pub listing-end : {ks vs os l m : List ℕ} {at j : ℕ} (i n : ℕ) → Listing ks vs os l at m j i → i ≤ n → n ≤ i
+    → Wrote l at (triplesOf (take n ks) (take n vs) (take n os)) m j
+listing-end {ks} {vs} {os} {l} {m} {at} {j} i n p h g =
     let e : i ≡ n = omega arith in
-    subst (λ (x : ℕ). Wrote l at (pairsOf (take x ks) (take x vs)) m j) e (p .wrote)
+    subst (λ (x : ℕ). Wrote l at (triplesOf (take x ks) (take x vs) (take x os)) m j) e (p .wrote)

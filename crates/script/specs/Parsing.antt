@@ -12,9 +12,9 @@ use Rattle.lists.specs.Rows.{has}
 use Rattle.script.specs.declared.Line.{Line}
 use Rattle.script.specs.declared.Line.the-variants.{MergeOldest}
 use Rattle.script.specs.declared.Fields.{Fields}
-use Rattle.script.specs.declared.Fields.the-variants.{None, One, Two}
+use Rattle.script.specs.declared.Fields.the-variants.{None, One, Two, Three}
 use Rattle.script.specs.declared.Parser.{Parser}
-use Rattle.script.specs.declared.Parser.the-variants.{Start, Letter, Oldest, Guard, First, Second, Third}
+use Rattle.script.specs.declared.Parser.the-variants.{Start, Letter, Oldest, Guard, First, Second, Third, Fourth}
 use Rattle.script.specs.declared.Event.{Event}
 use Rattle.script.specs.declared.Event.the-variants as event
 use Rattle.script.specs.declared.Parsed.{Parsed}
@@ -32,12 +32,14 @@ abbrev pub values : Fields → List ℕ
 values None = []
 values (One a) = a ∷ []
 values (Two a b) = a ∷ b ∷ []
+values (Three a b e) = a ∷ b ∷ e ∷ []
 
 -- the parser within a number: the letter, the numbers before, whether the current one has a digit yet, and its value so far
 unfoldable pub inNumber : ℕ → Fields → Bool → ℕ → Parser
 inNumber c None d n = First c d n
 inNumber c (One a) d n = Second c d a n
 inNumber c (Two a b) d n = Third c d a b n
+inNumber c (Three a b e) d n = Fourth c d a b e n
 
 -- a number begun: n so far, and whether it has a digit yet
 unfoldable pub numberOn : Bool → ℕ → List ℕ → Option ℕ
@@ -70,6 +72,7 @@ continued Guard l = none
 continued (First c d n) l = fieldsOn c [] d n l
 continued (Second c d a n) l = fieldsOn c (a ∷ []) d n l
 continued (Third c d a b n) l = fieldsOn c (a ∷ b ∷ []) d n l
+continued (Fourth c d a b e n) l = fieldsOn c (a ∷ b ∷ e ∷ []) d n l
 
 -- ... and if it is G
 unfoldable pub guardOn : Parser → List ℕ → Bool
@@ -80,6 +83,7 @@ guardOn Guard l = not (filled l)
 guardOn (First c d n) l = false
 guardOn (Second c d a n) l = false
 guardOn (Third c d a b n) l = false
+guardOn (Fourth c d a b e n) l = false
 
 -- ---- what is promised
 
@@ -92,6 +96,7 @@ started Guard = true
 started (First c d n) = true
 started (Second c d a n) = true
 started (Third c d a b n) = true
+started (Fourth c d a b e n) = true
 
 -- p is the parser after these bytes of a line: none is a line feed, and p knows what the line says, whatever follows
 pub record After (seen : List ℕ) (p : Parser) : Type 0 where

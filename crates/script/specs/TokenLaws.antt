@@ -13,16 +13,16 @@ use Rattle.lists.specs.Counting.{has-nil}
 use Rattle.script.specs.declared.Line.{Line}
 use Rattle.script.specs.declared.Line.the-variants.{MergeOldest}
 use Rattle.script.specs.declared.Fields.{Fields}
-use Rattle.script.specs.declared.Fields.the-variants.{None, One, Two}
+use Rattle.script.specs.declared.Fields.the-variants.{None, One, Two, Three}
 use Rattle.script.specs.declared.Parser.{Parser}
-use Rattle.script.specs.declared.Parser.the-variants.{Start, Letter, Oldest, Guard, First, Second, Third}
+use Rattle.script.specs.declared.Parser.the-variants.{Start, Letter, Oldest, Guard, First, Second, Third, Fourth}
 use Rattle.script.specs.declared.Event.{Event}
 use Rattle.script.specs.declared.Event.the-variants as event
 use Rattle.script.specs.declared.Parsed.{Parsed}
 use Rattle.script.specs.declared.Run.{Run}
 use Rattle.script.specs.Grammar.{isDigit, lineOf, meaning, isGuard}
 use Rattle.script.specs.Parsing.{values, inNumber, fieldsOn, letterOn, aloneOn, started, continued, guardOn}
-use Rattle.script.specs.GrammarLaws.{digit-from, fields-four, fields-digit, fields-other, fields-blank, fields-nothing, fields-end, fields-space, fields-wide, start-space, start-nothing, start-letter, oldest-letter, other-alone, guard-letter, guard-alone, other-guard, letter-space, letter-nothing, letter-other}
+use Rattle.script.specs.GrammarLaws.{digit-from, fields-five, fields-digit, fields-other, fields-blank, fields-nothing, fields-end, fields-space, fields-wide, start-space, start-nothing, start-letter, oldest-letter, other-alone, guard-letter, guard-alone, other-guard, letter-space, letter-nothing, letter-other}
 use Rattle.script.specs.Tokens.{Digits, Moves, Spells, Stops, TellsNothing, Tells, ParsesPart, cut-byte, cut-join, cut-none, goes-turns, has-byte, moves-join, moves-none, tells-join, told}
 
 -- ---- a byte
@@ -127,23 +127,30 @@ pub within-two : (c : ℕ) (f : Fields) (d : Bool) (a b n : ℕ) → f ≡ Two a
 unfolding inNumber
 within-two c f d a b n e = rw e refl
 
+pub within-three : (c : ℕ) (f : Fields) (d : Bool) (a b g n : ℕ) → f ≡ Three a b g → Fourth c d a b g n ≡ inNumber c f d n
+unfolding inNumber
+within-three c f d a b g n e = rw e refl
+
 within-started : (c : ℕ) (f : Fields) (d : Bool) (n : ℕ) → started (inNumber c f d n) ≡ true
 unfolding inNumber
 within-started c None d n = refl
 within-started c (One a) d n = refl
 within-started c (Two a b) d n = refl
+within-started c (Three a b e) d n = refl
 
 within-continued : (c : ℕ) (f : Fields) (d : Bool) (n : ℕ) (l : List ℕ) → continued (inNumber c f d n) l ≡ fieldsOn c (values f) d n l
 unfolding inNumber continued
 within-continued c None d n l = refl
 within-continued c (One a) d n l = refl
 within-continued c (Two a b) d n l = refl
+within-continued c (Three a b e) d n l = refl
 
 within-guard : (c : ℕ) (f : Fields) (d : Bool) (n : ℕ) (l : List ℕ) → guardOn (inNumber c f d n) l ≡ false
 unfolding inNumber guardOn
 within-guard c None d n l = refl
 within-guard c (One a) d n l = refl
 within-guard c (Two a b) d n l = refl
+within-guard c (Three a b e) d n l = refl
 
 -- a byte within a number, or the space after it
 within-moves : (c : ℕ) (f g : Fields) (d e : Bool) (n m b : ℕ) → (b ≡ 10 → ⊥)
@@ -208,11 +215,11 @@ field-space c f g n e =
     within-moves c f g true false n 0 32 (λ q. omega arith)
     (λ rest. fields-space c (values f) n rest ∙ ap (λ (x : List ℕ). fieldsOn c x false 0 rest) (sym e))
 
--- a fourth number
-field-fourth : (c a b n : ℕ) → Tells (inNumber c (Two a b) true n) event.Malformed Start (32 ∷ [])
+-- a fifth number
+field-fifth : (c a b g n : ℕ) → Tells (inNumber c (Three a b g) true n) event.Malformed Start (32 ∷ [])
 unfolding Tells continued guardOn inNumber
-field-fourth c a b n = (
-  inr (has-byte 32 (λ q. omega arith), λ rest. (fields-space c (a ∷ b ∷ []) n rest ∙ fields-four c a b n rest, refl)),
+field-fifth c a b g n = (
+  inr (has-byte 32 (λ q. omega arith), λ rest. (fields-space c (a ∷ b ∷ g ∷ []) n rest ∙ fields-five c a b g n rest, refl)),
   refl,
 )
 
@@ -232,8 +239,12 @@ pub space-one : (c : ℕ) (f : Fields) (a n : ℕ) → f ≡ One a → Tells (in
 unfolding inNumber
 space-one c f a n e = rw e (field-space c (One a) (Two a n) n refl)
 
-pub space-two : (c : ℕ) (f : Fields) (a b n : ℕ) → f ≡ Two a b → Tells (inNumber c f true n) event.Malformed Start (32 ∷ [])
-space-two c f a b n e = rw e (field-fourth c a b n)
+pub space-two : (c : ℕ) (f : Fields) (a b n : ℕ) → f ≡ Two a b → Tells (inNumber c f true n) event.SliceEnd (Fourth c false a b n 0) (32 ∷ [])
+unfolding inNumber
+space-two c f a b n e = rw e (field-space c (Two a b) (Three a b n) n refl)
+
+pub space-three : (c : ℕ) (f : Fields) (a b g n : ℕ) → f ≡ Three a b g → Tells (inNumber c f true n) event.Malformed Start (32 ∷ [])
+space-three c f a b g n e = rw e (field-fifth c a b g n)
 
 -- ---- a turn
 

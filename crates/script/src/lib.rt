@@ -2,6 +2,7 @@
 // lines of answers. What a line says is `meaning`, in specs/Grammar.antt.
 pub mod text;
 
+use spec::OWNERS;
 use spec::WIDE;
 ghost use mathlib.Core.Path.{_≡_};
 ghost use mathlib.Core.Bool.{true, not};
@@ -18,7 +19,7 @@ pub enum Line {
     Begin(u32),
     Read(u32, u32),
     Scan(u32, u32, u32),
-    Put(u32, u32, u64),
+    Put(u32, u32, u64, u16),
     Remove(u32, u32),
     Lock(u32),
     Validate(u32),
@@ -33,6 +34,7 @@ enum Fields {
     None,
     One(u64),
     Two(u64, u64),
+    Three(u64, u64, u64),
 }
 
 // What is kept of the current line: nothing is read; or the letter; or `T` or `G`, which have no number; or a letter, a
@@ -61,6 +63,14 @@ pub enum Parser {
         digit: bool,
         a: u64,
         b: u64,
+        value: u64,
+    },
+    Fourth {
+        letter: u8,
+        digit: bool,
+        a: u64,
+        b: u64,
+        c: u64,
         value: u64,
     },
 }
@@ -128,6 +138,14 @@ pub fn at_line_start(p: Parser) -> bool
             b: _,
             value: _,
         } => false,
+        Parser::Fourth {
+            letter: _,
+            digit: _,
+            a: _,
+            b: _,
+            c: _,
+            value: _,
+        } => false,
     }
 }
 
@@ -173,24 +191,38 @@ fn two(letter: u8, a: u64, b: u64) -> Event
 fn three(letter: u8, a: u64, b: u64, c: u64) -> Event
     ensures { λ r. ⌜ r ≡ told (lineOf letter (a ∷ b ∷ c ∷ [])) ⌝ }
 {
+    if letter != b'S' {
+        return Event::Malformed;
+    }
     if a >= WIDE {
         return Event::Malformed;
     }
     if b >= WIDE {
         return Event::Malformed;
     }
-    let m = a as u32;
-    let n = b as u32;
-    match letter {
-        b'P' => Event::Line(Line::Put(m, n, c)),
-        b'S' => {
-            if c >= WIDE {
-                return Event::Malformed;
-            }
-            Event::Line(Line::Scan(m, n, c as u32))
-        }
-        _ => Event::Malformed,
+    if c >= WIDE {
+        return Event::Malformed;
     }
+    Event::Line(Line::Scan(a as u32, b as u32, c as u32))
+}
+
+// A line of four numbers.
+fn four(letter: u8, a: u64, b: u64, c: u64, d: u64) -> Event
+    ensures { λ r. ⌜ r ≡ told (lineOf letter (a ∷ b ∷ c ∷ d ∷ [])) ⌝ }
+{
+    if letter != b'P' {
+        return Event::Malformed;
+    }
+    if a >= WIDE {
+        return Event::Malformed;
+    }
+    if b >= WIDE {
+        return Event::Malformed;
+    }
+    if d >= OWNERS {
+        return Event::Malformed;
+    }
+    Event::Line(Line::Put(a as u32, b as u32, c, d as u16))
 }
 
 // A line of numbers whose line feed was read.
@@ -201,6 +233,7 @@ fn complete(letter: u8, before: Fields, value: u64) -> Event
         Fields::None => one(letter, value),
         Fields::One(a) => two(letter, a, value),
         Fields::Two(a, b) => three(letter, a, b, value),
+        Fields::Three(a, b, c) => four(letter, a, b, c, value),
     }
 }
 
@@ -287,10 +320,18 @@ fn in_number(letter: u8, before: Fields, digit: bool, value: u64) -> Parser
             b,
             value,
         },
+        Fields::Three(a, b, c) => Parser::Fourth {
+            letter,
+            digit,
+            a,
+            b,
+            c,
+            value,
+        },
     }
 }
 
-// The space after a number: one more number is read, and there are three at most.
+// The space after a number: one more number is read, and there are four at most.
 fn spaced(letter: u8, before: Fields, value: u64, next: usize) -> Parsed
     ensures { λ r. ⌜ Tells (inNumber letter before true value) (r .event) (r .parser) (32 ∷ []) ⌝ }
     ensures { λ r. ⌜ r .next ≡ next ⌝ }
@@ -317,7 +358,19 @@ fn spaced(letter: u8, before: Fields, value: u64, next: usize) -> Parsed
             next,
             event: Event::SliceEnd,
         },
-        Fields::Two(_, _) => Parsed {
+        Fields::Two(a, b) => Parsed {
+            parser: Parser::Fourth {
+                letter,
+                digit: false,
+                a,
+                b,
+                c: value,
+                value: 0,
+            },
+            next,
+            event: Event::SliceEnd,
+        },
+        Fields::Three(_, _, _) => Parsed {
             parser: Parser::Start,
             next,
             event: Event::Malformed,
@@ -506,6 +559,14 @@ fn parse_part(s: &[u8], i: usize, p: Parser) -> Parsed
             b,
             value,
         } => field(s, i, letter, Fields::Two(a, b), digit, value),
+        Parser::Fourth {
+            letter,
+            digit,
+            a,
+            b,
+            c,
+            value,
+        } => field(s, i, letter, Fields::Three(a, b, c), digit, value),
     }
 }
 

@@ -6,7 +6,7 @@ ghost use Prim.Native.Nat.{_+_, _*_, _≤_, _<_};
 ghost use lib.ListN.{length, take};
 ghost use lib.Seq.{sets};
 ghost use Rattle.lists.specs.Texts.{Wrote};
-ghost use Rattle.script.specs.Output.{decimal, field as Output·field, absent, pair, pairsOf, guardedAnswer, malformedLine};
+ghost use Rattle.script.specs.Output.{decimal, field as Output·field, absent, triple, triplesOf, guardedAnswer, malformedLine};
 ghost use Rattle.script.specs.OutputLaws.{lastDigits};
 
 // How many digits a number has.
@@ -85,25 +85,33 @@ pub fn put_absent(out: &mut [u8], at: usize) -> usize
     put_byte(out, next, b'-')
 }
 
-// A record's address and value.
-pub fn put_pair(out: &mut [u8], at: usize, address: u64, value: u64) -> usize
-    requires { ⌜ at + 42 ≤ length (now out) ⌝ }
-    ensures { λ r. ⌜ Wrote (now (out .entry)) at (pair address value) (now (out .exit)) r ⌝ }
+// A record's address, value and owner.
+pub fn put_triple(out: &mut [u8], at: usize, address: u64, value: u64, owner: u16) -> usize
+    requires { ⌜ at + 63 ≤ length (now out) ⌝ }
+    ensures { λ r. ⌜ Wrote (now (out .entry)) at (triple address value owner) (now (out .exit)) r ⌝ }
 {
     let next = put_field(out, at, address);
-    put_field(out, next, value)
+    let last = put_field(out, next, value);
+    put_field(out, last, owner as u64)
 }
 
-// The first n addresses and values.
-pub fn put_pairs(out: &mut [u8], at: usize, addresses: &[u32], values: &[u64], n: usize) -> usize
-    requires { ⌜ (n ≤ length (now addresses)) × (n ≤ length (now values)) ⌝ }
-    requires { ⌜ at + 42 * n ≤ length (now out) ⌝ }
-    ensures { λ r. ⌜ Wrote (now (out .entry)) at (pairsOf (take n (now (addresses .entry))) (take n (now (values .entry)))) (now (out .exit)) r ⌝ }
+// The first n addresses, values and owners.
+pub fn put_triples(
+    out: &mut [u8],
+    at: usize,
+    addresses: &[u32],
+    values: &[u64],
+    owners: &[u16],
+    n: usize,
+) -> usize
+    requires { ⌜ (n ≤ length (now addresses)) × (n ≤ length (now values)) × (n ≤ length (now owners)) ⌝ }
+    requires { ⌜ at + 63 * n ≤ length (now out) ⌝ }
+    ensures { λ r. ⌜ Wrote (now (out .entry)) at (triplesOf (take n (now (addresses .entry))) (take n (now (values .entry))) (take n (now (owners .entry)))) (now (out .exit)) r ⌝ }
 {
     let mut next = at;
     let mut i = 0;
     while i < n {
-        next = put_pair(out, next, addresses[i] as u64, values[i]);
+        next = put_triple(out, next, addresses[i] as u64, values[i], owners[i]);
         i += 1;
     }
     next

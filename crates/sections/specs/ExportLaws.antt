@@ -1,5 +1,5 @@
 -- From what the Rattle functions promise to what the exported ones promise.
-use Prim.Native.Nat.{ℕ}
+use Prim.Native.Nat.{ℕ, _%_}
 use mathlib.Core.Path.{_≡_, refl, sym, ap, _∙_, subst}
 use mathlib.Core.Bool.{Bool, true, false}
 use mathlib.Core.List.{List, [], _∷_}
@@ -7,7 +7,10 @@ use mathlib.Core.Option.{Option, none, some}
 use lib.ListN.{length}
 use Rattle.lists.specs.Tests.{same, maybe, present}
 use Rattle.lists.specs.Rows.{Row, row}
+use Rattle.spec.specs.declared.PayloadWords.{PayloadWords}
+use Rattle.spec.specs.Payloads.{owners}
 use Rattle.spec.specs.Records.{standard, Record}
+use Rattle.spec.specs.Steps.{places}
 use Rattle.spec.specs.Maps.{contents}
 use Rattle.queries.specs.declared.Next.{Next}
 use Rattle.queries.specs.declared.Next.the-variants.{At, Done}
@@ -18,6 +21,7 @@ use Rattle.transactions.specs.declared.Core.{Core}
 use Rattle.transactions.specs.Views.{Logs}
 use Rattle.transactions.specs.Ready.{Ready}
 use Rattle.transactions.specs.Starts.{Fresh}
+use Rattle.ranges.specs.Buffers.{Buffers, placesOf}
 use Rattle.replay.specs.declared.codes.Code.{Code}
 use Rattle.replay.specs.declared.decodes.Decoded.{Decoded}
 use Rattle.replay.specs.declared.decodes.Decoded.the-variants.{Meant, Meaningless}
@@ -40,30 +44,30 @@ ready-loaded {l} {g} core e h = subst (Ready l g) (sym e) h
 
 -- ---- a step
 
-module _ {l l' : Lent} {g g' : Logs} {c : Core} {k : Code} {ks vs ks' vs' : List ℕ} {r : Stepped} (h : Ready l g c) (s : CodedStep l g c k ks vs l' g' ks' vs' r) where
-  ready-by : (d : Decoded) → decoded (length ks) (length vs) k ≡ d → Ready l' g' (r .core)
-  ready-by (Meant o m n) e = s .meant o m n e .performs .performs .refines .ready
+module _ {l l' : Lent} {g g' : Logs} {c : Core} {k : Code} {b b' : Buffers} {r : Stepped} (h : Ready l g c) (s : CodedStep l g c k b l' g' b' r) where
+  ready-by : (d : Decoded) → decoded (placesOf b) k ≡ d → Ready l' g' (r .core)
+  ready-by (Meant o m n q) e = s .meant o (places m n q) e .performs .performs .refines .ready
   ready-by Meaningless e =
       let u = s .meaningless e in
       subst (λ (x : Stepped). Ready l' g' (x .core)) (sym (u .outcome))
       (subst (λ (y : Logs). Ready l' y c) (sym (u .logs)) (subst (λ (x : Lent). Ready x g c) (sym (u .map)) h))
 
   steps-ready : Ready l' g' (r .core)
-  steps-ready = ready-by (decoded (length ks) (length vs) k) refl
+  steps-ready = ready-by (decoded (placesOf b) k) refl
 
   pub steps-workers : length (r .core .workers) ≡ standard .workers
   steps-workers = steps-ready .stored .workers
 
-pub exported-step : {l l' : Lent} {g g' : Logs} {c : Core} {j k : Code} {ks vs ks' vs' answer : List ℕ} {core core' : List (List ℕ)} (r : Stepped)
-    → c ≡ savedCore core → j ≡ k → Ready l g (savedCore core) → CodedStep l g c j ks vs l' g' ks' vs' r → savedCore core' ≡ r .core → codedIn answer ≡ r .answer
-    → ExportedStep l g core k ks vs l' g' core' ks' vs' answer
-exported-step {l} {l'} {g} {g'} {c} {j} {k} {ks} {vs} {ks'} {vs'} {answer} {core} {core'} r e f h s p q =
+pub exported-step : {l l' : Lent} {g g' : Logs} {c : Core} {j k : Code} {b b' : Buffers} {answer : List ℕ} {core core' : List (List ℕ)} (r : Stepped)
+    → c ≡ savedCore core → j ≡ k → Ready l g (savedCore core) → CodedStep l g c j b l' g' b' r → savedCore core' ≡ r .core → codedIn answer ≡ r .answer
+    → ExportedStep l g core k b l' g' core' b' answer
+exported-step {l} {l'} {g} {g'} {c} {j} {k} {b} {b'} {answer} {core} {core'} r e f h s p q =
     record {
       ready = subst (Ready l' g') (sym p) (steps-ready (ready-loaded core e h) s);
       step =
-          subst (λ (x : Code). CodedStep l g (savedCore core) x ks vs l' g' ks' vs' (steppedIn core' answer)) f
-          (subst (λ (x : Core). CodedStep l g x j ks vs l' g' ks' vs' (steppedIn core' answer)) e
-          (subst (λ (x : Stepped). CodedStep l g c j ks vs l' g' ks' vs' x) (λ i. record { core = sym p i; answer = sym q i }) s));
+          subst (λ (x : Code). CodedStep l g (savedCore core) x b l' g' b' (steppedIn core' answer)) f
+          (subst (λ (x : Core). CodedStep l g x j b l' g' b' (steppedIn core' answer)) e
+          (subst (λ (x : Stepped). CodedStep l g c j b l' g' b' x) (λ i. record { core = sym p i; answer = sym q i }) s));
     }
 
 -- ---- a list of steps
@@ -74,11 +78,11 @@ stop-back stop.Complete = refl
 stop-back stop.Meaningless = refl
 stop-back stop.Full = refl
 
-pub replayed : {b : Bool} {words ks vs out : List ℕ} {l : Lent} {g : Logs} {ks' vs' out' : List ℕ} (core : List (List ℕ)) (counts : List ℕ) (n : ℕ) (r : Replayed)
-    → Replays b words ks vs out l g ks' vs' out' r → savedCore core ≡ r .core → CountsAre counts (r .taken) (r .written) → n ≡ stopNumber (r .stop)
-    → Replays b words ks vs out l g ks' vs' out' (replayedIn core counts n)
-replayed {b} {words} {ks} {vs} {out} {l} {g} {ks'} {vs'} {out'} core counts n r h e f q =
-    subst (Replays b words ks vs out l g ks' vs' out')
+pub replayed : {guarded : Bool} {words : List ℕ} {b b' : Buffers} {out out' : List ℕ} {l : Lent} {g : Logs} (core : List (List ℕ)) (counts : List ℕ) (n : ℕ) (r : Replayed)
+    → Replays guarded words b out l g b' out' r → savedCore core ≡ r .core → CountsAre counts (r .taken) (r .written) → n ≡ stopNumber (r .stop)
+    → Replays guarded words b out l g b' out' (replayedIn core counts n)
+replayed {guarded} {words} {b} {b'} {out} {out'} {l} {g} core counts n r h e f q =
+    subst (Replays guarded words b out l g b' out')
     (λ i. record {
       core = sym e i;
       taken = sym (f .taken-is) i;
@@ -99,7 +103,7 @@ module _ (l : Lent) (core : List (List ℕ)) {c : Core} {from : ℕ} {r : Next} 
       let p : o ≡ firstFrom from (contents (mapOf l (savedCore core .sizes))) = sym q ∙ first-is in
       record { there = ap present p; words = ap (λ (x : Option (Row Record)). maybe x old recordWords) p }
 
-  pub next-record-one : {old : List ℕ} {a v n : ℕ} → r ≡ At a v n → NextRecord l core from old (a ∷ v ∷ n ∷ []) true
+  pub next-record-one : {old : List ℕ} {a : ℕ} {v : PayloadWords} {n : ℕ} → r ≡ At a v n → NextRecord l core from old (a ∷ v .value ∷ v .owner % owners ∷ n ∷ []) true
   next-record-one {old} {a} {v} {n} q = next-record old (some (row a (recordFrom v n))) (ap nextIn q)
 
   pub next-record-none : {old : List ℕ} → r ≡ Done → NextRecord l core from old old false

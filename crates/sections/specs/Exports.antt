@@ -12,6 +12,7 @@ use Rattle.map.specs.Views.{Lent, mapOf}
 use Rattle.queries.specs.Contents.{firstFrom}
 use Rattle.transactions.specs.Views.{Logs}
 use Rattle.transactions.specs.Ready.{Ready}
+use Rattle.ranges.specs.Buffers.{Buffers}
 use Rattle.replay.specs.declared.codes.Code.{Code}
 use Rattle.replay.specs.declared.codes.Coded.{Coded}
 use Rattle.replay.specs.declared.codes.Stepped.{Stepped}
@@ -26,19 +27,19 @@ use Rattle.sections.specs.Saved.{savedCore}
 
 -- a step in its words
 abbrev pub codeIn : List ℕ → Code
-codeIn ws = codeOf (getD ws 0 0) (getD ws 1 0) (getD ws 2 0) (getD ws 3 0) (getD ws 4 0) (getD ws 5 0)
+codeIn ws = codeOf (getD ws 0 0) (getD ws 1 0) (getD ws 2 0) (getD ws 3 0) (getD ws 4 0) (getD ws 5 0) (getD ws 6 0)
 
--- an answer in four words
+-- an answer in five words
 abbrev pub codedIn : List ℕ → Coded
-codedIn ws = codedAs (getD ws 0 0) (getD ws 1 0) (getD ws 2 0) (getD ws 3 0)
+codedIn ws = codedAs (getD ws 0 0) (getD ws 1 0) (getD ws 2 0) (getD ws 3 0) (getD ws 4 0)
 
 abbrev pub steppedIn : List (List ℕ) → List ℕ → Stepped
 steppedIn core answer = record { core = savedCore core; answer = codedIn answer }
 
 -- a coded step, from the core in the rows to the core in the rows
-pub record ExportedStep (l : Lent) (g : Logs) (core : List (List ℕ)) (k : Code) (ks vs : List ℕ) (l' : Lent) (g' : Logs) (core' : List (List ℕ)) (ks' vs' answer : List ℕ) : Type 0 where
+pub record ExportedStep (l : Lent) (g : Logs) (core : List (List ℕ)) (k : Code) (b : Buffers) (l' : Lent) (g' : Logs) (core' : List (List ℕ)) (b' : Buffers) (answer : List ℕ) : Type 0 where
   pub ready : Ready l' g' (savedCore core')
-  pub step : CodedStep l g (savedCore core) k ks vs l' g' ks' vs' (steppedIn core' answer)
+  pub step : CodedStep l g (savedCore core) k b l' g' b' (steppedIn core' answer)
 
 -- ---- a list of steps
 
@@ -60,9 +61,9 @@ replayedIn core counts n =
 
 -- ---- the contents, one after the other
 
--- a record in three words: address, value, serial number
+-- a record in four words: address, value, owner, serial number
 abbrev pub recordWords : Row Record → List ℕ
-recordWords r = r .key ∷ r .item .payload .value ∷ r .item .commit ∷ []
+recordWords r = r .key ∷ r .item .payload .value ∷ r .item .payload .owner ∷ r .item .commit ∷ []
 
 -- the first record of the contents from an address on, in words that it leaves if there is none
 pub record NextRecord (l : Lent) (core : List (List ℕ)) (from : ℕ) (old new : List ℕ) (r : Bool) : Type 0 where

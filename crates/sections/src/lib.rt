@@ -17,18 +17,20 @@ use replay::runs::Stop;
 use sets::LeafSets;
 use sets::ReadSets;
 use sets::WriteSets;
+use spec::OWNERS;
 use transactions::starts;
 ghost use mathlib.Core.Path.{_≡_};
 ghost use Rattle.map.specs.Views.{lent};
 ghost use Rattle.transactions.specs.Views.{logs};
 ghost use Rattle.transactions.specs.Ready.{Ready};
 ghost use Rattle.transactions.specs.Starts.{Fresh};
+ghost use Rattle.ranges.specs.Buffers.{buffers};
 ghost use Rattle.replay.specs.Replays.{Replays};
 ghost use Rattle.sections.specs.Saved.{savedCore};
 ghost use Rattle.sections.specs.Exports.{codeIn, codedIn, ExportedStep, stopNumber, CountsAre, replayedIn, NextRecord};
 
 // An answer in words.
-pub const ANSWER_WORDS: usize = 4;
+pub const ANSWER_WORDS: usize = 5;
 
 pub type AnswerWords = [u64; ANSWER_WORDS];
 
@@ -37,8 +39,8 @@ pub const COUNT_WORDS: usize = 2;
 
 pub type CountWords = [u64; COUNT_WORDS];
 
-// A record in words: address, value, serial number.
-pub const FOUND_WORDS: usize = 3;
+// A record in words: address, value, owner, serial number.
+pub const FOUND_WORDS: usize = 4;
 
 pub type FoundWords = [u64; FOUND_WORDS];
 
@@ -63,7 +65,7 @@ pub extern "C" fn sections_fresh(
 fn put_answer(answer: &mut AnswerWords, a: Coded)
     ensures { λ _. ⌜ codedIn (now (answer .exit)) ≡ a ⌝ }
 {
-    let all = [a.number, a.told, a.value, a.examined];
+    let all = [a.number, a.told, a.value, a.owner, a.examined];
     *answer = all;
 }
 
@@ -77,16 +79,18 @@ fn code_in(step: &StepWords) -> Code
         c: step[3],
         d: step[4],
         e: step[5],
+        f: step[6],
     }
 }
 
-// One step in coded form (`replay::codes::Code`), its answer in four numbers (`Coded`), and a scan's records in the first
+// One step in coded form (`replay::codes::Code`), its answer in five numbers (`Coded`), and a scan's records in the first
 // places of its buffers.
 #[no_mangle]
 pub extern "C" fn sections_step(
     answer: &mut AnswerWords,
     addresses: &mut [u32],
     values: &mut [u64],
+    owners: &mut [u16],
     core: &mut Saved,
     rows: &mut Records,
     leaves: &mut Leaves,
@@ -98,15 +102,16 @@ pub extern "C" fn sections_step(
 )
     requires { ⌜ Ready (lent (now rows) (now leaves) (now slots)) (logs (now reads) (now leafsets) (now writes)) (savedCore (now core)) ⌝ }
     ensures { λ _. ⌜ ExportedStep (lent (now (rows .entry)) (now (leaves .entry)) (now (slots .entry)))
-        (logs (now (reads .entry)) (now (leafsets .entry)) (now (writes .entry))) (now (core .entry)) (codeIn (now (step .entry))) (now (addresses .entry)) (now (values .entry))
+        (logs (now (reads .entry)) (now (leafsets .entry)) (now (writes .entry))) (now (core .entry)) (codeIn (now (step .entry))) (buffers (now (addresses .entry)) (now (values .entry)) (now (owners .entry)))
         (lent (now (rows .exit)) (now (leaves .exit)) (now (slots .exit))) (logs (now (reads .exit)) (now (leafsets .exit)) (now (writes .exit))) (now (core .exit))
-        (now (addresses .exit)) (now (values .exit)) (now (answer .exit)) ⌝ }
+        (buffers (now (addresses .exit)) (now (values .exit)) (now (owners .exit))) (now (answer .exit)) ⌝ }
 {
     let c = saved::load(core);
     let k = code_in(step);
     let s = codes::step(
         addresses,
         values,
+        owners,
         rows,
         leaves,
         slots,
@@ -139,15 +144,16 @@ fn put_counts(counts: &mut CountWords, taken: usize, written: usize)
     *counts = all;
 }
 
-// A list of steps, six numbers to each, from a fresh map, guarded or not (`replay::runs::replay`, whose promise is demand 3). It counts the
-// steps taken and the words of answers written, and returns why no more were taken: 0 there are none, 1 a code has no
-// meaning, 2 no room for answers.
+// A list of steps, seven numbers to each, from a fresh map, guarded or not (`replay::runs::replay`, whose promise is
+// demand 3). It counts the steps taken and the words of answers written, and returns why no more were taken: 0 there are
+// none, 1 a code has no meaning, 2 no room for answers.
 #[no_mangle]
 pub extern "C" fn sections_replay(
     counts: &mut CountWords,
     out: &mut [u64],
     addresses: &mut [u32],
     values: &mut [u64],
+    owners: &mut [u16],
     core: &mut Saved,
     rows: &mut Records,
     leaves: &mut Leaves,
@@ -158,14 +164,15 @@ pub extern "C" fn sections_replay(
     steps: &[u64],
     guarded: bool,
 ) -> u64
-    ensures { λ r. ⌜ Replays guarded (now (steps .entry)) (now (addresses .entry)) (now (values .entry)) (now (out .entry))
+    ensures { λ r. ⌜ Replays guarded (now (steps .entry)) (buffers (now (addresses .entry)) (now (values .entry)) (now (owners .entry))) (now (out .entry))
         (lent (now (rows .exit)) (now (leaves .exit)) (now (slots .exit))) (logs (now (reads .exit)) (now (leafsets .exit)) (now (writes .exit)))
-        (now (addresses .exit)) (now (values .exit)) (now (out .exit)) (replayedIn (now (core .exit)) (now (counts .exit)) r) ⌝ }
+        (buffers (now (addresses .exit)) (now (values .exit)) (now (owners .exit))) (now (out .exit)) (replayedIn (now (core .exit)) (now (counts .exit)) r) ⌝ }
 {
     let p = runs::replay(
         out,
         addresses,
         values,
+        owners,
         rows,
         leaves,
         slots,
@@ -182,8 +189,8 @@ pub extern "C" fn sections_replay(
     stop_number(stop)
 }
 
-// The first record of the contents from an address on: its address, value and serial number, and true. If there is none,
-// false, and the words are left.
+// The first record of the contents from an address on: its address, value, owner and serial number, and true. If there is
+// none, false, and the words are left.
 #[no_mangle]
 pub extern "C" fn sections_next(
     found: &mut FoundWords,
@@ -205,10 +212,15 @@ pub extern "C" fn sections_next(
     match next {
         Next::At {
             address,
-            value,
+            payload,
             commit,
         } => {
-            let all = [address as u64, value, commit];
+            let all = [
+                address as u64,
+                payload.value,
+                payload.owner % OWNERS,
+                commit,
+            ];
             *found = all;
             true
         }

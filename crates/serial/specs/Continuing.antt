@@ -18,7 +18,7 @@ use Rattle.spec.specs.Leaves.{Leaf, versionAt}
 use Rattle.spec.specs.Slots.{Content, contentOf}
 use Rattle.spec.specs.Guards.{Scan}
 use Rattle.spec.specs.Maps.{MapState, current, indexedBetween}
-use Rattle.spec.specs.Steps.{Worker, State, workerOf, Step, read, scan, put, remove, Answer, done, found, listed, Event, isFree, isOpen, isChecked, ownWrite, slotsExamined, scanned, scanReads, scanVersions, remembered, withWorker, withMap, logged, writing, readRows}
+use Rattle.spec.specs.Steps.{Worker, State, Places, workerOf, Step, read, scan, put, remove, Answer, done, found, listed, Event, isFree, isOpen, isChecked, ownWrite, slotsExamined, scanned, scanReads, scanVersions, remembered, withWorker, withMap, logged, writing, readRows}
 use Rattle.spec.specs.Sequential.{Agrees}
 use Rattle.spec.specs.Claim.{Reading, runningNow, extended, goesOn}
 use Rattle.laws.specs.ContentLaws.{look-indexedBetween}
@@ -268,14 +268,14 @@ module _ {σ : State} {ρ : Reading} {w : ℕ} (h : Sound σ ρ) (o : IsOpen σ 
   unfolding scanReads
   scan-is lo hi = record { looks = look-indexedBetween (σ .map) lo hi }
 
-  pub scan-sound : (lo hi a b : ℕ)
+  pub scan-sound : (lo hi : ℕ) (b : Places)
       → Sound (withWorker σ w (logged (scanReads σ lo hi) (scanVersions σ lo hi) (remembered σ w lo hi ∷ []) (workerOf σ w)))
-      (goesOn ρ w (record { step = scan w lo hi a b; answer = listed (scanned σ w lo hi) }))
+      (goesOn ρ w (record { step = scan w lo hi b; answer = listed (scanned σ w lo hi) }))
   unfolding x
-  scan-sound lo hi a b =
-      observes (scanReads σ lo hi) (scanVersions σ lo hi) (remembered σ w lo hi ∷ []) (scan w lo hi a b) (listed (scanned σ w lo hi)) (new ∷ g .os)
-      (subst (λ (rs : List (Row Payload)). Explains (new ∷ g .os) (g .t .events ++ (record { step = scan w lo hi a b; answer = listed rs } ∷ []))) shows
-      (explain-scan (scan-is lo hi) (g .os) (g .t .events) w a b (g .explains)))
+  scan-sound lo hi b =
+      observes (scanReads σ lo hi) (scanVersions σ lo hi) (remembered σ w lo hi ∷ []) (scan w lo hi b) (listed (scanned σ w lo hi)) (new ∷ g .os)
+      (subst (λ (rs : List (Row Payload)). Explains (new ∷ g .os) (g .t .events ++ (record { step = scan w lo hi b; answer = listed rs } ∷ []))) shows
+      (explain-scan (scan-is lo hi) (g .os) (g .t .events) w b (g .explains)))
       (unfold wrote in refl)
       (λ o' m j l u. ⊎-elim (λ e. seen-new o' e j l u) (λ e. backed-logged _ _ _ j (o' .seen j) (g-backed o' e j l u)) (List·Memᴰ·cases-cons m))
       (λ o' m. List·Memᴰ·tail m)

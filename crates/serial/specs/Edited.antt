@@ -19,7 +19,7 @@ use Rattle.spec.specs.Maps.{contents, hiddenIn}
 use Rattle.spec.specs.Steps.{State, fresh, workerOf, Step, begin, read, scan, put, remove, lock, validate, install, abort, merge, mergeOldest, refused, listed, Cause, cause, causes, firstCause, granted, effect, afterRefusal, writeKeys, Event}
 use Rattle.spec.specs.Claim.{SerialRun}
 use Rattle.spec.specs.Computing.{claim}
-use Rattle.spec.specs.Runs.{value}
+use Rattle.spec.specs.Runs.{value, wide}
 
 found-differ : {p : Payload} → some none ≡ some (some p) → ⊥
 found-differ e = let z : _≡_ {A = ℕ} 0 1 = cc in omega arith
@@ -41,7 +41,7 @@ Rule = Edit → Step → List Cause
 flags : Edit → Step → List ℕ
 flags x (begin w) = x .flagged
 flags x (read w k) = x .flagged
-flags x (scan w lo hi m n) = x .flagged
+flags x (scan w lo hi b) = x .flagged
 flags x (put w k p) = x .flagged
 flags x (remove w k) = x .flagged
 flags x (lock w) =
@@ -92,7 +92,7 @@ no-under-lock-breaks s =
 -- the phantom test dropped: a scan misses the section that waits
 pub missing : List Step
 missing =
-    begin 0 ∷ put 0 4096 (value 32) ∷ lock 0 ∷ validate 0 ∷ install 0 ∷ begin 1 ∷ scan 1 4000 5000 64 64 ∷ lock 1 ∷ validate 1 ∷ install 1 ∷ []
+    begin 0 ∷ put 0 4096 (value 32) ∷ lock 0 ∷ validate 0 ∷ install 0 ∷ begin 1 ∷ scan 1 4000 5000 wide ∷ lock 1 ∷ validate 1 ∷ install 1 ∷ []
 
 pub no-phantom-breaks : SerialUnder (without 14) missing → ⊥
 unfolding claim SerialUnder editedFinal editedHistory editedNext flags without missing
@@ -110,7 +110,7 @@ flaggedPhantom x w v =
 phantomByFlag : Edit → Step → Cause → Cause
 phantomByFlag x (begin w) c = c
 phantomByFlag x (read w k) c = c
-phantomByFlag x (scan w lo hi m n) c = c
+phantomByFlag x (scan w lo hi b) c = c
 phantomByFlag x (put w k p) c = c
 phantomByFlag x (remove w k) c = c
 phantomByFlag x (lock w) c = c
@@ -128,7 +128,7 @@ atLockOnly x s = mathlib.Core.List.map (phantomByFlag x s) (causes (x .state) s)
 pub dropped-record : List Step
 dropped-record =
     begin 0 ∷ put 0 7 (value 70) ∷ lock 0 ∷ validate 0 ∷ install 0 ∷ merge 7 ∷ begin 0 ∷ remove 0 7 ∷ lock 0 ∷ validate 0 ∷ install 0
-    ∷ begin 0 ∷ put 0 7 (value 71) ∷ lock 0 ∷ validate 0 ∷ merge 7 ∷ begin 1 ∷ scan 1 0 10 64 64 ∷ lock 1 ∷ validate 1 ∷ install 0 ∷ install 1 ∷ []
+    ∷ begin 0 ∷ put 0 7 (value 71) ∷ lock 0 ∷ validate 0 ∷ merge 7 ∷ begin 1 ∷ scan 1 0 10 wide ∷ lock 1 ∷ validate 1 ∷ install 0 ∷ install 1 ∷ []
 
 pub flags-at-lock-break : SerialUnder atLockOnly dropped-record → ⊥
 unfolding claim SerialUnder editedFinal editedHistory editedNext flags atLockOnly phantomByFlag flaggedPhantom dropped-record

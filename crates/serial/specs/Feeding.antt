@@ -25,7 +25,7 @@ use Rattle.spec.specs.Claim.{Transaction, listAfter}
 unfoldable pub wrote : List (Row Write) → Step → List (Row Write)
 wrote ws (begin w) = ws
 wrote ws (read w k) = ws
-wrote ws (scan w lo hi m n) = ws
+wrote ws (scan w lo hi b) = ws
 wrote ws (put w k p) = insert k (written p) ws
 wrote ws (remove w k) = insert k deleted ws
 wrote ws (lock w) = ws
@@ -58,7 +58,7 @@ look-after : (n : ℕ) (l l' : List (Row Record)) (ws : List (Row Write)) (s : S
 unfolding afterStep wrote
 look-after n l l' ws (begin w) h k = h k
 look-after n l l' ws (read w j) h k = h k
-look-after n l l' ws (scan w lo hi a b) h k = h k
+look-after n l l' ws (scan w lo hi b) h k = h k
 look-after n l l' ws (put w j p) h k =
     look-assign j (outcome n (written p)) l' k
     ∙ ap (pick (same j k) (outcome n (written p))) (h k)
@@ -92,7 +92,7 @@ rising-after : (n : ℕ) (l : List (Row Record)) (s : Step) → Rising l → Ris
 unfolding afterStep
 rising-after n l (begin w) h = h
 rising-after n l (read w j) h = h
-rising-after n l (scan w lo hi a b) h = h
+rising-after n l (scan w lo hi b) h = h
 rising-after n l (put w j p) h = rising-assign j (outcome n (written p)) l h
 rising-after n l (remove w j) h = rising-assign j (outcome n deleted) l h
 rising-after n l (lock w) h = h

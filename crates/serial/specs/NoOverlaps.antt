@@ -180,7 +180,7 @@ granted-guard : (σ : State) (s : Step) → facts (effect σ s) .guard ≡ facts
 unfolding effect withWorker withMap withCounters installCounted dropped merged
 granted-guard σ (begin w) = refl
 granted-guard σ (read w k) = refl
-granted-guard σ (scan w lo hi m n) = refl
+granted-guard σ (scan w lo hi b) = refl
 granted-guard σ (put w k p) = refl
 granted-guard σ (remove w k) = refl
 granted-guard σ (lock w) = refl

@@ -11,7 +11,7 @@ use Rattle.lists.specs.TestLaws.{cases, atMost-true}
 use Rattle.lists.specs.Rows.{Row, look, Rising, lay, between, mapItems}
 use Rattle.lists.specs.RowLaws.{rows-equal, look-lay, look-nil, look-mapItems, look-between, rising-lay, rising-nil, rising-mapItems, rising-between}
 use Rattle.spec.specs.Records.{Payload, Record, Write, written, deleted, outcome, ownView, payloadOf}
-use Rattle.spec.specs.Steps.{Step, read, scan, Answer, found, listed, Event}
+use Rattle.spec.specs.Steps.{Places, Step, read, scan, Answer, found, listed, Event}
 use Rattle.spec.specs.Sequential.{valueTold, Agrees, afterSteps, listScan}
 use Rattle.serial.specs.Feeding.{eventWrites, laid, look-afterAll, rising-afterAll, allAgree-snoc}
 use Rattle.serial.specs.Invariant.{Observation, Matches, Explains}
@@ -130,12 +130,12 @@ module _ {indexed : ℕ → Bool} {current : ℕ → Option Record} {lo hi : ℕ
       (cases (within lo hi k))
       ∙ sym (look-mapItems (λ (r : Record). r .payload) (between lo hi l') k ∙ ap (Option·map (λ (r : Record). r .payload)) (look-between lo hi l' k))
 
-  pub explain-scan : (os : List Observation) (es : List Event) (w a b : ℕ) → Explains os es
+  pub explain-scan : (os : List Observation) (es : List Event) (w : ℕ) (b : Places) → Explains os es
       → Explains (scanOf indexed current lo hi ∷ os)
-      (es ++ (record { step = scan w lo hi a b; answer = listed (shown (eventWrites es) lo hi rows) } ∷ []))
+      (es ++ (record { step = scan w lo hi b; answer = listed (shown (eventWrites es) lo hi rows) } ∷ []))
   unfolding Agrees
-  explain-scan os es w a b x =
-      explain os (scanOf indexed current lo hi ∷ os) es (scan w lo hi a b) (listed (shown (eventWrites es) lo hi rows)) x
+  explain-scan os es w b x =
+      explain os (scanOf indexed current lo hi ∷ os) es (scan w lo hi b) (listed (shown (eventWrites es) lo hi rows)) x
       (λ l m o mem. m o (List·Memᴰ·tail mem))
       (λ n l l' r o m.
       ap listed

@@ -16,7 +16,7 @@ use Rattle.spec.specs.Refusals.{ends}
 use Rattle.spec.specs.Records.{Settings, standard, Payload}
 use Rattle.spec.specs.Slots.{slotCount, Content, idle, emptySlot, entries, contentOf}
 use Rattle.spec.specs.Maps.{freshMap, outcomeOf, current, contents, oldest}
-use Rattle.spec.specs.Steps.{Worker, State, fresh, workerOf, Step, begin, read, scan, put, remove, lock, validate, install, abort, merge, mergeOldest, stepWorker, refused, isFree, isOpen, isLocked, isChecked, writeKeys, Cause, noWorker, workerFree, wrongStage, causes, firstCause, refusal, granted, effect, afterRefusal, answer, next, final, history}
+use Rattle.spec.specs.Steps.{Worker, State, Places, fresh, workerOf, Step, begin, read, scan, put, remove, lock, validate, install, abort, merge, mergeOldest, stepWorker, refused, isFree, isOpen, isLocked, isChecked, writeKeys, Cause, noWorker, workerFree, wrongStage, causes, firstCause, refusal, granted, effect, afterRefusal, answer, next, final, history}
 use Rattle.spec.specs.Claim.{Reading, nothingRead, isGranted, passed, readGranted, advance, readOn, reading, listAfter, SerialRun}
 use Rattle.laws.specs.ContentLaws.{look-contents, rising-contents}
 use Rattle.laws.specs.MapBounds.{lock-room}
@@ -101,9 +101,9 @@ module _ {σ : State} {ρ : Reading} (h : Sound σ ρ) where
   unfolding refusal causes
   opened-read w k e = is-open w _ e .0
 
-  opened-scan : (w lo hi m n : ℕ) → refusal σ (scan w lo hi m n) ≡ none → IsOpen σ w
+  opened-scan : (w lo hi : ℕ) (b : Places) → refusal σ (scan w lo hi b) ≡ none → IsOpen σ w
   unfolding refusal causes
-  opened-scan w lo hi m n e = is-open w _ e .0
+  opened-scan w lo hi b e = is-open w _ e .0
 
   opened-put : (w k : ℕ) (p : Payload) → refusal σ (put w k p) ≡ none → IsOpen σ w
   unfolding refusal causes
@@ -123,7 +123,7 @@ module _ {σ : State} {ρ : Reading} (h : Sound σ ρ) where
   unfolding effect granted advance isGranted readGranted
   granted-sound (begin w) e = begin-sound σ ρ w (begins w e) h
   granted-sound (read w k) e = read-sound h (opened-read w k e) k
-  granted-sound (scan w lo hi m n) e = scan-sound h (opened-scan w lo hi m n e) lo hi m n
+  granted-sound (scan w lo hi b) e = scan-sound h (opened-scan w lo hi b e) lo hi b
   granted-sound (put w k p) e = put-sound h (opened-put w k p e) k p
   granted-sound (remove w k) e = remove-sound h (opened-remove w k e) k
   granted-sound (lock w) e = let l = lockable w e in lock-sound h (l .0) (l .1)

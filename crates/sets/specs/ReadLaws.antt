@@ -20,14 +20,14 @@ flag-back true = refl
 flag-back false = refl
 
 pub read-appended : (rs : ReadRows) (n a : ℕ) (s : Current) → ReadSetHeld rs → n < standard .readLimit → a < addresses
-    → LogsRead rs n a s (set rs n (a ∷ boolByte (s .there) ∷ s .value ∷ s .commit ∷ [])) (n + 1)
+    → LogsRead rs n a s (set rs n (a ∷ boolByte (s .there) ∷ s .payload .value ∷ s .payload .owner ∷ s .commit ∷ [])) (n + 1)
 read-appended rs n a s held h l =
     record {
       held = each-set n _ held l;
       count = refl;
       view =
-          row-appended readIn rs n (a ∷ boolByte (s .there) ∷ s .value ∷ s .commit ∷ []) (let z : length rs ≡ standard .readLimit = held .size in omega arith)
-          ∙ ap (λ (b : Bool). readsOf rs n ++ (row a (recordOf b (s .value) (s .commit)) ∷ [])) (flag-back (s .there));
+          row-appended readIn rs n (a ∷ boolByte (s .there) ∷ s .payload .value ∷ s .payload .owner ∷ s .commit ∷ []) (let z : length rs ≡ standard .readLimit = held .size in omega arith)
+          ∙ ap (λ (b : Bool). readsOf rs n ++ (row a (recordOf b (s .payload) (s .commit)) ∷ [])) (flag-back (s .there));
     }
 
 pub read-given : (rs : ReadRows) (i : ℕ) (r : Observed) → observedIn r ≡ readIn (getD rs i []) → GivesRead rs i r

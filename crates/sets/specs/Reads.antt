@@ -9,6 +9,8 @@ use lib.ListN.{getD}
 use Rattle.lists.specs.Tests.{pick}
 use Rattle.lists.specs.Rows.{Row, row}
 use Rattle.spec.specs.Records.{standard, Record}
+use Rattle.spec.specs.Payloads.{payloadIn}
+use Rattle.spec.specs.declared.PayloadWords.{PayloadWords}
 use Rattle.spec.specs.declared.Current.{Current}
 use Rattle.sets.specs.declared.reads.Observed.{Observed}
 use Rattle.sets.specs.Sets.{AddressAt, Each, firstRows}
@@ -19,16 +21,16 @@ ReadRows = List (List ℕ)
 
 -- how many words a row has
 abbrev pub readWords : ℕ
-readWords = 4
+readWords = 5
 
 -- ---- views
 
--- the record with this value and commit number, if one is present
-abbrev pub recordOf : Bool → ℕ → ℕ → Option Record
-recordOf there value commit = pick there (some (record { payload = record { value = value }; commit = commit })) none
+-- the record with this payload and commit number, if one is present
+abbrev pub recordOf : Bool → PayloadWords → ℕ → Option Record
+recordOf there v commit = pick there (some (record { payload = payloadIn v; commit = commit })) none
 
 abbrev pub recordIn : Current → Option Record
-recordIn c = recordOf (c .there) (c .value) (c .commit)
+recordIn c = recordOf (c .there) (c .payload) (c .commit)
 
 abbrev pub observedIn : Observed → Row (Option Record)
 observedIn o = row (o .address) (recordIn (o .current))
@@ -39,7 +41,7 @@ noRead = row 0 none
 
 -- what a row says
 abbrev pub readIn : List ℕ → Row (Option Record)
-readIn r = row (getD r 0 0) (recordOf (eqb (getD r 1 0) 1) (getD r 2 0) (getD r 3 0))
+readIn r = row (getD r 0 0) (recordOf (eqb (getD r 1 0) 1) (record { value = getD r 2 0; owner = getD r 3 0 }) (getD r 4 0))
 
 -- a read set of n rows
 abbrev pub readsOf : ReadRows → ℕ → List (Row (Option Record))

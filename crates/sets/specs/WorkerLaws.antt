@@ -14,6 +14,7 @@ use Rattle.spec.specs.Steps.{freeWorker, atStage, logged, writing, checkedAs}
 use Rattle.sets.specs.declared.workers.Worker.{Worker}
 use Rattle.sets.specs.Reads.{ReadRows, recordIn, readIn, readsOf, readsIn, ReadsHeld, LogsRead}
 use Rattle.sets.specs.Leaves.{LeafSetRows, versionIn, scansAt, joined, versionsIn, scansIn}
+use Rattle.spec.specs.declared.PayloadWords.{PayloadWords}
 use Rattle.sets.specs.Writes.{WriteRows, writeOf, writeIn, writesOf, writesIn, WritesHeld, PutsWrite}
 use Rattle.sets.specs.Workers.{workerIn, begun, atLock, atCheck, freed, withReads, withWrites}
 use Rattle.sets.specs.SetLaws.{own-set, rows-none}
@@ -57,9 +58,9 @@ module _ (rs : List ReadRows) (ls : List LeafSetRows) (ws : List WriteRows) (w :
   read-in x us r a s held h l =
       λ i. made x ((own-set (λ (g : ReadRows). readsOf g r) rs w us held h ∙ l .view) i) (sym (append-nil (versionsIn ls w (x .leaves))) i) (sym (append-nil (scansIn ls w (x .leaves))) i) (writesIn ws w (x .writes))
 
-  pub write-in : (x : Worker) (us : WriteRows) (r a kind value : ℕ) → WritesHeld ws → w < standard .workers
-      → PutsWrite (getD ws w []) (x .writes) a kind value us r
-      → workerIn (withWrites x r) rs ls (set ws w us) w ≡ writing a (writeOf kind value) (workerIn x rs ls ws w)
+  pub write-in : (x : Worker) (us : WriteRows) (r a kind : ℕ) (v : PayloadWords) → WritesHeld ws → w < standard .workers
+      → PutsWrite (getD ws w []) (x .writes) a kind v us r
+      → workerIn (withWrites x r) rs ls (set ws w us) w ≡ writing a (writeOf kind v) (workerIn x rs ls ws w)
   unfolding workerIn writing made
-  write-in x us r a kind value held h p =
+  write-in x us r a kind v held h p =
       λ i. made x (readsIn rs w (x .reads)) (versionsIn ls w (x .leaves)) (scansIn ls w (x .leaves)) ((own-set (λ (g : WriteRows). writesOf g r) ws w us held h ∙ p .view) i)

@@ -19,19 +19,21 @@ use Rattle.spec.specs.Records.{standard, Write, written, deleted}
 use Rattle.sets.specs.declared.writes.Line.{Line}
 use Rattle.sets.specs.declared.writes.Entry.{Entry}
 use Rattle.sets.specs.Sets.{addresses}
+use Rattle.spec.specs.Payloads.{payloadIn}
+use Rattle.spec.specs.declared.PayloadWords.{PayloadWords}
 use Rattle.sets.specs.Writes.{WriteRows, writeWords, writeOf, noWrite, lineAt, wordsOf, writeIn, writesOf, WriteSetHeld, WritesHeld, WriteSetOrdered, WritesBecome, PutsWrite, GivesWrite}
 use Rattle.sets.specs.WritePlaces.{PlaceOf, WritesHave}
 use Rattle.sets.specs.SetLaws.{each-set, each-alike, length-rows, row-at, row-replaced, row-put}
 
 -- ---- kinds
 
-pub put-kind : (kind value : ℕ) → kind ≡ 1 → writeOf kind value ≡ written (record { value = value })
+pub put-kind : (kind : ℕ) (v : PayloadWords) → kind ≡ 1 → writeOf kind v ≡ written (payloadIn v)
 unfolding writeOf
-put-kind kind value e = rw (same-yes {m = kind} {n = 1} e)
+put-kind kind v e = rw (same-yes {m = kind} {n = 1} e)
 
-pub deletion-kind : (kind value : ℕ) → (kind ≡ 1 → ⊥) → writeOf kind value ≡ deleted
+pub deletion-kind : (kind : ℕ) (v : PayloadWords) → (kind ≡ 1 → ⊥) → writeOf kind v ≡ deleted
 unfolding writeOf
-deletion-kind kind value n = rw (same-no {m = kind} {n = 1} n)
+deletion-kind kind v n = rw (same-no {m = kind} {n = 1} n)
 
 -- ---- rows moved up, and one put in
 
@@ -121,11 +123,11 @@ module _ {rs : WriteRows} {n a p : ℕ} (given : WriteSetOrdered rs n) (at : Pla
       let h : place a (writesOf rs n) < length (writesOf rs n) = s .inside in
       omega arith
 
-  pub found-here : (r : Line) → r ≡ lineAt rs p → Present a (writesOf rs n) noWrite → (e : Write) → writeOf (r .kind) (r .value) ≡ e
+  pub found-here : (r : Line) → r ≡ lineAt rs p → Present a (writesOf rs n) noWrite → (e : Write) → writeOf (r .kind) (r .payload) ≡ e
       → some e ≡ look (writesOf rs n) a
   found-here r g s e q =
       ap (λ (x : Write). some x) (sym q)
-      ∙ ap (λ (l : Line). some (writeOf (l .kind) (l .value))) g
+      ∙ ap (λ (l : Line). some (writeOf (l .kind) (l .payload))) g
       ∙ ap (λ (x : Row Write). some (x .item)) (sym (row-at writeIn rs n p noWrite (inside s)) ∙ ap (λ (i : ℕ). getD (writesOf rs n) i noWrite) (at .is))
       ∙ sym (look-present a (writesOf rs n) noWrite s)
 
@@ -138,46 +140,46 @@ module _ {rs : WriteRows} {n a p : ℕ} (given : WriteSetOrdered rs n) (at : Pla
   pub put-room : Absent a (writesOf rs n) noWrite → (n < standard .writeLimit) ⊎ (present (look (writesOf rs n) a) ≡ true) → n < standard .writeLimit
   put-room s h = ⊎-elim (λ l. l) (λ e. clash e (ap present (sym (found-none s)))) h
 
-  puts : {us : WriteRows} (kind value m : ℕ) → m ≤ standard .writeLimit → WriteSetHeld us
-      → writesOf us m ≡ insert a (writeOf kind value) (writesOf rs n) → PutsWrite rs n a kind value us m
+  puts : {us : WriteRows} (kind : ℕ) (v : PayloadWords) (m : ℕ) → m ≤ standard .writeLimit → WriteSetHeld us
+      → writesOf us m ≡ insert a (writeOf kind v) (writesOf rs n) → PutsWrite rs n a kind v us m
   unfolding assign
-  puts {us} kind value m h held e =
+  puts {us} kind v m h held e =
       record {
         set =
             record {
               held = held;
               room = h;
-              rising = subst (Rising {A = Write}) (sym e) (rising-assign a (some (writeOf kind value)) (writesOf rs n) (given .rising));
+              rising = subst (Rising {A = Write}) (sym e) (rising-assign a (some (writeOf kind v)) (writesOf rs n) (given .rising));
             };
         view = e;
         count = sym (length-rows writeIn us m) ∙ ap length e;
       }
 
-  pub put-over : {us : WriteRows} (kind value : ℕ) → Present a (writesOf rs n) noWrite → a < addresses → us ≡ set rs p (a ∷ kind ∷ value ∷ [])
-      → PutsWrite rs n a kind value us n
-  put-over {us} kind value s h e =
+  pub put-over : {us : WriteRows} (kind : ℕ) (v : PayloadWords) → Present a (writesOf rs n) noWrite → a < addresses → us ≡ set rs p (a ∷ kind ∷ v .value ∷ v .owner ∷ [])
+      → PutsWrite rs n a kind v us n
+  put-over {us} kind v s h e =
       let z : length rs ≡ standard .writeLimit = given .held .size in
       let m : n ≤ standard .writeLimit = given .room in
-      puts kind value n m (subst WriteSetHeld (sym e) (each-set p (a ∷ kind ∷ value ∷ []) (given .held) h))
+      puts kind v n m (subst WriteSetHeld (sym e) (each-set p (a ∷ kind ∷ v .value ∷ v .owner ∷ []) (given .held) h))
       (ap (λ (l : WriteRows). writesOf l n) e
-      ∙ row-replaced writeIn rs n p (a ∷ kind ∷ value ∷ []) (inside s) (omega arith)
-      ∙ ap (λ (i : ℕ). set (writesOf rs n) i (row a (writeOf kind value))) (at .is)
-      ∙ sym (insert-present a (writeOf kind value) (writesOf rs n) noWrite s))
+      ∙ row-replaced writeIn rs n p (a ∷ kind ∷ v .value ∷ v .owner ∷ []) (inside s) (omega arith)
+      ∙ ap (λ (i : ℕ). set (writesOf rs n) i (row a (writeOf kind v))) (at .is)
+      ∙ sym (insert-present a (writeOf kind v) (writesOf rs n) noWrite s))
 
-  pub put-new : {us : WriteRows} (kind value : ℕ) → Absent a (writesOf rs n) noWrite → n < standard .writeLimit
-      → WritesBecome (set (moved rs p (p + 1) (n - p)) p (a ∷ kind ∷ value ∷ [])) us → PutsWrite rs n a kind value us (n + 1)
-  put-new {us} kind value s h b =
+  pub put-new : {us : WriteRows} (kind : ℕ) (v : PayloadWords) → Absent a (writesOf rs n) noWrite → n < standard .writeLimit
+      → WritesBecome (set (moved rs p (p + 1) (n - p)) p (a ∷ kind ∷ v .value ∷ v .owner ∷ [])) us → PutsWrite rs n a kind v us (n + 1)
+  put-new {us} kind v s h b =
       let z : length rs ≡ standard .writeLimit = given .held .size in
-      puts kind value (n + 1) (omega arith) (b .held)
+      puts kind v (n + 1) (omega arith) (b .held)
       (ap (λ (l : WriteRows). writesOf l (n + 1)) (b .rows)
-      ∙ row-put writeIn rs n p (a ∷ kind ∷ value ∷ []) (at .within) (omega arith)
-      ∙ ap (λ (i : ℕ). take i (writesOf rs n) ++ (row a (writeOf kind value) ∷ drop i (writesOf rs n))) (at .is)
-      ∙ sym (insert-absent a (writeOf kind value) (writesOf rs n) noWrite s))
+      ∙ row-put writeIn rs n p (a ∷ kind ∷ v .value ∷ v .owner ∷ []) (at .within) (omega arith)
+      ∙ ap (λ (i : ℕ). take i (writesOf rs n) ++ (row a (writeOf kind v) ∷ drop i (writesOf rs n))) (at .is)
+      ∙ sym (insert-absent a (writeOf kind v) (writesOf rs n) noWrite s))
 
 -- ---- a row read
 
 pub write-given : {rs : WriteRows} {i : ℕ} (r : Line) → r ≡ lineAt rs i → (e : Entry) → e .address ≡ r .address
-    → writeOf (e .kind) (e .value) ≡ writeOf (r .kind) (r .value) → (e .kind ≡ 1) ⊎ (e .kind ≡ 2) → GivesWrite rs i e
+    → writeOf (e .kind) (e .payload) ≡ writeOf (r .kind) (r .payload) → (e .kind ≡ 1) ⊎ (e .kind ≡ 2) → GivesWrite rs i e
 write-given {rs} {i} r g e p q k =
     record { at = λ n l. (λ j. row (p j) (q j)) ∙ ap (λ (x : Line). writeIn (wordsOf x)) g ∙ sym (row-at writeIn rs n i noWrite l); kind = k }
 

@@ -8,6 +8,8 @@ use lib.ListN.{length, getD}
 use Rattle.lists.specs.Tests.{pick, same}
 use Rattle.lists.specs.Rows.{Row, row, insert, Rising}
 use Rattle.spec.specs.Records.{standard, Write, written, deleted}
+use Rattle.spec.specs.Payloads.{payloadIn}
+use Rattle.spec.specs.declared.PayloadWords.{PayloadWords}
 use Rattle.sets.specs.declared.writes.Entry.{Entry}
 use Rattle.sets.specs.declared.writes.Line.{Line}
 use Rattle.sets.specs.declared.writes.Found.{Found}
@@ -20,20 +22,20 @@ WriteRows = List (List ℕ)
 
 -- how many words a row has
 abbrev pub writeWords : ℕ
-writeWords = 3
+writeWords = 4
 
 -- ---- views
 
--- the write of a kind and a value: 1 is a put, all else a deletion
-unfoldable pub writeOf : ℕ → ℕ → Write
-writeOf kind value = pick (same kind 1) (written (record { value = value })) deleted
+-- the write of a kind and a payload: 1 is a put, all else a deletion
+unfoldable pub writeOf : ℕ → PayloadWords → Write
+writeOf kind v = pick (same kind 1) (written (payloadIn v)) deleted
 
 abbrev pub entryIn : Entry → Row Write
-entryIn e = row (e .address) (writeOf (e .kind) (e .value))
+entryIn e = row (e .address) (writeOf (e .kind) (e .payload))
 
 -- the write found, or none
 abbrev pub foundIn : Found → Option Write
-foundIn (Put value) = some (written (record { value = value }))
+foundIn (Put v) = some (written (payloadIn v))
 foundIn Deletion = some deleted
 foundIn Nothing = none
 
@@ -43,15 +45,20 @@ noWrite = row 0 deleted
 
 -- row i in words
 abbrev pub lineAt : WriteRows → ℕ → Line
-lineAt rs i = record { address = getD (getD rs i []) 0 0; kind = getD (getD rs i []) 1 0; value = getD (getD rs i []) 2 0 }
+lineAt rs i =
+    record {
+      address = getD (getD rs i []) 0 0;
+      kind = getD (getD rs i []) 1 0;
+      payload = record { value = getD (getD rs i []) 2 0; owner = getD (getD rs i []) 3 0 };
+    }
 
 -- the words of a row
 abbrev pub wordsOf : Line → List ℕ
-wordsOf l = l .address ∷ l .kind ∷ l .value ∷ []
+wordsOf l = l .address ∷ l .kind ∷ l .payload .value ∷ l .payload .owner ∷ []
 
 -- what a row says
 abbrev pub writeIn : List ℕ → Row Write
-writeIn r = row (getD r 0 0) (writeOf (getD r 1 0) (getD r 2 0))
+writeIn r = row (getD r 0 0) (writeOf (getD r 1 0) (record { value = getD r 2 0; owner = getD r 3 0 }))
 
 -- a write set of n rows
 abbrev pub writesOf : WriteRows → ℕ → List (Row Write)
@@ -85,10 +92,10 @@ pub record WritesBecome (rs us : WriteRows) : Type 0 where
   pub rows : us ≡ rs
 
 -- the rows after a write was put among the n writes, and how many there are now
-pub record PutsWrite (rs : WriteRows) (n a kind value : ℕ) (us : WriteRows) (r : ℕ) : Type 0 where
+pub record PutsWrite (rs : WriteRows) (n a kind : ℕ) (v : PayloadWords) (us : WriteRows) (r : ℕ) : Type 0 where
   pub set : WriteSetOrdered us r
-  pub view : writesOf us r ≡ insert a (writeOf kind value) (writesOf rs n)
-  pub count : r ≡ length (insert a (writeOf kind value) (writesOf rs n))
+  pub view : writesOf us r ≡ insert a (writeOf kind v) (writesOf rs n)
+  pub count : r ≡ length (insert a (writeOf kind v) (writesOf rs n))
 
 -- row i, in a set of any number of rows that has it; its kind is 1 or 2
 pub record GivesWrite (rs : WriteRows) (i : ℕ) (r : Entry) : Type 0 where

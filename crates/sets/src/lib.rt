@@ -11,11 +11,11 @@ pub mod workers;
 pub mod writes;
 
 // How many words a row of each set has.
-pub const READ_WORDS: usize = 4;
+pub const READ_WORDS: usize = 5;
 
 pub const LEAF_SET_WORDS: usize = 7;
 
-pub const WRITE_WORDS: usize = 3;
+pub const WRITE_WORDS: usize = 4;
 
 // One worker's sets, a row for each entry.
 pub type ReadSet = [[u64; READ_WORDS]; READ_LIMIT];

@@ -1,8 +1,9 @@
 // A read set (document 01: the log's record entries). A row: the address, whether a record is present there (1 or 0), its
-// value, its commit number.
+// value, its owner, its commit number.
 use crate::ReadSet;
 use spec::Address;
 use spec::Current;
+use spec::PayloadWords;
 ghost use Prim.Native.Nat.{_<_};
 ghost use Rattle.spec.specs.Records.{standard};
 ghost use Rattle.sets.specs.Reads.{ReadSetHeld, LogsRead, GivesRead};
@@ -19,7 +20,8 @@ pub fn log_read(reads: &mut ReadSet, n: usize, a: Address, seen: Current) -> usi
     requires { ⌜ n < standard .readLimit ⌝ }
     ensures { λ r. ⌜ LogsRead (now (reads .entry)) n a seen (now (reads .exit)) r ⌝ }
 {
-    let row = [a as u64, seen.there as u64, seen.value, seen.commit];
+    let v = seen.payload;
+    let row = [a as u64, seen.there as u64, v.value, v.owner, seen.commit];
     reads[n] = row;
     n + 1
 }
@@ -31,10 +33,14 @@ pub fn read_at(reads: &ReadSet, i: usize) -> Observed
     ensures { λ r. ⌜ GivesRead (now (reads .entry)) i r ⌝ }
 {
     let row = reads[i];
+    let payload = PayloadWords {
+        value: row[2],
+        owner: row[3],
+    };
     let current = Current {
         there: row[1] == 1,
-        value: row[2],
-        commit: row[3],
+        payload,
+        commit: row[4],
     };
     Observed {
         address: row[0] as Address,

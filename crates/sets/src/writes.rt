@@ -1,7 +1,8 @@
-// A write set (document 01: the edits). A row: the address, the kind of the write (1: a put, else a deletion) and its
-// value, by rising address.
+// A write set (document 01: the edits). A row: the address, the kind of the write (1: a put, else a deletion), its
+// value and its owner, by rising address.
 use crate::WriteSet;
 use spec::Address;
+use spec::PayloadWords;
 ghost use mathlib.Core.Path.{_≡_};
 ghost use mathlib.Core.Logic.{_⊎_};
 ghost use mathlib.Core.Bool.{true};
@@ -19,19 +20,19 @@ ghost use Rattle.sets.specs.WritePlaces.{PlaceOf, WritesHave};
 pub struct Entry {
     pub address: Address,
     pub kind: u64,
-    pub value: u64,
+    pub payload: PayloadWords,
 }
 
 // A row as it stands in words.
 struct Line {
     address: u64,
     kind: u64,
-    value: u64,
+    payload: PayloadWords,
 }
 
-// What a look-up finds: a put with its value, a deletion, or no write.
+// What a look-up finds: a put with what it gives, a deletion, or no write.
 pub enum Found {
-    Put(u64),
+    Put(PayloadWords),
     Deletion,
     Nothing,
 }
@@ -42,10 +43,14 @@ fn get(writes: &WriteSet, i: usize) -> Line
     ensures { λ r. ⌜ r ≡ lineAt (now (writes .entry)) i ⌝ }
 {
     let row = writes[i];
+    let payload = PayloadWords {
+        value: row[2],
+        owner: row[3],
+    };
     Line {
         address: row[0],
         kind: row[1],
-        value: row[2],
+        payload,
     }
 }
 
@@ -54,7 +59,8 @@ fn store(writes: &mut WriteSet, i: usize, r: Line)
     requires { ⌜ i < standard .writeLimit ⌝ }
     ensures { λ _. ⌜ now (writes .exit) ≡ set (now (writes .entry)) i (wordsOf r) ⌝ }
 {
-    let row = [r.address, r.kind, r.value];
+    let v = r.payload;
+    let row = [r.address, r.kind, v.value, v.owner];
     writes[i] = row;
 }
 
@@ -121,7 +127,8 @@ pub fn find_write(writes: &WriteSet, n: usize, a: Address) -> Found
     if stands(writes, n, a, p) {
         let r = get(writes, p);
         if r.kind == 1 {
-            return Found::Put(r.value);
+            let payload = r.payload;
+            return Found::Put(payload);
         }
         return Found::Deletion;
     }
@@ -129,16 +136,22 @@ pub fn find_write(writes: &WriteSet, n: usize, a: Address) -> Found
 }
 
 // Puts a write among the n writes, in place of one at the same address. Answers how many there are now.
-pub fn put_write(writes: &mut WriteSet, n: usize, a: Address, kind: u64, value: u64) -> usize
+pub fn put_write(
+    writes: &mut WriteSet,
+    n: usize,
+    a: Address,
+    kind: u64,
+    payload: PayloadWords,
+) -> usize
     requires { ⌜ WriteSetOrdered (now writes) n ⌝ }
     requires { ⌜ (n < standard .writeLimit) ⊎ (present (look (writesOf (now writes) n) a) ≡ true) ⌝ }
-    ensures { λ r. ⌜ PutsWrite (now (writes .entry)) n a kind value (now (writes .exit)) r ⌝ }
+    ensures { λ r. ⌜ PutsWrite (now (writes .entry)) n a kind payload (now (writes .exit)) r ⌝ }
 {
     let p = writes_below(writes, n, a);
     let line = Line {
         address: a as u64,
         kind,
-        value,
+        payload,
     };
     if stands(writes, n, a, p) {
         store(writes, p, line);
@@ -156,16 +169,17 @@ pub fn write_at(writes: &WriteSet, i: usize) -> Entry
 {
     let r = get(writes, i);
     let address = r.address as Address;
+    let payload = r.payload;
     if r.kind == 1 {
         return Entry {
             address,
             kind: 1,
-            value: r.value,
+            payload,
         };
     }
     Entry {
         address,
         kind: 2,
-        value: r.value,
+        payload,
     }
 }

@@ -111,7 +111,7 @@ installedNow ρ w t =
 unfoldable pub readGranted : Reading → Event → Step → Reading
 readGranted ρ e (begin w) = runningNow ρ w (started ρ)
 readGranted ρ e (read w k) = goesOn ρ w e
-readGranted ρ e (scan w lo hi m n) = goesOn ρ w e
+readGranted ρ e (scan w lo hi b) = goesOn ρ w e
 readGranted ρ e (put w k p) = goesOn ρ w e
 readGranted ρ e (remove w k) = goesOn ρ w e
 readGranted ρ e (lock w) = goesOn ρ w e

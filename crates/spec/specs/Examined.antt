@@ -8,7 +8,7 @@ use Rattle.spec.specs.Steps.{Step, begin, read, scan, put, remove, lock,
 unfoldable pub isAbort : Step → Bool
 isAbort (begin w) = false
 isAbort (read w k) = false
-isAbort (scan w lo hi m n) = false
+isAbort (scan w lo hi b) = false
 isAbort (put w k p) = false
 isAbort (remove w k) = false
 isAbort (lock w) = false

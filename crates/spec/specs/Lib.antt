@@ -1,5 +1,6 @@
 pub mod Refusals
 pub mod Records
+pub mod Payloads
 pub mod Leaves
 pub mod Slots
 pub mod Maps

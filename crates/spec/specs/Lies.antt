@@ -10,7 +10,7 @@ use Rattle.spec.specs.Records.{Record}
 use Rattle.spec.specs.Steps.{begin, read, scan, put, lock, validate, install, done, found, listed, numbered, Event}
 use Rattle.spec.specs.Claim.{SerialRun}
 use Rattle.spec.specs.Computing.{claim}
-use Rattle.spec.specs.Runs.{value, event, entryOf}
+use Rattle.spec.specs.Runs.{value, wide, event, entryOf}
 
 -- a transaction that puts a value at an address
 abbrev putter : ℕ → ℕ → ℕ → ℕ → List Event
@@ -27,7 +27,7 @@ abbrev pub missed : List Event
 missed =
     putter 0 4096 32 1 ++
     (event (begin 1) done
-    ∷ event (scan 1 4000 5000 64 64) (listed [])
+    ∷ event (scan 1 4000 5000 wide) (listed [])
     ∷ event (lock 1) done
     ∷ event (validate 1) (numbered 2)
     ∷ event (install 1) done

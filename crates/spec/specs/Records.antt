@@ -39,9 +39,10 @@ standard =
       longest = 65536;
     }
 
--- What a put gives a record (document 01: a value).
+-- What a put gives a record: document 01's value, and whose section it is (request 106: owner).
 pub record Payload : Type 0 where
   pub value : ℕ
+  pub owner : ℕ
 
 -- A present record but for its address: the payload, and the commit number of its writer (document 01: stamp).
 pub record Record : Type 0 where
@@ -72,7 +73,7 @@ payloadOf none = none
 payloadOf (some r) = some (r .payload)
 
 unfoldable pub samePayload : Payload → Payload → Bool
-samePayload p q = same (p .value) (q .value)
+samePayload p q = both (same (p .value) (q .value)) (same (p .owner) (q .owner))
 
 -- the same presence, payload and commit number
 unfoldable pub sameRecord : Option Record → Option Record → Bool

@@ -10,11 +10,15 @@ use Rattle.spec.specs.Records.{standard, Payload, Record}
 use Rattle.spec.specs.Leaves.{cuts}
 use Rattle.spec.specs.Slots.{homeSlot}
 use Rattle.spec.specs.Maps.{contents}
-use Rattle.spec.specs.Steps.{fresh, Step, begin, read, scan, put, remove, lock, validate, install, abort, merge, mergeOldest, Answer, refused, done, found, listed, numbered, counted, answer, Event, final, history, stepsOf}
+use Rattle.spec.specs.Steps.{fresh, Places, places, Step, begin, read, scan, put, remove, lock, validate, install, abort, merge, mergeOldest, Answer, refused, done, found, listed, numbered, counted, answer, Event, final, history, stepsOf}
 use Rattle.spec.specs.Computing.{model}
 
 abbrev pub value : ℕ → Payload
-value n = record { value = n }
+value n = record { value = n; owner = 0 }
+
+-- buffers in which every scan of the runs fits
+abbrev pub wide : Places
+wide = places 64 64 64
 
 abbrev pub event : Step → Answer → Event
 event s a = record { step = s; answer = a }
@@ -49,12 +53,12 @@ fullRun =
     ∷ event (validate 0) (numbered 1)
     ∷ event (install 0) done
     ∷ event (begin 1) done
-    ∷ event (scan 1 4000 5000 64 64) (listed [])
+    ∷ event (scan 1 4000 5000 wide) (listed [])
     ∷ event (lock 1) done
     ∷ event (validate 1) (refused Phantom)
     ∷ event (merge 4096) (counted 1)
     ∷ event (begin 1) done
-    ∷ event (scan 1 4000 5000 64 64) (listed (row 4096 (value 32) ∷ []))
+    ∷ event (scan 1 4000 5000 wide) (listed (row 4096 (value 32) ∷ []))
     ∷ event (lock 1) done
     ∷ event (validate 1) (numbered 2)
     ∷ event (install 1) done
@@ -111,7 +115,7 @@ removedUnderLock =
     ∷ event (lock 0) done
     ∷ event (merge 7) (counted 1)
     ∷ event (begin 1) done
-    ∷ event (scan 1 0 10 64 64) (listed [])
+    ∷ event (scan 1 0 10 wide) (listed [])
     ∷ event (lock 1) done
     ∷ event (validate 1) (refused Phantom)
     ∷ []
@@ -146,10 +150,10 @@ ownWrites =
     ∷ event (read 0 3) (found (some (value 30)) 0)
     ∷ event (remove 0 5) done
     ∷ event (read 0 5) (found none 0)
-    ∷ event (scan 0 0 9 1 2) (listed (row 3 (value 30) ∷ []))
-    ∷ event (scan 0 0 9 0 2) (refused ShortBuffer)
+    ∷ event (scan 0 0 9 (places 1 2 3)) (listed (row 3 (value 30) ∷ []))
+    ∷ event (scan 0 0 9 (places 0 2 2)) (refused ShortBuffer)
     ∷ event (begin 1) done
-    ∷ event (scan 1 4 9 64 64) (listed [])
+    ∷ event (scan 1 4 9 wide) (listed [])
     ∷ event (lock 1) done
     ∷ event (lock 0) done
     ∷ event (validate 1) (refused Phantom)
@@ -212,10 +216,10 @@ guardedDay =
     event (begin 0) done
     ∷ event (put 0 4096 (value 32)) done
     ∷ event (lock 0) (refused Uncovered)
-    ∷ event (scan 0 0 4127 64 64) (listed (row 4096 (value 32) ∷ []))
+    ∷ event (scan 0 0 4127 wide) (listed (row 4096 (value 32) ∷ []))
     ∷ event (lock 0) done
     ∷ event (begin 1) done
-    ∷ event (scan 1 0 5000 64 64) (listed [])
+    ∷ event (scan 1 0 5000 wide) (listed [])
     ∷ event (put 1 4120 (value 8)) done
     ∷ event (validate 0) (numbered 1)
     ∷ event (install 0) done
@@ -224,9 +228,9 @@ guardedDay =
     ∷ event (merge 0) (counted 1)
     ∷ event (begin 1) done
     ∷ event (put 1 4120 (value 16)) done
-    ∷ event (scan 1 0 4134 64 64) (listed (row 4096 (value 32) ∷ row 4120 (value 16) ∷ []))
+    ∷ event (scan 1 0 4134 wide) (listed (row 4096 (value 32) ∷ row 4120 (value 16) ∷ []))
     ∷ event (lock 1) (refused Uncovered)
-    ∷ event (scan 1 0 4135 64 64) (listed (row 4096 (value 32) ∷ row 4120 (value 16) ∷ []))
+    ∷ event (scan 1 0 4135 wide) (listed (row 4096 (value 32) ∷ row 4120 (value 16) ∷ []))
     ∷ event (lock 1) (refused Overlap)
     ∷ event (put 1 4128 (value 8)) done
     ∷ event (lock 1) (refused Overlap)
@@ -235,14 +239,14 @@ guardedDay =
     ∷ event (validate 1) (numbered 2)
     ∷ event (install 1) done
     ∷ event (begin 2) done
-    ∷ event (scan 2 0 5000 64 64) (listed (row 4096 (value 32) ∷ []))
+    ∷ event (scan 2 0 5000 wide) (listed (row 4096 (value 32) ∷ []))
     ∷ event (remove 2 4096) done
     ∷ event (put 2 4100 (value 28)) done
     ∷ event (lock 2) done
     ∷ event (validate 2) (refused Phantom)
     ∷ event (merge 0) (counted 2)
     ∷ event (begin 2) done
-    ∷ event (scan 2 0 5000 64 64) (listed (row 4096 (value 32) ∷ row 4128 (value 8) ∷ []))
+    ∷ event (scan 2 0 5000 wide) (listed (row 4096 (value 32) ∷ row 4128 (value 8) ∷ []))
     ∷ event (remove 2 4096) done
     ∷ event (put 2 4100 (value 29)) done
     ∷ event (lock 2) (refused Overlap)
@@ -257,7 +261,7 @@ guardedDay =
 abbrev pub guardedOrder : List Event
 guardedOrder =
     event (begin 0) done
-    ∷ event (scan 0 0 200000 64 64) (listed [])
+    ∷ event (scan 0 0 200000 wide) (listed [])
     ∷ event (put 0 0 (value 65536)) done
     ∷ event (lock 0) done
     ∷ event (begin 1) done
@@ -268,7 +272,7 @@ guardedOrder =
     ∷ event (lock 1) (refused Unfit)
     ∷ event (put 1 0 (value 8)) done
     ∷ event (lock 1) (refused Uncovered)
-    ∷ event (scan 1 0 4294967295 64 64) (listed (row 0 (value 8) ∷ row 4294967295 (value 1) ∷ []))
+    ∷ event (scan 1 0 4294967295 wide) (listed (row 0 (value 8) ∷ row 4294967295 (value 1) ∷ []))
     ∷ event (lock 1) (refused Held)
     ∷ event (put 1 4294967295 (value 2)) done
     ∷ event (lock 1) (refused Unfit)
@@ -282,7 +286,7 @@ guardedOrder =
     ∷ event (install 0) done
     ∷ event (merge 0) (counted 1)
     ∷ event (begin 2) done
-    ∷ event (scan 2 0 200000 64 64) (listed (row 0 (value 65536) ∷ []))
+    ∷ event (scan 2 0 200000 wide) (listed (row 0 (value 65536) ∷ []))
     ∷ event (put 2 65535 (value 4)) done
     ∷ event (lock 2) (refused Overlap)
     ∷ event (begin 0) done
@@ -291,7 +295,7 @@ guardedOrder =
     ∷ event (validate 0) (numbered 2)
     ∷ event (install 0) done
     ∷ event (merge 0) (counted 1)
-    ∷ event (scan 2 0 200000 64 64) (listed (row 65535 (value 4) ∷ []))
+    ∷ event (scan 2 0 200000 wide) (listed (row 65535 (value 4) ∷ []))
     ∷ event (lock 2) done
     ∷ event (validate 2) (refused Changed)
     ∷ []
@@ -353,7 +357,7 @@ removalsHideNothing =
     ∷ event (validate 2) (numbered 3)
     ∷ event (install 2) done
     ∷ event (begin 1) done
-    ∷ event (scan 1 0 10 64 64) (listed [])
+    ∷ event (scan 1 0 10 wide) (listed [])
     ∷ event (lock 1) done
     ∷ event (validate 1) (numbered 4)
     ∷ event (install 1) done
@@ -370,23 +374,51 @@ putsHide =
     ∷ event (remove 0 7) done
     ∷ event (lock 0) done
     ∷ event (begin 1) done
-    ∷ event (scan 1 0 10 64 64) (listed [])
+    ∷ event (scan 1 0 10 wide) (listed [])
     ∷ event (lock 1) done
     ∷ event (validate 1) (refused Phantom)
     ∷ event (validate 0) (numbered 2)
     ∷ event (install 0) done
     ∷ event (begin 0) done
-    ∷ event (scan 0 0 10 64 64) (listed [])
+    ∷ event (scan 0 0 10 wide) (listed [])
     ∷ event (put 0 7 (value 71)) done
     ∷ event (lock 0) done
     ∷ event (begin 1) done
-    ∷ event (scan 1 0 10 64 64) (listed [])
+    ∷ event (scan 1 0 10 wide) (listed [])
     ∷ event (lock 1) done
     ∷ event (validate 1) (refused Phantom)
     ∷ event (validate 0) (numbered 3)
     ∷ event (install 0) done
     ∷ [])
     ∷ [])
+
+-- Request 106. A read, a scan and the end tell whose section it is, before a merge and after it. The third buffer decides too.
+-- A put that changes the owner and nothing else is a change.
+abbrev pub owned : ℕ → ℕ → Payload
+owned n o = record { value = n; owner = o }
+
+abbrev pub ownersTold : List Event
+ownersTold =
+    event (begin 0) done
+    ∷ event (put 0 7 (owned 5 1)) done
+    ∷ event (read 0 7) (found (some (owned 5 1)) 0)
+    ∷ event (lock 0) done
+    ∷ event (validate 0) (numbered 1)
+    ∷ event (install 0) done
+    ∷ event (begin 1) done
+    ∷ event (read 1 7) (found (some (owned 5 1)) 1)
+    ∷ event (begin 0) done
+    ∷ event (put 0 7 (owned 5 65535)) done
+    ∷ event (lock 0) done
+    ∷ event (validate 0) (numbered 2)
+    ∷ event (install 0) done
+    ∷ event (lock 1) done
+    ∷ event (validate 1) (refused Changed)
+    ∷ event (merge 7) (counted 1)
+    ∷ event (begin 1) done
+    ∷ event (scan 1 0 10 (places 1 1 0)) (refused ShortBuffer)
+    ∷ event (scan 1 0 10 (places 1 1 1)) (listed (row 7 (owned 5 65535) ∷ []))
+    ∷ []
 
 -- Document 01's starred runs, in its order.
 abbrev pub starred : List Run
@@ -402,8 +434,8 @@ starred =
     ∷ script false (event (merge 0) (counted 0) ∷ []) []
     ∷ script false
     (event (begin 0) done
-    ∷ event (scan 0 5 5 64 64) (listed [])
-    ∷ event (scan 0 5 4 64 64) (refused Backward)
+    ∷ event (scan 0 5 5 wide) (listed [])
+    ∷ event (scan 0 5 4 wide) (refused Backward)
     ∷ [])
     []
     ∷ script false (event (begin 7) done ∷ event (begin 8) (refused NoWorker) ∷ []) []
@@ -426,11 +458,13 @@ further =
     ∷ script false slotsPassed (entryOf 425 21 2 ∷ [])
     ∷ script false removalsHideNothing []
     ∷ script false putsHide (entryOf 7 71 3 ∷ [])
+    ∷ script false ownersTold (row 7 (record { payload = owned 5 65535; commit = 2 }) ∷ [])
     ∷ []
 
 pub further-hold : AllHold further
 unfolding model
-further-hold = ((refl, refl), ((refl, refl), ((refl, refl), ((refl, refl), ((refl, refl), ((refl, refl), ((refl, refl), ((refl, refl), tt))))))))
+further-hold =
+    ((refl, refl), ((refl, refl), ((refl, refl), ((refl, refl), ((refl, refl), ((refl, refl), ((refl, refl), ((refl, refl), ((refl, refl), tt)))))))))
 
 pub starred-hold : AllHold starred
 unfolding model

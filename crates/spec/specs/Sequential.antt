@@ -13,7 +13,7 @@ use Rattle.spec.specs.Steps.{Step, begin, read, scan, put, remove, lock,
 unfoldable pub afterStep : ℕ → List (Row Record) → Step → List (Row Record)
 afterStep n l (begin w) = l
 afterStep n l (read w k) = l
-afterStep n l (scan w lo hi a b) = l
+afterStep n l (scan w lo hi b) = l
 afterStep n l (put w k p) = assign k (outcome n (written p)) l
 afterStep n l (remove w k) = assign k (outcome n deleted) l
 afterStep n l (lock w) = l
@@ -41,7 +41,7 @@ valueTold (counted n) = none
 unfoldable pub Agrees : List (Row Record) → Step → Answer → Type 0
 Agrees l (begin w) a = Unit {0}
 Agrees l (read w k) a = valueTold a ≡ some (payloadOf (look l k))
-Agrees l (scan w lo hi m n) a = a ≡ listed (listScan l lo hi)
+Agrees l (scan w lo hi b) a = a ≡ listed (listScan l lo hi)
 Agrees l (put w k p) a = Unit {0}
 Agrees l (remove w k) a = Unit {0}
 Agrees l (lock w) a = Unit {0}

@@ -62,11 +62,24 @@ workerOf σ w = getD (σ .workers) w freeWorker
 
 -- ---- steps and answers
 
--- Each names its worker first but the two merges. A scan has lo, hi and the places of its two buffers.
+-- The places of the three buffers that a scan is lent.
+pub record Places : Type 0 where
+  pub addresses : ℕ
+  pub values : ℕ
+  pub owners : ℕ
+
+abbrev pub places : ℕ → ℕ → ℕ → Places
+places a v o = record { addresses = a; values = v; owners = o }
+
+-- the shortest buffer decides
+unfoldable pub shortest : Places → ℕ
+shortest b = min (min (b .addresses) (b .values)) (b .owners)
+
+-- Each names its worker first but the two merges. A scan has lo, hi and the places of its buffers.
 pub data Step : Type 0 where
   begin : ℕ → Step
   read : ℕ → ℕ → Step
-  scan : ℕ → ℕ → ℕ → ℕ → ℕ → Step
+  scan : ℕ → ℕ → ℕ → Places → Step
   put : ℕ → ℕ → Payload → Step
   remove : ℕ → ℕ → Step
   lock : ℕ → Step
@@ -80,7 +93,7 @@ pub data Step : Type 0 where
 unfoldable pub stepWorker : Step → Option ℕ
 stepWorker (begin w) = some w
 stepWorker (read w k) = some w
-stepWorker (scan w lo hi m n) = some w
+stepWorker (scan w lo hi b) = some w
 stepWorker (put w k p) = some w
 stepWorker (remove w k) = some w
 stepWorker (lock w) = some w
@@ -93,7 +106,7 @@ stepWorker mergeOldest = none
 pub data Answer : Type 0 where
   refused : Refusal → Answer
   done : Answer  -- granted, nothing more to tell
-  found : Option Payload → ℕ → Answer  -- a read: the value, or absent, and how many slots its look-up examined
+  found : Option Payload → ℕ → Answer  -- a read: value and owner, or absent, and how many slots its look-up examined
   listed : List (Row Payload) → Answer  -- a scan: the first places of its buffers, as many as it counts
   numbered : ℕ → Answer  -- a validation: the commit number
   counted : ℕ → Answer  -- a merge: how many writes entered the index
@@ -218,13 +231,13 @@ unfoldable pub causes : State → Step → List Cause
 causes σ (begin w) = noWorker σ w ∷ cause (not (isFree (workerOf σ w .stage))) WorkerTaken ∷ []
 causes σ (read w k) =
     noWorker σ w ∷ workerFree σ w ∷ wrongStage isOpen σ w ∷ cause (readLogFull σ w k) LogFull ∷ []
-causes σ (scan w lo hi m n) =
+causes σ (scan w lo hi b) =
     noWorker σ w
     ∷ workerFree σ w
     ∷ wrongStage isOpen σ w
     ∷ cause (less hi lo) Backward
     ∷ cause (scanLogFull σ w lo hi) LogFull
-    ∷ cause (less (min m n) (length (scanned σ w lo hi))) ShortBuffer
+    ∷ cause (less (shortest b) (length (scanned σ w lo hi))) ShortBuffer
     ∷ []
 causes σ (put w k p) =
     noWorker σ w ∷ workerFree σ w ∷ wrongStage isOpen σ w ∷ cause (writesFull σ w k) WritesFull ∷ []
@@ -272,7 +285,7 @@ mergeCount σ a = counted (length (merging (σ .map) a))
 unfoldable pub granted : State → Step → Answer
 granted σ (begin w) = done
 granted σ (read w k) = found (maybe (ownWrite σ w k) (payloadOf (current (σ .map) k)) ownView) (slotsExamined σ w k)
-granted σ (scan w lo hi m n) = listed (scanned σ w lo hi)
+granted σ (scan w lo hi b) = listed (scanned σ w lo hi)
 granted σ (put w k p) = done
 granted σ (remove w k) = done
 granted σ (lock w) = done
@@ -370,7 +383,7 @@ installedMap σ w =
 unfoldable pub effect : State → Step → State
 effect σ (begin w) = withWorker σ w (atStage Open freeWorker)
 effect σ (read w k) = withWorker σ w (logged (readRows σ w k) [] [] (workerOf σ w))
-effect σ (scan w lo hi m n) =
+effect σ (scan w lo hi b) =
     withWorker σ w (logged (scanReads σ lo hi) (scanVersions σ lo hi) (remembered σ w lo hi ∷ []) (workerOf σ w))
 effect σ (put w k p) = withWorker σ w (writing k (written p) (workerOf σ w))
 effect σ (remove w k) = withWorker σ w (writing k deleted (workerOf σ w))

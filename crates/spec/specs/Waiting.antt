@@ -18,7 +18,7 @@ waitsSince m k = maybe (contentOf (m .slots) k .pending) none (λ (p : Pending).
 unfoldable pub isMergeOldest : Step → Bool
 isMergeOldest (begin w) = false
 isMergeOldest (read w k) = false
-isMergeOldest (scan w lo hi m n) = false
+isMergeOldest (scan w lo hi b) = false
 isMergeOldest (put w k p) = false
 isMergeOldest (remove w k) = false
 isMergeOldest (lock w) = false
@@ -37,7 +37,7 @@ oldestMerges (s ∷ ss) = pick (isMergeOldest s) (suc (oldestMerges ss)) (oldest
 unfoldable pub takesIn : State → ℕ → Step → Bool
 takesIn σ k (begin w) = false
 takesIn σ k (read w j) = false
-takesIn σ k (scan w lo hi m n) = false
+takesIn σ k (scan w lo hi b) = false
 takesIn σ k (put w j p) = false
 takesIn σ k (remove w j) = false
 takesIn σ k (lock w) = false

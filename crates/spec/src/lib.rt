@@ -35,10 +35,21 @@ pub const LAST_NUMBER: u64 = 1000000;
 // The longest section of a guarded map, in bytes.
 pub const LONGEST: u64 = 65536;
 
-// The current record of an address, or none there (document 01: present record): its value and its commit number (stamp).
+// How many owners there are.
+pub const OWNERS: u64 = 65536;
+
+// What a put gives a record, in words: the value, and whose section it is (request 106: owner), of which the lowest 16 bits
+// count, so that every word has a meaning.
+pub struct PayloadWords {
+    pub value: u64,
+    pub owner: u64,
+}
+
+// The current record of an address, or none there (document 01: present record): what a put gave it, and its commit number
+// (stamp).
 pub struct Current {
     pub there: bool,
-    pub value: u64,
+    pub payload: PayloadWords,
     pub commit: u64,
 }
 

@@ -103,7 +103,7 @@ impl Sources {
             dimensions.insert(0, self.number(home, length)?);
             return Some((of, dimensions));
         }
-        if ["u8", "u32", "u64", "usize", "bool"].contains(&text) {
+        if ["u8", "u16", "u32", "u64", "usize", "bool"].contains(&text) {
             return Some((text.into(), Vec::new()));
         }
         let (home, it) = self.declared(home, "type", text)?;
@@ -182,6 +182,7 @@ impl Signature {
 fn c_number(name: &str) -> &'static str {
     match name {
         "()" => "void",
+        "u16" => "uint16_t",
         "u32" => "uint32_t",
         "u64" => "uint64_t",
         "usize" => "size_t",

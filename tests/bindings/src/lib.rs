@@ -4,9 +4,9 @@ pub mod abi;
 pub mod subjects;
 
 use plain::engine::Reading;
-use plain::map::Commit;
+use plain::map::{Commit, Payload};
 use plain::step::{self, Answer, Buffers, PLACES};
-use sections::{Refusal, Sections, SerialNumber, Step};
+use sections::{Refusal, Section, Sections, SerialNumber, Step};
 
 /// A fresh map, guarded or not.
 pub fn fresh(guarded: bool) -> Sections {
@@ -26,13 +26,18 @@ pub fn replay(steps: &[Step], guarded: bool) -> (Sections, Vec<Result<sections::
     }
 }
 
-/// A step of the second model, its scans with buffers of so many places.
-pub fn step_of(step: step::Step, addresses: usize, values: usize) -> Step {
+/// A step of the second model, its scans with buffers of so many places: of addresses,
+/// of values and of owners.
+pub fn step_of(step: step::Step, [addresses, values, owners]: [usize; 3]) -> Step {
     match step {
         step::Step::Begin { worker: seat } => Step::Begin { seat },
         step::Step::Read { worker: seat, address } => Step::Read { seat, address },
-        step::Step::Scan { worker: seat, lo, hi } => Step::Scan { seat, lo, hi, addresses, values },
-        step::Step::Put { worker: seat, address, value } => Step::Put { seat, address, value },
+        step::Step::Scan { worker: seat, lo, hi } => {
+            Step::Scan { seat, lo, hi, addresses, values, owners }
+        }
+        step::Step::Put { worker: seat, address, value, owner } => {
+            Step::Put { seat, address, value, owner }
+        }
         step::Step::Remove { worker: seat, address } => Step::Remove { seat, address },
         step::Step::Lock { worker: seat } => Step::Lock { seat },
         step::Step::Validate { worker: seat } => Step::Validate { seat },
@@ -45,41 +50,51 @@ pub fn step_of(step: step::Step, addresses: usize, values: usize) -> Step {
 
 /// The same with a script's buffers.
 pub fn script_step(step: step::Step) -> Step {
-    step_of(step, PLACES, PLACES)
+    step_of(step, [PLACES; 3])
 }
 
 fn commit(serial: SerialNumber) -> Commit {
     serial.get().try_into().expect("a serial number is at most a million")
 }
 
-fn reading(read: sections::Reading) -> Reading {
-    Reading { value: read.value, examined: Some(read.examined) }
+/// The address of what is found is the one that was read.
+fn reading(at: u32, read: sections::Reading) -> Reading {
+    let payload = |Section { address, value, owner }| {
+        assert_eq!(address, at);
+        Payload { value, owner }
+    };
+    Reading { payload: read.found.map(payload), examined: Some(read.examined) }
 }
 
 fn refused(refusal: Refusal) -> Answer {
     Answer::Refused(refusal.number() as u8)
 }
 
-/// An answer in the second model's words, a scan's records in the buffers.
+/// An answer to a step in the second model's words, a scan's records in the buffers.
 pub fn answer_of(
+    step: step::Step,
     answer: Result<sections::Answer, Refusal>,
     addresses: &mut [u32],
     values: &mut [u64],
+    owners: &mut [u16],
 ) -> Answer {
-    match answer {
-        Err(refusal) => refused(refusal),
-        Ok(sections::Answer::Granted) => Answer::Granted,
-        Ok(sections::Answer::Read(read)) => Answer::Read(reading(read)),
-        Ok(sections::Answer::Found(found)) => {
-            for (place, &(address, value)) in found.iter().enumerate() {
-                addresses[place] = address;
-                values[place] = value;
+    match (step, answer) {
+        (_, Err(refusal)) => refused(refusal),
+        (_, Ok(sections::Answer::Granted)) => Answer::Granted,
+        (step::Step::Read { address, .. }, Ok(sections::Answer::Read(read))) => {
+            Answer::Read(reading(address, read))
+        }
+        (_, Ok(sections::Answer::Found(found))) => {
+            for (place, section) in found.iter().enumerate() {
+                addresses[place] = section.address;
+                values[place] = section.value;
+                owners[place] = section.owner;
             }
             Answer::Found(found.len())
         }
-        Ok(sections::Answer::Serial(serial)) => Answer::Commit(commit(serial)),
-        Ok(sections::Answer::Folded(count)) => Answer::Merged(count),
-        Ok(other) => panic!("{other:?} is no answer of document 01"),
+        (_, Ok(sections::Answer::Serial(serial))) => Answer::Commit(commit(serial)),
+        (_, Ok(sections::Answer::Folded(count))) => Answer::Merged(count),
+        (step, Ok(other)) => panic!("{other:?} is no answer to {step:?}"),
     }
 }
 
@@ -88,13 +103,14 @@ pub fn by_method(map: &mut Sections, step: step::Step, buffers: &mut Buffers) ->
     let answer = match step {
         step::Step::Begin { worker } => map.begin(worker).map(|()| Answer::Granted),
         step::Step::Read { worker, address } => {
-            map.read(worker, address).map(|read| Answer::Read(reading(read)))
+            map.read(worker, address).map(|read| Answer::Read(reading(address, read)))
         }
         step::Step::Scan { worker, lo, hi } => {
-            map.scan(worker, lo, hi, &mut buffers.addresses, &mut buffers.values).map(Answer::Found)
+            let Buffers { addresses, values, owners } = buffers;
+            map.scan(worker, lo, hi, addresses, values, owners).map(Answer::Found)
         }
-        step::Step::Put { worker, address, value } => {
-            map.put(worker, address, value).map(|()| Answer::Granted)
+        step::Step::Put { worker, address, value, owner } => {
+            map.put(worker, address, value, owner).map(|()| Answer::Granted)
         }
         step::Step::Remove { worker, address } => {
             map.remove(worker, address).map(|()| Answer::Granted)

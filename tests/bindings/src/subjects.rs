@@ -3,7 +3,7 @@
 use crate::{answer_of, by_method, fresh, replay, script_step};
 use plain::compare::Subject;
 use plain::script::{guarded, steps, write_answer, write_contents, write_start};
-use plain::step::Buffers;
+use plain::step::{Buffers, Shown};
 use sections::{Sections, Step};
 use std::io;
 
@@ -28,7 +28,7 @@ impl Subject for Stepwise {
             let answer = by_method(&mut map, step, &mut buffers);
             write_answer(&mut text, step, answer, &buffers);
         }
-        write_contents(&mut text, &pairs(&map));
+        write_contents(&mut text, &contents(&map));
         Ok(text)
     }
 }
@@ -46,14 +46,15 @@ impl Subject for Replaying {
         write_start(&mut text, guarded);
         for (step, answer) in steps.into_iter().zip(answers) {
             let mut buffers = Buffers::default();
-            let answer = answer_of(answer, &mut buffers.addresses, &mut buffers.values);
+            let Buffers { addresses, values, owners } = &mut buffers;
+            let answer = answer_of(step, answer, addresses, values, owners);
             write_answer(&mut text, step, answer, &buffers);
         }
-        write_contents(&mut text, &pairs(&map));
+        write_contents(&mut text, &contents(&map));
         Ok(text)
     }
 }
 
-fn pairs(map: &Sections) -> Vec<(u32, u64)> {
-    map.iter().map(|record| (record.address, record.value)).collect()
+fn contents(map: &Sections) -> Vec<Shown> {
+    map.iter().map(|record| (record.address, record.value, record.owner)).collect()
 }

@@ -77,18 +77,18 @@ fn guarded_or_not() {
     let text = "static struct sections map;
     static int lock(void) {
         sections_begin(&map, 0);
-        sections_put(&map, 0, 5, 0);
+        sections_put(&map, 0, 5, 0, 1);
         return sections_lock(&map, 0);
     }
     int main(void) {
-        struct sections_code steps[] = {sections_code_begin(1), sections_code_put(1, 7, 0), sections_code_lock(1)};
-        uint64_t answers[12];
+        struct sections_code steps[] = {sections_code_begin(1), sections_code_put(1, 7, 0, 1), sections_code_lock(1)};
+        uint64_t answers[15];
         sections_init_guarded(&map);
         printf(\"%d\\n\", lock());
-        sections_run(&map, steps, 3, NULL, answers, 12, false);
-        printf(\"%d\\n%d\\n\", (int)answers[8], lock());
-        sections_run(&map, steps, 3, NULL, answers, 12, true);
-        printf(\"%d\\n%d\\n\", (int)answers[8], lock());
+        sections_run(&map, steps, 3, NULL, answers, 15, false);
+        printf(\"%d\\n%d\\n\", (int)answers[10], lock());
+        sections_run(&map, steps, 3, NULL, answers, 15, true);
+        printf(\"%d\\n%d\\n\", (int)answers[10], lock());
         sections_init(&map);
         printf(\"%d\\n\", lock());
         return 0;
@@ -96,46 +96,100 @@ fn guarded_or_not() {
     assert_eq!(numbers(&printed("guarded", text, &C)), [16, 0, 0, 16, 16, 0]);
 }
 
-/// A read of nothing examines the home slot, one of the job's own edit none; other
-/// answers have a 0 there.
+/// A read of nothing examines the home slot, one of the job's own edit none and tells
+/// its owner; other answers have two 0s there. A scan's record has three words.
 #[test]
 fn words_of_a_list() {
     let text = "static struct sections map;
+    static uint32_t addresses[2];
+    static uint64_t values[1];
+    static uint16_t owners[3];
+    static const struct sections_buffers buffers = {addresses, 2, values, 1, owners, 3};
     int main(void) {
-        struct sections_code steps[] = {sections_code_begin(0), sections_code_read(0, 5), sections_code_put(0, 5, 9),
-                                        sections_code_read(0, 5), sections_code_read(1, 5)};
-        uint64_t answers[20];
-        sections_run(&map, steps, 5, NULL, answers, 20, false);
-        for (int i = 0; i < 20; i++)
+        struct sections_code steps[] = {sections_code_begin(0), sections_code_read(0, 5), sections_code_put(0, 5, 9, 65535),
+                                        sections_code_read(0, 5), sections_code_scan(0, 0, 9, 2, 1, 3),
+                                        sections_code_scan(0, 0, 9, 2, 1, 0), sections_code_read(1, 5)};
+        enum { ROOM = 7 * SECTIONS_ANSWER_WORDS + SECTIONS_SHOWN_WORDS };
+        uint64_t answers[ROOM];
+        struct sections_ran ran = sections_run(&map, steps, 7, &buffers, answers, ROOM, false);
+        for (size_t i = 0; i < ran.written; i++)
             printf(\"%d\\n\", (int)answers[i]);
         struct sections_value read[] = {sections_read(&map, 0, 6), sections_read(&map, 0, 5), sections_read(&map, 1, 5)};
         for (int i = 0; i < 3; i++)
-            printf(\"%d\\n\", (int)read[i].examined);
+            printf(\"%d\\n%d\\n\", read[i].owner, (int)read[i].examined);
         return 0;
     }\n";
-    let answers = [[0, 0, 0, 0], [0, 2, 0, 1], [0, 0, 0, 0], [0, 1, 9, 0], [2, 0, 0, 0]];
-    let (words, examined) = (answers.concat(), [1, 0, 0]);
-    assert_eq!(numbers(&printed("list", text, &C)), [&words[..], &examined[..]].concat());
+    let nothing = [0, 0, 0, 0, 0];
+    let answers = [nothing, [0, 2, 0, 0, 1], nothing, [0, 1, 9, 65535, 0], [0, 3, 1, 0, 0]];
+    let (found, refused) = ([5, 9, 65535], [[8, 0, 0, 0, 0], [2, 0, 0, 0, 0]]);
+    let read = [0, 1, 65535, 0, 0, 0];
+    let words = [&answers.concat()[..], &found, &refused.concat(), &read].concat();
+    assert_eq!(numbers(&printed("list", text, &C)), words);
 }
 
-/// The header's functions pass no null pointer on.
+/// A list has room for a scan if it has three words for each place of the shortest
+/// buffer; and an owner of 17 bits, or a place too many, has no meaning.
+#[test]
+fn ends_of_a_list() {
+    let text = "static struct sections map;
+    static uint32_t addresses[4];
+    static uint64_t values[4];
+    static uint16_t owners[4];
+    static const struct sections_buffers buffers = {addresses, 4, values, 4, owners, 4};
+    static void run(struct sections_code last, size_t room) {
+        struct sections_code steps[] = {sections_code_begin(0), last};
+        uint64_t answers[32];
+        struct sections_ran ran = sections_run(&map, steps, 2, &buffers, answers, room, false);
+        printf(\"%d\\n%zu\\n%zu\\n\", ran.stop, ran.taken, ran.written);
+    }
+    int main(void) {
+        size_t room = 2 * SECTIONS_ANSWER_WORDS + 2 * SECTIONS_SHOWN_WORDS;
+        run(sections_code_scan(0, 0, 9, 2, 4, 3), room);
+        run(sections_code_scan(0, 0, 9, 4, 2, 3), room);
+        run(sections_code_scan(0, 0, 9, 3, 4, 2), room);
+        run(sections_code_scan(0, 0, 9, 4, 3, 2), room - 1);
+        run(sections_code_scan(0, 0, 9, 5, 4, 4), 32);
+        run(sections_code_scan(0, 0, 9, 4, 5, 4), 32);
+        run(sections_code_scan(0, 0, 9, 4, 4, 5), 32);
+        run(sections_code_of(3, 0, 7, 1, 65535, 0, 0), 32);
+        run(sections_code_of(3, 0, 7, 1, 65536, 0, 0), 32);
+        return 0;
+    }\n";
+    let (whole, full, meaningless) = ([0, 2, 10], [2, 1, 5], [1, 1, 5]);
+    let scans = [whole, whole, whole, full, meaningless, meaningless, meaningless];
+    let puts = [whole, meaningless];
+    let expected = [scans.concat(), puts.concat()].concat();
+    assert_eq!(numbers(&printed("ends", text, &C)), expected);
+}
+
+/// The header's functions pass no null pointer on, of all buffers or of one.
 #[test]
 fn null_where_there_are_no_places() {
     let text = "static struct sections map;
+    static uint32_t addresses[1];
+    static uint64_t values[1];
+    static uint16_t owners[1];
     int main(void) {
-        struct sections_buffers none = {NULL, 0, NULL, 0};
+        struct sections_buffers some[] = {{NULL, 0, NULL, 0, NULL, 0}, {NULL, 0, values, 1, owners, 1},
+                                          {addresses, 1, NULL, 0, owners, 1}, {addresses, 1, values, 1, NULL, 0},
+                                          {addresses, 1, values, 1, owners, 1}};
         struct sections_ran ran = sections_run(&map, NULL, 0, NULL, NULL, 0, false);
         printf(\"%d\\n%zu\\n\", ran.stop, ran.taken);
         sections_begin(&map, 0);
-        printf(\"%d\\n\", sections_scan(&map, 0, 0, 9, &none).refusal);
-        sections_put(&map, 0, 4, 5);
-        printf(\"%d\\n\", sections_scan(&map, 0, 0, 9, &none).refusal);
-        struct sections_code steps[] = {sections_code_begin(0), sections_code_scan(0, 0, 9, 0, 0)};
-        ran = sections_run(&map, steps, 2, &none, NULL, 0, false);
+        for (int i = 0; i < 5; i++)
+            printf(\"%d\\n\", sections_scan(&map, 0, 0, 9, &some[i]).refusal);
+        sections_put(&map, 0, 4, 5, 6);
+        for (int i = 0; i < 5; i++)
+            printf(\"%d\\n\", sections_scan(&map, 0, 0, 9, &some[i]).refusal);
+        printf(\"%d\\n%d\\n%d\\n\", (int)addresses[0], (int)values[0], owners[0]);
+        struct sections_code steps[] = {sections_code_begin(0), sections_code_scan(0, 0, 9, 0, 0, 0)};
+        ran = sections_run(&map, steps, 2, &some[0], NULL, 0, false);
         printf(\"%d\\n%zu\\n\", ran.stop, ran.taken);
         return 0;
     }\n";
-    assert_eq!(numbers(&printed("null", text, &C)), [0, 0, 0, 8, 2, 0]);
+    let (empty, one, put) = ([0; 5], [8, 8, 8, 8, 0], [4, 5, 6]);
+    let expected = [&[0, 0][..], &empty, &one, &put, &[2, 0]].concat();
+    assert_eq!(numbers(&printed("null", text, &C)), expected);
 }
 
 /// The members of `struct sections` are the arrays that a fresh map is made in.
@@ -161,6 +215,18 @@ fn header_has_the_sizes_of_the_code() {
     assert_eq!(numbers(&text), words);
 }
 
+/// The texts that say how large a map is.
+#[test]
+fn size_that_is_told() {
+    let words = |array: &Passed| array.dimensions().iter().product::<usize>();
+    let bytes = 8 * arrays().iter().map(words).sum::<usize>();
+    let told = format!("{} KB", (bytes + 500) / 1000);
+    for file in ["bindings/c/example.c", "bindings/rust/src/lib.rs"] {
+        let text = fs::read_to_string(root().join(file)).expect("it is there");
+        assert!(text.contains(&told), "{file}: {told}");
+    }
+}
+
 fn numbers(text: &str) -> Vec<usize> {
     text.lines().map(|line| line.parse().expect("a number")).collect()
 }
@@ -184,6 +250,7 @@ fn header_has_the_limits_of_the_code() {
         ("SECTIONS_LONGEST", longest),
         ("SECTIONS_ANSWER_WORDS", first.dimensions()[0]),
         ("SECTIONS_CODE_WORDS", last.dimensions()[0]),
+        ("SECTIONS_FOUND_WORDS", library("sections_next").parameters[0].dimensions()[0]),
     ];
     let lines: String =
         limits.iter().map(|(name, _)| format!("printf(\"%d\\n\", {name});\n")).collect();
@@ -192,6 +259,7 @@ fn header_has_the_limits_of_the_code() {
     assert_eq!(sections::SEATS, limits[0].1);
     assert_eq!(sections::SCAN_LIMIT, limits[3].1 + limits[5].1);
     assert_eq!(sections::LONGEST, longest as u64);
+    assert_eq!(crates().constant("OWNERS"), Some(usize::from(sections::Owner::MAX) + 1));
 }
 
 #[test]

@@ -1,13 +1,18 @@
 //! Document 01's runs that are not starred, and the edges of the map and of a
 //! guarded one.
 
-use sections::{Answer, Record, Refusal, Sections, Step, LONGEST};
+use sections::{Answer, Record, Refusal, Section, Sections, Step, LONGEST};
+
+/// Another owner for each address, from the highest one down.
+fn owner(address: u32) -> u16 {
+    !(address as u16)
+}
 
 /// A whole job of puts.
 fn enter(map: &mut Sections, seat: u32, addresses: impl Iterator<Item = u32>) -> u64 {
     let job = || {
         map.begin(seat)?;
-        addresses.into_iter().try_for_each(|at| map.put(seat, at, u64::from(at) + 7))?;
+        addresses.into_iter().try_for_each(|at| map.put(seat, at, u64::from(at) + 7, owner(at)))?;
         map.lock(seat)?;
         let serial = map.validate(seat)?;
         map.install(seat)?;
@@ -23,10 +28,10 @@ fn waiting_addresses() -> Result<(), Refusal> {
         assert_eq!(enter(&mut map, job % 8, 16 * job..16 * job + 16), u64::from(job) + 1);
     }
     map.begin(0)?;
-    map.put(0, 192, 1)?;
+    map.put(0, 192, 1, 0)?;
     assert_eq!(map.lock(0), Err(Refusal::IndexletFull));
     map.begin(1)?;
-    map.put(1, 191, 1)?;
+    map.put(1, 191, 1, 0)?;
     map.lock(1)?;
     assert_eq!(map.fold(0), Ok(192));
     map.lock(0)
@@ -43,7 +48,7 @@ fn folds_of_the_oldest() -> Result<(), Refusal> {
     assert_eq!(map.fold_oldest(), Ok(17));
     for (seat, addresses) in [(1, 2..3), (2, 14..16)] {
         map.begin(seat)?;
-        addresses.into_iter().try_for_each(|address| map.put(seat, address, 1))?;
+        addresses.into_iter().try_for_each(|address| map.put(seat, address, 1, 0))?;
         map.lock(seat)?;
         assert_eq!(map.validate(seat)?.get(), u64::from(seat) + 2);
     }
@@ -58,10 +63,10 @@ fn folds_of_the_oldest() -> Result<(), Refusal> {
 fn edited_addresses() -> Result<(), Refusal> {
     let mut map = Sections::new();
     map.begin(7)?;
-    (0..16).try_for_each(|address| map.put(7, address, 1))?;
-    assert_eq!(map.put(7, 16, 1), Err(Refusal::EditsFull));
+    (0..16).try_for_each(|address| map.put(7, address, 1, 0))?;
+    assert_eq!(map.put(7, 16, 1, 0), Err(Refusal::EditsFull));
     assert_eq!(map.remove(7, 16), Err(Refusal::EditsFull));
-    map.put(7, 15, 2)?;
+    map.put(7, 15, 1, 2)?;
     map.remove(7, 15)
 }
 
@@ -72,18 +77,48 @@ fn short_buffers() -> Result<(), Refusal> {
     enter(&mut map, 0, 3..4);
     map.fold(3)?;
     map.begin(0)?;
-    let mut places = |m: usize, n: usize| {
-        let (mut addresses, mut values) = (vec![70; m], vec![80; n]);
-        let answer = map.scan(0, 0, 9, &mut addresses, &mut values);
-        (answer, addresses, values)
+    let mut places = |m: usize, n: usize, o: usize| {
+        let (mut addresses, mut values, mut owners) = (vec![70; m], vec![80; n], vec![90; o]);
+        let answer = map.scan(0, 0, 9, &mut addresses, &mut values, &mut owners);
+        (answer, addresses, values, owners)
     };
     let short = Err(Refusal::ShortBuffer);
-    assert_eq!(places(0, 0), (short, vec![], vec![]));
-    assert_eq!(places(0, 2), (short, vec![], vec![80, 80]));
-    assert_eq!(places(2, 0), (short, vec![70, 70], vec![]));
-    assert_eq!(places(1, 1), (Ok(1), vec![3], vec![10]));
-    assert_eq!(places(1, 3), (Ok(1), vec![3], vec![10, 80, 80]));
-    assert_eq!(places(3, 2), (Ok(1), vec![3, 70, 70], vec![10, 80]));
+    assert_eq!(places(0, 0, 0), (short, vec![], vec![], vec![]));
+    assert_eq!(places(0, 2, 1), (short, vec![], vec![80, 80], vec![90]));
+    assert_eq!(places(2, 0, 1), (short, vec![70, 70], vec![], vec![90]));
+    assert_eq!(places(1, 2, 0), (short, vec![70], vec![80, 80], vec![]));
+    let mine = owner(3);
+    assert_eq!(places(1, 1, 1), (Ok(1), vec![3], vec![10], vec![mine]));
+    assert_eq!(places(1, 3, 2), (Ok(1), vec![3], vec![10, 80, 80], vec![mine, 90]));
+    assert_eq!(places(3, 1, 2), (Ok(1), vec![3, 70, 70], vec![10], vec![mine, 90]));
+    assert_eq!(places(3, 2, 1), (Ok(1), vec![3, 70, 70], vec![10, 80], vec![mine]));
+    Ok(())
+}
+
+/// The owner of a job's own edit, of what waits and of what is folded; and that a put
+/// with another owner and the same value is a change to a job that has read it.
+#[test]
+fn owners() -> Result<(), Refusal> {
+    let mut map = Sections::new();
+    map.begin(0)?;
+    map.put(0, 4, 11, 1)?;
+    map.put(0, 4, 11, owner(4))?;
+    let section = Section { address: 4, value: 11, owner: owner(4) };
+    assert_eq!(map.read(0, 4)?.found, Some(section));
+    map.abort(0)?;
+    enter(&mut map, 0, 4..5);
+    map.begin(1)?;
+    assert_eq!(map.read(1, 4)?.found, Some(section));
+    map.fold(4)?;
+    assert_eq!((map.read(1, 4)?.found, map.scan_all(1, 0, 9)?), (Some(section), vec![section]));
+    map.begin(0)?;
+    map.put(0, 4, 11, 1)?;
+    map.lock(0)?;
+    map.validate(0)?;
+    map.install(0)?;
+    map.lock(1)?;
+    assert_eq!(map.validate(1), Err(Refusal::Changed));
+    assert_eq!(map.iter().map(|record| record.owner).collect::<Vec<_>>(), [1]);
     Ok(())
 }
 
@@ -97,8 +132,10 @@ fn the_longest_scan() -> Result<(), Refusal> {
     }
     map.fold(0)?;
     map.begin(0)?;
-    (16..32).try_for_each(|address| map.put(0, address, 1))?;
-    assert_eq!(map.scan_all(0, 0, 200)?.len(), sections::SCAN_LIMIT);
+    (16..32).try_for_each(|address| map.put(0, address, 1, owner(address)))?;
+    let found = map.scan_all(0, 0, 200)?;
+    assert_eq!(found.len(), sections::SCAN_LIMIT);
+    assert!(found.iter().all(|section| section.owner == owner(section.address)));
     assert_eq!(map.scan_all(0, 0, 200), Err(Refusal::LogFull));
     Ok(())
 }
@@ -111,8 +148,9 @@ fn contents_one_by_one() -> Result<(), Refusal> {
     map.fold(0)?;
     enter(&mut map, 2, 4..5);
     let all: Vec<Record> = map.iter().collect();
-    let plain = |record: &Record| (record.address, record.value, record.stamp.get());
-    let expected = [(0, 7, 1), (4, 11, 2), (9, 16, 1), (u32::MAX, u64::from(u32::MAX) + 7, 1)];
+    let plain = |it: &Record| (it.address, it.value, it.owner, it.stamp.get());
+    let last = (u32::MAX, u64::from(u32::MAX) + 7, 0, 1);
+    let expected = [(0, 7, 65_535, 1), (4, 11, 65_531, 2), (9, 16, 65_526, 1), last];
     assert_eq!(all.iter().map(plain).collect::<Vec<_>>(), expected);
     assert_eq!(map.iter_from(5).collect::<Vec<_>>(), all[2..]);
     assert_eq!(map.iter_from(10).collect::<Vec<_>>(), all[3..]);
@@ -164,7 +202,7 @@ fn locked(sections: &[(u32, u64)]) -> Result<(), Refusal> {
     let mut map = Sections::guarded();
     map.begin(0)?;
     map.scan_all(0, 0, u32::MAX)?;
-    sections.iter().try_for_each(|&(address, length)| map.put(0, address, length))?;
+    sections.iter().try_for_each(|&(address, length)| map.put(0, address, length, 0))?;
     map.lock(0)
 }
 
@@ -203,7 +241,7 @@ fn reach(address: u32, length: u64) -> (u32, u32) {
 fn scans_that_cover() -> Result<(), Refusal> {
     let mut map = Sections::guarded();
     map.begin(0)?;
-    map.put(0, 200_000, 1000)?;
+    map.put(0, 200_000, 1000, 0)?;
     assert_eq!(map.lock(0), Err(Refusal::Uncovered));
     let (lo, hi) = reach(200_000, 1000);
     for (lo, hi) in [(lo + 1, hi), (lo, hi - 1)] {
@@ -219,7 +257,7 @@ fn lay(map: &mut Sections, first: u32, count: u32, length: u64) -> Result<(), Re
     map.begin(7)?;
     let (lo, hi) = reach(first, length * u64::from(count));
     map.scan_all(7, lo, hi)?;
-    (0..count).try_for_each(|place| map.put(7, first + place * length as u32, length))?;
+    (0..count).try_for_each(|place| map.put(7, first + place * length as u32, length, 0))?;
     map.lock(7)?;
     map.validate(7)?;
     map.install(7)
@@ -233,15 +271,16 @@ fn over_an_own_removal() -> Result<(), Refusal> {
     lay(&mut map, 1000, 2, 100)?;
     map.fold(0)?;
     map.begin(0)?;
-    assert_eq!(map.scan_all(0, 0, 2000)?, [(1000, 100), (1100, 100)]);
-    map.put(0, 1050, 50)?;
+    let section = |address| Section { address, value: 100, owner: 0 };
+    assert_eq!(map.scan_all(0, 0, 2000)?, [1000, 1100].map(section));
+    map.put(0, 1050, 50, 1)?;
     assert_eq!(map.lock(0), Err(Refusal::Overlap));
     map.remove(0, 1000)?;
     map.lock(0)?;
     map.validate(0)?;
     map.install(0)?;
-    let contents: Vec<(u32, u64)> = map.iter().map(|it| (it.address, it.value)).collect();
-    assert_eq!(contents, [(1050, 50), (1100, 100)]);
+    let contents: Vec<_> = map.iter().map(|it| (it.address, it.value, it.owner)).collect();
+    assert_eq!(contents, [(1050, 50, 1), (1100, 100, 0)]);
     Ok(())
 }
 
@@ -259,21 +298,21 @@ fn order_of_a_lock() -> Result<(), Refusal> {
     (0..12).try_for_each(|job| lay(&mut map, first(job), 16, LONGEST))?;
     map.begin(0)?;
     map.scan_all(0, 0, 0)?;
-    map.put(0, 0, 1)?;
+    map.put(0, 0, 1, 0)?;
     map.lock(0)?;
     assert_eq!(map.lock(0), Err(Refusal::WrongStage));
 
     let new = first(64);
     map.begin(1)?;
-    [(0, 0), (1, 1), (new, 1)].into_iter().try_for_each(|(at, n)| map.put(1, at, n))?;
+    [(0, 0), (1, 1), (new, 1)].into_iter().try_for_each(|(at, n)| map.put(1, at, n, 0))?;
     assert_eq!(map.lock(1), Err(Refusal::Unfit));
-    map.put(1, 0, 2)?;
+    map.put(1, 0, 2, 0)?;
     map.scan_all(1, 0, 1)?;
     assert_eq!(map.lock(1), Err(Refusal::Uncovered));
     let (lo, hi) = reach(new, 1);
     map.scan_all(1, lo, hi)?;
     assert_eq!(map.lock(1), Err(Refusal::Overlap));
-    map.put(1, 0, 1)?;
+    map.put(1, 0, 1, 0)?;
     assert_eq!(map.lock(1), Err(Refusal::Held));
     map.abort(0)?;
     assert_eq!(map.lock(1), Err(Refusal::IndexletFull));

@@ -6,7 +6,7 @@ use plain::compare::suite::{by_script, random, Size};
 use plain::compare::{run, runs, Script, Subject};
 use plain::engine::Engine;
 use plain::generate;
-use plain::profiles::PROFILES;
+use plain::profiles::{find, Profile, PROFILES};
 use plain::random::Random;
 use plain::step::{self, Answer, Buffers, Step};
 
@@ -37,35 +37,70 @@ const LENGTHS: [usize; 9] = [0, 1, 2, 3, 7, 20, 63, 64, 90];
 
 const PROFILES_OF_SCANS: [&str; 6] = ["ordinary", "scans", "ends", "leaves", "limits", "guarded"];
 
-/// Buffers of any two lengths that hold something already.
-fn buffers(random: &mut Random) -> (Vec<u32>, Vec<u64>) {
-    (vec![7; random.pick(&LENGTHS)], vec![9; random.pick(&LENGTHS)])
+fn profiles_of_scans() -> impl Iterator<Item = &'static Profile> {
+    PROFILES_OF_SCANS.iter().map(|name| find(name, 0).expect("it is a profile"))
 }
 
-/// A scan by the second model.
-fn scan(engine: &mut Engine, step: Step, lent: &mut (Vec<u32>, Vec<u64>)) -> Answer {
-    let Step::Scan { worker, lo, hi } = step else { panic!("{step:?} is no scan") };
-    let answer = engine.scan(worker, lo, hi, &mut lent.0, &mut lent.1);
-    answer.map_or_else(Answer::from, Answer::Found)
+/// The three buffers that are lent to a scan, of any lengths.
+#[derive(Clone, PartialEq, Debug)]
+struct Lent {
+    addresses: Vec<u32>,
+    values: Vec<u64>,
+    owners: Vec<u16>,
 }
 
-/// Scans granted with records, refused for short buffers, granted with unequal ones;
-/// locks that a guarded map refused by 16, by 17 and by 18.
+impl Lent {
+    /// They hold something already.
+    fn new([m, n, o]: [usize; 3]) -> Self {
+        Lent { addresses: vec![7; m], values: vec![8; n], owners: vec![9; o] }
+    }
+
+    fn lengths(&self) -> [usize; 3] {
+        [self.addresses.len(), self.values.len(), self.owners.len()]
+    }
+}
+
+/// The one that is shorter than both others.
+fn shortest([m, n, o]: [usize; 3]) -> Option<usize> {
+    [m < n.min(o), n < m.min(o), o < m.min(n)].iter().position(|&it| it)
+}
+
+/// A step by the second model: its answer, and the buffers after it.
+struct Played {
+    step: Step,
+    answer: Answer,
+    lent: Lent,
+}
+
+fn play(engine: &mut Engine, step: Step, lengths: [usize; 3]) -> Played {
+    let Step::Scan { worker, lo, hi } = step else {
+        let answer = step::run(engine, step, &mut Buffers::default());
+        return Played { step, answer, lent: Lent::new([0; 3]) };
+    };
+    let mut lent = Lent::new(lengths);
+    let Lent { addresses, values, owners } = &mut lent;
+    let answer = engine.scan(worker, lo, hi, addresses, values, owners);
+    Played { step, answer: answer.map_or_else(Answer::from, Answer::Found), lent }
+}
+
+/// How often scans were granted with records, and with unequal buffers; how often they
+/// were refused for short buffers, and for which one alone, since the same scan with
+/// more places in that one was granted; and how often a guarded map refused a lock by
+/// 16, by 17 and by 18.
 #[derive(Default, Debug)]
 struct Reached {
     scans: [usize; 3],
+    alone: [usize; 3],
     locks: [usize; 3],
 }
 
 impl Reached {
-    fn count_scan(&mut self, answer: Answer, (addresses, values): &(Vec<u32>, Vec<u64>)) {
+    fn count(&mut self, played: &Played) {
+        let (answer, lengths) = (played.answer, played.lent.lengths());
         let found = matches!(answer, Answer::Found(1..));
-        let unequal = found && addresses.len() != values.len();
-        let kinds = [found, answer == Answer::Refused(8), unequal];
+        let unequal = found && lengths.iter().any(|&length| length != lengths[0]);
+        let kinds = [found, unequal, answer == Answer::Refused(8)];
         self.scans.iter_mut().zip(kinds).for_each(|(count, kind)| *count += usize::from(kind));
-    }
-
-    fn count(&mut self, answer: Answer) {
         if let Answer::Refused(number @ 16..=18) = answer {
             self.locks[usize::from(number) - 16] += 1;
         }
@@ -73,34 +108,49 @@ impl Reached {
 
     fn enough(&self) {
         let reached = |counts: [usize; 3], least| counts.iter().all(|&count| count > least);
-        assert!(reached(self.scans, 500) && reached(self.locks, 100), "{self:?}");
+        assert!(reached(self.scans, 500) && reached(self.alone, 500), "{self:?}");
+        assert!(reached(self.locks, 100), "{self:?}");
     }
 }
 
+/// A script, each scan with buffers of any lengths. One that is refused, and has a
+/// shortest buffer, is tried again with more places in that one.
+fn play_all(profile: &Profile, seed: u64, reached: &mut Reached) -> Vec<Played> {
+    let (mut random, mut engine) = (Random::new(seed), profile.engine());
+    let mut all = Vec::new();
+    for step in generate::script(seed, 30_000, profile) {
+        let mut lengths = [0; 3].map(|_: usize| random.pick(&LENGTHS));
+        let played = play(&mut engine, step, lengths);
+        reached.count(&played);
+        let refused = played.answer == Answer::Refused(8);
+        all.push(played);
+        let Some(short) = shortest(lengths).filter(|_| refused) else { continue };
+        lengths[short] = 90;
+        let again = play(&mut engine, step, lengths);
+        reached.count(&again);
+        reached.alone[short] += usize::from(again.answer.granted());
+        all.push(again);
+    }
+    all
+}
+
 /// Scans with buffers of any lengths: not only the answers must agree, but every
-/// place of both buffers.
+/// place of all three buffers.
 #[test]
 fn buffers_of_any_lengths() {
     let mut reached = Reached::default();
-    for name in PROFILES_OF_SCANS {
-        let profile = plain::profiles::find(name, 0).expect("it is a profile");
-        let mut random = Random::new(5);
-        let (mut engine, mut map) = (profile.engine(), fresh(profile.guarded));
-        let mut places = Buffers::default();
-        for step in generate::script(5, 30_000, profile) {
-            let Step::Scan { worker, lo, hi } = step else {
-                let expected = step::run(&mut engine, step, &mut places);
-                assert_eq!(by_method(&mut map, step, &mut places), expected, "{name}: {step:?}");
-                reached.count(expected);
-                continue;
+    for profile in profiles_of_scans() {
+        let mut map = fresh(profile.guarded);
+        for Played { step, answer, lent } in play_all(profile, 5, &mut reached) {
+            let mut ours = Lent::new(lent.lengths());
+            let given = if let Step::Scan { worker, lo, hi } = step {
+                let Lent { addresses, values, owners } = &mut ours;
+                let given = map.scan(worker, lo, hi, addresses, values, owners);
+                given.map_or_else(|no| Answer::Refused(no.number() as u8), Answer::Found)
+            } else {
+                by_method(&mut map, step, &mut Buffers::default())
             };
-            let mut lent = buffers(&mut random);
-            let mut ours = lent.clone();
-            let expected = scan(&mut engine, step, &mut lent);
-            let given = map.scan(worker, lo, hi, &mut ours.0, &mut ours.1);
-            let given = given.map_or_else(|no| Answer::Refused(no.number() as u8), Answer::Found);
-            assert_eq!((given, &ours), (expected, &lent), "{name}: {step:?}");
-            reached.count_scan(expected, &lent);
+            assert_eq!((given, ours), (answer, lent), "{}: {step:?}", profile.name);
         }
     }
     reached.enough();
@@ -110,31 +160,20 @@ fn buffers_of_any_lengths() {
 #[test]
 fn lists_with_different_buffers() {
     let mut reached = Reached::default();
-    for name in PROFILES_OF_SCANS {
-        let profile = plain::profiles::find(name, 0).expect("it is a profile");
-        let mut random = Random::new(6);
-        let mut engine = profile.engine();
-        let (mut list, mut expected) = (Vec::new(), Vec::new());
-        for step in generate::script(6, 30_000, profile) {
-            let mut lent = buffers(&mut random);
-            list.push(step_of(step, lent.0.len(), lent.1.len()));
-            expected.push(if let Step::Scan { .. } = step {
-                let answer = scan(&mut engine, step, &mut lent);
-                reached.count_scan(answer, &lent);
-                (answer, lent)
-            } else {
-                let answer = step::run(&mut engine, step, &mut Buffers::default());
-                reached.count(answer);
-                (answer, lent)
-            });
-        }
+    for profile in profiles_of_scans() {
+        let played = play_all(profile, 6, &mut reached);
+        let coded = |played: &Played| step_of(played.step, played.lent.lengths());
+        let list: Vec<sections::Step> = played.iter().map(coded).collect();
         let (_, answers) = replay(&list, profile.guarded);
         let mut map = fresh(profile.guarded);
-        for ((step, answer), (expected, lent)) in list.into_iter().zip(answers).zip(expected) {
-            assert_eq!(map.perform(step), answer, "{name}: {step:?}");
-            let mut ours = (vec![7; lent.0.len()], vec![9; lent.1.len()]);
-            let given = answer_of(answer, &mut ours.0, &mut ours.1);
-            assert_eq!((given, ours), (expected, lent), "{name}: {step:?}");
+        for ((code, given), Played { step, answer, lent }) in
+            list.into_iter().zip(answers).zip(played)
+        {
+            assert_eq!(map.perform(code), given, "{}: {step:?}", profile.name);
+            let mut ours = Lent::new(lent.lengths());
+            let Lent { addresses, values, owners } = &mut ours;
+            let given = answer_of(step, given, addresses, values, owners);
+            assert_eq!((given, ours), (answer, lent), "{}: {step:?}", profile.name);
         }
     }
     reached.enough();

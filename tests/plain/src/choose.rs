@@ -1,11 +1,11 @@
-//! Choosing addresses and values, and steering the size of the map.
+//! Choosing addresses, values and owners, and steering the size of the map.
 
 use crate::engine::WORKERS;
 use crate::generate::Generator;
-use crate::map::{Map, Write};
+use crate::map::{Map, Payload, Write};
 use crate::moves::{transaction, write_of};
 
-/// Choosing addresses and values.
+/// Choosing addresses, values and owners.
 impl Generator {
     pub fn map(&self) -> &Map {
         self.engine.map()
@@ -25,8 +25,34 @@ impl Generator {
         }
     }
 
+    pub fn payload(&mut self) -> Payload {
+        Payload { value: self.value(), owner: self.random.owner() }
+    }
+
+    /// The same value.
+    pub fn of_other_owner(&mut self, Payload { value, owner }: Payload) -> Payload {
+        Payload { value, owner: self.random.other_owner(owner) }
+    }
+
+    /// A put that changes nothing but the owner of what is there, if anything is.
+    pub fn hand_over(&mut self, address: u32) -> Write {
+        Write::Put(match self.map().current(address) {
+            Some(stored) => self.of_other_owner(stored.payload),
+            None => self.payload(),
+        })
+    }
+
+    /// A put at the address, in some cases of that kind.
+    pub fn put_at(&mut self, address: u32) -> Write {
+        if self.random.one_in(4) {
+            self.hand_over(address)
+        } else {
+            Write::Put(self.payload())
+        }
+    }
+
     pub fn puts(&mut self, addresses: &[u32]) -> Vec<(u32, Write)> {
-        addresses.iter().map(|&address| (address, Write::Put(self.value()))).collect()
+        addresses.iter().map(|&address| (address, self.put_at(address))).collect()
     }
 
     fn unknown(&self, address: u32) -> bool {

@@ -2,16 +2,16 @@
 //! installed transactions, run one by one by commit number on the sequential
 //! list, give the same answers and leave the same contents.
 
-use crate::engine::Engine;
+use crate::engine::{Engine, Reading};
 use crate::list::{Item, SequentialList};
-use crate::step::{run, Answer, Buffers, Step};
+use crate::step::{run, Answer, Buffers, Shown, Step};
 use std::collections::HashMap;
 
 /// A step with its answer, and what a granted scan left in the buffers.
 pub struct Event {
     pub step: Step,
     pub answer: Answer,
-    pub found: Vec<(u32, u64)>,
+    pub found: Vec<Shown>,
 }
 
 /// A history, and the current contents at its end.
@@ -46,7 +46,8 @@ pub fn record(mut engine: Engine, steps: impl IntoIterator<Item = Step>) -> Run 
     }
     let contents = engine.map().contents().into_iter().map(|record| Item {
         address: record.address,
-        value: record.stored.value,
+        value: record.stored.payload.value,
+        owner: record.stored.payload.owner,
         stamp: record.stored.commit,
     });
     Run { history, contents: contents.collect() }
@@ -116,22 +117,23 @@ fn check_numbers(history: &[Event], by_number: &[Installed]) -> Result<(), Strin
     }
 }
 
-/// One step of the list. Gives the number of answers compared. Of a read it is the
-/// value or absence: how many slots were examined, the list does not say.
+/// One step of the list. Gives the number of answers compared. Of a read it is value
+/// and owner, or absence: how many slots were examined, the list does not say.
 fn feed(list: &mut SequentialList, number: u32, event: &Event) -> Result<usize, String> {
     match (event.step, event.answer) {
         (Step::Read { address, .. }, answer) => {
             let expected = list.read(address);
-            let same = matches!(answer, Answer::Read(reading) if reading.value == expected);
+            let told = |reading: Reading| reading.payload.map(|it| (it.value, it.owner));
+            let same = matches!(answer, Answer::Read(reading) if told(reading) == expected);
             compare(same, || format!("{answer:?}, the list reads {expected:?}"))
         }
         (Step::Scan { lo, hi, .. }, answer) => {
-            let expected: Vec<(u32, u64)> = list.scan(lo, hi).collect();
+            let expected: Vec<Shown> = list.scan(lo, hi).collect();
             let same = answer == Answer::Found(expected.len()) && event.found == expected;
             compare(same, || format!("{:?}, the list scans {expected:?}", event.found))
         }
-        (Step::Put { address, value, .. }, _) => {
-            list.put(address, value, number);
+        (Step::Put { address, value, owner, .. }, _) => {
+            list.put(Item { address, value, owner, stamp: number });
             Ok(0)
         }
         (Step::Remove { address, .. }, _) => {

@@ -34,7 +34,7 @@ const fn kind_at(
     Kind { name, place, damage }
 }
 
-pub const KINDS: [Kind; 30] = [
+pub const KINDS: [Kind; 33] = [
     kind("empty line", |_, _| b"\n".to_vec()),
     kind("only a space", |_, _| b" \n".to_vec()),
     kind("carriage return", |line, _| format!("{line}\r\n").into()),
@@ -63,7 +63,10 @@ pub const KINDS: [Kind; 30] = [
     kind("point", |line, random| numbered(line, random, |number| format!("{number}.0"))),
     kind("wide worker", |_, random| format!("B {}\n", wide(u32::MAX.into(), random)).into()),
     kind("wide address", wide_address),
-    kind("wide value", |_, random| format!("P 0 1 {}\n", wide(u64::MAX, random)).into()),
+    kind("wide value", |_, random| format!("P 0 1 {} 0\n", wide(u64::MAX, random)).into()),
+    kind("wide owner", |_, random| format!("P 0 1 2 {}\n", wide(u16::MAX.into(), random)).into()),
+    kind("no owner", |_, random| format!("P 0 1 {}\n", random.below(9)).into()),
+    kind("two owners", |_, random| format!("P 0 1 2 {} 0\n", random.owner()).into()),
     kind_at(Place::Last, "no line feed", |line, random| {
         line[..random.between(1, line.len())].into()
     }),
@@ -148,7 +151,7 @@ fn wide_address(_: &str, random: &mut Random) -> Vec<u8> {
         format!("R 0 {number}\n"),
         format!("S 0 {number} {number}\n"),
         format!("S 0 1 {number}\n"),
-        format!("P 0 {number} 1\n"),
+        format!("P 0 {number} 1 0\n"),
         format!("D 0 {number}\n"),
         format!("M {number}\n"),
     ];

@@ -1,7 +1,7 @@
 //! Eight workers over one map: the steps and their refusals.
 
 use crate::guard;
-use crate::map::{Commit, Leaf, Lock, Map, Pending, Stored, Write, INDEXLET_LIMIT};
+use crate::map::{Commit, Leaf, Lock, Map, Payload, Pending, Stored, Write, INDEXLET_LIMIT};
 use std::ops::Range;
 
 pub const WORKERS: usize = 8;
@@ -48,7 +48,7 @@ pub enum Stage {
 #[derive(Clone, Copy, PartialEq, Eq, Debug)]
 pub struct Reading {
     /// `None` if absent.
-    pub value: Option<u64>,
+    pub payload: Option<Payload>,
     /// Request 103's slots that the look-up examined: 0 for an own write, and `None`
     /// where no slots are kept.
     pub examined: Option<usize>,
@@ -176,23 +176,24 @@ impl Engine {
         let at = self.at_stage(worker, Stage::Open)?;
         let worker = &mut self.workers[at];
         if let Ok(own) = worker.write_at(address) {
-            let value = match worker.write_set[own].1 {
-                Write::Put(value) => Some(value),
+            let payload = match worker.write_set[own].1 {
+                Write::Put(payload) => Some(payload),
                 Write::Delete => None,
             };
-            return Ok(Reading { value, examined: self.map.slots().map(|_| 0) });
+            return Ok(Reading { payload, examined: self.map.slots().map(|_| 0) });
         }
         if worker.read_set.len() == READ_LIMIT {
             return Err(ReadSetFull);
         }
         let current = self.map.current(address);
         worker.read_set.push((address, current));
-        let value = current.map(|stored| stored.value);
-        Ok(Reading { value, examined: self.map.slots().map(|slots| slots.examined(address)) })
+        let payload = current.map(|stored| stored.payload);
+        Ok(Reading { payload, examined: self.map.slots().map(|slots| slots.examined(address)) })
     }
 
     /// Shows only what the index holds and what the transaction wrote: a
-    /// pending insertion is not shown, and makes the leaf fail validation.
+    /// pending insertion is not shown, and makes the leaf fail validation. Of the
+    /// three buffers the shortest decides.
     pub fn scan(
         &mut self,
         worker: u32,
@@ -200,6 +201,7 @@ impl Engine {
         hi: u32,
         addresses: &mut [u32],
         values: &mut [u64],
+        owners: &mut [u16],
     ) -> Result<usize, Refusal> {
         let at = self.at_stage(worker, Stage::Open)?;
         if lo > hi {
@@ -216,12 +218,13 @@ impl Engine {
         let seen: Vec<(u32, Option<Stored>)> =
             records.iter().map(|record| (record.address, self.map.current_of(record))).collect();
         let found = lay_over(&seen, worker.writes_between(lo, hi));
-        if found.len() > addresses.len().min(values.len()) {
+        if found.len() > addresses.len().min(values.len()).min(owners.len()) {
             return Err(ShortBuffer);
         }
-        for (place, &(address, value)) in found.iter().enumerate() {
+        for (place, &(address, payload)) in found.iter().enumerate() {
             addresses[place] = address;
-            values[place] = value;
+            values[place] = payload.value;
+            owners[place] = payload.owner;
         }
         let first = worker.read_set.len();
         worker.read_set.extend(seen);
@@ -230,8 +233,8 @@ impl Engine {
         Ok(found.len())
     }
 
-    pub fn put(&mut self, worker: u32, address: u32, value: u64) -> Result<(), Refusal> {
-        self.write(worker, address, Write::Put(value))
+    pub fn put(&mut self, worker: u32, address: u32, payload: Payload) -> Result<(), Refusal> {
+        self.write(worker, address, Write::Put(payload))
     }
 
     pub fn remove(&mut self, worker: u32, address: u32) -> Result<(), Refusal> {
@@ -345,8 +348,8 @@ impl Engine {
 }
 
 /// What was seen in the index with the own writes laid over, both rising.
-pub fn lay_over(seen: &[(u32, Option<Stored>)], writes: &[(u32, Write)]) -> Vec<(u32, u64)> {
-    let shown = |&(address, stored): &(u32, Option<Stored>)| Some((address, stored?.value));
+pub fn lay_over(seen: &[(u32, Option<Stored>)], writes: &[(u32, Write)]) -> Vec<(u32, Payload)> {
+    let shown = |&(address, stored): &(u32, Option<Stored>)| Some((address, stored?.payload));
     let mut found = Vec::with_capacity(seen.len() + writes.len());
     let mut rest = seen;
     for &(address, write) in writes {
@@ -354,8 +357,8 @@ pub fn lay_over(seen: &[(u32, Option<Stored>)], writes: &[(u32, Write)]) -> Vec<
         found.extend(below.iter().filter_map(shown));
         let replaced = others.first().is_some_and(|&(at, _)| at == address);
         rest = &others[replaced as usize..];
-        if let Write::Put(value) = write {
-            found.push((address, value));
+        if let Write::Put(payload) = write {
+            found.push((address, payload));
         }
     }
     found.extend(rest.iter().filter_map(shown));

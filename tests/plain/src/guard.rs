@@ -54,7 +54,7 @@ pub fn check(worker: &Worker) -> Result<(), Refusal> {
 /// The section of each put, if it can be one.
 pub fn sections(writes: &[(u32, Write)]) -> impl Iterator<Item = Option<Span>> + '_ {
     writes.iter().filter_map(|&(address, write)| match write {
-        Write::Put(length) => Some(Span::new(address, length)),
+        Write::Put(payload) => Some(Span::new(address, payload.value)),
         Write::Delete => None,
     })
 }
@@ -66,11 +66,11 @@ fn deciding_scan(worker: &Worker, section: Span) -> Option<&Scan> {
 }
 
 /// Whether another section overlaps this one, once all writes are laid over what
-/// the scan logged.
+/// the scan logged. Whose sections they are does not matter.
 fn overlapped(worker: &Worker, section: Span, scan: &Scan) -> bool {
     let logged = &worker.read_set[scan.logged.clone()];
-    lay_over(logged, &worker.write_set).into_iter().any(|(address, length)| {
-        let other = Span::new(address, length).expect("no other length was ever locked");
+    lay_over(logged, &worker.write_set).into_iter().any(|(address, payload)| {
+        let other = Span::new(address, payload.value).expect("no other length was ever locked");
         address != section.first && other.overlaps(section)
     })
 }

@@ -6,6 +6,7 @@
 pub struct Item {
     pub address: u32,
     pub value: u64,
+    pub owner: u16,
     pub stamp: u32,
 }
 
@@ -23,20 +24,24 @@ impl SequentialList {
         self.items.partition_point(|item| item.address < address)
     }
 
-    pub fn read(&self, address: u32) -> Option<u64> {
+    /// Value and owner.
+    pub fn read(&self, address: u32) -> Option<(u64, u16)> {
         let item = self.items.get(self.first_from(address))?;
-        (item.address == address).then_some(item.value)
+        (item.address == address).then_some((item.value, item.owner))
     }
 
-    pub fn scan(&self, lo: u32, hi: u32) -> impl Iterator<Item = (u32, u64)> + '_ {
+    /// Addresses, values and owners.
+    pub fn scan(&self, lo: u32, hi: u32) -> impl Iterator<Item = (u32, u64, u16)> + '_ {
         let from = self.items[self.first_from(lo)..].iter();
-        from.take_while(move |item| item.address <= hi).map(|item| (item.address, item.value))
+        let inside = from.take_while(move |item| item.address <= hi);
+        inside.map(|item| (item.address, item.value, item.owner))
     }
 
-    pub fn put(&mut self, address: u32, value: u64, stamp: u32) {
-        self.remove(address);
-        let at = self.first_from(address);
-        self.items.insert(at, Item { address, value, stamp });
+    /// An entry at its address goes.
+    pub fn put(&mut self, item: Item) {
+        self.remove(item.address);
+        let at = self.first_from(item.address);
+        self.items.insert(at, item);
     }
 
     pub fn remove(&mut self, address: u32) {

@@ -12,10 +12,18 @@ const RUN: usize = 8;
 /// A serial number in document 01, and the stamp of what a job wrote.
 pub type Commit = u32;
 
-/// A record without its address. An absent one is `None`: no value, no stamp.
+/// What a put gives a record: document 01's value, and whose section it is (request
+/// 106).
+#[derive(Clone, Copy, PartialEq, Eq, Debug)]
+pub struct Payload {
+    pub value: u64,
+    pub owner: u16,
+}
+
+/// A record without its address. An absent one is `None`: no payload, no stamp.
 #[derive(Clone, Copy, PartialEq, Eq, Debug)]
 pub struct Stored {
-    pub value: u64,
+    pub payload: Payload,
     pub commit: Commit,
 }
 
@@ -28,7 +36,7 @@ pub struct Record {
 /// An edit in document 01. To delete leaves the address gone.
 #[derive(Clone, Copy, PartialEq, Eq, Debug)]
 pub enum Write {
-    Put(u64),
+    Put(Payload),
     Delete,
 }
 
@@ -50,7 +58,7 @@ pub struct Pending {
 impl Pending {
     fn stored(self) -> Option<Stored> {
         match self.write {
-            Write::Put(value) => Some(Stored { value, commit: self.commit }),
+            Write::Put(payload) => Some(Stored { payload, commit: self.commit }),
             Write::Delete => None,
         }
     }

@@ -1,7 +1,7 @@
 //! The generator's steps by name, and whole transactions of them.
 
 use crate::generate::Generator;
-use crate::map::Write;
+use crate::map::{Payload, Write};
 use crate::step::{Answer, Step};
 
 impl Generator {
@@ -18,8 +18,8 @@ impl Generator {
     }
 
     pub fn put(&mut self, worker: u32, address: u32) {
-        let value = self.value();
-        self.play(Step::Put { worker, address, value });
+        let put = self.put_at(address);
+        self.write(worker, (address, put));
     }
 
     pub fn remove(&mut self, worker: u32, address: u32) {
@@ -72,7 +72,7 @@ impl Generator {
 
 pub fn write_of(worker: u32, address: u32, write: Write) -> Step {
     match write {
-        Write::Put(value) => Step::Put { worker, address, value },
+        Write::Put(Payload { value, owner }) => Step::Put { worker, address, value, owner },
         Write::Delete => Step::Remove { worker, address },
     }
 }

@@ -86,10 +86,10 @@ fn ordinary(generator: &mut Generator, worker: u32) -> Vec<Step> {
     for _ in 0..random.between(1, 3) {
         body.push(Step::Read { worker, address: random.address(first, last) * SECTION });
     }
-    for _ in 0..random.between(1, 4) {
-        let address = random.address(first, last) * SECTION;
-        let removed = random.one_in(4);
-        let write = if removed { Write::Delete } else { Write::Put(random.number() >> 40) };
+    for _ in 0..generator.random.between(1, 4) {
+        let address = generator.random.address(first, last) * SECTION;
+        let removed = generator.random.one_in(4);
+        let write = if removed { Write::Delete } else { generator.put_at(address) };
         body.push(write_of(worker, address, write));
     }
     let mut steps = vec![Step::Merge { address: lo }, Step::Merge { address: hi }];
@@ -119,7 +119,10 @@ fn mixed(
                 Step::Scan { worker, lo: at.min(other), hi: at.max(other) }
             }
             4 => Step::Remove { worker, address: at },
-            _ => Step::Put { worker, address: at, value: generator.value() },
+            _ => {
+                let put = generator.put_at(at);
+                write_of(worker, at, put)
+            }
         });
     }
     body
@@ -147,10 +150,11 @@ fn contended(generator: &mut Generator, worker: u32) -> Vec<Step> {
 
 /// Many scans of all widths, over own writes and pending ones.
 fn scans(generator: &mut Generator, worker: u32) -> Vec<Step> {
-    let (base, random) = (generator.area.0, &mut generator.random);
+    let base = generator.area.0;
     let address = |place: u32| base + 3 * place;
     let mut body = Vec::new();
-    for _ in 0..random.between(1, 7) {
+    for _ in 0..generator.random.between(1, 7) {
+        let random = &mut generator.random;
         let first = random.address(0, 600);
         let width = [0, 3, 15, 63, 68][random.below(5)];
         let (lo, hi) = (address(first), address(first + random.address(0, width)));
@@ -158,7 +162,10 @@ fn scans(generator: &mut Generator, worker: u32) -> Vec<Step> {
             0 => body.push(Step::Scan { worker, lo: hi, hi: lo }),
             1..=5 => body.push(Step::Scan { worker, lo, hi }),
             6..=7 => body.push(Step::Remove { worker, address: hi }),
-            _ => body.push(Step::Put { worker, address: hi, value: random.number() % 50 }),
+            _ => {
+                let put = generator.put_at(hi);
+                body.push(write_of(worker, hi, put));
+            }
         }
     }
     let steps = or_abort(generator, transaction(worker, body), 12);
@@ -169,6 +176,9 @@ fn scans(generator: &mut Generator, worker: u32) -> Vec<Step> {
 fn removals(generator: &mut Generator, worker: u32) -> Vec<Step> {
     let count = generator.map().index().len();
     generator.growing = if generator.growing { count < 200 } else { count < 3 };
+    if generator.random.one_in(16) {
+        return hand_over(generator, worker);
+    }
     if generator.growing {
         let new = generator.fresh(12);
         let body = generator.puts(&new).into_iter();
@@ -185,6 +195,13 @@ fn removals(generator: &mut Generator, worker: u32) -> Vec<Step> {
     steps.insert(0, Step::Merge { address });
     steps.push(Step::Merge { address });
     steps
+}
+
+/// A record of the index goes to another owner, and nothing else changes.
+fn hand_over(generator: &mut Generator, worker: u32) -> Vec<Step> {
+    let address = generator.indexed_one();
+    let put = generator.hand_over(address);
+    transaction(worker, [Step::Read { worker, address }, write_of(worker, address, put)])
 }
 
 /// Addresses at both ends of the range.
@@ -223,7 +240,10 @@ pub fn wild(generator: &mut Generator) {
         3..=5 => Step::Read { worker, address: lo },
         6 => Step::Scan { worker, lo, hi },
         7 => Step::Scan { worker, lo: lo.min(hi), hi: lo.max(hi) },
-        8..=10 => Step::Put { worker, address: lo, value: generator.value() },
+        8..=10 => {
+            let put = generator.put_at(lo);
+            write_of(worker, lo, put)
+        }
         11 => Step::Remove { worker, address: lo },
         12..=13 => Step::Lock { worker },
         14..=15 => Step::Validate { worker },

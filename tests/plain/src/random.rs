@@ -27,6 +27,26 @@ impl Random {
         low + (self.number() % (u64::from(high - low) + 1)) as u32
     }
 
+    /// Few often meet again; both ends of the range come up.
+    pub fn owner(&mut self) -> u16 {
+        match self.below(8) {
+            0 => 0,
+            1 => u16::MAX,
+            2 => self.number() as u16,
+            _ => self.below(4) as u16,
+        }
+    }
+
+    /// Any but this one.
+    pub fn other_owner(&mut self, owner: u16) -> u16 {
+        let other = self.owner();
+        if other == owner {
+            owner ^ 1
+        } else {
+            other
+        }
+    }
+
     pub fn one_in(&mut self, times: usize) -> bool {
         self.below(times) == 0
     }

@@ -7,7 +7,7 @@ use crate::generate::Generator;
 use crate::map::Write;
 use crate::step::Step;
 
-const SCENARIOS: [fn(&mut Generator); 17] = [
+const SCENARIOS: [fn(&mut Generator); 19] = [
     pending_phantom,
     locked_phantom,
     dropped_under_lock,
@@ -16,7 +16,9 @@ const SCENARIOS: [fn(&mut Generator); 17] = [
     merged_leaf,
     merged_under_lock,
     changed,
-    same_value,
+    same_payload,
+    other_owner,
+    own_edit_of_other_owner,
     there_and_back,
     under_lock,
     several_causes,
@@ -62,11 +64,11 @@ fn read_or_scan(generator: &mut Generator, worker: u32, address: u32) {
     }
 }
 
-pub fn any_write(generator: &mut Generator) -> Write {
+pub fn any_write(generator: &mut Generator, address: u32) -> Write {
     if generator.random.one_in(3) {
         Write::Delete
     } else {
-        Write::Put(generator.value())
+        generator.put_at(address)
     }
 }
 
@@ -107,7 +109,8 @@ pub fn let_go(generator: &mut Generator, holder: u32) {
 
 fn pending_phantom(generator: &mut Generator) {
     let [reader, writer] = generator.idle_workers();
-    let (new, write) = (generator.fresh_one(), any_write(generator));
+    let new = generator.fresh_one();
+    let write = any_write(generator, new);
     generator.begin(reader);
     let early = generator.random.one_in(2);
     if early {
@@ -122,7 +125,8 @@ fn pending_phantom(generator: &mut Generator) {
 
 fn locked_phantom(generator: &mut Generator) {
     let [reader, holder] = generator.idle_workers();
-    let (new, write) = (generator.fresh_one(), any_write(generator));
+    let new = generator.fresh_one();
+    let write = any_write(generator, new);
     generator.merge(new);
     generator.begin(reader);
     let early = generator.random.one_in(2);
@@ -142,7 +146,7 @@ fn dropped_under_lock(generator: &mut Generator) {
     let [reader, writer, holder] = generator.idle_workers();
     let address = settled(generator, writer);
     generator.commit(writer, &[(address, Write::Delete)]);
-    let write = any_write(generator);
+    let write = any_write(generator, address);
     hold(generator, holder, (address, write));
     generator.merge(address);
     generator.begin(reader);
@@ -153,7 +157,8 @@ fn dropped_under_lock(generator: &mut Generator) {
 
 fn own_lock_is_no_phantom(generator: &mut Generator) {
     let [worker] = generator.idle_workers();
-    let (new, write) = (generator.fresh_one(), any_write(generator));
+    let new = generator.fresh_one();
+    let write = any_write(generator, new);
     generator.merge(new);
     generator.begin(worker);
     scan_leaf(generator, worker, new);
@@ -163,7 +168,8 @@ fn own_lock_is_no_phantom(generator: &mut Generator) {
 
 fn own_lock_on_a_pending_write(generator: &mut Generator) {
     let [worker, writer] = generator.idle_workers();
-    let (new, write) = (generator.fresh_one(), any_write(generator));
+    let new = generator.fresh_one();
+    let write = any_write(generator, new);
     generator.merge(new);
     generator.commit(writer, &[(new, write)]);
     generator.begin(worker);
@@ -178,7 +184,7 @@ fn merged_leaf(generator: &mut Generator) {
     let address = settled(generator, writer);
     generator.begin(reader);
     scan_leaf(generator, reader, address);
-    let write = any_write(generator);
+    let write = any_write(generator, address);
     generator.commit(writer, &[(address, write)]);
     generator.merge(address);
     generator.finish(reader);
@@ -188,9 +194,9 @@ fn merged_leaf(generator: &mut Generator) {
 fn merged_under_lock(generator: &mut Generator) {
     let [reader, writer, holder] = generator.idle_workers();
     let new = generator.fresh_one();
-    let value = generator.value();
-    generator.commit(writer, &[(new, Write::Put(value))]);
-    let write = any_write(generator);
+    let put = generator.put_at(new);
+    generator.commit(writer, &[(new, put)]);
+    let write = any_write(generator, new);
     hold(generator, holder, (new, write));
     generator.merge(new);
     generator.begin(reader);
@@ -206,30 +212,63 @@ fn changed(generator: &mut Generator) {
     let address = generator.random.pick(&[settled, new]);
     generator.begin(reader);
     read_or_scan(generator, reader, address);
-    let write = any_write(generator);
+    let write = any_write(generator, address);
     generator.commit(writer, &[(address, write)]);
     maybe_merge(generator, address);
     generator.finish(reader);
 }
 
-fn same_value(generator: &mut Generator) {
+/// The stamp is another one, and nothing else.
+fn same_payload(generator: &mut Generator) {
     let [reader, writer] = generator.idle_workers();
     let address = settled(generator, writer);
     let Some(stored) = generator.map().current(address) else { return };
     generator.begin(reader);
     read_or_scan(generator, reader, address);
-    generator.commit(writer, &[(address, Write::Put(stored.value))]);
+    generator.commit(writer, &[(address, Write::Put(stored.payload))]);
     maybe_merge(generator, address);
     generator.finish(reader);
+}
+
+/// The section goes to another owner, and the next job sees whose it is.
+fn other_owner(generator: &mut Generator) {
+    let [reader, writer, next] = generator.idle_workers();
+    let address = settled(generator, writer);
+    let put = generator.hand_over(address);
+    generator.begin(reader);
+    read_or_scan(generator, reader, address);
+    generator.commit(writer, &[(address, put)]);
+    maybe_merge(generator, address);
+    generator.begin(next);
+    read_or_scan(generator, next, address);
+    generator.finish(next);
+    generator.finish(reader);
+}
+
+/// A second put at an address, of another owner alone, replaces the first.
+fn own_edit_of_other_owner(generator: &mut Generator) {
+    let [worker] = generator.idle_workers();
+    let settled = settled(generator, worker);
+    let new = generator.fresh_one();
+    let address = generator.random.pick(&[settled, new]);
+    generator.idle(worker);
+    generator.begin(worker);
+    let first = generator.payload();
+    for payload in [first, generator.of_other_owner(first)] {
+        generator.write(worker, (address, Write::Put(payload)));
+        read_or_scan(generator, worker, address);
+    }
+    generator.finish(worker);
 }
 
 /// Absent then and absent now are equal, whatever happened between.
 fn there_and_back(generator: &mut Generator) {
     let [reader, writer] = generator.idle_workers();
-    let (new, value) = (generator.fresh_one(), generator.value());
+    let new = generator.fresh_one();
+    let put = generator.put_at(new);
     generator.begin(reader);
     generator.read(reader, new);
-    generator.commit(writer, &[(new, Write::Put(value))]);
+    generator.commit(writer, &[(new, put)]);
     maybe_merge(generator, new);
     generator.commit(writer, &[(new, Write::Delete)]);
     maybe_merge(generator, new);
@@ -241,7 +280,7 @@ fn under_lock(generator: &mut Generator) {
     let settled = settled(generator, writer);
     let new = generator.fresh_one();
     let address = generator.random.pick(&[settled, new]);
-    let write = any_write(generator);
+    let write = any_write(generator, address);
     generator.begin(reader);
     if generator.random.one_in(2) {
         read_or_scan(generator, reader, address);
@@ -264,9 +303,10 @@ fn several_causes(generator: &mut Generator) {
     generator.read(reader, new[1]);
     scan_leaf(generator, reader, address);
     scan_leaf(generator, reader, new[2]);
-    let write = any_write(generator);
+    let write = any_write(generator, new[1]);
+    let put = generator.put_at(new[0]);
     if generator.random.one_in(2) {
-        generator.commit(writer, &[(new[0], Write::Put(1))]);
+        generator.commit(writer, &[(new[0], put)]);
     }
     if generator.random.one_in(2) {
         hold(generator, holder, (new[1], write));
@@ -316,7 +356,7 @@ fn number_before_install(generator: &mut Generator) {
 fn held(generator: &mut Generator) {
     let [worker, holder] = generator.idle_workers();
     let addresses = generator.fresh(2);
-    let write = any_write(generator);
+    let write = any_write(generator, addresses[0]);
     hold(generator, holder, (addresses[0], write));
     generator.begin(worker);
     generator.write(worker, (addresses[0], write));
@@ -350,7 +390,7 @@ fn try_all(generator: &mut Generator, worker: u32, letters: &str) {
             b'B' => Step::Begin { worker },
             b'R' => Step::Read { worker, address: 7 },
             b'S' => Step::Scan { worker, lo: 9, hi: 7 },
-            b'P' => Step::Put { worker, address: 7, value: 1 },
+            b'P' => Step::Put { worker, address: 7, value: 1, owner: 2 },
             b'D' => Step::Remove { worker, address: 7 },
             b'L' => Step::Lock { worker },
             b'V' => Step::Validate { worker },

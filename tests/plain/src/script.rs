@@ -1,8 +1,8 @@
 //! The text of scripts: lines into steps, and steps and answers into lines.
 
 use crate::engine::{Engine, Reading};
-use crate::map::Record;
-use crate::step::{run, Answer, Buffers, Step};
+use crate::map::{Payload, Record};
+use crate::step::{run, Answer, Buffers, Shown, Step};
 use std::io::{self, Write};
 
 const CHUNK: usize = 1 << 16;
@@ -39,6 +39,7 @@ impl<'a> Parser<'a> {
                 worker: self.number32()?,
                 address: self.number32()?,
                 value: self.number64()?,
+                owner: self.number16()?,
             },
             b'D' => Step::Remove { worker: self.number32()?, address: self.number32()? },
             b'L' => Step::Lock { worker: self.number32()? },
@@ -78,6 +79,10 @@ impl<'a> Parser<'a> {
 
     fn number32(&mut self) -> Option<u32> {
         u32::try_from(self.number64()?).ok()
+    }
+
+    fn number16(&mut self) -> Option<u16> {
+        u16::try_from(self.number64()?).ok()
     }
 }
 
@@ -120,7 +125,7 @@ fn answer_by(mut engine: Engine, script: &[u8], out: &mut impl Write) -> io::Res
             text.clear();
         }
     }
-    write_contents(&mut text, &pairs(&engine.map().contents()));
+    write_contents(&mut text, &shown(&engine.map().contents()));
     out.write_all(&text)
 }
 
@@ -139,9 +144,9 @@ pub fn write_answer(text: &mut Vec<u8>, step: Step, answer: Answer, buffers: &Bu
     }
     match answer {
         Answer::Refused(_) | Answer::Granted => {}
-        Answer::Read(Reading { value, examined }) => {
-            match value {
-                Some(value) => field(text, value),
+        Answer::Read(Reading { payload, examined }) => {
+            match payload {
+                Some(payload) => write_payload(text, payload),
                 None => text.extend(b" -"),
             }
             examined.iter().for_each(|&count| field(text, count as u64));
@@ -150,26 +155,36 @@ pub fn write_answer(text: &mut Vec<u8>, step: Step, answer: Answer, buffers: &Bu
         Answer::Merged(count) => field(text, count as u64),
         Answer::Found(count) => {
             field(text, count as u64);
-            buffers.first(count).for_each(|pair| write_pair(text, pair));
+            buffers.first(count).for_each(|record| write_record(text, record));
         }
     }
     text.push(b'\n');
 }
 
-fn pairs(contents: &[Record]) -> Vec<(u32, u64)> {
-    contents.iter().map(|record| (record.address, record.stored.value)).collect()
+fn shown(contents: &[Record]) -> Vec<Shown> {
+    let shown = |record: &Record| {
+        let payload = record.stored.payload;
+        (record.address, payload.value, payload.owner)
+    };
+    contents.iter().map(shown).collect()
 }
 
-pub fn write_contents(text: &mut Vec<u8>, contents: &[(u32, u64)]) {
+pub fn write_contents(text: &mut Vec<u8>, contents: &[Shown]) {
     text.push(b'E');
     field(text, contents.len() as u64);
-    contents.iter().for_each(|&pair| write_pair(text, pair));
+    contents.iter().for_each(|&record| write_record(text, record));
     text.push(b'\n');
 }
 
-fn write_pair(text: &mut Vec<u8>, (address, value): (u32, u64)) {
+fn write_record(text: &mut Vec<u8>, (address, value, owner): Shown) {
     field(text, address.into());
+    write_payload(text, Payload { value, owner });
+}
+
+/// The owner stands behind the value.
+fn write_payload(text: &mut Vec<u8>, Payload { value, owner }: Payload) {
     field(text, value);
+    field(text, owner.into());
 }
 
 pub fn write_step(text: &mut Vec<u8>, step: Step) {
@@ -214,13 +229,13 @@ pub fn letter(step: Step) -> u8 {
 /// The numbers of a step's line, in their order.
 pub fn fields(step: Step) -> impl Iterator<Item = u64> {
     let worker = step.worker().map(u64::from);
-    let (second, third) = match step {
-        Step::Scan { lo, hi, .. } => (Some(lo), Some(u64::from(hi))),
-        Step::Put { address, value, .. } => (Some(address), Some(value)),
+    let (second, third, fourth) = match step {
+        Step::Scan { lo, hi, .. } => (Some(lo), Some(u64::from(hi)), None),
+        Step::Put { address, value, owner, .. } => (Some(address), Some(value), Some(owner)),
         Step::Read { address, .. } | Step::Remove { address, .. } | Step::Merge { address } => {
-            (Some(address), None)
+            (Some(address), None, None)
         }
-        _ => (None, None),
+        _ => (None, None, None),
     };
-    worker.into_iter().chain(second.map(u64::from)).chain(third)
+    worker.into_iter().chain(second.map(u64::from)).chain(third).chain(fourth.map(u64::from))
 }

@@ -1,7 +1,7 @@
 //! Steps and their answers as plain data, and the engine run by them.
 
 use crate::engine::{Engine, Reading, Refusal};
-use crate::map::Commit;
+use crate::map::{Commit, Payload};
 
 pub const PLACES: usize = 64;
 
@@ -11,7 +11,7 @@ pub enum Step {
     Begin { worker: u32 },
     Read { worker: u32, address: u32 },
     Scan { worker: u32, lo: u32, hi: u32 },
-    Put { worker: u32, address: u32, value: u64 },
+    Put { worker: u32, address: u32, value: u64, owner: u16 },
     Remove { worker: u32, address: u32 },
     Lock { worker: u32 },
     Validate { worker: u32 },
@@ -62,22 +62,26 @@ impl From<Refusal> for Answer {
     }
 }
 
-/// The two buffers lent to a scan.
+/// A record as a scan shows it: address, value and owner.
+pub type Shown = (u32, u64, u16);
+
+/// The three buffers lent to a scan.
+#[derive(Clone, PartialEq, Eq, Debug)]
 pub struct Buffers {
     pub addresses: [u32; PLACES],
     pub values: [u64; PLACES],
+    pub owners: [u16; PLACES],
 }
 
 impl Default for Buffers {
     fn default() -> Self {
-        Buffers { addresses: [0; PLACES], values: [0; PLACES] }
+        Buffers { addresses: [0; PLACES], values: [0; PLACES], owners: [0; PLACES] }
     }
 }
 
 impl Buffers {
-    pub fn first(&self, count: usize) -> impl Iterator<Item = (u32, u64)> + '_ {
-        let pairs = self.addresses.iter().copied().zip(self.values.iter().copied());
-        pairs.take(count)
+    pub fn first(&self, count: usize) -> impl Iterator<Item = Shown> + '_ {
+        (0..count).map(|at| (self.addresses[at], self.values[at], self.owners[at]))
     }
 }
 
@@ -86,10 +90,10 @@ pub fn run(engine: &mut Engine, step: Step, buffers: &mut Buffers) -> Answer {
         Step::Begin { worker } => engine.begin(worker).map(|()| Answer::Granted),
         Step::Read { worker, address } => engine.read(worker, address).map(Answer::Read),
         Step::Scan { worker, lo, hi } => engine
-            .scan(worker, lo, hi, &mut buffers.addresses, &mut buffers.values)
+            .scan(worker, lo, hi, &mut buffers.addresses, &mut buffers.values, &mut buffers.owners)
             .map(Answer::Found),
-        Step::Put { worker, address, value } => {
-            engine.put(worker, address, value).map(|()| Answer::Granted)
+        Step::Put { worker, address, value, owner } => {
+            engine.put(worker, address, Payload { value, owner }).map(|()| Answer::Granted)
         }
         Step::Remove { worker, address } => {
             engine.remove(worker, address).map(|()| Answer::Granted)

@@ -12,7 +12,7 @@ use plain::step::{run, Answer, Buffers, Step};
 fn overlap(map: &Map) -> bool {
     let contents = map.contents();
     contents.windows(2).any(|pair| {
-        let end = u128::from(pair[0].address) + u128::from(pair[0].stored.value);
+        let end = u128::from(pair[0].address) + u128::from(pair[0].stored.payload.value);
         end > u128::from(pair[1].address)
     })
 }
@@ -69,8 +69,9 @@ fn lengths_are_good() {
         run(&mut engine, step, &mut buffers);
         if let Step::Install { .. } = step {
             for record in engine.map().contents() {
-                let end = u128::from(record.address) + u128::from(record.stored.value);
-                assert!((1..=65_536).contains(&record.stored.value), "{record:?}");
+                let length = record.stored.payload.value;
+                let end = u128::from(record.address) + u128::from(length);
+                assert!((1..=65_536).contains(&length), "{record:?}");
                 assert!(end <= 1 << 32, "{record:?}");
             }
         }

@@ -12,8 +12,9 @@ use std::process::{Command, Stdio};
 #[test]
 fn good_lines() {
     let zeros = "0".repeat(100_000);
-    let text = format!("B {zeros}7\nP 7 4294967295 18446744073709551615\nR 7 {zeros}4294967295\n");
-    assert_eq!(answers(text.as_bytes()), "B 0\nP 0\nR 0 18446744073709551615 0\nE 0\n");
+    let put = format!("P 7 4294967295 18446744073709551615 {zeros}65535");
+    let text = format!("B {zeros}7\n{put}\nR 7 {zeros}4294967295\n");
+    assert_eq!(answers(text.as_bytes()), "B 0\nP 0\nR 0 18446744073709551615 65535 0\nE 0\n");
     assert_eq!(answers(b"B 4294967295\nR 8 1\n"), "B 1\nR 1\nE 0\n");
     assert_eq!(answers(b"T\nT\n"), "T 0 0\nT 0 0\nE 0\n");
     assert_eq!(answers(b"G\nT\n"), "G 0\nT 0 0\nE 0\n");
@@ -31,7 +32,7 @@ fn malformed_first_lines() {
 
 #[test]
 fn malformed_lines() {
-    let lines: [&[u8]; 51] = [
+    let lines: [&[u8]; 62] = [
         b"\n",
         b" \n",
         b"\r\n",
@@ -61,8 +62,19 @@ fn malformed_lines() {
         b"S 0 1 2 3\n",
         b"S 0 1 4294967296\n",
         b"P 0 1\n",
-        b"P 0 1 18446744073709551616\n",
-        b"P 0 1 99999999999999999999999\n",
+        b"P 0 1 2\n",
+        b"P 0 1 2 \n",
+        b"P 0 1 2 3 \n",
+        b"P 0 1 2 3 4\n",
+        b"P 0 1 2  3\n",
+        b"P 0 1 2 -3\n",
+        b"P 0 1 2 65536\n",
+        b"P 0 1 2 065536\n",
+        b"P 0 1 2 4294967296\n",
+        b"P 0 1 2 18446744073709551616\n",
+        b"P 0 4294967296 2 3\n",
+        b"P 0 1 18446744073709551616 3\n",
+        b"P 0 1 99999999999999999999999 3\n",
         b"M\n",
         b"M 0 0\n",
         b"M 4294967296\n",
@@ -92,7 +104,7 @@ fn malformed_lines() {
 
 #[test]
 fn last_line_without_its_line_feed() {
-    for line in ["B 2", "B ", "B", "M 5", "T", "T ", "G", "G ", "P 1 2 3", " ", "\r"] {
+    for line in ["B 2", "B ", "B", "M 5", "T", "T ", "G", "G ", "P 1 2 3 4", " ", "\r"] {
         assert_eq!(answers(format!("B 1\n{line}").as_bytes()), "B 0\n?\n", "{line:?}");
         assert_eq!(answers(line.as_bytes()), "?\n", "{line:?}");
     }
@@ -112,6 +124,23 @@ fn every_kind_of_damage() {
         let good: Vec<u8> = lines.take(damaged.line).flatten().copied().collect();
         assert!(answers(&good).starts_with(earlier), "{}", damaged.kind);
     }
+}
+
+/// The damage of a wide owner is the owner alone: with the last one that fits in its
+/// place, all lines are answered.
+#[test]
+fn wide_owners() {
+    let kind = KINDS.iter().position(|kind| kind.name == "wide owner").expect("it is a kind");
+    let mut by_one = 0;
+    for seed in (kind as u64..).step_by(KINDS.len()).take(40) {
+        let damaged = damaged(seed, 20);
+        let mut lines: Vec<&[u8]> = damaged.text.split_inclusive(|&byte| byte == b'\n').collect();
+        by_one += usize::from(lines[damaged.line] == b"P 0 1 2 65536\n");
+        lines[damaged.line] = b"P 0 1 2 65535\n";
+        assert!(answers(&damaged.text).ends_with("?\n"));
+        assert!(!answers(&lines.concat()).contains('?'));
+    }
+    assert!(by_one > 0);
 }
 
 /// A step's line reads back as the step.
@@ -172,8 +201,8 @@ fn scripts_are_the_same_each_time() {
 
 #[test]
 fn parsed_fields_stand_in_their_order() {
-    let steps = script::steps(b"S 1 2 3\nP 4 5 6\n");
-    let expected =
-        [Step::Scan { worker: 1, lo: 2, hi: 3 }, Step::Put { worker: 4, address: 5, value: 6 }];
+    let steps = script::steps(b"S 1 2 3\nP 4 5 6 7\n");
+    let put = Step::Put { worker: 4, address: 5, value: 6, owner: 7 };
+    let expected = [Step::Scan { worker: 1, lo: 2, hi: 3 }, put];
     assert_eq!(steps, expected);
 }

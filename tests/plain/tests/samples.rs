@@ -26,7 +26,7 @@ fn the_day_is_as_told() {
     let day = from("## A day with eight jobs");
     assert_eq!(column(day, 2), DAY);
     assert_eq!(column(day, 3), answers(DAY.as_bytes()));
-    assert!(column(day, 3).ends_with("E 4 0 256 4096 8192 12288 2048 20480 128\n"));
+    assert!(column(day, 3).ends_with("E 4 0 256 0 4096 8192 0 12288 2048 0 20480 128 0\n"));
 }
 
 #[test]
@@ -34,6 +34,6 @@ fn the_guarded_day_is_as_told() {
     let day = from("## A day in a guarded map");
     assert_eq!(column(day, 2), GUARDED);
     assert_eq!(column(day, 3), answers(GUARDED.as_bytes()));
-    let end = "E 5 0 256 4096 4096 8192 2048 16384 4096 20992 512\n";
+    let end = "E 5 0 256 0 4096 4096 0 8192 2048 0 16384 4096 0 20992 512 0\n";
     assert!(column(day, 3).ends_with(end));
 }

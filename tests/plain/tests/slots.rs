@@ -6,7 +6,7 @@ mod common;
 use common::answers;
 use plain::engine::{Engine, Stage, WORKERS, WRITE_LIMIT};
 use plain::generate;
-use plain::map::{Map, INDEXLET_LIMIT};
+use plain::map::{Map, Payload, INDEXLET_LIMIT};
 use plain::profiles::PROFILES;
 use plain::random::Random;
 use plain::script::answer_without_slots;
@@ -66,7 +66,8 @@ fn advance(engine: &mut Engine, worker: u32, random: &mut Random, homes: &[usize
             if random.one_in(3) {
                 engine.remove(worker, address).expect("there is room");
             } else {
-                engine.put(worker, address, 1).expect("there is room");
+                let put = Payload { value: 1, owner: random.owner() };
+                engine.put(worker, address, put).expect("there is room");
             }
         }
         Stage::Open => return engine.lock(worker).is_ok(),
@@ -102,7 +103,7 @@ fn no_worse_than_192() {
 /// The last field of each granted read taken off.
 fn shortened(answers: &str) -> String {
     let shorter = |line: &str| match line.strip_prefix("R 0 ") {
-        Some(told) => format!("R 0 {}\n", told.split_once(' ').expect("two fields").0),
+        Some(told) => format!("R 0 {}\n", told.rsplit_once(' ').expect("two fields or more").0),
         None => format!("{line}\n"),
     };
     answers.lines().map(shorter).collect()

@@ -23,8 +23,8 @@ add-i c = omega (arith, c .before .loop .inv .home, home-less 4 (c .before .befo
 get-requires : tie.Need-get-requires Inv-loop μ-loop
 get-requires c κs = omega arith
 
-sub-t17 : tie.Need-sub-t17 Inv-loop μ-loop
-sub-t17 c =
+sub-t18 : tie.Need-sub-t18 Inv-loop μ-loop
+sub-t18 c =
     let got = c .before .before in
     let turn = got .before .before in
     let start = turn .before .before in
@@ -78,7 +78,7 @@ release-spec =
     loop-holds
     add-i
     get-requires
-    sub-t17
+    sub-t18
     put-requires
     add-d
     loop-less

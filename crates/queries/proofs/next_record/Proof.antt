@@ -39,8 +39,8 @@ current-record-requires : tie.Need-current-record-requires Inv-loop μ-loop
 current-record-requires c κs = search needs
 
 returns-2 : tie.Need-returns-2 Inv-loop μ-loop
-returns-2 c = let s = c .before .before .before .before .before .before .before .before in
-    follows-at _ _ _ (s .pre .0) (s .pre .1) _ _ (c .before .current-record .result) (passed-over _ _ _ (s .pre .0) (s .pre .1) _ _ _ _ _ (c .before .before .before .before .before .before .before .loop .inv) (c .before .before .before .before .before .index-from .ensures) (c .before .before .before .before .slot-from .ensures) (c .before .before .before .least .ensures)) (c .before .current-record .ensures) (c .if2 .taken)
+returns-2 c = let s = c .before .before .before .before .before .before .before .before .before in
+    follows-at _ _ _ (s .pre .0) (s .pre .1) _ _ (c .before .before .current-record .result) (passed-over _ _ _ (s .pre .0) (s .pre .1) _ _ _ _ _ (c .before .before .before .before .before .before .before .before .loop .inv) (c .before .before .before .before .before .before .index-from .ensures) (c .before .before .before .before .before .slot-from .ensures) (c .before .before .before .before .least .ensures)) (c .before .before .current-record .ensures) (c .before .if2 .taken)
 
 add-at : tie.Need-add-at Inv-loop μ-loop
 add-at c = search needs

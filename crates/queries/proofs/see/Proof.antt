@@ -31,9 +31,9 @@ returns-2 c = let l = c .before .before .before .before .before .before .look-up
     }
 
 returns-3 : tie.Need-returns-3
-returns-3 c = let l = c .before .before .before .before .look-up in
+returns-3 c = let l = c .before .before .before .before .before .look-up in
     record {
-      sees = sees-pending _ _ _ _ (l .result .content) (l .ensures .content) (c .before .if1 .left);
+      sees = sees-pending _ _ _ _ (l .result .content) (l .ensures .content) (c .before .before .if1 .left);
       examined = examined-is (l .ensures);
     }
 

@@ -27,6 +27,9 @@ enum-told-6 c = search needs
 enum-told-7 : tie.Need-enum-told-7
 enum-told-7 c = search needs
 
+enum-told-8 : tie.Need-enum-told-8
+enum-told-8 c = search needs
+
 returns : tie.Need-returns
 returns c seen a = at-start _ seen (c .enum-told .given .1) a
 
@@ -48,6 +51,9 @@ returns-6 c seen a = past-start _ seen (ap started (c .enum-told6 .given .1)) a
 returns-7 : tie.Need-returns-7
 returns-7 c seen a = past-start _ seen (ap started (c .enum-told7 .given .1)) a
 
+returns-8 : tie.Need-returns-8
+returns-8 c seen a = past-start _ seen (ap started (c .enum-told8 .given .1)) a
+
 pub at-line-start-spec : {M : Type 1} → statement M
 at-line-start-spec =
     tie.close
@@ -59,10 +65,12 @@ at-line-start-spec =
     enum-told-5
     enum-told-6
     enum-told-7
+    enum-told-8
     returns
     returns-2
     returns-3
     returns-4
     returns-5
     returns-6
-    returns-7)
+    returns-7
+    returns-8)

@@ -47,6 +47,12 @@ enum-known-p-4 c = search needs
 field-requires-3 : tie.Need-field-requires-3
 field-requires-3 c κs = search needs
 
+enum-known-p-5 : tie.Need-enum-known-p-5
+enum-known-p-5 c = search needs
+
+field-requires-4 : tie.Need-field-requires-4
+field-requires-4 c κs = search needs
+
 returns : tie.Need-returns
 returns c = (turns-as (c .before .enum-told .given .1) (c .start .ensures .0), c .start .ensures .1)
 
@@ -71,6 +77,10 @@ returns-7 : tie.Need-returns-7
 unfolding inNumber
 returns-7 c = (turns-as (c .before .before .p4 .given .1) (c .field3 .ensures .0), c .field3 .ensures .1)
 
+returns-8 : tie.Need-returns-8
+unfolding inNumber
+returns-8 c = (turns-as (c .before .before .p5 .given .1) (c .field4 .ensures .0), c .field4 .ensures .1)
+
 pub parse-part-spec : {M : Type 1} → statement M
 parse-part-spec =
     tie.close
@@ -89,10 +99,13 @@ parse-part-spec =
     field-requires-2
     enum-known-p-4
     field-requires-3
+    enum-known-p-5
+    field-requires-4
     returns
     returns-2
     returns-3
     returns-4
     returns-5
     returns-6
-    returns-7)
+    returns-7
+    returns-8)

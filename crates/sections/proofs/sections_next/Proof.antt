@@ -23,7 +23,7 @@ enum-told : tie.Need-enum-told
 enum-told c = search needs
 
 returns : tie.Need-returns
-returns c = next-record-one _ _ (c .before .before .before .before .before .load .ensures) (c .before .before .before .next-record .ensures) (c .before .next .given .1)
+returns c = next-record-one _ _ (c .before .before .before .before .before .before .load .ensures) (c .before .before .before .before .next-record .ensures) (c .before .before .next .given .1)
 
 returns-2 : tie.Need-returns-2
 returns-2 c = next-record-none _ _ (c .before .before .before .before .load .ensures) (c .before .before .next-record .ensures) (c .enum-told .given .1)

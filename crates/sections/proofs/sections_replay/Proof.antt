@@ -25,8 +25,13 @@ same-length-2 c = search needs
 same-length-3 : tie.Need-same-length-3
 same-length-3 c = search needs
 
+same-length-4 : tie.Need-same-length-4
+same-length-4 c = search needs
+
 returns : tie.Need-returns
-returns c = replayed _ _ _ (c .before .before .before .before .before .before .before .before .before .before .before .before .replay .result) (c .before .before .before .before .before .before .before .before .before .before .before .before .replay .ensures) (c .before .before .before .store .ensures) (c .before .put-counts .ensures) (c .stop-number .ensures)
+returns c =
+    let s = c .before .before .before .before .before .before .before .before .before .before .before .before .before .before in
+    replayed _ _ _ (s .replay .result) (s .replay .ensures) (c .before .before .before .store .ensures) (c .before .put-counts .ensures) (c .stop-number .ensures)
 
 pub sections-replay-spec : {M : Type 1} → statement M
 sections-replay-spec =
@@ -39,4 +44,5 @@ sections-replay-spec =
     same-length
     same-length-2
     same-length-3
+    same-length-4
     returns)

@@ -11,10 +11,15 @@ code-in-requires : tie.Need-code-in-requires
 code-in-requires c κs = search needs
 
 step-requires : tie.Need-step-requires
-step-requires c κs = ready-loaded _ (c .before .before .before .before .before .before .before .before .before .load .ensures) (c .before .before .before .before .before .before .before .before .before .before .before .before .before .pre)
+step-requires c κs =
+    let d = c .before .before .before .before .before .before .before .before .before .before in
+    ready-loaded _ (d .load .ensures) (d .before .before .before .before .before .pre)
 
 store-requires : tie.Need-store-requires
-store-requires c κs = steps-workers (ready-loaded _ (c .before .before .before .before .before .before .before .before .before .before .before .before .before .before .before .before .before .load .ensures) (c .before .before .before .before .before .before .before .before .before .before .before .before .before .before .before .before .before .before .before .before .before .pre)) (c .before .before .before .before .before .before .before .step .ensures)
+store-requires c κs =
+    let s = c .before .before .before .before .before .before .before .before .before in
+    let d = s .before .before .before .before .before .before .before .before .before .before .before in
+    steps-workers (ready-loaded _ (d .load .ensures) (d .before .before .before .before .before .pre)) (s .step .ensures)
 
 put-answer-requires : tie.Need-put-answer-requires
 put-answer-requires c κs = search needs
@@ -25,8 +30,16 @@ same-length c = search needs
 same-length-2 : tie.Need-same-length-2
 same-length-2 c = search needs
 
+same-length-3 : tie.Need-same-length-3
+same-length-3 c = search needs
+
 returns : tie.Need-returns
-returns c = exported-step (c .before .before .before .before .before .before .before .before .before .before .step .result) (c .before .before .before .before .before .before .before .before .before .before .before .before .before .before .before .before .before .before .before .before .load .ensures) (c .before .before .before .before .before .before .before .before .before .before .before .before .before .before .before .before .before .before .before .code-in .ensures) (c .before .before .before .before .before .before .before .before .before .before .before .before .before .before .before .before .before .before .before .before .before .before .before .before .pre) (c .before .before .before .before .before .before .before .before .before .before .step .ensures) (c .before .before .store .ensures) (c .put-answer .ensures)
+returns c =
+    let s = c .before .before .before .before .before .before .before .before .before .before .before .before in
+    let k = s .before .before .before .before .before .before .before .before .before .before in
+    let d = k .before in
+    exported-step (s .step .result) (d .load .ensures) (k .code-in .ensures) (d .before .before .before .before .before .pre) (s .step .ensures) (c .before .before .store .ensures)
+    (c .put-answer .ensures)
 
 pub sections-step-spec : {M : Type 1} → statement M
 sections-step-spec =
@@ -39,4 +52,5 @@ sections-step-spec =
     put-answer-requires
     same-length
     same-length-2
+    same-length-3
     returns)

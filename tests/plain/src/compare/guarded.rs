@@ -23,7 +23,7 @@ fn guarded() -> Run {
 fn holding(sections: &[(u32, u64)]) -> Run {
     let mut run = guarded().lines("B 7 -> B 0\nS 7 0 4294967295 -> S 0 0");
     for (address, length) in sections {
-        run = run.lines(&format!("P 7 {address} {length} -> P 0"));
+        run = run.lines(&format!("P 7 {address} {length} 0 -> P 0"));
     }
     let count = sections.len();
     run.lines(&format!("L 7 -> L 0\nV 7 -> V 0 1\nI 7 -> I 0\nT -> T 0 {count}"))
@@ -36,22 +36,22 @@ fn day() -> Script {
         .lines(
             "B 0 -> B 0
              S 0 0 8191 -> S 0 0
-             P 0 0 4096 -> P 0
-             P 0 4096 4096 -> P 0
+             P 0 0 4096 0 -> P 0
+             P 0 4096 4096 0 -> P 0
              L 0 -> L 0
              V 0 -> V 0 1
              I 0 -> I 0
              B 1 -> B 0
              S 1 0 12287 -> S 0 0
-             P 1 8000 100 -> P 0
+             P 1 8000 100 0 -> P 0
              L 1 -> L 0
              V 1 -> V 14
              M 0 -> M 0 2
              B 1 -> B 0
-             S 1 0 12287 -> S 0 2 0 4096 4096 4096
-             P 1 8000 100 -> P 0
+             S 1 0 12287 -> S 0 2 0 4096 0 4096 4096 0
+             P 1 8000 100 0 -> P 0
              L 1 -> L 18
-             P 1 8192 100 -> P 0
+             P 1 8192 100 0 -> P 0
              L 1 -> L 18
              D 1 8000 -> D 0
              L 1 -> L 0
@@ -59,9 +59,9 @@ fn day() -> Script {
              I 1 -> I 0
              T -> T 0 2
              B 2 -> B 0
-             S 2 0 20000 -> S 0 3 0 4096 4096 4096 8192 100
+             S 2 0 20000 -> S 0 3 0 4096 0 4096 4096 0 8192 100 0
              D 2 4096 -> D 0
-             P 2 12288 4096 -> P 0
+             P 2 12288 4096 0 -> P 0
              L 2 -> L 0
              V 2 -> V 0 3
              I 2 -> I 0
@@ -84,8 +84,8 @@ fn same_gap() -> Script {
              B 1 -> B 0
              S 0 0 1000 -> S 0 0
              S 1 0 1000 -> S 0 0
-             P 0 500 10 -> P 0
-             P 1 505 10 -> P 0
+             P 0 500 10 0 -> P 0
+             P 1 505 10 0 -> P 0
              L 0 -> L 0
              L 1 -> L 0
              V 0 -> V 14
@@ -100,10 +100,10 @@ fn unguarded() -> Script {
     Run::default()
         .lines(
             "B 0 -> B 0
-             P 0 5 0 -> P 0
-             P 0 6 18446744073709551615 -> P 0
-             P 0 7 100 -> P 0
-             P 0 8 100 -> P 0
+             P 0 5 0 0 -> P 0
+             P 0 6 18446744073709551615 0 -> P 0
+             P 0 7 100 0 -> P 0
+             P 0 8 100 0 -> P 0
              L 0 -> L 0
              V 0 -> V 0 1
              I 0 -> I 0",
@@ -119,9 +119,9 @@ fn only_at_lock() -> Script {
             "L 8 -> L 1
              L 0 -> L 2
              B 0 -> B 0
-             P 0 5 0 -> P 0
-             R 0 5 -> R 0 0 0
-             P 0 6 99999 -> P 0
+             P 0 5 0 0 -> P 0
+             R 0 5 -> R 0 0 0 0
+             P 0 6 99999 0 -> P 0
              L 0 -> L 16
              V 0 -> V 4
              I 0 -> I 4
@@ -130,7 +130,7 @@ fn only_at_lock() -> Script {
              D 0 6 -> D 0
              L 0 -> L 0
              L 0 -> L 4
-             P 0 7 0 -> P 4
+             P 0 7 0 0 -> P 4
              V 0 -> V 0 1
              I 0 -> I 0
              T -> T 0 2
@@ -146,12 +146,12 @@ fn lengths_before_scans() -> Script {
     guarded()
         .lines(
             "B 0 -> B 0
-             P 0 100 5 -> P 0
-             P 0 200 0 -> P 0
+             P 0 100 5 0 -> P 0
+             P 0 200 0 0 -> P 0
              L 0 -> L 16
-             P 0 200 1 -> P 0
+             P 0 200 1 0 -> P 0
              L 0 -> L 17
-             S 0 0 200 -> S 0 2 100 5 200 1
+             S 0 0 200 -> S 0 2 100 5 0 200 1 0
              L 0 -> L 0
              V 0 -> V 0 1
              I 0 -> I 0",
@@ -164,14 +164,14 @@ fn scans_before_overlaps() -> Script {
     holding(&[(1000, 10)])
         .lines(
             "B 0 -> B 0
-             S 0 0 1005 -> S 0 1 1000 10
-             P 0 1005 1 -> P 0
-             P 0 2000 5 -> P 0
+             S 0 0 1005 -> S 0 1 1000 10 0
+             P 0 1005 1 0 -> P 0
+             P 0 2000 5 0 -> P 0
              L 0 -> L 17
-             P 0 3000 65537 -> P 0
+             P 0 3000 65537 0 -> P 0
              L 0 -> L 16
              D 0 3000 -> D 0
-             S 0 0 2004 -> S 0 3 1000 10 1005 1 2000 5
+             S 0 0 2004 -> S 0 3 1000 10 0 1005 1 0 2000 5 0
              L 0 -> L 18
              D 0 1005 -> D 0
              L 0 -> L 0
@@ -187,15 +187,15 @@ fn before_held() -> Script {
         .lines(
             "B 0 -> B 0
              S 0 0 109 -> S 0 0
-             P 0 100 10 -> P 0
+             P 0 100 10 0 -> P 0
              L 0 -> L 0
              B 1 -> B 0
-             P 1 100 0 -> P 0
+             P 1 100 0 0 -> P 0
              L 1 -> L 16
-             P 1 100 10 -> P 0
+             P 1 100 10 0 -> P 0
              L 1 -> L 17
-             S 1 0 200 -> S 0 1 100 10
-             P 1 105 1 -> P 0
+             S 1 0 200 -> S 0 1 100 10 0
+             P 1 105 1 0 -> P 0
              L 1 -> L 18
              D 1 105 -> D 0
              L 1 -> L 9
@@ -215,14 +215,14 @@ fn before_full_indexlet() -> Script {
     }
     run.lines(
         "B 0 -> B 0
-         P 0 500 0 -> P 0
+         P 0 500 0 0 -> P 0
          L 0 -> L 16
-         P 0 500 10 -> P 0
+         P 0 500 10 0 -> P 0
          L 0 -> L 17
-         S 0 0 600 -> S 0 1 500 10
-         P 0 505 1 -> P 0
+         S 0 0 600 -> S 0 1 500 10 0
+         P 0 505 1 0 -> P 0
          L 0 -> L 18
-         P 0 510 1 -> P 0
+         P 0 510 1 0 -> P 0
          D 0 505 -> D 0
          L 0 -> L 10
          T -> T 0 192
@@ -242,21 +242,21 @@ fn before_full_map() -> Script {
         let (lo, hi) = (first.saturating_sub(65_535), first + 16 * LONGEST - 1);
         run = run.lines(&format!("B 0 -> B 0\nS 0 {lo} {hi} -> S 0 0"));
         for place in 0..16 {
-            run = run.lines(&format!("P 0 {} 65536 -> P 0", first + place * LONGEST));
+            run = run.lines(&format!("P 0 {} 65536 0 -> P 0", first + place * LONGEST));
         }
         run = run.lines(&format!("L 0 -> L 0\nV 0 -> V 0 {}\nI 0 -> I 0\nT -> T 0 16", job + 1));
     }
     run.lines(
         "B 0 -> B 0
-         P 0 67108864 0 -> P 0
+         P 0 67108864 0 0 -> P 0
          L 0 -> L 16
-         P 0 67108864 1 -> P 0
+         P 0 67108864 1 0 -> P 0
          L 0 -> L 17
-         S 0 67043329 67108864 -> S 0 1 67108864 1
+         S 0 67043329 67108864 -> S 0 1 67108864 1 0
          L 0 -> L 11
-         P 0 67108863 1 -> P 0
+         P 0 67108863 1 0 -> P 0
          L 0 -> L 17
-         S 0 67043328 67108864 -> S 0 3 67043328 65536 67108863 1 67108864 1
+         S 0 67043328 67108864 -> S 0 3 67043328 65536 0 67108863 1 0 67108864 1 0
          L 0 -> L 18
          D 0 67108863 -> D 0
          L 0 -> L 11
@@ -271,11 +271,11 @@ fn lengths() -> Script {
     let two_to_64 = 1u128 << 64;
     let bad = [0, 65_537, 1 << 32, (1 << 32) + 1, two_to_64 - 100_000, two_to_64 - 99_999];
     for length in bad.into_iter().chain([two_to_64 - 1]) {
-        run = run.lines(&format!("P 0 100000 {length} -> P 0\nL 0 -> L 16"));
+        run = run.lines(&format!("P 0 100000 {length} 0 -> P 0\nL 0 -> L 16"));
     }
     run.lines(
-        "P 0 100000 65536 -> P 0
-         P 0 165536 1 -> P 0
+        "P 0 100000 65536 0 -> P 0
+         P 0 165536 1 0 -> P 0
          L 0 -> L 0
          V 0 -> V 0 1
          I 0 -> I 0",
@@ -289,19 +289,19 @@ fn highest_address() -> Script {
         .lines(
             "B 0 -> B 0
              S 0 4294836225 4294967295 -> S 0 0
-             P 0 4294901761 65536 -> P 0
+             P 0 4294901761 65536 0 -> P 0
              L 0 -> L 16
-             P 0 4294901761 65535 -> P 0
+             P 0 4294901761 65535 0 -> P 0
              L 0 -> L 0
              A 0 -> A 0
              B 0 -> B 0
              S 0 4294836225 4294967295 -> S 0 0
-             P 0 4294901760 65536 -> P 0
-             P 0 4294967295 2 -> P 0
+             P 0 4294901760 65536 0 -> P 0
+             P 0 4294967295 2 0 -> P 0
              L 0 -> L 16
-             P 0 4294967295 1 -> P 0
+             P 0 4294967295 1 0 -> P 0
              L 0 -> L 18
-             P 0 4294901760 65535 -> P 0
+             P 0 4294901760 65535 0 -> P 0
              L 0 -> L 0
              V 0 -> V 0 1
              I 0 -> I 0",
@@ -315,23 +315,23 @@ fn low_addresses() -> Script {
         .lines(
             "B 0 -> B 0
              S 0 1 70000 -> S 0 0
-             P 0 65536 1 -> P 0
+             P 0 65536 1 0 -> P 0
              L 0 -> L 0
              A 0 -> A 0
              B 0 -> B 0
              S 0 1 70000 -> S 0 0
-             P 0 65535 1 -> P 0
+             P 0 65535 1 0 -> P 0
              L 0 -> L 17
-             S 0 0 65535 -> S 0 1 65535 1
+             S 0 0 65535 -> S 0 1 65535 1 0
              L 0 -> L 0
              A 0 -> A 0
              B 0 -> B 0
              S 0 1 70000 -> S 0 0
-             P 0 0 65535 -> P 0
+             P 0 0 65535 0 -> P 0
              L 0 -> L 17
-             S 0 0 65533 -> S 0 1 0 65535
+             S 0 0 65533 -> S 0 1 0 65535 0
              L 0 -> L 17
-             S 0 0 65534 -> S 0 1 0 65535
+             S 0 0 65534 -> S 0 1 0 65535 0
              L 0 -> L 0
              V 0 -> V 0 1
              I 0 -> I 0",
@@ -345,12 +345,12 @@ fn short_scans() -> Script {
     guarded()
         .lines(
             "B 0 -> B 0
-             P 0 200000 1000 -> P 0
-             S 0 134466 200999 -> S 0 1 200000 1000
+             P 0 200000 1000 0 -> P 0
+             S 0 134466 200999 -> S 0 1 200000 1000 0
              L 0 -> L 17
-             S 0 134465 200998 -> S 0 1 200000 1000
+             S 0 134465 200998 -> S 0 1 200000 1000 0
              L 0 -> L 17
-             S 0 134465 200999 -> S 0 1 200000 1000
+             S 0 134465 200999 -> S 0 1 200000 1000 0
              L 0 -> L 0
              V 0 -> V 0 1
              I 0 -> I 0",
@@ -363,22 +363,22 @@ fn farthest() -> Script {
     holding(&[(100_000, 65_536)])
         .lines(
             "B 0 -> B 0
-             S 0 100000 165535 -> S 0 1 100000 65536
-             P 0 165535 1 -> P 0
+             S 0 100000 165535 -> S 0 1 100000 65536 0
+             P 0 165535 1 0 -> P 0
              L 0 -> L 18
              A 0 -> A 0
              B 0 -> B 0
              S 0 100001 165536 -> S 0 0
-             P 0 165536 1 -> P 0
+             P 0 165536 1 0 -> P 0
              L 0 -> L 0
              V 0 -> V 0 2
              I 0 -> I 0
              T -> T 0 1
              B 0 -> B 0
-             S 0 34464 100001 -> S 0 1 100000 65536
-             P 0 99999 2 -> P 0
+             S 0 34464 100001 -> S 0 1 100000 65536 0
+             P 0 99999 2 0 -> P 0
              L 0 -> L 18
-             P 0 99999 1 -> P 0
+             P 0 99999 1 0 -> P 0
              L 0 -> L 0
              V 0 -> V 0 3
              I 0 -> I 0",
@@ -393,18 +393,18 @@ fn latest_refuses() -> Script {
         .lines(
             "B 0 -> B 0
              S 0 0 1000 -> S 0 0
-             P 0 500 10 -> P 0
+             P 0 500 10 0 -> P 0
              B 2 -> B 0
              S 2 0 1000 -> S 0 0
-             P 2 510 10 -> P 0
+             P 2 510 10 0 -> P 0
              B 1 -> B 0
              S 1 0 1000 -> S 0 0
-             P 1 505 10 -> P 0
+             P 1 505 10 0 -> P 0
              L 1 -> L 0
              V 1 -> V 0 1
              I 1 -> I 0
              M 0 -> M 0 1
-             S 0 0 1000 -> S 0 2 500 10 505 10
+             S 0 0 1000 -> S 0 2 500 10 0 505 10 0
              L 0 -> L 18
              D 0 500 -> D 0
              L 0 -> L 0
@@ -421,8 +421,8 @@ fn latest_grants() -> Script {
     holding(&[(505, 10)])
         .lines(
             "B 0 -> B 0
-             S 0 0 1000 -> S 0 1 505 10
-             P 0 500 10 -> P 0
+             S 0 0 1000 -> S 0 1 505 10 0
+             P 0 500 10 0 -> P 0
              L 0 -> L 18
              B 1 -> B 0
              D 1 505 -> D 0
@@ -430,7 +430,7 @@ fn latest_grants() -> Script {
              V 1 -> V 0 2
              I 1 -> I 0
              L 0 -> L 18
-             S 0 0 1000 -> S 0 1 500 10
+             S 0 0 1000 -> S 0 1 500 10 0
              L 0 -> L 0
              V 0 -> V 12",
         )
@@ -443,15 +443,15 @@ fn later_but_narrow() -> Script {
         .lines(
             "B 0 -> B 0
              S 0 0 1000 -> S 0 0
-             P 0 500 10 -> P 0
+             P 0 500 10 0 -> P 0
              B 1 -> B 0
              S 1 0 1000 -> S 0 0
-             P 1 505 10 -> P 0
+             P 1 505 10 0 -> P 0
              L 1 -> L 0
              V 1 -> V 0 1
              I 1 -> I 0
              M 0 -> M 0 1
-             S 0 1 1000 -> S 0 2 500 10 505 10
+             S 0 1 1000 -> S 0 2 500 10 0 505 10 0
              L 0 -> L 0
              V 0 -> V 14",
         )
@@ -469,7 +469,7 @@ fn waiting_removal() -> Script {
              I 1 -> I 0
              B 0 -> B 0
              S 0 0 2000 -> S 0 0
-             P 0 1050 100 -> P 0
+             P 0 1050 100 0 -> P 0
              L 0 -> L 0
              V 0 -> V 0 3
              I 0 -> I 0
@@ -483,20 +483,20 @@ fn own_puts() -> Script {
     holding(&[(1000, 100)])
         .lines(
             "B 0 -> B 0
-             S 0 0 3000 -> S 0 1 1000 100
-             P 0 2000 10 -> P 0
-             P 0 2009 1 -> P 0
+             S 0 0 3000 -> S 0 1 1000 100 0
+             P 0 2000 10 0 -> P 0
+             P 0 2009 1 0 -> P 0
              L 0 -> L 18
-             P 0 2000 9 -> P 0
+             P 0 2000 9 0 -> P 0
              L 0 -> L 0
              A 0 -> A 0
              B 0 -> B 0
-             P 0 1050 50 -> P 0
-             S 0 0 1099 -> S 0 2 1000 100 1050 50
+             P 0 1050 50 0 -> P 0
+             S 0 0 1099 -> S 0 2 1000 100 0 1050 50 0
              L 0 -> L 18
-             P 0 1000 51 -> P 0
+             P 0 1000 51 0 -> P 0
              L 0 -> L 18
-             P 0 1000 50 -> P 0
+             P 0 1000 50 0 -> P 0
              L 0 -> L 0
              V 0 -> V 0 2
              I 0 -> I 0",
@@ -512,15 +512,15 @@ fn own_removals() -> Script {
             "B 0 -> B 0
              D 0 1000 -> D 0
              S 0 0 2000 -> S 0 0
-             P 0 1050 10 -> P 0
+             P 0 1050 10 0 -> P 0
              L 0 -> L 0
              A 0 -> A 0
              B 0 -> B 0
-             S 0 0 2000 -> S 0 1 1000 100
-             P 0 1050 10 -> P 0
+             S 0 0 2000 -> S 0 1 1000 100 0
+             P 0 1050 10 0 -> P 0
              L 0 -> L 18
              D 0 1000 -> D 0
-             P 0 999 51 -> P 0
+             P 0 999 51 0 -> P 0
              L 0 -> L 0
              V 0 -> V 0 2
              I 0 -> I 0",
@@ -535,7 +535,7 @@ fn no_scans() -> Script {
         .lines(
             "B 0 -> B 0
              R 0 10 -> R 0 - 1
-             P 0 10 1 -> P 0
+             P 0 10 1 0 -> P 0
              L 0 -> L 17
              S 0 10 0 -> S 5
              L 0 -> L 17
@@ -544,9 +544,9 @@ fn no_scans() -> Script {
              S 0 0 1000 -> S 0 0
              A 0 -> A 0
              B 0 -> B 0
-             P 0 10 1 -> P 0
+             P 0 10 1 0 -> P 0
              L 0 -> L 17
-             S 0 0 10 -> S 0 1 10 1
+             S 0 0 10 -> S 0 1 10 1 0
              L 0 -> L 0
              V 0 -> V 0 1
              I 0 -> I 0",
@@ -560,9 +560,9 @@ fn most_scans() -> Script {
     let (many, few) = ("S 0 5 5 -> S 0 0\n".repeat(32), "S 0 5 5 -> S 0 0\n".repeat(31));
     guarded()
         .lines(&format!("B 0 -> B 0\n{many}S 0 0 1000 -> S 6"))
-        .lines("P 0 500 10 -> P 0\nL 0 -> L 17\nA 0 -> A 0")
+        .lines("P 0 500 10 0 -> P 0\nL 0 -> L 17\nA 0 -> A 0")
         .lines(&format!("B 0 -> B 0\nS 0 0 1000 -> S 0 0\n{few}S 0 5 5 -> S 6"))
-        .lines("P 0 500 10 -> P 0\nL 0 -> L 0\nV 0 -> V 0 1\nI 0 -> I 0")
+        .lines("P 0 500 10 0 -> P 0\nL 0 -> L 0\nV 0 -> V 0 1\nI 0 -> I 0")
         .end("32 scans of a job", [(500, 10)].into_iter())
 }
 
@@ -571,7 +571,7 @@ fn most_scans() -> Script {
 fn short_buffer() -> Script {
     let sections = |places: Range<u32>| places.map(|place| (10 * place, 10));
     let shown = |places: Range<u32>| -> String {
-        sections(places).map(|(address, length)| format!(" {address} {length}")).collect()
+        sections(places).map(|(address, length)| format!(" {address} {length} 0")).collect()
     };
     let mut run = guarded();
     for job in 0..4 {
@@ -579,13 +579,13 @@ fn short_buffer() -> Script {
         run = run.lines("B 0 -> B 0");
         run = run.lines(&format!("S 0 0 {} -> S 0 {old}{}", 10 * new - 1, shown(0..old)));
         for (address, length) in sections(old..new) {
-            run = run.lines(&format!("P 0 {address} {length} -> P 0"));
+            run = run.lines(&format!("P 0 {address} {length} 0 -> P 0"));
         }
         run = run.lines(&format!("L 0 -> L 0\nV 0 -> V 0 {}\nI 0 -> I 0", job + 1));
         run = run.oldest(&[16]);
     }
-    run.lines("B 0 -> B 0\nP 0 640 1 -> P 0\nS 0 0 640 -> S 8\nL 0 -> L 17\nD 0 0 -> D 0")
-        .lines(&format!("S 0 0 640 -> S 0 64{} 640 1", shown(1..64)))
+    run.lines("B 0 -> B 0\nP 0 640 1 0 -> P 0\nS 0 0 640 -> S 8\nL 0 -> L 17\nD 0 0 -> D 0")
+        .lines(&format!("S 0 0 640 -> S 0 64{} 640 1 0", shown(1..64)))
         .lines("L 0 -> L 0\nV 0 -> V 0 5\nI 0 -> I 0")
         .end("a scan that its buffers refuse", sections(1..64).chain([(640, 1)]))
 }

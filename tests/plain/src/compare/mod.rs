@@ -3,6 +3,7 @@
 
 mod difference;
 mod guarded;
+mod owners;
 pub mod program;
 mod removals;
 pub mod runs;

@@ -1,8 +1,9 @@
 //! Runs of request 104: removals hide nothing, and are edits like any other for the
 //! rest.
 
-use super::runs::{as_put, two_leaves, Run};
+use super::runs::{as_put, as_shown, listed, two_leaves, Run};
 use super::Script;
+use crate::step::Shown;
 
 pub fn all() -> Vec<Script> {
     let mut scripts = vec![dropped_under_removal(), beside_a_scanner(), fresh_mark()];
@@ -15,9 +16,8 @@ impl Run {
     /// A job that scans 0 to 1000, edits nothing and is locked. It sees addresses as `job`
     /// puts them.
     fn looks(self, seat: u32, seen: &[u32]) -> Self {
-        let records = seen.iter().map(|&address| as_put(address));
-        let pairs: String = records.map(|(at, value)| format!(" {at} {value}")).collect();
-        let scan = format!("S {seat} 0 1000 -> S 0 {}{pairs}", seen.len());
+        let records: Vec<Shown> = seen.iter().copied().map(as_shown).collect();
+        let scan = format!("S {seat} 0 1000 -> S 0 {}{}", seen.len(), listed(&records));
         self.lines(&format!("B {seat} -> B 0\n{scan}\nL {seat} -> L 0"))
     }
 
@@ -33,7 +33,9 @@ impl Run {
 
     fn locks_put(self, seat: u32, address: u32) -> Self {
         let value = as_put(address).1;
-        self.lines(&format!("B {seat} -> B 0\nP {seat} {address} {value} -> P 0\nL {seat} -> L 0"))
+        self.lines(&format!(
+            "B {seat} -> B 0\nP {seat} {address} {value} 0 -> P 0\nL {seat} -> L 0"
+        ))
     }
 
     fn locks_removal(self, seat: u32, address: u32) -> Self {
@@ -74,7 +76,7 @@ fn beside_a_scanner() -> Script {
              D 0 4 -> D 0
              D 0 900 -> D 0
              B 1 -> B 0
-             S 1 0 1000 -> S 0 1 5 12
+             S 1 0 1000 -> S 0 1 5 12 0
              L 0 -> L 0
              L 1 -> L 0
              V 1 -> V 0 2
@@ -84,8 +86,8 @@ fn beside_a_scanner() -> Script {
         .sees(1, 4, &[5])
         .lines(
             "B 1 -> B 0
-             S 1 0 1000 -> S 0 1 5 12
-             P 1 6 13 -> P 0
+             S 1 0 1000 -> S 0 1 5 12 0
+             P 1 6 13 0 -> P 0
              I 0 -> I 0
              L 1 -> L 0
              V 1 -> V 0 5",
@@ -103,7 +105,7 @@ fn fresh_mark() -> Script {
     Run::default()
         .job(0, 1, [5])
         .lines("M 0 -> M 0 1")
-        .lines("B 1 -> B 0\nS 1 0 1000 -> S 0 1 5 12")
+        .lines("B 1 -> B 0\nS 1 0 1000 -> S 0 1 5 12 0")
         .removals(0, 2, [4, 6])
         .lines("M 5 -> M 0 2\nL 1 -> L 0\nV 1 -> V 14")
         .sees(1, 3, &[5])
@@ -133,7 +135,7 @@ fn put_under_removal() -> Script {
 fn removal_under_put() -> Script {
     Run::default()
         .removals(0, 1, [5])
-        .lines("B 1 -> B 0\nS 1 0 1000 -> S 0 0\nP 1 5 12 -> P 0")
+        .lines("B 1 -> B 0\nS 1 0 1000 -> S 0 0\nP 1 5 12 0 -> P 0")
         .sees(2, 2, &[])
         .lines("L 1 -> L 0")
         .misses_a_key(2, &[])
@@ -150,15 +152,15 @@ fn removal_under_put() -> Script {
 /// since seat 1 holds 9, has not settled it.
 fn replaced() -> Script {
     Run::default()
-        .lines("B 0 -> B 0\nP 0 5 12 -> P 0\nD 0 5 -> D 0\nL 0 -> L 0")
+        .lines("B 0 -> B 0\nP 0 5 12 0 -> P 0\nD 0 5 -> D 0\nL 0 -> L 0")
         .sees(2, 1, &[])
-        .lines("A 0 -> A 0\nB 0 -> B 0\nD 0 5 -> D 0\nP 0 5 12 -> P 0\nL 0 -> L 0")
+        .lines("A 0 -> A 0\nB 0 -> B 0\nD 0 5 -> D 0\nP 0 5 12 0 -> P 0\nL 0 -> L 0")
         .misses_a_key(2, &[])
         .lines("A 0 -> A 0")
         .locks_removal(1, 9)
         .lines(
             "B 0 -> B 0
-             P 0 5 12 -> P 0
+             P 0 5 12 0 -> P 0
              D 0 9 -> D 0
              L 0 -> L 9
              D 0 5 -> D 0
@@ -215,7 +217,7 @@ fn held_and_under_lock() -> Script {
         .locks_removal(0, 7)
         .lines(
             "B 1 -> B 0
-             S 1 0 10 -> S 0 1 7 14
+             S 1 0 10 -> S 0 1 7 14 0
              L 1 -> L 0
              V 1 -> V 13
              V 0 -> V 0 2
@@ -277,8 +279,8 @@ fn joined() -> Script {
 fn cut() -> Script {
     let above: Vec<u32> = (9..=17).map(|place| 10 * place).collect();
     let scan = |seat: u32| {
-        let pairs: String = above.iter().map(|&at| format!(" {at} {}", as_put(at).1)).collect();
-        format!("B {seat} -> B 0\nS {seat} 90 200 -> S 0 9{pairs}\nL {seat} -> L 0")
+        let records: Vec<Shown> = above.iter().copied().map(as_shown).collect();
+        format!("B {seat} -> B 0\nS {seat} 90 200 -> S 0 9{}\nL {seat} -> L 0", listed(&records))
     };
     Run::default()
         .job(0, 1, (1..=16).map(|place| 10 * place))

@@ -1,8 +1,9 @@
 //! Runs with their answers written down by hand: those of document 01 that are
 //! not starred, as far as a script can show them, folds of the oldest, guarded maps,
-//! slots examined, removals and the edges of a script.
+//! slots examined, removals, owners and the edges of a script.
 
-use super::{guarded, removals, slots, Script};
+use super::{guarded, owners, removals, slots, Script};
+use crate::step::Shown;
 
 /// Lines with their answers, in the order in which they are run.
 #[derive(Default)]
@@ -22,7 +23,7 @@ impl Run {
         self
     }
 
-    /// A whole job of puts, with its serial number.
+    /// A whole job of puts, all of owner 0, with its serial number.
     pub fn job(self, seat: u32, number: u32, addresses: impl IntoIterator<Item = u32>) -> Self {
         self.puts(seat, number, addresses).lines(&format!("I {seat} -> I 0"))
     }
@@ -31,7 +32,7 @@ impl Run {
     pub fn puts(self, seat: u32, number: u32, addresses: impl IntoIterator<Item = u32>) -> Self {
         let mut run = self.lines(&format!("B {seat} -> B 0"));
         for address in addresses {
-            run = run.lines(&format!("P {seat} {address} {} -> P 0", value_at(address)));
+            run = run.lines(&format!("P {seat} {address} {} 0 -> P 0", value_at(address)));
         }
         run.lines(&format!("L {seat} -> L 0\nV {seat} -> V 0 {number}"))
     }
@@ -55,12 +56,22 @@ impl Run {
         counts.iter().fold(self, |run, count| run.lines(&format!("T -> T 0 {count}")))
     }
 
+    /// The records that are left, all of owner 0.
     pub fn end(self, name: &str, records: impl Iterator<Item = (u32, u64)>) -> Script {
-        let pairs: Vec<String> =
-            records.map(|(address, value)| format!(" {address} {value}")).collect();
-        let answers = format!("{}E {}{}\n", self.answers, pairs.len(), pairs.concat());
+        let records: Vec<Shown> = records.map(|(address, value)| (address, value, 0)).collect();
+        self.end_owned(name, &records)
+    }
+
+    pub fn end_owned(self, name: &str, records: &[Shown]) -> Script {
+        let answers = format!("{}E {}{}\n", self.answers, records.len(), listed(records));
         Script::Text { name: name.into(), text: self.text, answers }
     }
+}
+
+/// Records as they stand in an answer.
+pub(super) fn listed(records: &[Shown]) -> String {
+    let one = |(address, value, owner): &Shown| format!(" {address} {value} {owner}");
+    records.iter().map(one).collect()
 }
 
 pub(super) fn value_at(address: u32) -> u64 {
@@ -71,12 +82,18 @@ pub(super) fn as_put(address: u32) -> (u32, u64) {
     (address, value_at(address))
 }
 
+/// The same with its owner.
+pub(super) fn as_shown(address: u32) -> Shown {
+    (address, value_at(address), 0)
+}
+
 pub fn all() -> Vec<Script> {
     let mut scripts = vec![full_indexlet(), full_write_set(), short_buffer(), zeros()];
     scripts.extend([install_order(), age_of_an_address(), ages_in_one_install(), last_of_192()]);
     scripts.extend(guarded::all());
     scripts.extend(slots::all());
     scripts.extend(removals::all());
+    scripts.extend(owners::all());
     let edges = [
         ("empty input", "", "E 0\n"),
         ("a last line without its line feed", "B 0\nB 1", "B 0\n?\n"),
@@ -114,10 +131,10 @@ fn full_indexlet() -> Script {
     }
     run.lines(
         "B 0 -> B 0
-         P 0 192 1 -> P 0
+         P 0 192 1 0 -> P 0
          L 0 -> L 10
          B 1 -> B 0
-         P 1 191 1 -> P 0
+         P 1 191 1 0 -> P 0
          L 1 -> L 0
          M 0 -> M 0 192
          L 0 -> L 0
@@ -131,12 +148,12 @@ fn full_indexlet() -> Script {
 fn full_write_set() -> Script {
     let mut run = Run::default().lines("B 3 -> B 0");
     for address in 1..=16 {
-        run = run.lines(&format!("P 3 {address} {} -> P 0", value_at(address)));
+        run = run.lines(&format!("P 3 {address} {} 0 -> P 0", value_at(address)));
     }
     run.lines(
-        "P 3 17 1 -> P 7
+        "P 3 17 1 0 -> P 7
          D 3 17 -> D 7
-         P 3 16 5 -> P 0
+         P 3 16 5 0 -> P 0
          D 3 1 -> D 0
          L 3 -> L 0
          V 3 -> V 0 1
@@ -151,17 +168,14 @@ fn short_buffer() -> Script {
     for job in 0..4 {
         run = run.job(5, job + 1, 16 * job..16 * job + 16);
     }
-    let pairs = |records: &[(u32, u64)]| -> String {
-        records.iter().map(|(address, value)| format!(" {address} {value}")).collect()
-    };
-    let mut records: Vec<(u32, u64)> = (0..64).map(as_put).collect();
+    let mut records: Vec<Shown> = (0..64).map(as_shown).collect();
     run = run
         .lines("M 0 -> M 0 64\nB 6 -> B 0")
-        .lines(&format!("S 6 0 63 -> S 0 64{}", pairs(&records)))
-        .lines("A 6 -> A 0\nB 6 -> B 0\nP 6 64 1 -> P 0\nS 6 0 64 -> S 8");
-    records.push((64, 1));
-    run.lines(&format!("S 6 1 64 -> S 0 64{}", pairs(&records[1..])))
-        .end("64 and 65 records", records[..64].iter().copied())
+        .lines(&format!("S 6 0 63 -> S 0 64{}", listed(&records)))
+        .lines("A 6 -> A 0\nB 6 -> B 0\nP 6 64 1 0 -> P 0\nS 6 0 64 -> S 8");
+    records.push((64, 1, 0));
+    run.lines(&format!("S 6 1 64 -> S 0 64{}", listed(&records[1..])))
+        .end_owned("64 and 65 records", &records[..64])
 }
 
 /// A number may have any count of leading zeros.
@@ -169,8 +183,8 @@ fn zeros() -> Script {
     let zeros = "0".repeat(200_000);
     Run::default()
         .lines(&format!("B {zeros}2 -> B 0"))
-        .lines(&format!("P {zeros}2 {zeros}4294967295 {zeros}18446744073709551615 -> P 0"))
-        .lines(&format!("R 2 {zeros}4294967295 -> R 0 18446744073709551615 0"))
+        .lines(&format!("P {zeros}2 {zeros}4294967295 {zeros}18446744073709551615 {zeros} -> P 0"))
+        .lines(&format!("R 2 {zeros}4294967295 -> R 0 18446744073709551615 0 0"))
         .lines(&format!("R 2 {zeros} -> R 0 - 1"))
         .lines("L 2 -> L 0\nV 2 -> V 0 1\nI 2 -> I 0")
         .end("200,000 leading zeros", [(u32::MAX, u64::MAX)].into_iter())
@@ -239,7 +253,7 @@ fn ages_in_one_install() -> Script {
         .job(2, 5, [20, 40, 50])
         .puts(3, 6, [160])
         .oldest(&[4, 1, 0])
-        .lines("B 4 -> B 0\nP 4 160 1 -> P 0\nL 4 -> L 9\nI 3 -> I 0")
+        .lines("B 4 -> B 0\nP 4 160 1 0 -> P 0\nL 4 -> L 9\nI 3 -> I 0")
         .oldest(&[1, 0])
         .end("ages in one install", seventeen().map(as_put))
 }
@@ -290,7 +304,7 @@ fn last_of_192() -> Script {
     }
     run.lines(&format!("B 5 -> B 0\nS 5 {LAST} {LAST} -> S 0 0"))
         .oldest(&[1])
-        .lines(&format!("S 5 {LAST} {LAST} -> S 0 1 {LAST} {}", value_at(LAST)))
+        .lines(&format!("S 5 {LAST} {LAST} -> S 0 1 {LAST} {} 0", value_at(LAST)))
         .oldest(&[1; 191])
         .oldest(&[0])
         .end("the last of 192 waiting", thin().chain(filled()).chain([LAST]).map(as_put))

@@ -28,7 +28,7 @@ impl Run {
     /// Reads of what a whole job has put, with the slots that they examine.
     fn finds(self, expected: &[(u32, usize)]) -> Self {
         let line = |&(address, examined): &(u32, usize)| {
-            format!("R 7 {address} -> R 0 {} {examined}\n", value_at(address))
+            format!("R 7 {address} -> R 0 {} 0 {examined}\n", value_at(address))
         };
         self.reads(expected.iter().map(line).collect())
     }
@@ -46,7 +46,7 @@ impl Run {
 
     /// A job that has locked these addresses.
     fn holds(self, seat: u32, addresses: impl IntoIterator<Item = u32>) -> Self {
-        let puts = addresses.into_iter().map(|address| format!("P {seat} {address} 1 -> P 0\n"));
+        let puts = addresses.into_iter().map(|address| format!("P {seat} {address} 1 0 -> P 0\n"));
         self.lines(&format!("B {seat} -> B 0\n{}L {seat} -> L 0", puts.collect::<String>()))
     }
 }
@@ -58,8 +58,8 @@ fn own_edits() -> Script {
         .lines(
             "B 0 -> B 0
              R 0 0 -> R 0 - 1
-             P 0 0 5 -> P 0
-             R 0 0 -> R 0 5 0
+             P 0 0 5 0 -> P 0
+             R 0 0 -> R 0 5 0 0
              D 0 0 -> D 0
              R 0 0 -> R 0 - 0
              R 0 4294967295 -> R 0 - 1
@@ -107,7 +107,7 @@ fn after_aborts() -> Script {
         .finds(&[(crowd(1), 2), (crowd(2), 3), (crowd(3), 1)])
         .misses(&[(crowd(0), 3)])
         .lines("B 4 -> B 0\nR 4 1 -> R 0 - 1")
-        .lines(&format!("P 4 {} 1 -> P 0\nL 4 -> L 0", crowd(4)))
+        .lines(&format!("P 4 {} 1 0 -> P 0\nL 4 -> L 0", crowd(4)))
         .job(5, 4, [crowd(5)])
         .job(6, 5, [1])
         .misses(&[(crowd(4), 4)])

@@ -103,8 +103,8 @@ fn link(generator: &mut Generator, worker: u32, stretch: &Stretch) -> Vec<Step> 
         body.push(Step::Read { worker, address: generator.random.pick(&any) });
     }
     for _ in 0..generator.random.between(0, 4) {
-        let put = Write::Put(generator.value());
         let address = stretch.linked(generator);
+        let put = generator.put_at(address);
         body.extend(write(generator, worker, (address, put)));
     }
     body
@@ -114,16 +114,16 @@ fn link(generator: &mut Generator, worker: u32, stretch: &Stretch) -> Vec<Step> 
 fn write(generator: &mut Generator, worker: u32, last: (u32, Write)) -> Vec<Step> {
     let mut writes = vec![last];
     if generator.random.one_in(6) {
-        writes.insert(0, (last.0, any_write(generator)));
+        writes.insert(0, (last.0, any_write(generator, last.0)));
     }
     writes.into_iter().map(|(address, write)| write_of(worker, address, write)).collect()
 }
 
-fn either(generator: &mut Generator) -> Write {
+fn either(generator: &mut Generator, address: u32) -> Write {
     if generator.random.one_in(2) {
         Write::Delete
     } else {
-        Write::Put(generator.value())
+        generator.put_at(address)
     }
 }
 
@@ -131,11 +131,11 @@ fn either(generator: &mut Generator) -> Write {
 fn dropped_under_lock(generator: &mut Generator) {
     let [reader, writer, holder] = generator.idle_workers();
     let address = Stretch::any(generator).linked(generator);
-    let value = generator.value();
-    generator.commit(writer, &[(address, Write::Put(value))]);
+    let put = generator.put_at(address);
+    generator.commit(writer, &[(address, put)]);
     generator.merge(address);
     generator.commit(writer, &[(address, Write::Delete)]);
-    let write = either(generator);
+    let write = either(generator, address);
     hold(generator, holder, (address, write));
     generator.merge(address);
     generator.begin(reader);
@@ -149,7 +149,7 @@ fn waiting(generator: &mut Generator, writer: u32) -> u32 {
     let address = Stretch::any(generator).linked(generator);
     generator.commit(writer, &[(address, Write::Delete)]);
     generator.merge(address);
-    let write = either(generator);
+    let write = either(generator, address);
     generator.commit(writer, &[(address, write)]);
     address
 }
@@ -158,7 +158,7 @@ fn waiting(generator: &mut Generator, writer: u32) -> u32 {
 fn locked_while_it_waits(generator: &mut Generator) {
     let [reader, writer, holder] = generator.idle_workers();
     let address = waiting(generator, writer);
-    let write = either(generator);
+    let write = either(generator, address);
     hold(generator, holder, (address, write));
     generator.begin(reader);
     scan_leaf(generator, reader, address);
@@ -170,7 +170,7 @@ fn locked_while_it_waits(generator: &mut Generator) {
 fn own_while_it_waits(generator: &mut Generator) {
     let [worker, writer] = generator.idle_workers();
     let address = waiting(generator, writer);
-    let write = either(generator);
+    let write = either(generator, address);
     generator.begin(worker);
     scan_leaf(generator, worker, address);
     generator.write(worker, (address, write));

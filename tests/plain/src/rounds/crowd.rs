@@ -3,7 +3,7 @@
 use super::finish_or_abort;
 use crate::engine::{WORKERS, WRITE_LIMIT};
 use crate::generate::Generator;
-use crate::map::{Write, INDEXLET_LIMIT};
+use crate::map::INDEXLET_LIMIT;
 use crate::scenarios::any_write;
 use crate::slots::{home, SLOTS};
 
@@ -60,7 +60,7 @@ fn pile(generator: &mut Generator) {
         for _ in 0..generator.random.between(1, WRITE_LIMIT) {
             let other = generator.random.one_in(8);
             let address = if other { one_in_its_way(generator) } else { one_of_crowd(generator) };
-            let write = any_write(generator);
+            let write = any_write(generator, address);
             generator.write(worker, (address, write));
         }
         if generator.random.one_in(4) {
@@ -88,8 +88,9 @@ fn all_round(generator: &mut Generator) {
             (0..WRITE_LIMIT).for_each(|_| generator.put(worker, next()));
             generator.lock(worker);
         }
-        let (pushed, value) = (next(), generator.value());
-        generator.commit(last, &[(pushed, Write::Put(value))]);
+        let pushed = next();
+        let put = generator.put_at(pushed);
+        generator.commit(last, &[(pushed, put)]);
         let examined = generator.map().slots().map_or(1, |slots| slots.examined(pushed));
         slot = (slot + examined - 1) % SLOTS;
         others.iter().for_each(|&worker| generator.abort(worker));
@@ -103,7 +104,7 @@ fn look_up(generator: &mut Generator) {
     for _ in 0..generator.random.between(2, 12) {
         let address = sought(generator);
         if generator.random.one_in(12) {
-            let write = any_write(generator);
+            let write = any_write(generator, address);
             generator.write(reader, (address, write));
         }
         generator.read(reader, address);

@@ -83,10 +83,10 @@ fn border(generator: &mut Generator) {
     let Some((below, above)) = below.zip(above) else { return };
     let read = generator.random.pick(&[below, above]);
     let written = generator.random.pick(&[below, above]);
-    let value = generator.value();
+    let put = generator.put_at(written);
     generator.begin(reader);
     generator.scan(reader, read, read);
-    generator.commit(writer, &[(written, Write::Put(value))]);
+    generator.commit(writer, &[(written, put)]);
     generator.finish(reader);
 }
 

@@ -58,8 +58,13 @@ fn look(generator: &mut Generator) {
     }
     let address = generator.indexed_one();
     generator.read(worker, address);
-    if generator.random.one_in(2) {
-        generator.put(worker, address);
+    match generator.random.below(4) {
+        0 => generator.put(worker, address),
+        1 => {
+            let put = generator.hand_over(address);
+            generator.write(worker, (address, put));
+        }
+        _ => {}
     }
     finish_or_abort(generator, worker);
 }

@@ -34,7 +34,8 @@ fn install_in_any_order(generator: &mut Generator) {
     for &worker in &workers {
         generator.begin(worker);
         for _ in 0..generator.random.between(1, 4) {
-            let (address, write) = (some_address(generator), any_write(generator));
+            let address = some_address(generator);
+            let write = any_write(generator, address);
             generator.play(write_of(worker, address, write));
         }
         generator.lock(worker);

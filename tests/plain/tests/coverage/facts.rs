@@ -4,11 +4,12 @@
 use crate::guard::Guard;
 use crate::hiding::{bearing, other_lock, written, Bearing, Kind};
 use crate::observe::Observer;
+use crate::owners;
 use crate::slots::Look;
 use plain::engine::{Stage, Worker, WORKERS};
-use plain::map::{Leaf, Map, Write};
-use plain::step::Step;
-use std::collections::BTreeSet;
+use plain::map::{Leaf, Map, Payload, Write};
+use plain::step::{Buffers, Step};
+use std::collections::{BTreeMap, BTreeSet};
 
 /// A step and the engine as it was before it.
 pub struct Meeting {
@@ -20,6 +21,8 @@ pub enum Facts {
     Plain,
     Read {
         own: bool,
+        /// What is to be told.
+        payload: Option<Payload>,
         reads: usize,
         look: Look,
         /// Whether an edit waits at the address, and whether the index has it.
@@ -31,12 +34,16 @@ pub enum Facts {
         reads: usize,
         leaves: usize,
         here: usize,
-        shown: usize,
+        /// What is to be shown, and the buffers before.
+        shown: BTreeMap<u32, Payload>,
+        before: Box<Buffers>,
     },
     Write {
         old: bool,
         count: usize,
         removal: bool,
+        /// What is to be said of a put's owner.
+        owners: Vec<&'static str>,
     },
     Lock {
         guard: Guard,
@@ -56,6 +63,8 @@ pub enum Facts {
         number: u32,
         written: Vec<u32>,
         puts: bool,
+        /// Whether it changes the owner of records, and nothing else.
+        owners_alone: bool,
     },
     Merge {
         /// What is to be said of the pick, if the merge picked its own leaf.
@@ -88,11 +97,12 @@ impl Meeting {
 
 fn open_facts(observer: &Observer, worker: &Worker, step: Step) -> Facts {
     let map = observer.engine.map();
-    let own = |address: u32| worker.write_set.iter().any(|&(at, _)| at == address);
+    let own = |address: u32| owners::own(worker, address).is_some();
     let count = worker.write_set.len();
     match step {
         Step::Read { address, .. } => Facts::Read {
             own: own(address),
+            payload: owners::to_be_read(map, worker, address),
             reads: worker.read_set.len() + 1,
             look: observer.table.look_up(address),
             pending: map.pending(address).is_some(),
@@ -103,24 +113,31 @@ fn open_facts(observer: &Observer, worker: &Worker, step: Step) -> Facts {
             reads: worker.read_set.len(),
             leaves: worker.leaf_set.len(),
             here: 0,
-            shown: 0,
+            shown: BTreeMap::new(),
+            before: Box::new(observer.buffers.clone()),
         },
-        Step::Scan { lo, hi, .. } => scan_facts(map, worker, lo, hi),
-        Step::Put { address, .. } => Facts::Write { old: own(address), count, removal: false },
-        Step::Remove { address, .. } => Facts::Write { old: own(address), count, removal: true },
+        Step::Scan { lo, hi, .. } => scan_facts(observer, worker, lo, hi),
+        Step::Put { address, value, owner, .. } => {
+            let owners = owners::of_put(map, worker, address, Payload { value, owner });
+            Facts::Write { old: own(address), count, removal: false, owners }
+        }
+        Step::Remove { address, .. } => {
+            Facts::Write { old: own(address), count, removal: true, owners: vec![] }
+        }
         _ => Facts::Plain,
     }
 }
 
-fn scan_facts(map: &Map, worker: &Worker, lo: u32, hi: u32) -> Facts {
+fn scan_facts(observer: &Observer, worker: &Worker, lo: u32, hi: u32) -> Facts {
+    let map = observer.engine.map();
     let inside = |address: u32| lo <= address && address <= hi;
     let indexed: Vec<u32> =
         map.index().iter().map(|record| record.address).filter(|&at| inside(at)).collect();
-    let mut shown: BTreeSet<u32> =
-        indexed.iter().copied().filter(|&at| map.current(at).is_some()).collect();
+    let present = indexed.iter().filter_map(|&at| Some((at, map.current(at)?.payload)));
+    let mut shown: BTreeMap<u32, Payload> = present.collect();
     for &(address, write) in worker.write_set.iter().filter(|&&(at, _)| inside(at)) {
         match write {
-            Write::Put(_) => shown.insert(address),
+            Write::Put(payload) => shown.insert(address, payload),
             Write::Delete => shown.remove(&address),
         };
     }
@@ -131,7 +148,8 @@ fn scan_facts(map: &Map, worker: &Worker, lo: u32, hi: u32) -> Facts {
         reads: worker.read_set.len() + indexed.len(),
         leaves: worker.leaf_set.len() + here,
         here,
-        shown: shown.len(),
+        shown,
+        before: Box::new(observer.buffers.clone()),
     }
 }
 
@@ -166,8 +184,7 @@ fn validate_facts(observer: &Observer, at: usize) -> Facts {
         match (then, map.current(address)) {
             (None, Some(_)) => changes.extend(["appeared"]),
             (Some(_), None) => changes.extend(["disappeared"]),
-            (Some(then), Some(now)) if then.value != now.value => changes.extend(["other value"]),
-            (Some(then), Some(now)) if then.commit != now.commit => changes.extend(["other stamp"]),
+            (Some(then), Some(now)) => changes.extend(owners::difference(then, now)),
             (None, None) if map.pending(address).is_some() => calm.extend(["absent again"]),
             _ => {}
         }
@@ -200,6 +217,7 @@ fn install_facts(observer: &Observer, at: usize) -> Facts {
         number: observer.numbers[at],
         written: writes.iter().map(|&(address, _)| address).collect(),
         puts: writes.iter().any(|(_, write)| matches!(write, Write::Put(_))),
+        owners_alone: owners::alone(observer.engine.map(), writes),
     }
 }
 

@@ -1,9 +1,9 @@
 //! Request 102's causes at a lock, worked out from a transaction's granted steps by
 //! the request's words, and what was just enough or decided where it was granted.
 
-use plain::map::Map;
+use plain::map::{Map, Payload};
 use plain::step::Step;
-use std::collections::BTreeMap;
+use std::collections::{BTreeMap, BTreeSet};
 
 /// Wide enough for any sum of an address and a length.
 type Wide = i128;
@@ -13,14 +13,14 @@ const LAST_ADDRESS: Wide = u32::MAX as Wide;
 struct Scanned {
     lo: Wide,
     hi: Wide,
-    /// Present records of the index, with their lengths.
-    logged: BTreeMap<u32, u64>,
+    /// Present records of the index: a length and an owner.
+    logged: BTreeMap<u32, Payload>,
 }
 
 /// The latest write at an address.
 struct Edit {
     /// `None` for a removal.
-    length: Option<u64>,
+    put: Option<Payload>,
     scans_before: usize,
 }
 
@@ -32,11 +32,12 @@ pub struct Log {
     edits: BTreeMap<u32, Edit>,
 }
 
-/// The addresses of the puts that each refusal is due for, with the reason; and
-/// what is to be said of all others.
+/// The addresses of the puts that each refusal is due for, with the reason; whose
+/// sections overlap; and what is to be said of all others.
 #[derive(Default)]
 pub struct Guard {
     pub causes: BTreeMap<u8, BTreeMap<u32, &'static str>>,
+    pub owners: BTreeSet<&'static str>,
     pub calm: Vec<&'static str>,
 }
 
@@ -66,12 +67,14 @@ struct Section {
     from: Wide,
     first: Wide,
     last: Wide,
+    owner: u16,
 }
 
 impl Section {
-    fn new(address: u32, length: u64) -> Self {
+    fn new(address: u32, Payload { value, owner }: Payload) -> Self {
         let first = Wide::from(address);
-        Section { address, from: (first - 65_535).max(0), first, last: first + length as Wide - 1 }
+        let (from, last) = ((first - 65_535).max(0), first + value as Wide - 1);
+        Section { address, from, first, last, owner }
     }
 
     fn meets(&self, other: &Section) -> bool {
@@ -91,11 +94,12 @@ impl Log {
             Step::Begin { .. } => *self = Log::default(),
             Step::Read { .. } => self.reads += 1,
             Step::Scan { lo, hi, .. } => self.scans.push(Scanned::new(map, lo, hi)),
-            Step::Put { address, value, .. } => {
-                self.edits.insert(address, Edit { length: Some(value), scans_before });
+            Step::Put { address, value, owner, .. } => {
+                let put = Some(Payload { value, owner });
+                self.edits.insert(address, Edit { put, scans_before });
             }
             Step::Remove { address, .. } => {
-                self.edits.insert(address, Edit { length: None, scans_before });
+                self.edits.insert(address, Edit { put: None, scans_before });
             }
             _ => {}
         }
@@ -104,13 +108,13 @@ impl Log {
     pub fn guard(&self) -> Guard {
         let mut guard = Guard::default();
         for (&address, edit) in &self.edits {
-            let Some(length) = edit.length else { continue };
-            let (number, reason) = match bad_length(address, length) {
+            let Some(put) = edit.put else { continue };
+            let (number, reason) = match bad_length(address, put.value) {
                 Some(reason) => (16, reason),
                 None => {
-                    let section = Section::new(address, length);
-                    guard.calm.extend(edges(&section, length));
-                    match self.judge(&section, edit.scans_before, &mut guard.calm) {
+                    let section = Section::new(address, put);
+                    guard.calm.extend(edges(&section, put.value));
+                    match self.judge(&section, edit.scans_before, &mut guard) {
                         Some(refusal) => refusal,
                         None => continue,
                     }
@@ -126,7 +130,7 @@ impl Log {
         &self,
         section: &Section,
         scans_before: usize,
-        calm: &mut Vec<&'static str>,
+        guard: &mut Guard,
     ) -> Option<(u8, &'static str)> {
         let covers = |scan: &Scanned| scan.lo <= section.from && section.last <= scan.hi;
         let covering: Vec<usize> =
@@ -136,6 +140,7 @@ impl Log {
         };
         let by_first = self.overlap(section, &self.scans[first]);
         if let Some(reason) = self.overlap(section, &self.scans[latest]) {
+            guard.owners.extend(self.owners(section, &self.scans[latest]));
             return Some((18, if by_first.is_none() { "the latest scan" } else { reason }));
         }
         let last = self.scans.last().and_then(|scan| self.overlap(section, scan));
@@ -144,8 +149,8 @@ impl Log {
             (first >= scans_before, "a scan after the put"),
             (last.is_some(), "a narrow scan that would refuse it"),
         ];
-        calm.extend(names.iter().filter(|name| name.0).map(|name| name.1));
-        calm.extend(self.calm(section, &self.scans[latest]));
+        guard.calm.extend(names.iter().filter(|name| name.0).map(|name| name.1));
+        guard.calm.extend(self.calm(section, &self.scans[latest]));
         None
     }
 
@@ -173,11 +178,21 @@ impl Log {
     /// All edits laid over what the scan logged, and whether an entry is an own put.
     fn laid_over(&self, scan: &Scanned) -> Vec<(Section, bool)> {
         let logged = scan.logged.iter().filter(|(at, _)| !self.edits.contains_key(at));
-        let logged = logged.map(|(&at, &length)| (Section::new(at, length), false));
-        let own = self.edits.iter().filter_map(|(&at, edit)| Some((at, edit.length?)));
+        let logged = logged.map(|(&at, &there)| (Section::new(at, there), false));
+        let own = self.edits.iter().filter_map(|(&at, edit)| Some((at, edit.put?)));
         // Another put of a bad length is 16's to tell.
-        let own = own.filter(|&(at, length)| bad_length(at, length).is_none());
-        logged.chain(own.map(|(at, length)| (Section::new(at, length), true))).collect()
+        let own = own.filter(|&(at, put)| bad_length(at, put.value).is_none());
+        logged.chain(own.map(|(at, put)| (Section::new(at, put), true))).collect()
+    }
+
+    /// Whose are the sections in its way.
+    fn owners(&self, section: &Section, scan: &Scanned) -> BTreeSet<&'static str> {
+        let mut names = BTreeSet::new();
+        for (other, _) in self.laid_over(scan).iter().filter(|(other, _)| other.meets(section)) {
+            let same = other.owner == section.owner;
+            names.insert(if same { "the same owner" } else { "another owner" });
+        }
+        names
     }
 
     fn overlap(&self, section: &Section, scan: &Scanned) -> Option<&'static str> {
@@ -195,16 +210,19 @@ impl Log {
     /// What a granted put rests on.
     fn calm(&self, section: &Section, scan: &Scanned) -> Vec<&'static str> {
         let logged: Vec<Section> =
-            scan.logged.iter().map(|(&at, &length)| Section::new(at, length)).collect();
+            scan.logged.iter().map(|(&at, &there)| Section::new(at, there)).collect();
         let in_the_way = |removed: bool| {
             logged.iter().any(|old| {
                 let edit = self.edits.get(&old.address);
-                old.meets(section) && edit.is_some_and(|edit| edit.length.is_none() == removed)
+                old.meets(section) && edit.is_some_and(|edit| edit.put.is_none() == removed)
             })
         };
         let all = self.laid_over(scan);
         let neighbour =
             |own: bool| all.iter().any(|(other, is_own)| *is_own == own && other.touches(section));
+        let old = logged.iter().find(|old| old.address == section.address);
+        let handed_over =
+            old.is_some_and(|old| old.last == section.last && old.owner != section.owner);
         let names = [
             (scan.lo == section.from && scan.lo > 0, "lo just enough"),
             (section.first < 65_535 && scan.lo == 0, "lo 0 for a low address"),
@@ -212,6 +230,7 @@ impl Log {
             (in_the_way(true), "an own removal in its way"),
             (in_the_way(false), "an own put in its way cut short"),
             (scan.logged.contains_key(&section.address), "its own old section"),
+            (handed_over, "another owner alone"),
             (neighbour(false), "a section that touches it"),
             (neighbour(true), "an own put that touches it"),
         ];
@@ -223,7 +242,7 @@ impl Scanned {
     fn new(map: &Map, lo: u32, hi: u32) -> Self {
         let inside =
             map.index().iter().map(|record| record.address).filter(|at| (lo..=hi).contains(at));
-        let present = inside.filter_map(|at| Some((at, map.current(at)?.value)));
+        let present = inside.filter_map(|at| Some((at, map.current(at)?.payload)));
         Scanned { lo: lo.into(), hi: hi.into(), logged: present.collect() }
     }
 }

@@ -7,6 +7,7 @@ mod guard;
 mod hiding;
 mod names;
 mod observe;
+mod owners;
 mod slots;
 
 use observe::{Observer, Seen};
@@ -211,8 +212,24 @@ const HIDING: [&str; 17] = [
     "13 by lock for a removal",
 ];
 
+/// What request 106 adds: who puts, what a put changes if it changes the owner alone,
+/// and that a change of the owner alone is seen; whoever owns it, a section is in the
+/// way.
+const OWNERS: [&str; 10] = [
+    "put by the first owner",
+    "put by the last owner",
+    "another owner in an own put",
+    "another owner in a waiting put",
+    "another owner in the index",
+    "job of other owners alone",
+    "12 by other owner",
+    "18 by the same owner",
+    "18 by another owner",
+    "put with another owner alone",
+];
+
 fn required() -> Vec<String> {
-    let names = MEETINGS.iter().chain(&GUARDED).chain(&LOOK_UPS).chain(&HIDING);
+    let names = MEETINGS.iter().chain(&GUARDED).chain(&LOOK_UPS).chain(&HIDING).chain(&OWNERS);
     let mut names: Vec<String> = names.map(|name| name.to_string()).collect();
     for (letter, numbers) in REFUSALS {
         names.extend(numbers.iter().map(|number| format!("{letter} {number}")));
@@ -327,6 +344,26 @@ fn cleanup_has_every_entry() {
     observe(profile, &generate::script(1, 45_000, profile), &mut seen);
     for name in HIDING {
         assert!(seen.get(name).is_some_and(|&times| times >= 20), "{name}: {seen:?}");
+    }
+}
+
+/// Every profile has owners from both ends of the range, and jobs that change owners
+/// and nothing else; where jobs meet at old addresses, such jobs are often seen.
+#[test]
+fn every_profile_has_owners() {
+    for profile in short_profiles() {
+        let mut seen = Seen::new();
+        observe(profile, &generate::script(1, 20_000, profile), &mut seen);
+        let times = |name: &str| seen.get(name).copied().unwrap_or(0);
+        for name in ["put by the first owner", "put by the last owner"] {
+            assert!(times(name) >= 20, "{}, {name}: {seen:?}", profile.name);
+        }
+        let name = "job of other owners alone";
+        assert!(times(name) >= 3, "{}, {name}: {}", profile.name, times(name));
+        if ["contended", "races", "guarded"].contains(&profile.name) {
+            let name = "12 by other owner";
+            assert!(times(name) >= 5, "{}, {name}: {}", profile.name, times(name));
+        }
     }
 }
 

@@ -6,9 +6,9 @@ use crate::guard::Guard;
 use crate::observe::Observer;
 use crate::slots::Look;
 use plain::engine::{Engine, Stage, LEAF_LIMIT, READ_LIMIT, WORKERS, WRITE_LIMIT};
-use plain::map::{Leaf, Lock, Map, Write, INDEXLET_LIMIT, MAP_LIMIT};
-use plain::step::{Answer, PLACES};
-use std::collections::BTreeSet;
+use plain::map::{Leaf, Lock, Map, Payload, Write, INDEXLET_LIMIT, MAP_LIMIT};
+use plain::step::{Answer, Buffers, PLACES};
+use std::collections::{BTreeMap, BTreeSet};
 
 /// The first cause must be the answer.
 fn expect(answer: Answer, causes: &[(bool, u8)]) {
@@ -25,30 +25,32 @@ impl Meeting {
         match &self.facts {
             Facts::Plain => Vec::new(),
             Facts::Read { .. } => self.read_names(answer),
-            Facts::Scan { .. } => self.scan_names(answer),
-            &Facts::Write { old, count, removal } => {
+            Facts::Scan { .. } => self.scan_names(observer, answer),
+            &Facts::Write { old, count, removal, ref owners } => {
                 expect(answer, &[(!old && count == WRITE_LIMIT, 7)]);
                 let full = count == WRITE_LIMIT;
-                chosen(&[
+                let mut names = chosen(&[
                     (granted && !old && count == WRITE_LIMIT - 1, "16th write"),
                     (!granted && !removal, "17th put"),
                     (!granted && removal, "17th removal"),
                     (full && old && !removal, "old put at a full write set"),
                     (full && old && removal, "old removal at a full write set"),
-                ])
+                ]);
+                names.extend(owners.iter().filter(|_| granted).map(|name| name.to_string()));
+                names
             }
             Facts::Lock { .. } => self.lock_names(answer),
             Facts::Validate { .. } => self.validate_names(observer, answer),
-            Facts::Install { number, written, puts } => {
+            Facts::Install { number, written, puts, owners_alone } => {
                 observer.ages.install(*number, written);
-                chosen(&[(*puts, "install of puts")])
+                chosen(&[(*puts, "install of puts"), (*owners_alone, "job of other owners alone")])
             }
             Facts::Merge { .. } => self.merge_names(observer, answer),
         }
     }
 
     fn read_names(&self, answer: Answer) -> Vec<String> {
-        let &Facts::Read { own, reads, ref look, pending, indexed } = &self.facts else {
+        let &Facts::Read { own, payload, reads, ref look, pending, indexed } = &self.facts else {
             return vec![];
         };
         expect(answer, &[(!own && reads > READ_LIMIT, 6)]);
@@ -58,16 +60,20 @@ impl Meeting {
             (own && reads > READ_LIMIT, "own read at a full read set"),
         ]);
         if let Answer::Read(reading) = answer {
+            assert_eq!(reading.payload, payload);
             assert_eq!(reading.examined, Some(if own { 0 } else { look.examined }));
             names.extend(look_names(look, own, pending, indexed));
         }
         names
     }
 
-    fn scan_names(&self, answer: Answer) -> Vec<String> {
-        let Facts::Scan { backward, reads, leaves, here, shown } = self.facts else {
+    fn scan_names(&self, observer: &Observer, answer: Answer) -> Vec<String> {
+        let &Facts::Scan { backward, reads, leaves, here, ref shown, ref before } = &self.facts
+        else {
             return vec![];
         };
+        check_places(before, shown, answer, &observer.buffers);
+        let shown = shown.len();
         let (many_reads, many_leaves) = (reads > READ_LIMIT, leaves > LEAF_LIMIT);
         let (full, short) = (many_reads || many_leaves, shown > PLACES);
         expect(answer, &[(backward, 5), (full, 6), (short, 8)]);
@@ -223,6 +229,21 @@ fn look_names(look: &Look, own: bool, pending: bool, indexed: bool) -> Vec<Strin
     ])
 }
 
+/// A granted scan has written its records to the first places, and nothing else; any
+/// other answer leaves all places.
+fn check_places(before: &Buffers, shown: &BTreeMap<u32, Payload>, answer: Answer, after: &Buffers) {
+    let mut expected = before.clone();
+    if let Answer::Found(count) = answer {
+        assert_eq!(count, shown.len());
+        for (place, (&address, payload)) in shown.iter().enumerate() {
+            expected.addresses[place] = address;
+            expected.values[place] = payload.value;
+            expected.owners[place] = payload.owner;
+        }
+    }
+    assert_eq!(*after, expected);
+}
+
 /// Why the guard refused, and what it went before.
 fn guard_names(guard: &Guard, answer: Answer, later: [(bool, u8); 3]) -> Vec<String> {
     let Answer::Refused(number) = answer else { return vec![] };
@@ -232,6 +253,9 @@ fn guard_names(guard: &Guard, answer: Answer, later: [(bool, u8); 3]) -> Vec<Str
         if guard.jumps(number, other) {
             names.push(format!("{number} before {other} of a lower address"));
         }
+    }
+    if number == 18 {
+        names.extend(only(&guard.owners, 18));
     }
     names.extend(
         later.iter().filter(|cause| cause.0).map(|cause| format!("{number} before {}", cause.1)),

@@ -14,7 +14,7 @@ use std::collections::{BTreeMap, HashSet};
 pub struct Observer {
     pub engine: Engine,
     pub guarded: bool,
-    buffers: Buffers,
+    pub buffers: Buffers,
     /// Records that a merge dropped while a worker held their lock, as it still does.
     pub dropped: HashSet<(u32, usize)>,
     pub ages: Ages,
@@ -71,12 +71,12 @@ impl Observer {
         let (letter, addresses): (char, Vec<u32>) = match (step, answer) {
             (Step::Put { address, .. }, Answer::Granted) => ('P', vec![address]),
             (Step::Remove { address, .. }, Answer::Granted) => ('D', vec![address]),
-            (Step::Read { address, .. }, Answer::Read(Reading { value: Some(_), .. })) => {
+            (Step::Read { address, .. }, Answer::Read(Reading { payload: Some(_), .. })) => {
                 ('R', vec![address])
             }
             (Step::Merge { address }, Answer::Merged(1..)) => ('M', vec![address]),
             (Step::Scan { .. }, Answer::Found(count)) => {
-                ('S', self.buffers.first(count).map(|(address, _)| address).collect())
+                ('S', self.buffers.first(count).map(|(address, ..)| address).collect())
             }
             _ => return Vec::new(),
         };

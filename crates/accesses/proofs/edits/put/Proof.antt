@@ -8,7 +8,7 @@ edit-requires : tie.Need-edit-requires
 edit-requires c κs = ready-writable (c .before .pre)
 
 returns : tie.Need-returns
-returns c = put-refines _ (c .edit .ensures) (c .before .before .pre)
+returns c = let s = c .before .before in put-refines _ _ (s .fits .owner .fits) (c .edit .ensures) (s .pre)
 
 pub put-spec : {M : Type 1} → statement M
 put-spec = tie.close (tie.spec edit-requires returns)

@@ -1,4 +1,5 @@
 -- `reads::tell` meets its contract: by the tests, and by the worker's own write.
+use native.Mathlib.Omega.{arith}
 use mathlib.Core.Path.{subst}
 use Rattle.spec.specs.Steps.{isOpen}
 use Rattle.transactions.specs.Admits.{Admitted}
@@ -38,6 +39,9 @@ find-write-requires c κs =
 enum-known-own : tie.Need-enum-known-own
 enum-known-own c = search needs
 
+cast-t24 : tie.Need-cast-t24
+cast-t24 c = omega arith
+
 enum-told : tie.Need-enum-told
 enum-told c = search needs
 
@@ -55,9 +59,10 @@ returns c = read-refused (subst (Admitted isOpen _ _) (c .before .r .given .1) (
 
 returns-2 : tie.Need-returns-2
 returns-2 c =
-    let f = c .before .before .before in
+    let d = c .before in
+    let f = d .before .before .before in
     let x = f .before .before .before .before in
-    read-put (subst (Admitted isOpen _ _) (x .x .given .1) (x .before .before .«open» .ensures)) (c .before .own .given .1) (f .find-write .ensures)
+    read-put (subst (Admitted isOpen _ _) (x .x .given .1) (x .before .before .«open» .ensures)) (d .before .own .given .1) (f .find-write .ensures)
 
 returns-3 : tie.Need-returns-3
 returns-3 c =
@@ -82,6 +87,7 @@ tell-spec =
     cast-find-write
     find-write-requires
     enum-known-own
+    cast-t24
     enum-told
     enum-told-2
     read-current-requires

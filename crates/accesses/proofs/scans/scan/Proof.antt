@@ -33,7 +33,7 @@ measure-requires : tie.Need-measure-requires
 measure-requires c κs =
     let x = c .before .before in
     let o = x .before .before in
-    let s = o .before .before .before .before .before in
+    let s = o .before .before .before .before .before .before in
     planning (s .pre) (subst (Admitted isOpen _ _) (x .x .given .1) (o .«open» .ensures))
 
 enum-known-r-2 : tie.Need-enum-known-r-2
@@ -44,54 +44,54 @@ enum-known-t c = search needs
 
 mul-carry-out : tie.Need-mul-carry-out
 mul-carry-out c =
-    let x = c .before .before .before .before .before .before .before .before in
+    let x = c .before .before .before .before .before .before .before .before .before in
     let e = subst (Admitted isOpen _ _) (x .x .given .1) (x .before .before .«open» .ensures) in
     omega (arith, e .inside)
 
 index-1-carry-out : tie.Need-index-1-carry-out
 index-1-carry-out c =
-    let x = c .before .before .before .before .before .before .before .before in
+    let x = c .before .before .before .before .before .before .before .before .before in
     let e = subst (Admitted isOpen _ _) (x .x .given .1) (x .before .before .«open» .ensures) in
     e .inside
 
 mul-carry-out-2 : tie.Need-mul-carry-out-2
 mul-carry-out-2 c =
-    let x = c .before .before .before .before .before .before .before .before .before in
+    let x = c .before .before .before .before .before .before .before .before .before .before in
     let e = subst (Admitted isOpen _ _) (x .x .given .1) (x .before .before .«open» .ensures) in
     omega (arith, e .inside)
 
 index-1-carry-out-2 : tie.Need-index-1-carry-out-2
 index-1-carry-out-2 c =
-    let x = c .before .before .before .before .before .before .before .before .before in
+    let x = c .before .before .before .before .before .before .before .before .before .before in
     let e = subst (Admitted isOpen _ _) (x .x .given .1) (x .before .before .«open» .ensures) in
     e .inside
 
 mul-carry-out-3 : tie.Need-mul-carry-out-3
 mul-carry-out-3 c =
-    let x = c .before .before .before .before .before .before .before .before .before .before in
+    let x = c .before .before .before .before .before .before .before .before .before .before .before in
     let e = subst (Admitted isOpen _ _) (x .x .given .1) (x .before .before .«open» .ensures) in
     omega (arith, e .inside)
 
 index-1-carry-out-3 : tie.Need-index-1-carry-out-3
 index-1-carry-out-3 c =
-    let x = c .before .before .before .before .before .before .before .before .before .before in
+    let x = c .before .before .before .before .before .before .before .before .before .before .before in
     let e = subst (Admitted isOpen _ _) (x .x .given .1) (x .before .before .«open» .ensures) in
     e .inside
 
 carry-out-requires : tie.Need-carry-out-requires
 carry-out-requires c κs =
-    let a = c .before .before .before .before .before .before in
+    let a = c .before .before .before .before .before .before .before in
     let m = a .before .before in
     let x = m .before .before .before in
     let o = x .before .before in
-    let s = o .before .before .before .before .before in
+    let s = o .before .before .before .before .before .before in
     let e = subst (Admitted isOpen _ _) (x .x .given .1) (o .«open» .ensures) in
-    let p = subst (Plans _ _ _ _ _ _ _ _ _ _) (a .t .given .1) (m .measure .ensures) in
+    let p = subst (Plans _ _ _ _ _ _ _ _ _) (a .t .given .1) (m .measure .ensures) in
     (planning (s .pre) e, (planned (p .measured) (p .roomy), (s .pre .stored .reads .at _ (e .inside), s .pre .stored .leaves .at _ (e .inside))))
 
 with-worker-requires : tie.Need-with-worker-requires
 with-worker-requires c κs =
-    let a = c .before .before .before .before .before .before .before .before .before .before .before in
+    let a = c .before .before .before .before .before .before .before .before .before .before .before .before .before .before in
     let x = a .before .before .before .before .before in
     let e = subst (Admitted isOpen _ _) (x .x .given .1) (x .before .before .«open» .ensures) in
     e .inside
@@ -99,34 +99,37 @@ with-worker-requires c κs =
 returns : tie.Need-returns
 returns c =
     let o = c .before .before .before in
-    let s = o .before .before .before .before .before in
-    scans-turned _ _ _ _ (s .pre) (subst (Admitted isOpen _ _) (c .before .r .given .1) (o .«open» .ensures))
+    let s = o .before .before .before .before .before .before in
+    scans-turned _ _ _ (s .pre) (subst (Admitted isOpen _ _) (c .before .r .given .1) (o .«open» .ensures))
 
 returns-2 : tie.Need-returns-2
 returns-2 c =
     let m = c .before .before .before in
     let x = m .before .before .before in
     let o = x .before .before in
-    let s = o .before .before .before .before .before in
-    scans-declined _ _ _ _ (s .pre) (subst (Admitted isOpen _ _) (x .x .given .1) (o .«open» .ensures))
-    (subst (Plans _ _ _ _ _ _ _ _ _ _) (c .before .r2 .given .1) (m .measure .ensures))
+    let s = o .before .before .before .before .before .before in
+    scans-declined _ _ _ (s .pre) (subst (Admitted isOpen _ _) (x .x .given .1) (o .«open» .ensures))
+    (subst (Plans _ _ _ _ _ _ _ _ _) (c .before .r2 .given .1) (m .measure .ensures))
 
 same-length : tie.Need-same-length
-same-length c = c .before .before .before .before .before .carry-out .ensures .fills .addresses .size
+same-length c = c .before .before .before .before .before .before .before .carry-out .ensures .fills .beyond .addresses .size
 
 same-length-2 : tie.Need-same-length-2
-same-length-2 c = c .before .before .before .before .before .carry-out .ensures .fills .values .size
+same-length-2 c = c .before .before .before .before .before .before .before .carry-out .ensures .fills .beyond .values .size
+
+same-length-3 : tie.Need-same-length-3
+same-length-3 c = c .before .before .before .before .before .before .before .carry-out .ensures .fills .beyond .owners .size
 
 returns-3 : tie.Need-returns-3
 returns-3 c =
-    let f = c .before .before .before .before .before in
-    let a = f .before .before .before .before .before .before .before in
+    let f = c .before .before .before .before .before .before .before in
+    let a = f .before .before .before .before .before .before .before .before in
     let m = a .before .before in
     let x = m .before .before .before in
     let o = x .before .before in
-    let s = o .before .before .before .before .before in
-    scans-granted _ _ _ _ (s .pre) (subst (Admitted isOpen _ _) (x .x .given .1) (o .«open» .ensures))
-    (subst (Plans _ _ _ _ _ _ _ _ _ _) (a .t .given .1) (m .measure .ensures)) (f .carry-out .ensures) (c .with-worker .ensures)
+    let s = o .before .before .before .before .before .before in
+    scans-granted _ _ _ (s .pre) (subst (Admitted isOpen _ _) (x .x .given .1) (o .«open» .ensures))
+    (subst (Plans _ _ _ _ _ _ _ _ _) (a .t .given .1) (m .measure .ensures)) (f .carry-out .ensures) (c .with-worker .ensures)
 
 pub scan-spec : {M : Type 1} → statement M
 scan-spec =
@@ -152,4 +155,5 @@ scan-spec =
     returns-2
     same-length
     same-length-2
+    same-length-3
     returns-3)

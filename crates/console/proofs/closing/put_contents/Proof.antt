@@ -1,4 +1,4 @@
--- `closing::put_contents` meets its contract: an answer, the pairs and a byte.
+-- `closing::put_contents` meets its contract: an answer, the triples and a byte.
 use borrow.Author.Needs.{needs}
 use native.Mathlib.Omega.{arith}
 use mathlib.Core.List.{[]}

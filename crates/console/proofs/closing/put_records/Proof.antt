@@ -1,4 +1,4 @@
--- `closing::put_records` meets its contract. The invariant: the pairs below an address are written.
+-- `closing::put_records` meets its contract. The invariant: the triples below an address are written.
 use Prim.Native.Nat.{_-_}
 use native.Mathlib.Omega.{arith}
 use mathlib.Core.Path.{refl}
@@ -25,14 +25,17 @@ next-record-requires c κs = search needs
 enum-known-next : tie.Need-enum-known-next Inv-loop μ-loop
 enum-known-next c = search needs
 
-cast-put-pair : tie.Need-cast-put-pair Inv-loop μ-loop
-cast-put-pair c = search needs
+cast-owner : tie.Need-cast-owner Inv-loop μ-loop
+cast-owner c = search needs
 
-put-pair-requires : tie.Need-put-pair-requires Inv-loop μ-loop
-put-pair-requires c κs =
-    let s = c .before .before .before .before .before .before .before .before in
-    let p = c .before .before .before .before .before .before .loop .inv in
-    listing-room (rising-all _ _ _ (s .pre .0)) p (next-at (c .before .before .before .before .next-record .ensures) (c .before .before .next .given .1)) (s .pre .1 .1) (wrote-length (p .wrote))
+cast-put-triple : tie.Need-cast-put-triple Inv-loop μ-loop
+cast-put-triple c = search needs
+
+put-triple-requires : tie.Need-put-triple-requires Inv-loop μ-loop
+put-triple-requires c κs =
+    let s = c .before .before .before .before .before .before .before .before .before in
+    let p = c .before .before .before .before .before .before .before .loop .inv in
+    listing-room (rising-all _ _ _ (s .pre .0)) p (next-at (c .before .before .before .before .before .next-record .ensures) (c .before .before .before .next .given .1)) (s .pre .1 .1) (wrote-length (p .wrote))
 
 cast-from : tie.Need-cast-from Inv-loop μ-loop
 cast-from c = search needs
@@ -42,13 +45,13 @@ add-from c = search needs
 
 loop-less : tie.Need-loop-less Inv-loop μ-loop
 loop-less c =
-    let s = c .before .before .before .before .before .before .before .before .before .before .before in
-    omega (arith, c .before .before .before .before .before .before .before .before .loop-test .taken, listing-above (rising-all _ _ _ (s .pre .0)) (c .before .before .before .before .before .before .before .before .before .loop .inv) (next-at (c .before .before .before .before .before .before .before .next-record .ensures) (c .before .before .before .before .before .next .given .1)))
+    let s = c .before .before .before .before .before .before .before .before .before .before .before .before in
+    omega (arith, c .before .before .before .before .before .before .before .before .before .loop-test .taken, listing-above (rising-all _ _ _ (s .pre .0)) (c .before .before .before .before .before .before .before .before .before .before .loop .inv) (next-at (c .before .before .before .before .before .before .before .before .next-record .ensures) (c .before .before .before .before .before .before .next .given .1)))
 
 loop-again : tie.Need-loop-again Inv-loop μ-loop
 loop-again c =
-    let s = c .before .before .before .before .before .before .before .before .before .before .before in
-    listing-on (rising-all _ _ _ (s .pre .0)) (c .before .before .before .before .before .before .before .before .before .loop .inv) (next-at (c .before .before .before .before .before .before .before .next-record .ensures) (c .before .before .before .before .before .next .given .1)) (omega arith) (omega arith) (c .before .before .put-pair .ensures)
+    let s = c .before .before .before .before .before .before .before .before .before .before .before .before in
+    listing-on (rising-all _ _ _ (s .pre .0)) (c .before .before .before .before .before .before .before .before .before .before .loop .inv) (next-at (c .before .before .before .before .before .before .before .before .next-record .ensures) (c .before .before .before .before .before .before .next .given .1)) (omega arith) (omega arith) (omega arith) (c .before .before .put-triple .ensures)
 
 enum-told : tie.Need-enum-told Inv-loop μ-loop
 enum-told c = search needs
@@ -77,8 +80,9 @@ put-records-spec =
     loop-holds
     next-record-requires
     enum-known-next
-    cast-put-pair
-    put-pair-requires
+    cast-owner
+    cast-put-triple
+    put-triple-requires
     cast-from
     add-from
     loop-less

@@ -1,4 +1,4 @@
--- `replies::put_value_line` meets its contract: an answer, two fields and a byte.
+-- `replies::put_value_line` meets its contract: an answer, three fields and a byte.
 use native.Mathlib.Omega.{arith}
 use borrow.Author.Needs.{needs}
 use Rattle.lists.specs.TextLaws.{wrote-join}
@@ -17,8 +17,8 @@ put-field-requires-2 c κs =
     let s = c .before .before .before .before .before .before .before .before .before .before in
     omega (arith, s .pre, c .before .before .before .before .before .before .before .put-answer .ensures, c .before .before .before .put-field .ensures, field-most 0 (omega arith), field-most (s .args .v) (s .fits .v .fits))
 
-put-byte-requires : tie.Need-put-byte-requires
-put-byte-requires c κs =
+put-field-requires-3 : tie.Need-put-field-requires-3
+put-field-requires-3 c κs =
     let s = c .before .before .before .before .before .before .before .before .before .before .before .before .before .before in
     omega (
       arith,
@@ -28,6 +28,22 @@ put-byte-requires c κs =
       c .before .before .before .put-field2 .ensures,
       field-most 0 (omega arith),
       field-most (s .args .v) (s .fits .v .fits),
+      field-most (s .args .owner) (omega (arith, s .fits .owner .fits)),
+    )
+
+put-byte-requires : tie.Need-put-byte-requires
+put-byte-requires c κs =
+    let s = c .before .before .before .before .before .before .before .before .before .before .before .before .before .before .before .before .before .before in
+    omega (
+      arith,
+      s .pre,
+      c .before .before .before .before .before .before .before .before .before .before .before .before .before .before .before .put-answer .ensures,
+      c .before .before .before .before .before .before .before .before .before .before .before .put-field .ensures,
+      c .before .before .before .before .before .before .before .put-field2 .ensures,
+      c .before .before .before .put-field3 .ensures,
+      field-most 0 (omega arith),
+      field-most (s .args .v) (s .fits .v .fits),
+      field-most (s .args .owner) (omega (arith, s .fits .owner .fits)),
       field-most (s .args .examined) (s .fits .examined .fits),
     )
 
@@ -38,11 +54,20 @@ returns : tie.Need-returns
 returns c =
     wrote-join
     (wrote-join
-    (wrote-join (c .before .before .before .before .before .before .before .before .before .before .before .before .before .before .put-answer .ensures) (c .before .before .before .before .before .before .before .before .before .before .put-field .ensures))
-    (c .before .before .before .before .before .before .put-field2 .ensures))
+    (wrote-join
+    (wrote-join (c .before .before .before .before .before .before .before .before .before .before .before .before .before .before .before .before .before .before .put-answer .ensures) (c .before .before .before .before .before .before .before .before .before .before .before .before .before .before .put-field .ensures))
+    (c .before .before .before .before .before .before .before .before .before .before .put-field2 .ensures))
+    (c .before .before .before .before .before .before .put-field3 .ensures))
     (c .before .before .put-byte .ensures)
 
 pub put-value-line-spec : {M : Type 1} → statement M
 put-value-line-spec =
     tie.close
-    (tie.spec put-answer-requires put-field-requires put-field-requires-2 put-byte-requires same-length returns)
+    (tie.spec
+    put-answer-requires
+    put-field-requires
+    put-field-requires-2
+    put-field-requires-3
+    put-byte-requires
+    same-length
+    returns)

@@ -36,12 +36,13 @@ enum-known-reply-3 c = search needs
 
 put-listed-line-requires : tie.Need-put-listed-line-requires
 put-listed-line-requires c κs =
-    let s = c .before .before .before .before .before .before .before in
-    let r = c .before .before .before .before .reply3 .given in
-    let a : length (now (s .args .addresses)) ≡ places = c .before .put-listed-line-arg2 .given .0 in
-    let b : length (now (s .args .values)) ≡ places = c .put-listed-line-arg3 .given .0 in
+    let s = c .before .before .before .before .before .before .before .before in
+    let r = c .before .before .before .before .before .reply3 .given in
+    let a : length (now (s .args .addresses)) ≡ places = c .before .before .put-listed-line-arg2 .given .0 in
+    let b : length (now (s .args .values)) ≡ places = c .before .put-listed-line-arg3 .given .0 in
+    let o : length (now (s .args .owners)) ≡ places = c .put-listed-line-arg4 .given .0 in
     let n : r .0 .0 ≤ places = subst (λ (p : Reply). placesIn p ≤ places) (r .1) (s .pre .1) in
-    ((omega arith, omega arith), omega (arith, s .pre .0))
+    ((omega arith, omega arith, omega arith), omega (arith, s .pre .0))
 
 enum-known-reply-4 : tie.Need-enum-known-reply-4
 enum-known-reply-4 c = search needs
@@ -74,7 +75,7 @@ same-length-2 : tie.Need-same-length-2
 same-length-2 c = wrote-length (c .before .before .put-value-line .ensures)
 
 returns-2 : tie.Need-returns-2
-returns-2 c = wrote-value _ _ (c .before .before .before .before .before .reply .given .1) (c .before .before .put-value-line .ensures)
+returns-2 c = wrote-value _ _ _ (c .before .before .before .before .before .reply .given .1) (c .before .before .put-value-line .ensures)
 
 same-length-3 : tie.Need-same-length-3
 same-length-3 c = wrote-length (c .before .before .put-absent-line .ensures)
@@ -87,12 +88,13 @@ same-length-4 c = wrote-length (c .before .before .put-listed-line .ensures)
 
 returns-4 : tie.Need-returns-4
 returns-4 c =
-    let s = c .before .before .before .before .before .before .before .before .before .before in
-    let r = c .before .before .before .before .before .before .before .reply3 .given in
-    let a : length (now (s .args .addresses)) ≡ places = c .before .before .before .before .put-listed-line-arg2 .given .0 in
-    let b : length (now (s .args .values)) ≡ places = c .before .before .before .put-listed-line-arg3 .given .0 in
+    let s = c .before .before .before .before .before .before .before .before .before .before .before in
+    let r = c .before .before .before .before .before .before .before .before .reply3 .given in
+    let a : length (now (s .args .addresses)) ≡ places = c .before .before .before .before .before .put-listed-line-arg2 .given .0 in
+    let b : length (now (s .args .values)) ≡ places = c .before .before .before .before .put-listed-line-arg3 .given .0 in
+    let o : length (now (s .args .owners)) ≡ places = c .before .before .before .put-listed-line-arg4 .given .0 in
     let n : r .0 .0 ≤ places = subst (λ (p : Reply). placesIn p ≤ places) (r .1) (s .pre .1) in
-    wrote-listed _ (r .1) (omega arith) (omega arith) (c .before .before .put-listed-line .ensures)
+    wrote-listed _ (r .1) (omega arith) (omega arith) (omega arith) (c .before .before .put-listed-line .ensures)
 
 same-length-5 : tie.Need-same-length-5
 same-length-5 c = wrote-length (c .before .before .put-granted-line .ensures)

@@ -8,11 +8,11 @@ use Rattle.console.proofs.session.feed.Statement.{statement}
 use Rattle.console.proofs.session.feed.Tie as tie
 
 abbrev Inv-loop : tie.InvT-loop
-Inv-loop out₀ rows₀ leaves₀ slots₀ reads₀ leafsets₀ writes₀ input addresses₀ values₀ x₀ out rows leaves slots reads leafsets writes addresses values x =
+Inv-loop out₀ rows₀ leaves₀ slots₀ reads₀ leafsets₀ writes₀ input addresses₀ values₀ owners₀ x₀ out rows leaves slots reads leafsets writes addresses values owners x =
     Feeds (lent rows₀ leaves₀ slots₀) (logs reads₀ leafsets₀ writes₀) x₀ input out₀ (lent rows leaves slots) (logs reads leafsets writes) x out
 
 abbrev μ-loop : tie.MeasureT-loop
-μ-loop out₀ rows₀ leaves₀ slots₀ reads₀ leafsets₀ writes₀ input addresses₀ values₀ x₀ out rows leaves slots reads leafsets writes addresses values x =
+μ-loop out₀ rows₀ leaves₀ slots₀ reads₀ leafsets₀ writes₀ input addresses₀ values₀ owners₀ x₀ out rows leaves slots reads leafsets writes addresses values owners x =
     left input x
 
 loop-holds : tie.Need-loop-holds Inv-loop μ-loop
@@ -23,7 +23,7 @@ can-go-on-requires c κs = tt
 
 run-line-requires : tie.Need-run-line-requires Inv-loop μ-loop
 run-line-requires c κs =
-    let t = c .before .before .before .before .before .before .before .before .before in
+    let t = c .before .before .before .before .before .before .before .before .before .before in
     let i = t .before .before .loop .inv in
     (i .ready, (i .started, sym (t .before .can-go-on .ensures) ∙ t .if1 .taken))
 
@@ -31,7 +31,7 @@ loop-less : tie.Need-loop-less Inv-loop μ-loop
 loop-less c = c .before .before .run-line .ensures .fewer
 
 loop-again : tie.Need-loop-again Inv-loop μ-loop
-loop-again c = feeds-join (c .before .before .before .before .before .before .before .before .before .before .before .before .before .before .loop .inv) (c .before .before .run-line .ensures .feeds)
+loop-again c = feeds-join (c .before .before .before .before .before .before .before .before .before .before .before .before .before .before .before .loop .inv) (c .before .before .run-line .ensures .feeds)
 
 same-length : tie.Need-same-length Inv-loop μ-loop
 same-length c = c .before .before .loop .inv .size

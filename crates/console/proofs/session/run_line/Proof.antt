@@ -19,17 +19,17 @@ op-of-requires : tie.Need-op-of-requires
 op-of-requires c κs = tt
 
 perform-requires : tie.Need-perform-requires
-perform-requires c κs = c .before .before .before .before .before .before .before .before .before .before .before .before .before .before .before .before .pre .0
+perform-requires c κs = c .before .before .before .before .before .before .before .before .before .before .before .before .before .before .before .before .before .pre .0
 
 letter-of-requires : tie.Need-letter-of-requires
 letter-of-requires c κs = tt
 
 write-reply-requires : tie.Need-write-reply-requires
 write-reply-requires c κs =
-    let s = c .before .before .before .before .before .before .before .before .before .before .before .before .before .before .before .before .before .before .before .before .before .before in
+    let s = c .before .before .before .before .before .before .before .before .before .before .before .before .before .before .before .before .before .before .before .before .before .before .before .before in
     let g = goes-true _ _ _ _ _ (s .pre .1 .1) in (
       g .2,
-      places-fit (c .before .before .before .before .before .before .op-of .ensures) (c .before .before .before .before .before .before .before .before .before .before .before .before .before .before .perform-arg .given .0 .1) (c .before .before .before .before .before .before .before .before .before .before .before .before .before .perform-arg2 .given .0 .1) (c .before .before .before .before .before .perform .ensures),
+      places-fit (c .before .before .before .before .before .before .before .op-of .ensures) (c .before .before .before .before .before .before .before .before .before .before .before .before .before .before .before .before .perform-arg .given .0 .1) (c .before .before .before .before .before .before .before .before .before .before .before .before .before .before .before .perform-arg2 .given .0 .1) (c .before .before .before .before .before .before .before .before .before .before .before .before .before .before .perform-arg3 .given .0 .1) (c .before .before .before .before .before .before .perform .ensures),
     )
 
 enum-told : tie.Need-enum-told
@@ -57,11 +57,11 @@ same-length c = wrote-length (c .before .before .write-reply .ensures .wrote)
 
 returns : tie.Need-returns
 returns c =
-    let s = c .before .before .before .before .before .before .before .before .before .before .before .before .before .before .before .before .before .before .before .before .before .before .before .before .before in
+    let s = c .before .before .before .before .before .before .before .before .before .before .before .before .before .before .before .before .before .before .before .before .before .before .before .before .before .before .before in
     let g = goes-true _ _ _ _ _ (s .pre .1 .1) in
-    turn-line _ _ _ _ _ _ (g .0) (g .1) (s .pre .1 .0) (c .before .before .before .before .before .before .before .before .before .before .before .before .before .before .before .before .before .before .before .before .before .parse .ensures)
-    (c .before .before .before .before .before .before .before .before .before .before .before .before .before .before .before .before .before .before .before .event .given .1) (c .before .before .before .before .before .before .before .before .before .op-of .ensures) (c .before .before .before .before .before .before .before .before .before .before .before .before .before .before .before .before .before .perform-arg .given .0 .1) (c .before .before .before .before .before .before .before .before .before .before .before .before .before .before .before .before .perform-arg2 .given .0 .1) (c .before .before .before .before .before .before .before .before .perform .ensures)
-    (c .before .before .before .letter-of .ensures) (c .before .before .write-reply .ensures)
+    turn-line _ _ _ _ _ _ (g .0) (g .1) (s .pre .1 .0) (c .before .before .before .before .before .before .before .before .before .before .before .before .before .before .before .before .before .before .before .before .before .before .before .parse .ensures)
+    (c .before .before .before .before .before .before .before .before .before .before .before .before .before .before .before .before .before .before .before .before .before .event .given .1) (c .before .before .before .before .before .before .before .before .before .before .op-of .ensures) (c .before .before .before .before .before .before .before .before .before .before .before .before .before .before .before .before .before .before .before .perform-arg .given .0 .1) (c .before .before .before .before .before .before .before .before .before .before .before .before .before .before .before .before .before .before .perform-arg2 .given .0 .1) (c .before .before .before .before .before .before .before .before .before .before .before .before .before .before .before .before .before .perform-arg3 .given .0 .1) (c .before .before .before .before .before .before .before .before .before .perform .ensures)
+    (c .before .before .before .before .before .before .before .letter-of .ensures) (c .before .before .write-reply .ensures)
 
 same-length-2 : tie.Need-same-length-2
 same-length-2 c = guard-length (c .before .before .run-guard .ensures)

@@ -45,7 +45,7 @@ of-merge-requires-2 : tie.Need-of-merge-requires-2
 of-merge-requires-2 c κs = search needs
 
 returns : tie.Need-returns
-returns c = performs-quiet _ _ (quiet-plain _ (c .before .begin .result) (λ m n. refl) (c .before .before .before .op .given .1) (c .of-plain .ensures) (c .before .begin .ensures .refines-so _ _ (c .before .before .before .before .before .before .before .pre)))
+returns c = performs-quiet _ (quiet-plain _ (c .before .begin .result) (λ b. refl) (c .before .before .before .op .given .1) (c .of-plain .ensures) (c .before .begin .ensures .refines-so _ _ (c .before .before .before .before .before .before .before .before .pre)))
 
 same-length : tie.Need-same-length
 same-length c = search needs
@@ -53,17 +53,20 @@ same-length c = search needs
 same-length-2 : tie.Need-same-length-2
 same-length-2 c = search needs
 
+same-length-3 : tie.Need-same-length-3
+same-length-3 c = search needs
+
 returns-2 : tie.Need-returns-2
-returns-2 c = performs-as (c .before .before .before .before .before .before .before .before .before .before .before .before .before .before .op2 .given .1) (c .before .before .before .before .take-access .ensures)
+returns-2 c = performs-as (c .before .before .before .before .before .before .before .before .before .before .before .before .before .before .before .before .before .op2 .given .1) (c .before .before .before .before .before .before .take-access .ensures)
 
 returns-3 : tie.Need-returns-3
-returns-3 c = performs-quiet _ _ (quiet-as (c .before .before .before .before .before .before .before .before .op3 .given .1) (c .take-ending .ensures))
+returns-3 c = performs-quiet _ (quiet-as (c .before .before .before .before .before .before .before .before .op3 .given .1) (c .take-ending .ensures))
 
 returns-4 : tie.Need-returns-4
-returns-4 c = performs-quiet _ _ (quiet-merge _ (c .before .merge-at .result) (λ m n. refl) (c .before .before .before .before .before .before .before .before .before .op4 .given .1) (c .of-merge .ensures) (c .before .merge-at .ensures))
+returns-4 c = performs-quiet _ (quiet-merge _ (c .before .merge-at .result) (λ b. refl) (c .before .before .before .before .before .before .before .before .before .op4 .given .1) (c .of-merge .ensures) (c .before .merge-at .ensures))
 
 returns-5 : tie.Need-returns-5
-returns-5 c = performs-quiet _ _ (quiet-merge _ (c .before .merge-oldest .result) (λ m n. refl) (c .before .before .before .before .before .before .before .before .enum-told .given .1) (c .of-merge2 .ensures) (c .before .merge-oldest .ensures))
+returns-5 c = performs-quiet _ (quiet-merge _ (c .before .merge-oldest .result) (λ b. refl) (c .before .before .before .before .before .before .before .before .enum-told .given .1) (c .of-merge2 .ensures) (c .before .merge-oldest .ensures))
 
 pub perform-spec : {M : Type 1} → statement M
 perform-spec =
@@ -85,6 +88,7 @@ perform-spec =
     returns
     same-length
     same-length-2
+    same-length-3
     returns-2
     returns-3
     returns-4

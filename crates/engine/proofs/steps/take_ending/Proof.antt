@@ -42,16 +42,16 @@ of-plain-requires-3 : tie.Need-of-plain-requires-3
 of-plain-requires-3 c κs = search needs
 
 returns : tie.Need-returns
-returns c = quiet-plain _ (c .before .lock .result) (λ m n. refl) (ending-is (c .before .before .before .before .before .before .args .w) (c .before .before .before .before .enum-told .given .1)) (c .of-plain .ensures) (c .before .lock .ensures)
+returns c = quiet-plain _ (c .before .lock .result) (λ b. refl) (ending-is (c .before .before .before .before .before .before .args .w) (c .before .before .before .before .enum-told .given .1)) (c .of-plain .ensures) (c .before .lock .ensures)
 
 returns-2 : tie.Need-returns-2
-returns-2 c = quiet-validate _ (c .before .validate .result) (λ m n. refl) (ending-is (c .before .before .before .before .before .before .args .w) (c .before .before .before .before .enum-told2 .given .1)) (c .of-validate .ensures) (c .before .validate .ensures)
+returns-2 c = quiet-validate _ (c .before .validate .result) (λ b. refl) (ending-is (c .before .before .before .before .before .before .args .w) (c .before .before .before .before .enum-told2 .given .1)) (c .of-validate .ensures) (c .before .validate .ensures)
 
 returns-3 : tie.Need-returns-3
-returns-3 c = quiet-plain _ (c .before .install .result) (λ m n. refl) (ending-is (c .before .before .before .before .before .before .args .w) (c .before .before .before .before .enum-told3 .given .1)) (c .of-plain2 .ensures) (c .before .install .ensures)
+returns-3 c = quiet-plain _ (c .before .install .result) (λ b. refl) (ending-is (c .before .before .before .before .before .before .args .w) (c .before .before .before .before .enum-told3 .given .1)) (c .of-plain2 .ensures) (c .before .install .ensures)
 
 returns-4 : tie.Need-returns-4
-returns-4 c = quiet-plain _ (c .before .abort .result) (λ m n. refl) (ending-is (c .before .before .before .before .before .before .args .w) (c .before .before .before .before .enum-told4 .given .1)) (c .of-plain3 .ensures) (c .before .abort .ensures)
+returns-4 c = quiet-plain _ (c .before .abort .result) (λ b. refl) (ending-is (c .before .before .before .before .before .before .args .w) (c .before .before .before .before .enum-told4 .given .1)) (c .of-plain3 .ensures) (c .before .abort .ensures)
 
 pub take-ending-spec : {M : Type 1} → statement M
 take-ending-spec =

@@ -8,7 +8,7 @@ unfit-requires : tie.Need-unfit-requires
 unfit-requires c κs = search needs
 
 returns : tie.Need-returns
-returns c = entry-put _ _ (c .before .if1 .taken) (c .unfit .ensures)
+returns c = entry-put _ _ (c .before .before .if1 .taken) (c .unfit .ensures)
 
 returns-2 : tie.Need-returns-2
 returns-2 c = entry-deletion _ _ (c .if1 .left)

@@ -8,8 +8,8 @@ use Rattle.guards.proofs.overlaps.overlapped_write.Tie as tie
 
 deciding-requires : tie.Need-deciding-requires
 deciding-requires c κs =
-    let p = c .before .before .pre in
-    (p .0 .leaves-held, (p .0 .leaves, sym (of-put _ _ (c .if1 .taken)) ∙ p .1))
+    let p = c .before .before .before .pre in
+    (p .0 .leaves-held, (p .0 .leaves, sym (of-put _ _ (c .before .if1 .taken)) ∙ p .1))
 
 enum-known-s : tie.Need-enum-known-s
 enum-known-s c = search needs
@@ -22,10 +22,10 @@ returns c =
     let o = c .before in
     let k = o .before in
     let d = k .before .before .before in
-    entry-put _ _ (d .before .if1 .taken) (overlapped-own _ _ _ _ _ (k .before .s .given .1) (d .deciding .ensures) (o .own-overlap .ensures) (c .if2 .taken))
+    entry-put _ _ (d .before .before .if1 .taken) (overlapped-own _ _ _ _ _ (k .before .s .given .1) (d .deciding .ensures) (o .own-overlap .ensures) (c .if2 .taken))
 
 logged-overlap-requires : tie.Need-logged-overlap-requires
-logged-overlap-requires c κs = let p = c .before .before .before .before .before .before .before .before .pre .0 in (p .reads-held, (p .reads, p .set))
+logged-overlap-requires c κs = let p = c .before .before .before .before .before .before .before .before .before .pre .0 in (p .reads-held, (p .reads, p .set))
 
 enum-told : tie.Need-enum-told
 enum-told c = search needs
@@ -35,13 +35,13 @@ returns-2 c =
     let o = c .before .before in
     let k = o .before in
     let d = k .before .before .before in
-    entry-put _ _ (d .before .if1 .taken)
+    entry-put _ _ (d .before .before .if1 .taken)
     (overlapped-logged _ _ _ _ _ (k .before .s .given .1) (d .deciding .ensures) (o .own-overlap .ensures) (c .before .if2 .left) (c .logged-overlap .ensures))
 
 returns-3 : tie.Need-returns-3
 returns-3 c =
     let d = c .before .before in
-    entry-put _ _ (d .before .if1 .taken) (overlapped-none _ _ _ _ _ (c .enum-told .given .1) (d .deciding .ensures))
+    entry-put _ _ (d .before .before .if1 .taken) (overlapped-none _ _ _ _ _ (c .enum-told .given .1) (d .deciding .ensures))
 
 returns-4 : tie.Need-returns-4
 returns-4 c = entry-deletion _ _ (c .if1 .left)

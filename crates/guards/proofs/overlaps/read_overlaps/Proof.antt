@@ -23,22 +23,22 @@ returns : tie.Need-returns
 returns c =
     let f = c .before .before in
     let m = f .before .before in
-    read-found _ _ _ _ (m .before .if1 .taken) (m .overlaps .ensures) (f .before .if2 .taken) (c .enum-told .given .1) (f .find-write .ensures)
+    read-found _ _ _ _ (m .before .before .if1 .taken) (m .overlaps .ensures) (f .before .if2 .taken) (c .enum-told .given .1) (f .find-write .ensures)
 
 returns-2 : tie.Need-returns-2
 returns-2 c =
     let f = c .before .before in
     let m = f .before .before in
-    read-found _ _ _ _ (m .before .if1 .taken) (m .overlaps .ensures) (f .before .if2 .taken) (c .enum-told2 .given .1) (f .find-write .ensures)
+    read-found _ _ _ _ (m .before .before .if1 .taken) (m .overlaps .ensures) (f .before .if2 .taken) (c .enum-told2 .given .1) (f .find-write .ensures)
 
 returns-3 : tie.Need-returns-3
 returns-3 c =
     let f = c .before .before in
     let m = f .before .before in
-    read-found _ _ _ _ (m .before .if1 .taken) (m .overlaps .ensures) (f .before .if2 .taken) (c .enum-told3 .given .1) (f .find-write .ensures)
+    read-found _ _ _ _ (m .before .before .if1 .taken) (m .overlaps .ensures) (f .before .if2 .taken) (c .enum-told3 .given .1) (f .find-write .ensures)
 
 returns-4 : tie.Need-returns-4
-returns-4 c = read-apart _ _ _ _ (c .before .before .if1 .taken) (c .before .overlaps .ensures) (c .if2 .left)
+returns-4 c = read-apart _ _ _ _ (c .before .before .before .if1 .taken) (c .before .overlaps .ensures) (c .if2 .left)
 
 returns-5 : tie.Need-returns-5
 returns-5 c = read-absent _ _ _ _ (c .if1 .left)

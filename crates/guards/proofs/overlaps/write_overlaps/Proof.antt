@@ -8,7 +8,7 @@ overlaps-requires : tie.Need-overlaps-requires
 overlaps-requires c κs = search needs
 
 returns : tie.Need-returns
-returns c = entry-put _ _ (c .before .if1 .taken) (c .overlaps .ensures)
+returns c = entry-put _ _ (c .before .before .if1 .taken) (c .overlaps .ensures)
 
 returns-2 : tie.Need-returns-2
 returns-2 c = entry-deletion _ _ (c .if1 .left)

@@ -8,8 +8,8 @@ use Rattle.guards.proofs.scans.uncovered_write.Tie as tie
 
 deciding-requires : tie.Need-deciding-requires
 deciding-requires c κs =
-    let p = c .before .before .pre in
-    (p .0, (p .1 .0, sym (of-put _ _ (c .if1 .taken)) ∙ p .1 .1))
+    let p = c .before .before .before .pre in
+    (p .0, (p .1 .0, sym (of-put _ _ (c .before .if1 .taken)) ∙ p .1 .1))
 
 enum-told : tie.Need-enum-told
 enum-told c = search needs
@@ -20,12 +20,12 @@ enum-told-2 c = search needs
 returns : tie.Need-returns
 returns c =
     let d = c .before .before in
-    entry-put _ _ (d .before .if1 .taken) (uncovered-by _ _ _ (c .enum-told .given .1) (d .deciding .ensures))
+    entry-put _ _ (d .before .before .if1 .taken) (uncovered-by _ _ _ (c .enum-told .given .1) (d .deciding .ensures))
 
 returns-2 : tie.Need-returns-2
 returns-2 c =
     let d = c .before .before in
-    entry-put _ _ (d .before .if1 .taken) (uncovered-by _ _ _ (c .enum-told2 .given .1) (d .deciding .ensures))
+    entry-put _ _ (d .before .before .if1 .taken) (uncovered-by _ _ _ (c .enum-told2 .given .1) (d .deciding .ensures))
 
 returns-3 : tie.Need-returns-3
 returns-3 c = entry-deletion _ _ (c .if1 .left)

@@ -17,11 +17,12 @@ get-requires : tie.Need-get-requires
 get-requires c κs = search needs
 
 returns-2 : tie.Need-returns-2
-returns-2 c = let s = c .before .before .before .before .before in
-    let p = c .before .before .before .before .locate in
-    let g = c .before .before .get in
-    find-here (s .args .rows .now) (s .args .n) (s .args .a) (p .result) (s .pre) (p .ensures) (rowOf (g .result)) (c .before .before .before .if1 .left) (g .ensures)
-    (present-at (s .args .rows .now) (s .args .n) (s .args .a) (p .result) (s .pre .room) (p .ensures) (rowOf (g .result)) (c .before .before .before .if1 .left) (g .ensures) (c .if2 .taken))
+returns-2 c = let d = c .before in
+    let s = d .before .before .before .before .before in
+    let p = d .before .before .before .before .locate in
+    let g = d .before .before .get in
+    find-here (s .args .rows .now) (s .args .n) (s .args .a) (p .result) (s .pre) (p .ensures) (rowOf (g .result)) (d .before .before .before .if1 .left) (g .ensures)
+    (present-at (s .args .rows .now) (s .args .n) (s .args .a) (p .result) (s .pre .room) (p .ensures) (rowOf (g .result)) (d .before .before .before .if1 .left) (g .ensures) (d .if2 .taken))
 
 returns-3 : tie.Need-returns-3
 returns-3 c = let s = c .before .before .before .before .before in

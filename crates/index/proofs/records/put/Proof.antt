@@ -15,7 +15,7 @@ insert-requires c κs = let r = c .before .before .before .before in
     let s = r .before .before in
     let p = c .before .before .locate in (
       p .ensures .within,
-      put-room (s .args .rows .now) (s .args .n) (s .args .a) (p .result) (s .pre .0) (p .ensures) (recordFrom (s .args .value) (s .args .commit))
+      put-room (s .args .rows .now) (s .args .n) (s .args .a) (p .result) (s .pre .0) (p .ensures) (recordFrom (s .args .payload) (s .args .commit))
           (absent-past (s .args .rows .now) (s .args .n) (s .args .a) (p .result) (s .pre .0 .room) (p .ensures) (c .before .if1 .taken)) (s .pre .1),
     )
 
@@ -23,7 +23,7 @@ returns : tie.Need-returns
 returns c = let r = c .before .before .before .before .before in
     let s = r .before .before in
     let p = c .before .before .before .locate in
-    put-new (s .args .rows .now) (s .args .n) (s .args .a) (p .result) (s .pre .0) (p .ensures) (c .insert .last .0) (c .insert .result) (recordFrom (s .args .value) (s .args .commit))
+    put-new (s .args .rows .now) (s .args .n) (s .args .a) (p .result) (s .pre .0) (p .ensures) (c .insert .last .0) (c .insert .result) (recordFrom (s .args .payload) (s .args .commit))
     (absent-past (s .args .rows .now) (s .args .n) (s .args .a) (p .result) (s .pre .0 .room) (p .ensures) (c .before .before .if1 .taken)) (s .pre .1) (c .insert .ensures)
 
 get-requires : tie.Need-get-requires
@@ -37,7 +37,7 @@ returns-2 c = let r = c .before .before .before .before .before .before .before 
     let s = r .before .before in
     let p = c .before .before .before .before .before .before .before .locate in
     let g = c .before .before .before .before .get in
-    put-over (s .args .rows .now) (s .args .n) (s .args .a) (p .result) (s .pre .0) (p .ensures) (c .store .last .0) (s .args .value) (s .args .commit) (r .record-places .ensures)
+    put-over (s .args .rows .now) (s .args .n) (s .args .a) (p .result) (s .pre .0) (p .ensures) (c .store .last .0) (s .args .payload) (s .args .commit) (r .record-places .ensures)
     (present-at (s .args .rows .now) (s .args .n) (s .args .a) (p .result) (s .pre .0 .room) (p .ensures) (rowOf (g .result)) (c .before .before .before .before .before .before .if1 .left) (g .ensures) (c .before .before .if2 .taken))
     (c .before .before .before .before .before .before .if1 .left) (c .store .ensures)
 
@@ -47,7 +47,7 @@ insert-requires-2 c κs = let r = c .before .before .before .before .before .bef
     let p = c .before .before .before .before .before .before .locate in
     let g = c .before .before .before .get in (
       p .ensures .within,
-      put-room (s .args .rows .now) (s .args .n) (s .args .a) (p .result) (s .pre .0) (p .ensures) (recordFrom (s .args .value) (s .args .commit))
+      put-room (s .args .rows .now) (s .args .n) (s .args .a) (p .result) (s .pre .0) (p .ensures) (recordFrom (s .args .payload) (s .args .commit))
           (absent-at (s .args .rows .now) (s .args .n) (s .args .a) (p .result) (s .pre .0 .room) (p .ensures) (rowOf (g .result)) (c .before .before .before .before .before .if1 .left) (g .ensures) (c .before .if2 .left)) (s .pre .1),
     )
 
@@ -56,7 +56,7 @@ returns-3 c = let r = c .before .before .before .before .before .before .before 
     let s = r .before .before in
     let p = c .before .before .before .before .before .before .before .locate in
     let g = c .before .before .before .before .get in
-    put-new (s .args .rows .now) (s .args .n) (s .args .a) (p .result) (s .pre .0) (p .ensures) (c .insert2 .last .0) (c .insert2 .result) (recordFrom (s .args .value) (s .args .commit))
+    put-new (s .args .rows .now) (s .args .n) (s .args .a) (p .result) (s .pre .0) (p .ensures) (c .insert2 .last .0) (c .insert2 .result) (recordFrom (s .args .payload) (s .args .commit))
     (absent-at (s .args .rows .now) (s .args .n) (s .args .a) (p .result) (s .pre .0 .room) (p .ensures) (rowOf (g .result)) (c .before .before .before .before .before .before .if1 .left) (g .ensures) (c .before .before .if2 .left)) (s .pre .1) (c .insert2 .ensures)
 
 pub put-spec : {M : Type 1} → statement M

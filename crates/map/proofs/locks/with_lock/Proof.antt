@@ -4,7 +4,7 @@ use Rattle.map.proofs.locks.with_lock.Statement.{statement}
 use Rattle.map.proofs.locks.with_lock.Tie as tie
 
 returns : tie.Need-returns
-returns c = holding-words (c .args .c) (c .args .lock) (c .args .kind)
+returns c = let s = c .before in holding-words (s .args .c) (s .args .lock) (s .args .kind)
 
 pub with-lock-spec : {M : Type 1} → statement M
 with-lock-spec = tie.close (tie.spec returns)

@@ -36,35 +36,35 @@ cast-a : tie.Need-cast-a
 cast-a c = search needs
 
 take-write-requires : tie.Need-take-write-requires
-take-write-requires c κs = let s = c .before .before .before .before .before .before .before .before .before .before in
-    let r = c .before .before .before .before .before .before .before .before .slot-at in
-    let k = c .before .if2 .left in (
+take-write-requires c κs = let s = c .before .before .before .before .before .before .before .before .before .before .before in
+    let r = c .before .before .before .before .before .before .before .before .before .slot-at in
+    let k = c .before .before .if2 .left in (
       s .pre .0 .walking .rows-held,
-      write-room (r .result) (s .pre .0 .walking .words) (r .ensures) k (s .pre .0) (s .pre .1 .1) (recordFrom (r .result .content .value) (r .result .content .commit)),
+      write-room (r .result) (s .pre .0 .walking .words) (r .ensures) k (s .pre .0) (s .pre .1 .1) (recordFrom (r .result .content .payload) (r .result .content .commit)),
     )
 
 enter-requires : tie.Need-enter-requires
-enter-requires c κs = let s = c .before .before .before .before .before .before .before .before .before .before .before .before in
-    let r = c .before .before .before .before .before .before .before .before .before .before .slot-at in
-    let k = c .before .before .before .if2 .left in (
+enter-requires c κs = let s = c .before .before .before .before .before .before .before .before .before .before .before .before .before in
+    let r = c .before .before .before .before .before .before .before .before .before .before .before .slot-at in
+    let k = c .before .before .before .before .if2 .left in (
       s .pre .0 .walking .words,
       (s .pre .0 .walking .number, slot-room (r .result) (s .pre .0 .walking .words) (r .ensures) k _),
     )
 
 outside-now-requires : tie.Need-outside-now-requires
-outside-now-requires c κs = let s = c .before .before .before .before .before .before .before .before .before .before .before .before .before in
-    let r = c .before .before .before .before .before .before .before .before .before .before .before .slot-at in
-    outside-fits (r .result) (s .pre .0 .walking .words) (r .ensures) (c .before .before .before .before .if2 .left) _ _ (s .pre .1 .1) (s .pre .0 .walking) (c .before .before .before .before .before .before .before .locked .ensures) (c .before .before .take-write .ensures)
+outside-now-requires c κs = let s = c .before .before .before .before .before .before .before .before .before .before .before .before .before .before in
+    let r = c .before .before .before .before .before .before .before .before .before .before .before .before .slot-at in
+    outside-fits (r .result) (s .pre .0 .walking .words) (r .ensures) (c .before .before .before .before .before .if2 .left) _ _ (s .pre .1 .1) (s .pre .0 .walking) (c .before .before .before .before .before .before .before .before .locked .ensures) (c .before .before .take-write .ensures)
 
-add-t24 : tie.Need-add-t24
-add-t24 c = let s = c .before .before .before .before .before .before .before .before .before .before .before .before .before .before .before in record { fits = omega (arith, s .pre .0 .walking .few, s .pre .1 .1) }
+add-t26 : tie.Need-add-t26
+add-t26 c = let s = c .before .before .before .before .before .before .before .before .before .before .before .before .before .before .before .before in record { fits = omega (arith, s .pre .0 .walking .few, s .pre .1 .1) }
 
 returns-3 : tie.Need-returns-3
-returns-3 c = let s = c .before .before .before .before .before .before .before .before .before .before .before .before .before .before .before in
-    let r = c .before .before .before .before .before .before .before .before .before .before .before .before .before .slot-at in
-    let k = c .before .before .before .before .before .before .if2 .left in
-    let y = reaches-yes _ (s .args .r) (r .result .key) (c .before .before .before .before .before .before .before .before .before .before .before .before .reaches .ensures) (c .before .before .before .before .before .before .before .before .before .before .before .if1 .left) in
-    let x = c .before .before .before .before .before .before .before .before .before .locked in
+returns-3 c = let s = c .before .before .before .before .before .before .before .before .before .before .before .before .before .before .before .before in
+    let r = c .before .before .before .before .before .before .before .before .before .before .before .before .before .before .slot-at in
+    let k = c .before .before .before .before .before .before .before .if2 .left in
+    let y = reaches-yes _ (s .args .r) (r .result .key) (c .before .before .before .before .before .before .before .before .before .before .before .before .before .reaches .ensures) (c .before .before .before .before .before .before .before .before .before .before .before .before .if1 .left) in
+    let x = c .before .before .before .before .before .before .before .before .before .before .locked in
     let w = c .before .before .before .before .take-write in
     let e = c .before .before .enter in
     walk-on (r .result) (s .pre .0 .walking .words) (r .ensures) k (w .last .0) (e .last .0) (w .result) (e .result) (x .result) _ _ (s .pre .1 .1)
@@ -84,5 +84,5 @@ take-slot-spec =
     take-write-requires
     enter-requires
     outside-now-requires
-    add-t24
+    add-t26
     returns-3)

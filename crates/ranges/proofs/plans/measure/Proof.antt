@@ -3,6 +3,7 @@ use native.Mathlib.Omega.{arith}
 use mathlib.Core.Path.{refl}
 use mathlib.Core.Logic.{inl, inr}
 use borrow.Author.Needs.{needs}
+use Rattle.spec.specs.Steps.{shortest}
 use Rattle.ranges.specs.Plans.{backward, full, short}
 use Rattle.ranges.specs.PlanLaws.{walkable}
 use Rattle.ranges.proofs.plans.measure.Statement.{statement}
@@ -70,6 +71,7 @@ count-shown-requires c κs =
     (walkable (r .before .before .pre) _ _ (i .within) (o .within), record { index = i .ordered; own = o .ordered })
 
 returns-4 : tie.Need-returns-4
+unfolding shortest
 returns-4 c =
     let k = c .before in
     let o = k .before in
@@ -87,9 +89,10 @@ returns-4 c =
       leaves-fit = e3 .if3 .left;
       count = k .count-shown .ensures;
     })
-    (inl (c .if4 .taken))
+    (omega (arith, c .if4 .taken))
 
 returns-5 : tie.Need-returns-5
+unfolding shortest
 returns-5 c =
     let k = c .before .before in
     let o = k .before in
@@ -107,11 +110,32 @@ returns-5 c =
       leaves-fit = e3 .if3 .left;
       count = k .count-shown .ensures;
     })
-    (inr (c .if5 .taken))
+    (omega (arith, c .if5 .taken))
 
 returns-6 : tie.Need-returns-6
+unfolding shortest
 returns-6 c =
-    let k = c .before .before in
+    let k = c .before .before .before in
+    let o = k .before in
+    let e3 = o .before .before in
+    let e2 = e3 .before .before .before in
+    let l = e2 .before .before .before in
+    let r = l .before in
+    short refl _
+    (record {
+      forward = r .before .if1 .left;
+      index = r .records-between .ensures;
+      met = l .leaves-meeting .ensures;
+      own = o .writes-between .ensures;
+      reads-fit = e2 .if2 .left;
+      leaves-fit = e3 .if3 .left;
+      count = k .count-shown .ensures;
+    })
+    (omega (arith, c .if6 .taken))
+
+returns-7 : tie.Need-returns-7
+returns-7 c =
+    let k = c .before .before .before in
     let o = k .before in
     let e3 = o .before .before in
     let e2 = e3 .before .before .before in
@@ -128,7 +152,7 @@ returns-6 c =
             leaves-fit = e3 .if3 .left;
             count = k .count-shown .ensures;
           };
-      roomy = record { addresses = c .before .if4 .left; values = c .if5 .left };
+      roomy = record { addresses = c .before .before .if4 .left; values = c .before .if5 .left; owners = c .if6 .left };
     }
 
 pub measure-spec : {M : Type 1} → statement M
@@ -151,4 +175,5 @@ measure-spec =
     count-shown-requires
     returns-4
     returns-5
-    returns-6)
+    returns-6
+    returns-7)

@@ -11,7 +11,7 @@ enum-known-d : tie.Need-enum-known-d
 enum-known-d c = search needs
 
 perform-first-requires : tie.Need-perform-first-requires
-perform-first-requires c κs = (c .before .before .before .before .before .before .before .before .before .before .before .before .before .before .pre, meant-lends _ _ _ (c .before .before .before .before .before .before .before .before .before .before .before .decode .ensures) (c .before .before .before .before .before .before .before .before .before .d .given .1))
+perform-first-requires c κs = (c .before .before .before .before .before .before .before .before .before .before .before .before .before .before .before .before .pre, meant-lends _ _ (c .before .before .before .before .before .before .before .before .before .before .before .before .decode .ensures) (c .before .before .before .before .before .before .before .before .before .before .d .given .1))
 
 encode-requires : tie.Need-encode-requires
 encode-requires c κs = search needs
@@ -25,8 +25,11 @@ same-length c = search needs
 same-length-2 : tie.Need-same-length-2
 same-length-2 c = search needs
 
+same-length-3 : tie.Need-same-length-3
+same-length-3 c = search needs
+
 returns : tie.Need-returns
-returns c = step-meant (c .before .before .before .before .before .before .perform-first .result) (c .before .before .before .before .before .before .before .before .before .before .before .before .before .before .before .before .before .before .decode .ensures) (c .before .before .before .before .before .before .before .before .before .before .before .before .before .before .before .before .d .given .1) (c .before .before .before .before .before .before .perform-first .ensures) (c .encode .ensures)
+returns c = step-meant (c .before .before .before .before .before .before .before .before .perform-first .result) (c .before .before .before .before .before .before .before .before .before .before .before .before .before .before .before .before .before .before .before .before .before .decode .ensures) (c .before .before .before .before .before .before .before .before .before .before .before .before .before .before .before .before .before .before .before .d .given .1) (c .before .before .before .before .before .before .before .before .perform-first .ensures) (c .encode .ensures)
 
 returns-2 : tie.Need-returns-2
 returns-2 c = step-meaningless (c .before .before .decode .ensures) (c .enum-told .given .1)
@@ -42,5 +45,6 @@ step-spec =
     enum-told
     same-length
     same-length-2
+    same-length-3
     returns
     returns-2)

@@ -5,13 +5,13 @@ use Rattle.replay.proofs.decodes.decode.Statement.{statement}
 use Rattle.replay.proofs.decodes.decode.Tie as tie
 
 returns : tie.Need-returns
-returns c = let s = c .before .before in code-oldest (s .args .m) (s .args .n) (s .args .k) (c .if1 .taken)
+returns c = code-oldest _ _ (c .if1 .taken)
 
 decode-numbered-requires : tie.Need-decode-numbered-requires
 decode-numbered-requires c κs = search needs
 
 returns-2 : tie.Need-returns-2
-returns-2 c = let s = c .before .before .before in code-numbered (s .args .m) (s .args .n) (s .args .k) (c .before .if1 .left) (c .decode-numbered .ensures)
+returns-2 c = code-numbered _ _ (c .before .if1 .left) (c .decode-numbered .ensures)
 
 pub decode-spec : {M : Type 1} → statement M
 decode-spec = tie.close (tie.spec returns decode-numbered-requires returns-2)

@@ -7,7 +7,7 @@ use Rattle.replay.proofs.decodes.decode_numbered.Statement.{statement}
 use Rattle.replay.proofs.decodes.decode_numbered.Tie as tie
 
 returns : tie.Need-returns
-returns c = code-wide _ _ _ (c .if1 .taken)
+returns c = code-wide _ _ (c .if1 .taken)
 
 cast-a : tie.Need-cast-a
 cast-a c = search needs
@@ -17,30 +17,30 @@ decode-access-requires c κs = search needs
 
 returns-2 : tie.Need-returns-2
 unfolding same
-returns-2 c = code-kind _ _ _ 0 (c .match .keys1) (c .before .before .if1 .left)
+returns-2 c = code-kind _ _ 0 (c .match .keys1) (c .before .before .if1 .left)
 
 returns-3 : tie.Need-returns-3
 unfolding same
-returns-3 c = code-kind _ _ _ 5 (c .match .keys2) (c .before .before .if1 .left)
+returns-3 c = code-kind _ _ 5 (c .match .keys2) (c .before .before .if1 .left)
 
 returns-4 : tie.Need-returns-4
 unfolding same
-returns-4 c = code-kind _ _ _ 6 (c .match .keys3) (c .before .before .if1 .left)
+returns-4 c = code-kind _ _ 6 (c .match .keys3) (c .before .before .if1 .left)
 
 returns-5 : tie.Need-returns-5
 unfolding same
-returns-5 c = code-kind _ _ _ 7 (c .match .keys4) (c .before .before .if1 .left)
+returns-5 c = code-kind _ _ 7 (c .match .keys4) (c .before .before .if1 .left)
 
 returns-6 : tie.Need-returns-6
 unfolding same
-returns-6 c = code-kind _ _ _ 8 (c .match .keys5) (c .before .before .if1 .left)
+returns-6 c = code-kind _ _ 8 (c .match .keys5) (c .before .before .if1 .left)
 
 returns-7 : tie.Need-returns-7
 unfolding same
-returns-7 c = code-kind _ _ _ 9 (c .match .keys6) (c .before .before .if1 .left)
+returns-7 c = code-kind _ _ 9 (c .match .keys6) (c .before .before .if1 .left)
 
 returns-8 : tie.Need-returns-8
-returns-8 c = let r = c .before .match .rest in c .decode-access .ensures ∙ code-other _ _ _ (r .0 .0 .0 .0 .0 .1) (r .0 .0 .0 .0 .1) (r .0 .0 .0 .1) (r .0 .0 .1) (r .0 .1) (r .1) (c .before .before .before .if1 .left)
+returns-8 c = let r = c .before .match .rest in c .decode-access .ensures ∙ code-other _ _ (r .0 .0 .0 .0 .0 .1) (r .0 .0 .0 .0 .1) (r .0 .0 .0 .1) (r .0 .0 .1) (r .0 .1) (r .1) (c .before .before .before .if1 .left)
 
 pub decode-numbered-spec : {M : Type 1} → statement M
 decode-numbered-spec =

@@ -10,13 +10,19 @@ slice-relend-prefix-perform : tie.Need-slice-relend-prefix-perform
 slice-relend-prefix-perform c = search needs
 
 slice-aggregate-perform : tie.Need-slice-aggregate-perform
-slice-aggregate-perform c = sym (length-take-le _ _ (c .before .before .before .pre .1 .0))
+slice-aggregate-perform c = sym (length-take-le _ _ (c .before .before .before .before .pre .1 .addresses))
 
 slice-relend-prefix-perform-2 : tie.Need-slice-relend-prefix-perform-2
 slice-relend-prefix-perform-2 c = search needs
 
 slice-aggregate-perform-2 : tie.Need-slice-aggregate-perform-2
-slice-aggregate-perform-2 c = sym (length-take-le _ _ (c .before .before .before .before .pre .1 .1))
+slice-aggregate-perform-2 c = sym (length-take-le _ _ (c .before .before .before .before .before .pre .1 .values))
+
+slice-relend-prefix-perform-3 : tie.Need-slice-relend-prefix-perform-3
+slice-relend-prefix-perform-3 c = search needs
+
+slice-aggregate-perform-3 : tie.Need-slice-aggregate-perform-3
+slice-aggregate-perform-3 c = sym (length-take-le _ _ (c .before .before .before .before .before .before .pre .1 .owners))
 
 perform-requires : tie.Need-perform-requires
 perform-requires c κs = search needs
@@ -27,8 +33,11 @@ same-length c = search needs
 same-length-2 : tie.Need-same-length-2
 same-length-2 c = search needs
 
+same-length-3 : tie.Need-same-length-3
+same-length-3 c = search needs
+
 returns : tie.Need-returns
-returns c = performs-first _ _ _ _ (c .before .before .before .before .before .before .before .before .before .before .before .before .before .before .before .pre .1) (c .before .before .before .before .perform .ensures)
+returns c = performs-first _ _ _ _ _ _ (c .before .before .before .before .before .before .before .before .before .before .before .before .before .before .before .before .before .before .before .pre .1) (c .before .before .before .before .before .before .perform .ensures)
 
 pub perform-first-spec : {M : Type 1} → statement M
 perform-first-spec =
@@ -38,7 +47,10 @@ perform-first-spec =
     slice-aggregate-perform
     slice-relend-prefix-perform-2
     slice-aggregate-perform-2
+    slice-relend-prefix-perform-3
+    slice-aggregate-perform-3
     perform-requires
     same-length
     same-length-2
+    same-length-3
     returns)

@@ -10,7 +10,7 @@ fresh-state-requires : tie.Need-fresh-state-requires
 fresh-state-requires c κs = search needs
 
 take-all-requires : tie.Need-take-all-requires
-take-all-requires c κs = fresh-as (c .before .before .before .before .before .before .before .before .before .fresh-state .ensures)
+take-all-requires c κs = fresh-as (c .before .before .before .before .before .before .before .before .before .before .fresh-state .ensures)
 
 same-length : tie.Need-same-length
 same-length c = search needs
@@ -21,8 +21,11 @@ same-length-2 c = search needs
 same-length-3 : tie.Need-same-length-3
 same-length-3 c = search needs
 
+same-length-4 : tie.Need-same-length-4
+same-length-4 c = search needs
+
 returns : tie.Need-returns
-returns c = replays-as (c .before .before .before .before .before .before .before .before .before .before .before .before .before .before .before .before .fresh-state .ensures) (c .before .before .before .before .before .before .take-all .ensures)
+returns c = replays-as (c .before .before .before .before .before .before .before .before .before .before .before .before .before .before .before .before .before .before .before .fresh-state .ensures) (c .before .before .before .before .before .before .before .before .take-all .ensures)
 
 pub replay-spec : {M : Type 1} → statement M
 replay-spec =
@@ -33,4 +36,5 @@ replay-spec =
     same-length
     same-length-2
     same-length-3
+    same-length-4
     returns)

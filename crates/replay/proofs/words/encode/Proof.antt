@@ -13,6 +13,9 @@ enum-told c = search needs
 enum-known-p : tie.Need-enum-known-p
 enum-known-p c = search needs
 
+cast-t11 : tie.Need-cast-t11
+cast-t11 c = search needs
+
 enum-known-p-2 : tie.Need-enum-known-p-2
 enum-known-p-2 c = search needs
 
@@ -50,7 +53,7 @@ returns-6 : tie.Need-returns-6
 returns-6 c = reply-is (c .before .p5 .given .1)
 
 returns-7 : tie.Need-returns-7
-returns-7 c = ap (λ (n : ℕ). codedAs n 0 0 0) (c .number-of .ensures) ∙ reply-is (c .before .before .p6 .given .1)
+returns-7 c = ap (λ (n : ℕ). codedAs n 0 0 0 0) (c .number-of .ensures) ∙ reply-is (c .before .before .p6 .given .1)
 
 pub encode-spec : {M : Type 1} → statement M
 encode-spec =
@@ -58,6 +61,7 @@ encode-spec =
     (tie.spec
     enum-told
     enum-known-p
+    cast-t11
     enum-known-p-2
     enum-known-p-3
     enum-known-p-4

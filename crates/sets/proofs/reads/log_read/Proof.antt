@@ -4,8 +4,8 @@ use borrow.Author.Needs.{needs}
 use Rattle.sets.proofs.reads.log_read.Statement.{statement}
 use Rattle.sets.proofs.reads.log_read.Tie as tie
 
-cast-t7 : tie.Need-cast-t7
-cast-t7 c = search needs
+cast-t8 : tie.Need-cast-t8
+cast-t8 c = search needs
 
 mul-row : tie.Need-mul-row
 mul-row c = search needs
@@ -18,8 +18,8 @@ add-result c = search needs
 
 returns : tie.Need-returns
 returns c =
-    let s = c .before in
+    let s = c .before .before in
     read-appended (s .args .reads .now) (s .args .n) (s .args .a) (s .args .seen) (s .pre .0) (s .pre .1) (s .fits .a .fits)
 
 pub log-read-spec : {M : Type 1} → statement M
-log-read-spec = tie.close (tie.spec cast-t7 mul-row element-set-from-row add-result returns)
+log-read-spec = tie.close (tie.spec cast-t8 mul-row element-set-from-row add-result returns)

@@ -12,20 +12,23 @@ mul-row c = search needs
 element-copy-out-row : tie.Need-element-copy-out-row
 element-copy-out-row c = search needs
 
-array-read-t11 : tie.Need-array-read-t11
-array-read-t11 c = search needs
+array-read-t12 : tie.Need-array-read-t12
+array-read-t12 c = search needs
 
 array-read-t15 : tie.Need-array-read-t15
 array-read-t15 c = search needs
 
-array-read-t18 : tie.Need-array-read-t18
-array-read-t18 c = search needs
+array-read-t12-2 : tie.Need-array-read-t12-2
+array-read-t12-2 c = search needs
 
-array-read-t11-2 : tie.Need-array-read-t11-2
-array-read-t11-2 c = search needs
+array-read-t15-2 : tie.Need-array-read-t15-2
+array-read-t15-2 c = search needs
 
-cast-t21 : tie.Need-cast-t21
-cast-t21 c =
+array-read-t12-3 : tie.Need-array-read-t12-3
+array-read-t12-3 c = search needs
+
+cast-t23 : tie.Need-cast-t23
+cast-t23 c =
     let s = c .before in
     omega (arith, s .pre .0 .at (s .args .i) (s .pre .1))
 
@@ -40,9 +43,10 @@ read-at-spec =
     (tie.spec
     mul-row
     element-copy-out-row
-    array-read-t11
+    array-read-t12
     array-read-t15
-    array-read-t18
-    array-read-t11-2
-    cast-t21
+    array-read-t12-2
+    array-read-t15-2
+    array-read-t12-3
+    cast-t23
     returns)

@@ -1,6 +1,7 @@
 -- `writes::find_write` meets its contract: what stands at the place of the address, if that is its own.
 use native.Mathlib.Omega.{arith}
 use Rattle.spec.specs.Records.{written, deleted}
+use Rattle.spec.specs.Payloads.{payloadIn}
 use Rattle.sets.specs.WriteLaws.{put-kind, deletion-kind, inside, found-here, found-none}
 use borrow.Author.Needs.{needs}
 use Rattle.sets.proofs.writes.find_write.Statement.{statement}
@@ -21,11 +22,12 @@ get-requires c κs =
 
 returns : tie.Need-returns
 returns c =
-    let g = c .before .before in
+    let k = c .before in
+    let g = k .before .before in
     let t = g .before .before in
     let b = t .before in
     found-here (b .before .pre) (b .writes-below .ensures) (g .get .result) (g .get .ensures) (t .stands .ensures .present (g .before .if1 .taken))
-    (written (record { value = g .get .result .value })) (put-kind (g .get .result .kind) (g .get .result .value) (c .if2 .taken))
+    (written (payloadIn (g .get .result .payload))) (put-kind (g .get .result .kind) (g .get .result .payload) (k .if2 .taken))
 
 returns-2 : tie.Need-returns-2
 returns-2 c =
@@ -33,7 +35,7 @@ returns-2 c =
     let t = g .before .before in
     let b = t .before in
     found-here (b .before .pre) (b .writes-below .ensures) (g .get .result) (g .get .ensures) (t .stands .ensures .present (g .before .if1 .taken))
-    deleted (deletion-kind (g .get .result .kind) (g .get .result .value) (c .if2 .left))
+    deleted (deletion-kind (g .get .result .kind) (g .get .result .payload) (c .if2 .left))
 
 returns-3 : tie.Need-returns-3
 returns-3 c =

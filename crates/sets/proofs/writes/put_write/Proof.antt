@@ -23,7 +23,7 @@ returns c =
     let t = c .before .before .before in
     let b = t .before .before in
     let s = b .before .before in
-    put-over (s .pre .0) (b .writes-below .ensures) (s .args .kind) (s .args .value) (t .stands .ensures .present (c .before .before .if1 .taken)) (s .fits .a .fits) (c .store .ensures)
+    put-over (s .pre .0) (b .writes-below .ensures) (s .args .kind) (s .args .payload) (t .stands .ensures .present (c .before .before .if1 .taken)) (s .fits .a .fits) (c .store .ensures)
 
 insert-requires : tie.Need-insert-requires
 insert-requires c κs =
@@ -41,7 +41,7 @@ returns-2 c =
     let b = t .before .before in
     let s = b .before .before in
     let n = t .stands .ensures .absent (c .before .before .if1 .left) in
-    put-new (s .pre .0) (b .writes-below .ensures) (s .args .kind) (s .args .value) n (put-room (s .pre .0) (b .writes-below .ensures) n (s .pre .1)) (c .insert .ensures)
+    put-new (s .pre .0) (b .writes-below .ensures) (s .args .kind) (s .args .payload) n (put-room (s .pre .0) (b .writes-below .ensures) n (s .pre .1)) (c .insert .ensures)
 
 pub put-write-spec : {M : Type 1} → statement M
 put-write-spec =

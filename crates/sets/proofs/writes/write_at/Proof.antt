@@ -18,15 +18,15 @@ cast-address c =
 
 returns : tie.Need-returns
 returns c =
-    let g = c .before .before .before .get in
+    let g = c .before .before .before .before .get in
     write-given (g .result) (g .ensures) _ refl
-    (put-kind 1 (g .result .value) refl ∙ sym (put-kind (g .result .kind) (g .result .value) (c .if1 .taken))) (inl refl)
+    (put-kind 1 (g .result .payload) refl ∙ sym (put-kind (g .result .kind) (g .result .payload) (c .if1 .taken))) (inl refl)
 
 returns-2 : tie.Need-returns-2
 returns-2 c =
-    let g = c .before .before .before .get in
+    let g = c .before .before .before .before .get in
     write-given (g .result) (g .ensures) _ refl
-    (deletion-kind 2 (g .result .value) (λ e. omega arith) ∙ sym (deletion-kind (g .result .kind) (g .result .value) (c .if1 .left))) (inr refl)
+    (deletion-kind 2 (g .result .payload) (λ e. omega arith) ∙ sym (deletion-kind (g .result .kind) (g .result .payload) (c .if1 .left))) (inr refl)
 
 pub write-at-spec : {M : Type 1} → statement M
 write-at-spec = tie.close (tie.spec get-requires cast-address returns returns-2)

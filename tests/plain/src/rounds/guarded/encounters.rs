@@ -1,18 +1,21 @@
 //! Encounters in a guarded map: others that come to the same gap, or change it
 //! between two scans, and a guard that goes before a limit.
 
-use super::layout::{collide, crowd, drop_some, place, put, resize, within, Change, Layout};
+use super::layout::{collide, crowd, drop_some, hand_over, place, put, resize, within};
+use super::layout::{Change, Layout};
 use super::{any_stretch, body, cover, faults, merges};
 use crate::generate::Generator;
 use crate::guard::{Span, LONGEST};
-use crate::map::{Write, INDEXLET_LIMIT, MAP_LIMIT};
+use crate::map::{Payload, Write, INDEXLET_LIMIT, MAP_LIMIT};
 use crate::random::Random;
 
-const ENCOUNTERS: [fn(&mut Generator); 8] = [
+const ENCOUNTERS: [fn(&mut Generator); 10] = [
     same_gap,
     filled_between,
     emptied_between,
     changed_elsewhere,
+    handed_over,
+    handed_over,
     held,
     neighbour_held,
     neighbour_held,
@@ -40,7 +43,8 @@ fn settled_gap(generator: &mut Generator) -> Option<Span> {
 /// A scan that is just enough, and the put.
 fn scan_and_put(generator: &mut Generator, worker: u32, section: Span) {
     scan_for(generator, worker, section);
-    generator.write(worker, put(section));
+    let put = put(&mut generator.random, section);
+    generator.write(worker, put);
 }
 
 fn scan_for(generator: &mut Generator, worker: u32, section: Span) {
@@ -96,7 +100,8 @@ fn filled_between(generator: &mut Generator) {
     let [section, other] = overlapping(&mut generator.random, gap);
     generator.begin(worker);
     scan_and_put(generator, worker, section);
-    commit(generator, writer, &[put(other)]);
+    let put = put(&mut generator.random, other);
+    commit(generator, writer, &[put]);
     if !generator.random.one_in(4) {
         generator.merge(other.first);
     }
@@ -113,7 +118,7 @@ fn emptied_between(generator: &mut Generator) {
     let gone = drop_some(&mut generator.random, &mut layout, 1);
     let Some(&(address, _)) = gone.first() else { return };
     let Some(stored) = generator.map().current(address) else { return };
-    let Some(old) = Span::new(address, stored.value) else { return };
+    let Some(old) = Span::new(address, stored.payload.value) else { return };
     let section = within(&mut generator.random, old);
     generator.begin(worker);
     scan_and_put(generator, worker, section);
@@ -133,9 +138,25 @@ fn changed_elsewhere(generator: &mut Generator) {
     let [section, other] = overlapping(&mut generator.random, gap);
     generator.begin(worker);
     scan_and_put(generator, worker, section);
-    commit(generator, writer, &[put(other)]);
+    let put = put(&mut generator.random, other);
+    commit(generator, writer, &[put]);
     generator.merge(other.first);
     generator.scan(worker, section.reached_from().saturating_add(1), section.last);
+    generator.finish(worker);
+    generator.idle(worker);
+}
+
+/// A neighbour goes to another owner after the scan, and validation sees that.
+fn handed_over(generator: &mut Generator) {
+    let [worker, writer] = generator.idle_workers();
+    let stretch = settled_stretch(generator);
+    let mut layout = Layout::new(generator.map(), stretch);
+    let Some(gap) = layout.gap(&mut generator.random) else { return };
+    let other = hand_over(&mut generator.random, &mut layout, 1);
+    let section = within(&mut generator.random, gap);
+    generator.begin(worker);
+    scan_and_put(generator, worker, section);
+    commit(generator, writer, &other);
     generator.finish(worker);
     generator.idle(worker);
 }
@@ -149,12 +170,14 @@ fn held(generator: &mut Generator) {
     scan_and_put(generator, holder, section);
     generator.lock(holder);
     generator.begin(worker);
+    let owner = generator.random.owner();
+    let of_length = |value| Write::Put(Payload { value, owner });
     match generator.random.below(4) {
-        0 => generator.write(worker, put(section)),
-        1 => generator.write(worker, (section.first, Write::Put(LONGEST + 1))),
+        0 => generator.write(worker, (section.first, of_length(section.length()))),
+        1 => generator.write(worker, (section.first, of_length(LONGEST + 1))),
         2 => {
             scan_and_put(generator, worker, section);
-            generator.write(worker, (section.last, Write::Put(1)));
+            generator.write(worker, (section.last, of_length(1)));
         }
         _ => scan_and_put(generator, worker, section),
     }

@@ -43,7 +43,8 @@ fn past_the_end(random: &mut Random, body: &mut Vec<Step>) {
     let Some(worker) = body.first().and_then(|step| step.worker()) else { return };
     let short = random.address(0, 1000);
     let length = u64::from(short) + 2 + if random.one_in(2) { 0 } else { random.number() % 60_000 };
-    body.push(Step::Put { worker, address: u32::MAX - short, value: length });
+    let (address, owner) = (u32::MAX - short, random.owner());
+    body.push(Step::Put { worker, address, value: length, owner });
 }
 
 /// Replaces the first scan.
@@ -90,6 +91,6 @@ fn past_the_scan(random: &mut Random, body: &mut Vec<Step>) {
         _ => None,
     });
     let Some((hi, worker)) = scans.max() else { return };
-    let value = 1 + random.number() % 100;
-    body.push(Step::Put { worker, address: hi.saturating_add(1), value });
+    let (value, owner) = (1 + random.number() % 100, random.owner());
+    body.push(Step::Put { worker, address: hi.saturating_add(1), value, owner });
 }

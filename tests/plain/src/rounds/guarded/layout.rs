@@ -2,8 +2,9 @@
 
 use crate::engine::WRITE_LIMIT;
 use crate::guard::{sections, Span, LONGEST};
-use crate::map::{Map, Write};
+use crate::map::{Map, Payload, Record, Write};
 use crate::random::Random;
+use std::collections::BTreeMap;
 
 /// Most sections have no more bytes than this, so that many find room.
 const SHORT: u32 = 4096;
@@ -14,13 +15,17 @@ pub struct Layout {
     stretch: Span,
     /// The sections that overlap the stretch, rising.
     taken: Vec<Span>,
+    /// Whose sections these were at first, by address.
+    owners: BTreeMap<u32, u16>,
 }
 
 impl Layout {
     pub fn new(map: &Map, stretch: Span) -> Self {
         let near = map.contents_between(stretch.reached_from(), stretch.last);
-        let spans = near.iter().filter_map(|record| Span::new(record.address, record.stored.value));
-        Layout { stretch, taken: spans.filter(|span| span.overlaps(stretch)).collect() }
+        let owners = near.iter().map(|record| (record.address, record.stored.payload.owner));
+        let section = |record: &Record| Span::new(record.address, record.stored.payload.value);
+        let taken = near.iter().filter_map(section).filter(|span| span.overlaps(stretch)).collect();
+        Layout { stretch, taken, owners: owners.collect() }
     }
 
     fn gaps(&self) -> Vec<Span> {
@@ -59,12 +64,17 @@ impl Layout {
         let section = within(random, gap);
         self.taken.push(section);
         self.taken.sort_unstable_by_key(|taken| taken.first);
-        Some(put(section))
+        Some(put(random, section))
     }
 }
 
-pub fn put(section: Span) -> (u32, Write) {
-    (section.first, Write::Put(section.length()))
+/// Any owner's.
+pub fn put(random: &mut Random, section: Span) -> (u32, Write) {
+    put_of(section, random.owner())
+}
+
+pub fn put_of(section: Span, owner: u16) -> (u32, Write) {
+    (section.first, Write::Put(Payload { value: section.length(), owner }))
 }
 
 /// A section somewhere in a gap, and often at one of its ends.
@@ -119,7 +129,10 @@ pub fn relocate(random: &mut Random, layout: &mut Layout, _: usize) -> Writes {
 /// A section goes, and another comes at its place.
 pub fn replace(random: &mut Random, layout: &mut Layout, most: usize) -> Writes {
     let Some(old) = layout.some(random) else { return place(random, layout, most) };
-    let new = layout.open(old).map(|gap| put(within(random, gap)));
+    let new = layout.open(old).map(|gap| {
+        let section = within(random, gap);
+        put(random, section)
+    });
     [(old.first, Write::Delete)].into_iter().chain(new).collect()
 }
 
@@ -128,7 +141,15 @@ pub fn resize(random: &mut Random, layout: &mut Layout, most: usize) -> Writes {
     let Some(old) = layout.some(random) else { return place(random, layout, most) };
     let Some(gap) = layout.open(old) else { return Vec::new() };
     let last = gap.last.min(old.first.saturating_add(LONGEST as u32 - 1));
-    vec![put(Span { first: old.first, last: random.address(old.first, last) })]
+    let section = Span { first: old.first, last: random.address(old.first, last) };
+    vec![put(random, section)]
+}
+
+/// A section goes to another owner, and stays as it is.
+pub fn hand_over(random: &mut Random, layout: &mut Layout, most: usize) -> Writes {
+    let Some(old) = layout.some(random) else { return place(random, layout, most) };
+    let owner = layout.owners[&old.first];
+    vec![put_of(old, random.other_owner(owner))]
 }
 
 /// A section is cut short, and a new one comes behind it.
@@ -138,7 +159,8 @@ pub fn cut(random: &mut Random, layout: &mut Layout, most: usize) -> Writes {
     };
     let last = random.address(old.first, old.last - 1);
     let rest = Span { first: last + 1, last: old.last };
-    vec![put(Span { first: old.first, last }), put(within(random, rest))]
+    let behind = within(random, rest);
+    vec![put(random, Span { first: old.first, last }), put(random, behind)]
 }
 
 /// A section over another one: from below, from within or over its end, and often
@@ -152,7 +174,7 @@ pub fn collide(random: &mut Random, layout: &mut Layout, most: usize) -> Writes 
     let more = random.address(least, old.last.saturating_add(9));
     let last = random.pick(&[least, more]).min(first.saturating_add(LONGEST as u32 - 1));
     let mut writes = place(random, layout, most);
-    writes.push(put(Span { first, last }));
+    writes.push(put(random, Span { first, last }));
     writes
 }
 
@@ -162,7 +184,8 @@ pub fn crowd(random: &mut Random, layout: &mut Layout, most: usize) -> Writes {
     let new: Vec<Span> = sections(&writes).flatten().collect();
     if let Some(&section) = new.first() {
         let first = random.address(section.first, section.last);
-        writes.push(put(Span { first, last: random.address(first, section.last) }));
+        let second = Span { first, last: random.address(first, section.last) };
+        writes.push(put(random, second));
     }
     writes
 }

@@ -16,15 +16,16 @@ use crate::moves::{transaction, write_of};
 use crate::profiles::{or_abort, wild};
 use crate::step::Step;
 use layout::{clear, collide, crowd, cut, drop_some, place};
-use layout::{relocate, replace, resize, Change, Layout};
+use layout::{hand_over, relocate, replace, resize, Change, Layout};
 
-const GROWING: [Change; 13] = [
-    place, place, place, place, place, place, drop_some, relocate, replace, resize, cut, collide,
-    crowd,
+const GROWING: [Change; 14] = [
+    place, place, place, place, place, place, drop_some, relocate, replace, resize, hand_over, cut,
+    collide, crowd,
 ];
 
-const SHRINKING: [Change; 13] = [
-    place, clear, clear, clear, clear, clear, clear, relocate, replace, resize, cut, collide, crowd,
+const SHRINKING: [Change; 14] = [
+    place, clear, clear, clear, clear, clear, clear, relocate, replace, resize, hand_over, cut,
+    collide, crowd,
 ];
 
 /// A step of one of the workers side by side, or now and then something special.
@@ -71,7 +72,7 @@ fn stretch(generator: &mut Generator, at: u32) -> Span {
     let (part, random) = (part(at), &mut generator.random);
     let more = random.pick(&[1 << 12, 1 << 14, 1 << 14, 1 << 15, 1 << 17]) - 1;
     let latest = part.last - more;
-    let first = match random.below(8) {
+    let first = match random.below(6) {
         0 => part.first,
         1 => latest,
         _ => random.address(part.first, latest),

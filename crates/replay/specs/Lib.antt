@@ -1,9 +1,7 @@
-pub mod Codes
-pub mod CodeLaws
+pub mod CodedSteps
+pub mod StepLaws
 pub mod PartLaws
 pub mod Replays
-pub mod Words
-pub mod WordLaws
 pub mod FitLaws
 pub mod ShownLaws
 pub mod RunLaws

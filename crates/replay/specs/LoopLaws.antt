@@ -24,14 +24,14 @@ use Rattle.transactions.specs.Ready.{Ready}
 use Rattle.transactions.specs.Starts.{Fresh}
 use Rattle.engine.specs.declared.steps.Op.{Op}
 use Rattle.engine.specs.Performs.{stepIn}
-use Rattle.replay.specs.declared.codes.Code.{Code}
-use Rattle.replay.specs.declared.decodes.Decoded.{Decoded}
-use Rattle.replay.specs.declared.decodes.Decoded.the-variants.{Meant, Meaningless}
+use Rattle.codes.specs.declared.Code.{Code}
+use Rattle.codes.specs.declared.decodes.Decoded.{Decoded}
+use Rattle.codes.specs.declared.decodes.Decoded.the-variants.{Meant, Meaningless}
+use Rattle.codes.specs.Codes.{decoded, wordsOf}
 use Rattle.replay.specs.declared.runs.Stop.{Stop}
 use Rattle.replay.specs.declared.runs.Stop.the-variants as stop
 use Rattle.replay.specs.declared.runs.AfterCode.{AfterCode}
 use Rattle.replay.specs.declared.runs.Replayed.{Replayed}
-use Rattle.replay.specs.Codes.{decoded, wordsOf}
 use Rattle.replay.specs.Replays.{Ran, ended, event, followedBy, byMeaning, stepWords, codeOf, longestAnswer, ran, allWords, leftIn, addressOf, valueOf, ownerOf, BuffersBecome, listedIn, runOf, Replays}
 use Rattle.replay.specs.RunLaws.{codeAt, wordsFrom, drop-code, allFollowedBy, chained, tally, TakesCode}
 

@@ -23,13 +23,8 @@ use Rattle.engine.specs.declared.steps.Reply.{Reply}
 use Rattle.engine.specs.declared.steps.Reply.the-variants as reply
 use Rattle.engine.specs.Listings.{places-fit}
 use Rattle.engine.specs.Performs.{stepIn, replyIn, placesIn, Performs}
-use Rattle.replay.specs.Codes.{firstOf, PerformsFirst}
-
--- Buffers of m places have as many as are wanted.
-pub record Lends (m w : Places) : Type 0 where
-  pub addresses : w .addresses ≤ m .addresses
-  pub values : w .values ≤ m .values
-  pub owners : w .owners ≤ m .owners
+use Rattle.codes.specs.CodeLaws.{Lends}
+use Rattle.replay.specs.CodedSteps.{firstOf, PerformsFirst}
 
 -- ---- from the parts
 

@@ -19,13 +19,13 @@ use Rattle.transactions.specs.Views.{Logs, stateOf}
 use Rattle.transactions.specs.Ready.{Ready}
 use Rattle.engine.specs.declared.steps.Op.{Op}
 use Rattle.engine.specs.Performs.{stepIn}
-use Rattle.replay.specs.declared.codes.Code.{Code}
-use Rattle.replay.specs.declared.decodes.Decoded.{Decoded}
-use Rattle.replay.specs.declared.decodes.Decoded.the-variants.{Meant, Meaningless}
+use Rattle.codes.specs.declared.Code.{Code}
+use Rattle.codes.specs.declared.decodes.Decoded.{Decoded}
+use Rattle.codes.specs.declared.decodes.Decoded.the-variants.{Meant, Meaningless}
+use Rattle.codes.specs.Codes.{decoded, wordsOf}
 use Rattle.replay.specs.declared.runs.Stop.{Stop}
 use Rattle.replay.specs.declared.runs.Stop.the-variants as stop
 use Rattle.replay.specs.declared.runs.Replayed.{Replayed}
-use Rattle.replay.specs.Codes.{decoded, wordsOf}
 
 -- ---- which steps are taken
 

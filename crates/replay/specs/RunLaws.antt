@@ -16,18 +16,19 @@ use Rattle.transactions.specs.Ready.{Ready}
 use Rattle.engine.specs.declared.steps.Op.{Op}
 use Rattle.engine.specs.declared.steps.Performed.{Performed}
 use Rattle.engine.specs.Performs.{stepIn, replyIn}
-use Rattle.replay.specs.declared.codes.Code.{Code}
-use Rattle.replay.specs.declared.decodes.Decoded.{Decoded}
-use Rattle.replay.specs.declared.decodes.Decoded.the-variants.{Meant, Meaningless}
+use Rattle.codes.specs.declared.Code.{Code}
+use Rattle.codes.specs.declared.decodes.Decoded.{Decoded}
+use Rattle.codes.specs.declared.decodes.Decoded.the-variants.{Meant, Meaningless}
+use Rattle.codes.specs.Codes.{meantWith, decoded, wordsOf}
+use Rattle.codes.specs.CodeLaws.{Lends, meant-lends}
+use Rattle.codes.specs.Words.{Roomy}
 use Rattle.replay.specs.declared.runs.Stop.{Stop}
 use Rattle.replay.specs.declared.runs.Stop.the-variants as stop
 use Rattle.replay.specs.declared.runs.AfterCode.{AfterCode}
-use Rattle.replay.specs.Codes.{meantWith, decoded, wordsOf, PerformsFirst}
-use Rattle.replay.specs.CodeLaws.{meant-lends}
-use Rattle.replay.specs.PartLaws.{Lends, performs-with}
+use Rattle.replay.specs.CodedSteps.{PerformsFirst}
+use Rattle.replay.specs.PartLaws.{performs-with}
 use Rattle.replay.specs.Replays.{Ran, ended, event, followedBy, stepWords, codeOf, longestAnswer, ran, allWords, leftIn, BuffersBecome}
 use Rattle.replay.specs.ShownLaws.{shown, roomy}
-use Rattle.replay.specs.Words.{Roomy}
 
 -- ---- codes
 

@@ -14,9 +14,9 @@ use Rattle.ranges.specs.Buffers.{Buffers, placesOf, rowIn, rowsIn, Unmoved, Bey
 use Rattle.engine.specs.declared.steps.Reply.{Reply}
 use Rattle.engine.specs.declared.steps.Reply.the-variants as reply
 use Rattle.engine.specs.Performs.{replyIn, placesIn}
-use Rattle.replay.specs.PartLaws.{Lends}
+use Rattle.codes.specs.CodeLaws.{Lends}
+use Rattle.codes.specs.Words.{Roomy}
 use Rattle.replay.specs.Replays.{event, listedIn, leftIn, addressOf, valueOf, ownerOf, BuffersBecome, longestAnswer}
-use Rattle.replay.specs.Words.{Roomy}
 
 -- room for the longest answer is room for this one
 pub roomy : (p : Reply) (w : Places) (b b' : Buffers) (out : List ℕ) (at : ℕ) → placesIn p ≤ shortest w → Lends (placesOf b) w

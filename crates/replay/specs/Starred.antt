@@ -17,9 +17,9 @@ use Rattle.map.specs.Views.{Lent, mapOf}
 use Rattle.ranges.specs.Buffers.{Buffers, placesOf}
 use Rattle.transactions.specs.Views.{Logs, stateOf}
 use Rattle.calls.specs.CallLaws.{map-in}
+use Rattle.codes.specs.Codes.{decodedScan, decodedPut, decodedAccess, decoded, decodedNumbered, listedWords, wordsOf}
 use Rattle.replay.specs.declared.runs.Stop.the-variants as stop
 use Rattle.replay.specs.declared.runs.Replayed.{Replayed}
-use Rattle.replay.specs.Codes.{decodedScan, decodedPut, decodedAccess, decoded, decodedNumbered, listedWords, wordsOf}
 use Rattle.replay.specs.Replays.{Ran, ran, allWords, Replays}
 use Rattle.replay.specs.LoopLaws.{ran-model}
 

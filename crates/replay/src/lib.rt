@@ -1,6 +1,4 @@
-// Steps in coded form: one, `codes::step`, and a list of them from a fresh map, `runs::replay`, whose promise is demand 3.
-pub mod codes;
-mod decodes;
+// Steps in coded form: one, `steps::step`, and a list of them from a fresh map, `runs::replay`, whose promise is demand 3.
 mod parts;
 pub mod runs;
-mod words;
+pub mod steps;

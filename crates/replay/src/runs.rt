@@ -1,10 +1,10 @@
 // A list of steps in coded form, run from a fresh map.
-use crate::codes::Code;
-use crate::codes::STEP_WORDS;
-use crate::decodes;
-use crate::decodes::Decoded;
 use crate::parts;
-use crate::words;
+use codes::Code;
+use codes::STEP_WORDS;
+use codes::decodes;
+use codes::decodes::Decoded;
+use codes::words;
 use map::Leaves;
 use map::Records;
 use map::Slots;

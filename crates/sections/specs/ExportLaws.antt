@@ -22,14 +22,15 @@ use Rattle.transactions.specs.Views.{Logs}
 use Rattle.transactions.specs.Ready.{Ready}
 use Rattle.transactions.specs.Starts.{Fresh}
 use Rattle.ranges.specs.Buffers.{Buffers, placesOf}
-use Rattle.replay.specs.declared.codes.Code.{Code}
-use Rattle.replay.specs.declared.decodes.Decoded.{Decoded}
-use Rattle.replay.specs.declared.decodes.Decoded.the-variants.{Meant, Meaningless}
-use Rattle.replay.specs.declared.codes.Stepped.{Stepped}
+use Rattle.codes.specs.declared.Code.{Code}
+use Rattle.codes.specs.declared.decodes.Decoded.{Decoded}
+use Rattle.codes.specs.declared.decodes.Decoded.the-variants.{Meant, Meaningless}
+use Rattle.codes.specs.Codes.{decoded}
+use Rattle.replay.specs.declared.steps.Stepped.{Stepped}
 use Rattle.replay.specs.declared.runs.Stop.{Stop}
 use Rattle.replay.specs.declared.runs.Stop.the-variants as stop
 use Rattle.replay.specs.declared.runs.Replayed.{Replayed}
-use Rattle.replay.specs.Codes.{decoded, CodedStep}
+use Rattle.replay.specs.CodedSteps.{CodedStep}
 use Rattle.replay.specs.Replays.{Replays}
 use Rattle.sections.specs.Saved.{savedCore}
 use Rattle.sections.specs.Exports.{codedIn, steppedIn, ExportedStep, stopNumber, stopOf, CountsAre, replayedIn, recordWords, NextRecord}

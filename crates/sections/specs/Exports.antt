@@ -13,13 +13,14 @@ use Rattle.queries.specs.Contents.{firstFrom}
 use Rattle.transactions.specs.Views.{Logs}
 use Rattle.transactions.specs.Ready.{Ready}
 use Rattle.ranges.specs.Buffers.{Buffers}
-use Rattle.replay.specs.declared.codes.Code.{Code}
-use Rattle.replay.specs.declared.codes.Coded.{Coded}
-use Rattle.replay.specs.declared.codes.Stepped.{Stepped}
+use Rattle.codes.specs.declared.Code.{Code}
+use Rattle.codes.specs.declared.Coded.{Coded}
+use Rattle.codes.specs.Codes.{codedAs}
+use Rattle.replay.specs.declared.steps.Stepped.{Stepped}
 use Rattle.replay.specs.declared.runs.Stop.{Stop}
 use Rattle.replay.specs.declared.runs.Stop.the-variants.{Complete, Meaningless, Full}
 use Rattle.replay.specs.declared.runs.Replayed.{Replayed}
-use Rattle.replay.specs.Codes.{codedAs, CodedStep}
+use Rattle.replay.specs.CodedSteps.{CodedStep}
 use Rattle.replay.specs.Replays.{codeOf}
 use Rattle.sections.specs.Saved.{savedCore}
 

@@ -4,16 +4,16 @@
 mod saved;
 
 use crate::saved::Saved;
+use codes::Code;
+use codes::Coded;
+use codes::StepWords;
 use map::Leaves;
 use map::Records;
 use map::Slots;
 use queries::Next;
-use replay::codes;
-use replay::codes::Code;
-use replay::codes::Coded;
-use replay::codes::StepWords;
 use replay::runs;
 use replay::runs::Stop;
+use replay::steps;
 use sets::LeafSets;
 use sets::ReadSets;
 use sets::WriteSets;
@@ -83,7 +83,7 @@ fn code_in(step: &StepWords) -> Code
     }
 }
 
-// One step in coded form (`replay::codes::Code`), its answer in five numbers (`Coded`), and a scan's records in the first
+// One step in coded form (`codes::Code`), its answer in five numbers (`Coded`), and a scan's records in the first
 // places of its buffers.
 #[no_mangle]
 pub extern "C" fn sections_step(
@@ -108,7 +108,7 @@ pub extern "C" fn sections_step(
 {
     let c = saved::load(core);
     let k = code_in(step);
-    let s = codes::step(
+    let s = steps::step(
         addresses,
         values,
         owners,

@@ -1,4 +1,4 @@
--- `sections_step` meets its contract: `codes::step` between a core loaded and a core stored.
+-- `sections_step` meets its contract: `steps::step` between a core loaded and a core stored.
 use Rattle.sections.specs.ExportLaws.{ready-loaded, steps-workers, exported-step}
 use borrow.Author.Needs.{needs}
 use Rattle.sections.proofs.sections_step.Statement.{statement}

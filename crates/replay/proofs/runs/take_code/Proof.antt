@@ -1,5 +1,5 @@
 -- `runs::take_code` meets its contract: without meaning, full, or taken.
-use Rattle.replay.specs.CodeLaws.{meant-lends}
+use Rattle.codes.specs.CodeLaws.{meant-lends}
 use Rattle.replay.specs.FitLaws.{fits-yes, fits-no}
 use Rattle.replay.specs.RunLaws.{code-unmeant, code-full, code-taken, performs-roomy}
 use borrow.Author.Needs.{needs}

@@ -1,0 +1,183 @@
+-- Codes by the tests that the code makes.
+use Prim.Native.Nat.{ℕ, _^_, _<_, _≤_, zero-le}
+use mathlib.Core.Path.{_≡_, refl, sym, ap, _∙_, subst}
+use mathlib.Core.Bool.{Bool, true, false}
+use Rattle.lists.specs.Tests.{pick, both, same, less, atMost}
+use Rattle.lists.specs.TestLaws.{same-yes, same-no, less-yes, less-no, atMost-yes, atMost-no, atMost-true}
+use Rattle.spec.specs.Steps.{Places, places}
+use Rattle.engine.specs.declared.steps.Access.the-variants as access
+use Rattle.engine.specs.declared.steps.Ending.the-variants as ending
+use Rattle.engine.specs.declared.steps.Op.{Op}
+use Rattle.engine.specs.declared.steps.Op.the-variants as op
+use Rattle.engine.specs.declared.steps.Reply.{Reply}
+use Rattle.codes.specs.declared.Code.{Code}
+use Rattle.codes.specs.declared.decodes.Decoded.{Decoded}
+use Rattle.codes.specs.declared.decodes.Decoded.the-variants.{Meant, Meaningless}
+use Rattle.codes.specs.Codes.{meantWith, meantAlone, decodedScan, decodedPut, decodedAccess, decodedNumbered, decoded, codedOf}
+
+-- ---- what a code means, by the number of its kind
+
+abbrev pub accessBy : ℕ → Places → Code → Decoded
+accessBy x m k =
+    pick (same x 1) (meantAlone (op.Access (k .a) (access.Read (k .b))))
+    (pick (same x 2) (decodedScan m k)
+    (pick (same x 3) (decodedPut k)
+    (pick (same x 4) (meantAlone (op.Access (k .a) (access.Remove (k .b)))) Meaningless)))
+
+abbrev pub codeBy : ℕ → Places → Code → Decoded
+codeBy x m k =
+    pick (same x 0) (meantAlone (op.Begin (k .a)))
+    (pick (same x 5) (meantAlone (op.Ending (k .a) ending.Lock))
+    (pick (same x 6) (meantAlone (op.Ending (k .a) ending.Validate))
+    (pick (same x 7) (meantAlone (op.Ending (k .a) ending.Install))
+    (pick (same x 8) (meantAlone (op.Ending (k .a) ending.Abort))
+    (pick (same x 9) (meantAlone (op.Merge (k .a))) (decodedAccess m k))))))
+
+abbrev scanIn : Code → Decoded
+scanIn k = meantWith (op.Access (k .a) (access.Scan (k .b) (k .c))) (places (k .d) (k .e) (k .f))
+
+-- ---- by the tests that the code makes
+
+module _ (k : Code) where
+  pub put-wide : 2 ^ 16 ≤ k .d → Meaningless ≡ decodedPut k
+  unfolding decodedPut
+  put-wide h = rw (less-no h)
+
+  pub put-meant : k .d < 2 ^ 16 → meantAlone (op.Access (k .a) (access.Put (k .b) (k .c) (k .d))) ≡ decodedPut k
+  unfolding decodedPut
+  put-meant h = rw (less-yes h)
+
+module _ (m : Places) (k : Code) where
+  -- by its tests
+  scan-is : (x y z u : Bool) → less (k .c) (2 ^ 32) ≡ x → atMost (k .d) (m .addresses) ≡ y → atMost (k .e) (m .values) ≡ z → atMost (k .f) (m .owners) ≡ u
+      → pick (both x (both y (both z u))) (scanIn k) Meaningless ≡ decodedScan m k
+  unfolding decodedScan
+  scan-is x y z u e f g h = rw (e, f, g, h)
+
+  pub scan-wide : 2 ^ 32 ≤ k .c → Meaningless ≡ decodedScan m k
+  scan-wide h = scan-is false _ _ _ (less-no h) refl refl refl
+
+  pub scan-addresses : m .addresses < k .d → k .c < 2 ^ 32 → Meaningless ≡ decodedScan m k
+  scan-addresses f h = scan-is true false _ _ (less-yes h) (atMost-no f) refl refl
+
+  pub scan-values : m .values < k .e → k .d ≤ m .addresses → k .c < 2 ^ 32 → Meaningless ≡ decodedScan m k
+  scan-values g f h = scan-is true true false _ (less-yes h) (atMost-yes f) (atMost-no g) refl
+
+  pub scan-owners : m .owners < k .f → k .e ≤ m .values → k .d ≤ m .addresses → k .c < 2 ^ 32 → Meaningless ≡ decodedScan m k
+  scan-owners e g f h = scan-is true true true false (less-yes h) (atMost-yes f) (atMost-yes g) (atMost-no e)
+
+  pub scan-meant : k .f ≤ m .owners → k .e ≤ m .values → k .d ≤ m .addresses → k .c < 2 ^ 32 → scanIn k ≡ decodedScan m k
+  scan-meant e g f h = scan-is true true true true (less-yes h) (atMost-yes f) (atMost-yes g) (atMost-yes e)
+
+  -- ---- read, scan, put, remove
+
+  pub access-wide : 2 ^ 32 ≤ k .b → Meaningless ≡ decodedAccess m k
+  unfolding decodedAccess
+  access-wide h = rw (less-no h)
+
+  -- by its kind
+  pub access-kind : (x : ℕ) → k .kind ≡ x → k .b < 2 ^ 32 → accessBy x m k ≡ decodedAccess m k
+  unfolding decodedAccess
+  access-kind x e h = rw (less-yes h) (ap (λ (y : ℕ). accessBy y m k) (sym e))
+
+  pub access-other : (k .kind ≡ 1 → ⊥) → (k .kind ≡ 2 → ⊥) → (k .kind ≡ 3 → ⊥) → (k .kind ≡ 4 → ⊥) → k .b < 2 ^ 32 → Meaningless ≡ decodedAccess m k
+  unfolding decodedAccess
+  access-other x y z u h = rw (less-yes h, same-no x, same-no y, same-no z, same-no u)
+
+  -- ---- all steps
+
+  pub code-wide : 2 ^ 32 ≤ k .a → Meaningless ≡ decodedNumbered m k
+  unfolding decodedNumbered
+  code-wide h = rw (less-no h)
+
+  pub code-kind : (x : ℕ) → k .kind ≡ x → k .a < 2 ^ 32 → codeBy x m k ≡ decodedNumbered m k
+  unfolding decodedNumbered
+  code-kind x e h = rw (less-yes h) (ap (λ (y : ℕ). codeBy y m k) (sym e))
+
+  pub code-other : (k .kind ≡ 0 → ⊥) → (k .kind ≡ 5 → ⊥) → (k .kind ≡ 6 → ⊥) → (k .kind ≡ 7 → ⊥) → (k .kind ≡ 8 → ⊥) → (k .kind ≡ 9 → ⊥)
+      → k .a < 2 ^ 32 → decodedAccess m k ≡ decodedNumbered m k
+  unfolding decodedNumbered
+  code-other x y z u v w h = rw (less-yes h, same-no x, same-no y, same-no z, same-no u, same-no v, same-no w)
+
+  -- a fold of the oldest, or a step with numbers
+  pub code-oldest : k .kind ≡ 10 → meantAlone op.MergeOldest ≡ decoded m k
+  unfolding decoded
+  code-oldest e = rw (same-yes {m = k .kind} {n = 10} e)
+
+  pub code-numbered : {d : Decoded} → (k .kind ≡ 10 → ⊥) → d ≡ decodedNumbered m k → d ≡ decoded m k
+  unfolding decoded
+  code-numbered x e = e ∙ sym (ap (λ (b : Bool). pick b (meantAlone op.MergeOldest) (decodedNumbered m k)) (same-no x))
+
+-- ---- replies
+
+pub reply-is : {p q : Reply} → p ≡ q → codedOf q ≡ codedOf p
+reply-is e = ap codedOf (sym e)
+
+-- ---- the places that a code wants are lent
+
+-- Buffers of m places have as many as are wanted.
+pub record Lends (m w : Places) : Type 0 where
+  pub addresses : w .addresses ≤ m .addresses
+  pub values : w .values ≤ m .values
+  pub owners : w .owners ≤ m .owners
+
+abbrev LendsFor : Places → Decoded → Type 0
+LendsFor m (Meant o p q s) = Lends m (places p q s)
+LendsFor m Meaningless = Unit {0}
+
+lends-none : (m : Places) → Lends m (places 0 0 0)
+lends-none m = record { addresses = zero-le; values = zero-le; owners = zero-le }
+
+pick-lends : (m : Places) (b : Bool) (x y : Decoded) → LendsFor m x → LendsFor m y → LendsFor m (pick b x y)
+pick-lends m true x y h k = h
+pick-lends m false x y h k = k
+
+scan-lends : (m : Places) (k : Code) → LendsFor m (decodedScan m k)
+unfolding decodedScan
+scan-lends m k =
+    go (less (k .c) (2 ^ 32)) (atMost (k .d) (m .addresses)) (atMost (k .e) (m .values)) (atMost (k .f) (m .owners)) refl refl refl
+  where
+    go : (x y z u : Bool) → atMost (k .d) (m .addresses) ≡ y → atMost (k .e) (m .values) ≡ z → atMost (k .f) (m .owners) ≡ u
+        → LendsFor m (pick (both x (both y (both z u))) (scanIn k) Meaningless)
+    go true true true true f g h =
+        record {
+          addresses = atMost-true (k .d) (m .addresses) f;
+          values = atMost-true (k .e) (m .values) g;
+          owners = atMost-true (k .f) (m .owners) h;
+        }
+    go true true true false f g h = tt
+    go true true false u f g h = tt
+    go true false z u f g h = tt
+    go false y z u f g h = tt
+
+put-lends : (m : Places) (k : Code) → LendsFor m (decodedPut k)
+unfolding decodedPut
+put-lends m k = pick-lends m (less (k .d) (2 ^ 16)) _ _ (lends-none m) tt
+
+access-lends : (m : Places) (k : Code) → LendsFor m (decodedAccess m k)
+unfolding decodedAccess
+access-lends m k =
+    pick-lends m (less (k .b) (2 ^ 32)) _ _
+    (pick-lends m (same (k .kind) 1) _ _ (lends-none m)
+    (pick-lends m (same (k .kind) 2) _ _ (scan-lends m k)
+    (pick-lends m (same (k .kind) 3) _ _ (put-lends m k) (pick-lends m (same (k .kind) 4) _ _ (lends-none m) tt))))
+    tt
+
+numbered-lends : (m : Places) (k : Code) → LendsFor m (decodedNumbered m k)
+unfolding decodedNumbered
+numbered-lends m k =
+    pick-lends m (less (k .a) (2 ^ 32)) _ _
+    (pick-lends m (same (k .kind) 0) _ _ (lends-none m)
+    (pick-lends m (same (k .kind) 5) _ _ (lends-none m)
+    (pick-lends m (same (k .kind) 6) _ _ (lends-none m)
+    (pick-lends m (same (k .kind) 7) _ _ (lends-none m)
+    (pick-lends m (same (k .kind) 8) _ _ (lends-none m)
+    (pick-lends m (same (k .kind) 9) _ _ (lends-none m) (access-lends m k)))))))
+    tt
+
+lends : (m : Places) (k : Code) → LendsFor m (decoded m k)
+unfolding decoded
+lends m k = pick-lends m (same (k .kind) 10) _ _ (lends-none m) (numbered-lends m k)
+
+pub meant-lends : (m : Places) (k : Code) {d : Decoded} {o : Op} {p q s : ℕ} → d ≡ decoded m k → d ≡ Meant o p q s → Lends m (places p q s)
+meant-lends m k e f = subst (LendsFor m) (sym e ∙ f) (lends m k)

@@ -1,0 +1,4 @@
+pub mod Codes
+pub mod CodeLaws
+pub mod Words
+pub mod WordLaws

@@ -1,0 +1,110 @@
+// What a code means.
+use crate::Code;
+use engine::steps::Access;
+use engine::steps::Ending;
+use engine::steps::Op;
+use spec::OWNERS;
+use spec::WIDE;
+ghost use mathlib.Core.Path.{_≡_};
+ghost use Prim.Native.Nat.{_^_, _<_};
+ghost use Rattle.spec.specs.Steps.{places};
+ghost use Rattle.codes.specs.Codes.{decodedScan, decodedPut, decodedAccess, decodedNumbered, decoded};
+
+// An operation, with how many places of the buffers for addresses, values and owners it wants; or no meaning.
+pub enum Decoded {
+    Meant(Op, usize, usize, usize),
+    Meaningless,
+}
+
+// A scan, if the lent buffers, of m, n and q places, have as many as it wants.
+fn decode_scan(k: Code, m: usize, n: usize, q: usize) -> Decoded
+    requires { ⌜ (k .a < 2 ^ 32) × (k .b < 2 ^ 32) ⌝ }
+    ensures { λ r. ⌜ r ≡ decodedScan (places m n q) k ⌝ }
+{
+    let addresses = k.d as usize;
+    let values = k.e as usize;
+    let owners = k.f as usize;
+    if k.c >= WIDE {
+        return Decoded::Meaningless;
+    }
+    if addresses > m {
+        return Decoded::Meaningless;
+    }
+    if values > n {
+        return Decoded::Meaningless;
+    }
+    if owners > q {
+        return Decoded::Meaningless;
+    }
+    Decoded::Meant(
+        Op::Access(k.a as u32, Access::Scan(k.b as u32, k.c as u32)),
+        addresses,
+        values,
+        owners,
+    )
+}
+
+// A put, if its owner has 16 bits.
+fn decode_put(k: Code) -> Decoded
+    requires { ⌜ (k .a < 2 ^ 32) × (k .b < 2 ^ 32) ⌝ }
+    ensures { λ r. ⌜ r ≡ decodedPut k ⌝ }
+{
+    if k.d >= OWNERS {
+        return Decoded::Meaningless;
+    }
+    Decoded::Meant(
+        Op::Access(k.a as u32, Access::Put(k.b as u32, k.c, k.d as u16)),
+        0,
+        0,
+        0,
+    )
+}
+
+fn decode_access(k: Code, m: usize, n: usize, q: usize) -> Decoded
+    requires { ⌜ k .a < 2 ^ 32 ⌝ }
+    ensures { λ r. ⌜ r ≡ decodedAccess (places m n q) k ⌝ }
+{
+    if k.b >= WIDE {
+        return Decoded::Meaningless;
+    }
+    let w = k.a as u32;
+    let a = k.b as u32;
+    let kind = k.kind;
+    match kind {
+        1 => Decoded::Meant(Op::Access(w, Access::Read(a)), 0, 0, 0),
+        2 => decode_scan(k, m, n, q),
+        3 => decode_put(k),
+        4 => Decoded::Meant(Op::Access(w, Access::Remove(a)), 0, 0, 0),
+        _ => Decoded::Meaningless,
+    }
+}
+
+// A step whose first number is a seat or an address.
+fn decode_numbered(k: Code, m: usize, n: usize, q: usize) -> Decoded
+    ensures { λ r. ⌜ r ≡ decodedNumbered (places m n q) k ⌝ }
+{
+    if k.a >= WIDE {
+        return Decoded::Meaningless;
+    }
+    let a = k.a as u32;
+    let kind = k.kind;
+    match kind {
+        0 => Decoded::Meant(Op::Begin(a), 0, 0, 0),
+        5 => Decoded::Meant(Op::Ending(a, Ending::Lock), 0, 0, 0),
+        6 => Decoded::Meant(Op::Ending(a, Ending::Validate), 0, 0, 0),
+        7 => Decoded::Meant(Op::Ending(a, Ending::Install), 0, 0, 0),
+        8 => Decoded::Meant(Op::Ending(a, Ending::Abort), 0, 0, 0),
+        9 => Decoded::Meant(Op::Merge(a), 0, 0, 0),
+        _ => decode_access(k, m, n, q),
+    }
+}
+
+// The step that a code means, if it means one with buffers of m, n and q places. A fold of the oldest has no number.
+pub fn decode(k: Code, m: usize, n: usize, q: usize) -> Decoded
+    ensures { λ r. ⌜ r ≡ decoded (places m n q) k ⌝ }
+{
+    if k.kind == 10 {
+        return Decoded::Meant(Op::MergeOldest, 0, 0, 0);
+    }
+    decode_numbered(k, m, n, q)
+}

@@ -1,0 +1,161 @@
+// Answers in numbers, and put into lent words at a place: each function that does answers the place after what it wrote.
+use crate::Coded;
+use crate::MEANINGLESS;
+use engine::steps::Reply;
+use spec::number_of;
+ghost use mathlib.Core.Path.{_≡_};
+ghost use mathlib.Core.List.{[], _∷_};
+ghost use Prim.Native.Nat.{_+_, _*_, _≤_};
+ghost use lib.ListN.{length};
+ghost use Rattle.lists.specs.Texts.{Wrote};
+ghost use Rattle.spec.specs.Steps.{shortest};
+ghost use Rattle.ranges.specs.Buffers.{buffers, placesOf, rowsIn};
+ghost use Rattle.engine.specs.Performs.{replyIn};
+ghost use Rattle.codes.specs.Codes.{codedOf, noMeaning, listedWords, wordsOf};
+ghost use Rattle.codes.specs.Words.{headWords, Roomy};
+
+// A reply in numbers.
+pub fn encode(p: Reply) -> Coded
+    ensures { λ r. ⌜ r ≡ codedOf p ⌝ }
+{
+    match p {
+        Reply::Granted => Coded {
+            number: 0,
+            told: 0,
+            value: 0,
+            owner: 0,
+            examined: 0,
+        },
+        Reply::Value(v, o, x) => Coded {
+            number: 0,
+            told: 1,
+            value: v,
+            owner: o as u64,
+            examined: x as u64,
+        },
+        Reply::Absent(x) => Coded {
+            number: 0,
+            told: 2,
+            value: 0,
+            owner: 0,
+            examined: x as u64,
+        },
+        Reply::Listed(n) => Coded {
+            number: 0,
+            told: 3,
+            value: n as u64,
+            owner: 0,
+            examined: 0,
+        },
+        Reply::Numbered(n) => Coded {
+            number: 0,
+            told: 4,
+            value: n,
+            owner: 0,
+            examined: 0,
+        },
+        Reply::Counted(n) => Coded {
+            number: 0,
+            told: 5,
+            value: n as u64,
+            owner: 0,
+            examined: 0,
+        },
+        Reply::Refused(r) => Coded {
+            number: number_of(r),
+            told: 0,
+            value: 0,
+            owner: 0,
+            examined: 0,
+        },
+    }
+}
+
+// The answer to a code with no meaning.
+pub fn no_meaning() -> Coded
+    ensures { λ r. ⌜ r ≡ noMeaning ⌝ }
+{
+    Coded {
+        number: MEANINGLESS,
+        told: 0,
+        value: 0,
+        owner: 0,
+        examined: 0,
+    }
+}
+
+fn put_two(out: &mut [u64], at: usize, a: u64, b: u64) -> usize
+    requires { ⌜ at + 2 ≤ length (now out) ⌝ }
+    ensures { λ r. ⌜ Wrote (now (out .entry)) at (a ∷ b ∷ []) (now (out .exit)) r ⌝ }
+{
+    out[at] = a;
+    out[at + 1] = b;
+    at + 2
+}
+
+fn put_three(out: &mut [u64], at: usize, a: u64, b: u64, c: u64) -> usize
+    requires { ⌜ at + 3 ≤ length (now out) ⌝ }
+    ensures { λ r. ⌜ Wrote (now (out .entry)) at (a ∷ b ∷ c ∷ []) (now (out .exit)) r ⌝ }
+{
+    let next = put_two(out, at, a, b);
+    out[next] = c;
+    next + 1
+}
+
+// The five words of every answer.
+fn put_head(out: &mut [u64], at: usize, a: Coded) -> usize
+    requires { ⌜ at + 5 ≤ length (now out) ⌝ }
+    ensures { λ r. ⌜ Wrote (now (out .entry)) at (headWords a) (now (out .exit)) r ⌝ }
+{
+    let next = put_two(out, at, a.number, a.told);
+    put_three(out, next, a.value, a.owner, a.examined)
+}
+
+// The first n places of a scan's buffers.
+fn put_rows(
+    out: &mut [u64],
+    at: usize,
+    addresses: &[u32],
+    values: &[u64],
+    owners: &[u16],
+    n: usize,
+) -> usize
+    requires { ⌜ n ≤ shortest (placesOf (buffers (now addresses) (now values) (now owners))) ⌝ }
+    requires { ⌜ at + 3 * n ≤ length (now out) ⌝ }
+    ensures { λ r. ⌜ Wrote (now (out .entry)) at
+        (listedWords (rowsIn n (buffers (now (addresses .entry)) (now (values .entry)) (now (owners .entry))))) (now (out .exit)) r ⌝ }
+{
+    let mut next = at;
+    let mut i = 0;
+    while i < n {
+        next = put_three(out, next, addresses[i] as u64, values[i], owners[i] as u64);
+        i += 1;
+    }
+    next
+}
+
+// The words of an answer: its five, and a scan's records.
+pub fn put_answer_words(
+    out: &mut [u64],
+    at: usize,
+    addresses: &[u32],
+    values: &[u64],
+    owners: &[u16],
+    p: Reply,
+) -> usize
+    requires { ⌜ Roomy p (buffers (now addresses) (now values) (now owners)) (now out) at ⌝ }
+    ensures { λ r. ⌜ Wrote (now (out .entry)) at
+        (wordsOf (replyIn p (buffers (now (addresses .entry)) (now (values .entry)) (now (owners .entry))))) (now (out .exit)) r ⌝ }
+{
+    let a = encode(p);
+    let next = put_head(out, at, a);
+    match p {
+        Reply::Granted => next,
+        Reply::Value(_, _, _) => next,
+        Reply::Absent(_) => next,
+        Reply::Listed(n) => put_rows(out, next, addresses, values, owners, n),
+        Reply::Numbered(_) => next,
+        Reply::Counted(_) => next,
+        Reply::Refused(_) => next,
+    }
+}

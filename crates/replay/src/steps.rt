@@ -1,0 +1,78 @@
+// One step in coded form.
+use crate::parts;
+use codes::Code;
+use codes::Coded;
+use codes::decodes;
+use codes::decodes::Decoded;
+use codes::words;
+use map::Leaves;
+use map::Records;
+use map::Slots;
+use sets::LeafSets;
+use sets::ReadSets;
+use sets::WriteSets;
+use transactions::Core;
+ghost use Rattle.map.specs.Views.{lent};
+ghost use Rattle.transactions.specs.Views.{logs};
+ghost use Rattle.transactions.specs.Ready.{Ready};
+ghost use Rattle.ranges.specs.Buffers.{buffers};
+ghost use Rattle.replay.specs.CodedSteps.{CodedStep};
+
+// The core after a step, and its answer.
+pub struct Stepped {
+    pub core: Core,
+    pub answer: Coded,
+}
+
+// One step in coded form. A scan's buffers are the first places of the lent ones, as many as it wants. A code with no meaning,
+// one that wants more than are lent among them, is refused, and changes nothing.
+pub fn step(
+    addresses: &mut [u32],
+    values: &mut [u64],
+    owners: &mut [u16],
+    rows: &mut Records,
+    leaves: &mut Leaves,
+    slots: &mut Slots,
+    reads: &mut ReadSets,
+    leafsets: &mut LeafSets,
+    writes: &mut WriteSets,
+    c: Core,
+    k: Code,
+) -> Stepped
+    requires { ⌜ Ready (lent (now rows) (now leaves) (now slots)) (logs (now reads) (now leafsets) (now writes)) c ⌝ }
+    ensures { λ r. ⌜ CodedStep (lent (now (rows .entry)) (now (leaves .entry)) (now (slots .entry)))
+        (logs (now (reads .entry)) (now (leafsets .entry)) (now (writes .entry))) c k
+        (buffers (now (addresses .entry)) (now (values .entry)) (now (owners .entry)))
+        (lent (now (rows .exit)) (now (leaves .exit)) (now (slots .exit))) (logs (now (reads .exit)) (now (leafsets .exit)) (now (writes .exit)))
+        (buffers (now (addresses .exit)) (now (values .exit)) (now (owners .exit))) r ⌝ }
+{
+    let d = decodes::decode(k, addresses.len(), values.len(), owners.len());
+    match d {
+        Decoded::Meant(op, m, n, q) => {
+            let p = parts::perform_first(
+                addresses,
+                values,
+                owners,
+                rows,
+                leaves,
+                slots,
+                reads,
+                leafsets,
+                writes,
+                c,
+                op,
+                m,
+                n,
+                q,
+            );
+            let core = p.core;
+            let reply = p.reply;
+            let answer = words::encode(reply);
+            Stepped { core, answer }
+        }
+        Decoded::Meaningless => {
+            let answer = words::no_meaning();
+            Stepped { core: c, answer }
+        }
+    }
+}

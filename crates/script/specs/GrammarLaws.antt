@@ -11,10 +11,8 @@ use Rattle.lists.specs.TestLaws.{cases, clash, same-no, same-refl, less-no, atM
 use lib.Seq.{append-snoc}
 use Rattle.script.specs.declared.Line.{Line}
 use Rattle.script.specs.declared.Line.the-variants.{Put, MergeOldest}
-use Rattle.script.specs.declared.Fields.{Fields}
-use Rattle.script.specs.declared.Fields.the-variants.{None, One, Two, Three}
 use Rattle.script.specs.Grammar.{firstWord, moreWords, isDigit, extend, number, numbers, noNumber, oneNumber, twoNumbers, threeNumbers, fourNumbers, lineOf, lettered, meaning, isGuard}
-use Rattle.script.specs.Parsing.{filled, values, numberOn, fieldsOn, letterOn, aloneOn}
+use Rattle.script.specs.Parsing.{Before, noneBefore, oneBefore, twoBefore, threeBefore, filled, values, numberOn, fieldsOn, letterOn, aloneOn}
 
 -- ---- bytes
 
@@ -104,22 +102,22 @@ four-wide' c a b d m h =
     none-wide false = refl
 
 -- no number of a line has more than 64 bits
-line-wide : (c : ℕ) (f : Fields) (m : ℕ) (ms : List ℕ) → 2 ^ 64 ≤ m → lineOf c (values f ++ (m ∷ ms)) ≡ none
+line-wide : (c : ℕ) (f : Before) (m : ℕ) (ms : List ℕ) → 2 ^ 64 ≤ m → lineOf c (values f ++ (m ∷ ms)) ≡ none
 unfolding lineOf
-line-wide c None m [] h = rw (less-no {m = m} {n = 2 ^ 32} (omega arith))
-line-wide c None m (x ∷ []) h = rw (less-no {m = m} {n = 2 ^ 32} (omega arith))
-line-wide c None m (x ∷ y ∷ []) h = rw (less-no {m = m} {n = 2 ^ 32} (omega arith))
-line-wide c None m (x ∷ y ∷ z ∷ []) h = rw (less-no {m = m} {n = 2 ^ 32} (omega arith))
-line-wide c None m (x ∷ y ∷ z ∷ u ∷ ms) h = refl
-line-wide c (One a) m [] h = ⊎-elim (λ t. rw (t, less-no {m = m} {n = 2 ^ 32} (omega arith))) (λ t. rw t) (cases (less a (2 ^ 32)))
-line-wide c (One a) m (x ∷ []) h = ⊎-elim (λ t. rw (t, less-no {m = m} {n = 2 ^ 32} (omega arith))) (λ t. rw t) (cases (less a (2 ^ 32)))
-line-wide c (One a) m (x ∷ y ∷ []) h = ⊎-elim (λ t. rw (t, less-no {m = m} {n = 2 ^ 32} (omega arith))) (λ t. rw t) (cases (less a (2 ^ 32)))
-line-wide c (One a) m (x ∷ y ∷ z ∷ ms) h = refl
-line-wide c (Two a b) m [] h = ap (λ (o : Option Line). pick (both (less a (2 ^ 32)) (less b (2 ^ 32))) o none) (three-wide c a b m h) ∙ pick-same (both (less a (2 ^ 32)) (less b (2 ^ 32))) none
-line-wide c (Two a b) m (x ∷ []) h = ap (λ (o : Option Line). pick (both (less a (2 ^ 32)) (less b (2 ^ 32))) o none) (four-wide c a b m x h) ∙ pick-same (both (less a (2 ^ 32)) (less b (2 ^ 32))) none
-line-wide c (Two a b) m (x ∷ y ∷ ms) h = refl
-line-wide c (Three a b d) m [] h = ap (λ (o : Option Line). pick (both (less a (2 ^ 32)) (less b (2 ^ 32))) o none) (four-wide' c a b d m h) ∙ pick-same (both (less a (2 ^ 32)) (less b (2 ^ 32))) none
-line-wide c (Three a b d) m (x ∷ ms) h = refl
+line-wide c noneBefore m [] h = rw (less-no {m = m} {n = 2 ^ 32} (omega arith))
+line-wide c noneBefore m (x ∷ []) h = rw (less-no {m = m} {n = 2 ^ 32} (omega arith))
+line-wide c noneBefore m (x ∷ y ∷ []) h = rw (less-no {m = m} {n = 2 ^ 32} (omega arith))
+line-wide c noneBefore m (x ∷ y ∷ z ∷ []) h = rw (less-no {m = m} {n = 2 ^ 32} (omega arith))
+line-wide c noneBefore m (x ∷ y ∷ z ∷ u ∷ ms) h = refl
+line-wide c (oneBefore a) m [] h = ⊎-elim (λ t. rw (t, less-no {m = m} {n = 2 ^ 32} (omega arith))) (λ t. rw t) (cases (less a (2 ^ 32)))
+line-wide c (oneBefore a) m (x ∷ []) h = ⊎-elim (λ t. rw (t, less-no {m = m} {n = 2 ^ 32} (omega arith))) (λ t. rw t) (cases (less a (2 ^ 32)))
+line-wide c (oneBefore a) m (x ∷ y ∷ []) h = ⊎-elim (λ t. rw (t, less-no {m = m} {n = 2 ^ 32} (omega arith))) (λ t. rw t) (cases (less a (2 ^ 32)))
+line-wide c (oneBefore a) m (x ∷ y ∷ z ∷ ms) h = refl
+line-wide c (twoBefore a b) m [] h = ap (λ (o : Option Line). pick (both (less a (2 ^ 32)) (less b (2 ^ 32))) o none) (three-wide c a b m h) ∙ pick-same (both (less a (2 ^ 32)) (less b (2 ^ 32))) none
+line-wide c (twoBefore a b) m (x ∷ []) h = ap (λ (o : Option Line). pick (both (less a (2 ^ 32)) (less b (2 ^ 32))) o none) (four-wide c a b m x h) ∙ pick-same (both (less a (2 ^ 32)) (less b (2 ^ 32))) none
+line-wide c (twoBefore a b) m (x ∷ y ∷ ms) h = refl
+line-wide c (threeBefore a b d) m [] h = ap (λ (o : Option Line). pick (both (less a (2 ^ 32)) (less b (2 ^ 32))) o none) (four-wide' c a b d m h) ∙ pick-same (both (less a (2 ^ 32)) (less b (2 ^ 32))) none
+line-wide c (threeBefore a b d) m (x ∷ ms) h = refl
 
 module _ (c : ℕ) (ns : List ℕ) where
   on-none : (d : Bool) (n : ℕ) (l : List ℕ) → numberOn d n (firstWord l) ≡ none → fieldsOn c ns d n l ≡ none
@@ -167,7 +165,7 @@ module _ (c : ℕ) (ns : List ℕ) where
       go (some m) (some ms) = ap (lineOf c) (sym (append-snoc ns n (m ∷ ms)))
 
 -- a number of more than 64 bits spoils the line
-pub fields-wide : (c : ℕ) (f : Fields) (d : Bool) (n b : ℕ) (l : List ℕ) → isDigit b ≡ true → 2 ^ 64 ≤ n * 10 + (b - 48) → fieldsOn c (values f) d n (b ∷ l) ≡ none
+pub fields-wide : (c : ℕ) (f : Before) (d : Bool) (n b : ℕ) (l : List ℕ) → isDigit b ≡ true → 2 ^ 64 ≤ n * 10 + (b - 48) → fieldsOn c (values f) d n (b ∷ l) ≡ none
 unfolding fieldsOn numberOn
 fields-wide c f d n b l e h = fields-digit c (values f) d n b l e ∙ big (n * 10 + (b - 48)) h
   where

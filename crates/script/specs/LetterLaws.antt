@@ -10,7 +10,7 @@ use Rattle.script.specs.declared.Line.{Line}
 use Rattle.script.specs.declared.Fields.{Fields}
 use Rattle.script.specs.declared.Event.the-variants as event
 use Rattle.script.specs.Grammar.{oneNumber, twoNumbers, threeNumbers, fourNumbers, lineOf}
-use Rattle.script.specs.Parsing.{values}
+use Rattle.script.specs.Parsing.{beforeOf, values}
 use Rattle.script.specs.Tokens.{told}
 
 -- ---- one number
@@ -114,5 +114,5 @@ four-other c a b d o p = rw (same-no p) (ap told (pick-none (both (less a (2 ^ 3
 
 -- ---- any count
 
-pub complete-as : (c n : ℕ) {f g : Fields} → f ≡ g → told (lineOf c (values f ++ (n ∷ []))) ≡ told (lineOf c (values g ++ (n ∷ [])))
-complete-as c n e = ap (λ (x : Fields). told (lineOf c (values x ++ (n ∷ [])))) e
+pub complete-as : (c n : ℕ) {f g : Fields} → f ≡ g → told (lineOf c (values (beforeOf f) ++ (n ∷ []))) ≡ told (lineOf c (values (beforeOf g) ++ (n ∷ [])))
+complete-as c n e = ap (λ (x : Fields). told (lineOf c (values (beforeOf x) ++ (n ∷ [])))) e

@@ -12,7 +12,7 @@ use Rattle.lists.specs.Rows.{has}
 use Rattle.script.specs.declared.Line.{Line}
 use Rattle.script.specs.declared.Line.the-variants.{MergeOldest}
 use Rattle.script.specs.declared.Fields.{Fields}
-use Rattle.script.specs.declared.Fields.the-variants.{None, One, Two, Three}
+use Rattle.script.specs.declared.Fields.the-variants.{None, One, Two}
 use Rattle.script.specs.declared.Parser.{Parser}
 use Rattle.script.specs.declared.Parser.the-variants.{Start, Letter, Oldest, Guard, First, Second, Third, Fourth}
 use Rattle.script.specs.declared.Event.{Event}
@@ -27,19 +27,31 @@ abbrev pub filled : List ℕ → Bool
 filled [] = false
 filled (b ∷ bs) = true
 
--- the numbers before the current one
-abbrev pub values : Fields → List ℕ
-values None = []
-values (One a) = a ∷ []
-values (Two a b) = a ∷ b ∷ []
-values (Three a b e) = a ∷ b ∷ e ∷ []
+-- the numbers of a line before the current one
+pub data Before : Type 0 where
+  noneBefore : Before
+  oneBefore : ℕ → Before
+  twoBefore : ℕ → ℕ → Before
+  threeBefore : ℕ → ℕ → ℕ → Before
+
+-- those that one more number may follow
+abbrev pub beforeOf : Fields → Before
+beforeOf None = noneBefore
+beforeOf (One a) = oneBefore a
+beforeOf (Two a b) = twoBefore a b
+
+abbrev pub values : Before → List ℕ
+values noneBefore = []
+values (oneBefore a) = a ∷ []
+values (twoBefore a b) = a ∷ b ∷ []
+values (threeBefore a b e) = a ∷ b ∷ e ∷ []
 
 -- the parser within a number: the letter, the numbers before, whether the current one has a digit yet, and its value so far
-unfoldable pub inNumber : ℕ → Fields → Bool → ℕ → Parser
-inNumber c None d n = First c d n
-inNumber c (One a) d n = Second c d a n
-inNumber c (Two a b) d n = Third c d a b n
-inNumber c (Three a b e) d n = Fourth c d a b e n
+unfoldable pub inNumber : ℕ → Before → Bool → ℕ → Parser
+inNumber c noneBefore d n = First c d n
+inNumber c (oneBefore a) d n = Second c d a n
+inNumber c (twoBefore a b) d n = Third c d a b n
+inNumber c (threeBefore a b e) d n = Fourth c d a b e n
 
 -- a number begun: n so far, and whether it has a digit yet
 unfoldable pub numberOn : Bool → ℕ → List ℕ → Option ℕ

@@ -13,7 +13,7 @@ use Rattle.lists.specs.Counting.{has-nil}
 use Rattle.script.specs.declared.Line.{Line}
 use Rattle.script.specs.declared.Line.the-variants.{MergeOldest}
 use Rattle.script.specs.declared.Fields.{Fields}
-use Rattle.script.specs.declared.Fields.the-variants.{None, One, Two, Three}
+use Rattle.script.specs.declared.Fields.the-variants.{None, One, Two}
 use Rattle.script.specs.declared.Parser.{Parser}
 use Rattle.script.specs.declared.Parser.the-variants.{Start, Letter, Oldest, Guard, First, Second, Third, Fourth}
 use Rattle.script.specs.declared.Event.{Event}
@@ -21,7 +21,7 @@ use Rattle.script.specs.declared.Event.the-variants as event
 use Rattle.script.specs.declared.Parsed.{Parsed}
 use Rattle.script.specs.declared.Run.{Run}
 use Rattle.script.specs.Grammar.{isDigit, lineOf, meaning, isGuard}
-use Rattle.script.specs.Parsing.{values, inNumber, fieldsOn, letterOn, aloneOn, started, continued, guardOn}
+use Rattle.script.specs.Parsing.{Before, noneBefore, oneBefore, twoBefore, threeBefore, beforeOf, values, inNumber, fieldsOn, letterOn, aloneOn, started, continued, guardOn}
 use Rattle.script.specs.GrammarLaws.{digit-from, fields-five, fields-digit, fields-other, fields-blank, fields-nothing, fields-end, fields-space, fields-wide, start-space, start-nothing, start-letter, oldest-letter, other-alone, guard-letter, guard-alone, other-guard, letter-space, letter-nothing, letter-other}
 use Rattle.script.specs.Tokens.{Digits, Moves, Spells, Stops, TellsNothing, Tells, ParsesPart, cut-byte, cut-join, cut-none, goes-turns, has-byte, moves-join, moves-none, tells-join, told}
 
@@ -115,45 +115,41 @@ guard-feed b e = rw e ([], record { unbroken = has-nil 10; fed = refl }, refl, r
 
 -- ---- a number
 
-pub within-none : (c : ℕ) (f : Fields) (d : Bool) (n : ℕ) → f ≡ None → First c d n ≡ inNumber c f d n
+pub within-none : (c : ℕ) (f : Fields) (d : Bool) (n : ℕ) → f ≡ None → First c d n ≡ inNumber c (beforeOf f) d n
 unfolding inNumber
 within-none c f d n e = rw e refl
 
-pub within-one : (c : ℕ) (f : Fields) (d : Bool) (a n : ℕ) → f ≡ One a → Second c d a n ≡ inNumber c f d n
+pub within-one : (c : ℕ) (f : Fields) (d : Bool) (a n : ℕ) → f ≡ One a → Second c d a n ≡ inNumber c (beforeOf f) d n
 unfolding inNumber
 within-one c f d a n e = rw e refl
 
-pub within-two : (c : ℕ) (f : Fields) (d : Bool) (a b n : ℕ) → f ≡ Two a b → Third c d a b n ≡ inNumber c f d n
+pub within-two : (c : ℕ) (f : Fields) (d : Bool) (a b n : ℕ) → f ≡ Two a b → Third c d a b n ≡ inNumber c (beforeOf f) d n
 unfolding inNumber
 within-two c f d a b n e = rw e refl
 
-pub within-three : (c : ℕ) (f : Fields) (d : Bool) (a b g n : ℕ) → f ≡ Three a b g → Fourth c d a b g n ≡ inNumber c f d n
+within-started : (c : ℕ) (f : Before) (d : Bool) (n : ℕ) → started (inNumber c f d n) ≡ true
 unfolding inNumber
-within-three c f d a b g n e = rw e refl
+within-started c noneBefore d n = refl
+within-started c (oneBefore a) d n = refl
+within-started c (twoBefore a b) d n = refl
+within-started c (threeBefore a b e) d n = refl
 
-within-started : (c : ℕ) (f : Fields) (d : Bool) (n : ℕ) → started (inNumber c f d n) ≡ true
-unfolding inNumber
-within-started c None d n = refl
-within-started c (One a) d n = refl
-within-started c (Two a b) d n = refl
-within-started c (Three a b e) d n = refl
-
-within-continued : (c : ℕ) (f : Fields) (d : Bool) (n : ℕ) (l : List ℕ) → continued (inNumber c f d n) l ≡ fieldsOn c (values f) d n l
+within-continued : (c : ℕ) (f : Before) (d : Bool) (n : ℕ) (l : List ℕ) → continued (inNumber c f d n) l ≡ fieldsOn c (values f) d n l
 unfolding inNumber continued
-within-continued c None d n l = refl
-within-continued c (One a) d n l = refl
-within-continued c (Two a b) d n l = refl
-within-continued c (Three a b e) d n l = refl
+within-continued c noneBefore d n l = refl
+within-continued c (oneBefore a) d n l = refl
+within-continued c (twoBefore a b) d n l = refl
+within-continued c (threeBefore a b e) d n l = refl
 
-within-guard : (c : ℕ) (f : Fields) (d : Bool) (n : ℕ) (l : List ℕ) → guardOn (inNumber c f d n) l ≡ false
+within-guard : (c : ℕ) (f : Before) (d : Bool) (n : ℕ) (l : List ℕ) → guardOn (inNumber c f d n) l ≡ false
 unfolding inNumber guardOn
-within-guard c None d n l = refl
-within-guard c (One a) d n l = refl
-within-guard c (Two a b) d n l = refl
-within-guard c (Three a b e) d n l = refl
+within-guard c noneBefore d n l = refl
+within-guard c (oneBefore a) d n l = refl
+within-guard c (twoBefore a b) d n l = refl
+within-guard c (threeBefore a b e) d n l = refl
 
 -- a byte within a number, or the space after it
-within-moves : (c : ℕ) (f g : Fields) (d e : Bool) (n m b : ℕ) → (b ≡ 10 → ⊥)
+within-moves : (c : ℕ) (f g : Before) (d e : Bool) (n m b : ℕ) → (b ≡ 10 → ⊥)
     → ((rest : List ℕ) → fieldsOn c (values f) d n (b ∷ rest) ≡ fieldsOn c (values g) e m rest) → Moves (inNumber c f d n) (inNumber c g e m) (b ∷ [])
 within-moves c f g d e n m b h w =
     record {
@@ -166,7 +162,7 @@ within-moves c f g d e n m b h w =
 pub spells-none : (s : List ℕ) (i : ℕ) (d : Bool) (n : ℕ) → Spells s i d n i d n
 spells-none s i d n = record { taken = []; cut = cut-none s i; moves = λ c f. moves-none (inNumber c f d n) }
 
-digit-moves : (c : ℕ) (f : Fields) (d : Bool) (n b : ℕ) → isDigit b ≡ true → Moves (inNumber c f d n) (inNumber c f true (n * 10 + (b - 48))) (b ∷ [])
+digit-moves : (c : ℕ) (f : Before) (d : Bool) (n b : ℕ) → isDigit b ≡ true → Moves (inNumber c f d n) (inNumber c f true (n * 10 + (b - 48))) (b ∷ [])
 digit-moves c f d n b e =
     within-moves c f f d true n (n * 10 + (b - 48)) b (λ q. let h : 48 ≤ b = digit-from b e in omega arith)
     (λ rest. fields-digit c (values f) d n b rest e)
@@ -180,7 +176,7 @@ spells-digit {s} {i} {j} {d} {e} {n} {m} h g t =
       moves = λ c f. moves-join (h .moves c f) (digit-moves c f e m (getD s j 0) t);
     }
 
-pub field-bad : (c : ℕ) (f : Fields) (d : Bool) (n b : ℕ) → (b ≡ 32 → d ≡ false) → (b ≡ 10 → d ≡ false) → Stops n b → Tells (inNumber c f d n) event.Malformed Start (b ∷ [])
+pub field-bad : (c : ℕ) (f : Before) (d : Bool) (n b : ℕ) → (b ≡ 32 → d ≡ false) → (b ≡ 10 → d ≡ false) → Stops n b → Tells (inNumber c f d n) event.Malformed Start (b ∷ [])
 field-bad c f d n b h g t =
     bad (inNumber c f d n) b
     (λ q. (within-continued c f d n [] ∙ ended q, within-guard c f d n []))
@@ -209,19 +205,28 @@ field-bad c f d n b h g t =
 -- ---- the end of a number
 
 -- one more number before the current one
-field-space : (c : ℕ) (f g : Fields) (n : ℕ) → values g ≡ values f ++ (n ∷ []) → Tells (inNumber c f true n) event.SliceEnd (inNumber c g false 0) (32 ∷ [])
+field-space : (c : ℕ) (f g : Before) (n : ℕ) → values g ≡ values f ++ (n ∷ []) → Tells (inNumber c f true n) event.SliceEnd (inNumber c g false 0) (32 ∷ [])
 unfolding Tells
 field-space c f g n e =
     within-moves c f g true false n 0 32 (λ q. omega arith)
     (λ rest. fields-space c (values f) n rest ∙ ap (λ (x : List ℕ). fieldsOn c x false 0 rest) (sym e))
 
 -- a fifth number
-field-fifth : (c a b g n : ℕ) → Tells (inNumber c (Three a b g) true n) event.Malformed Start (32 ∷ [])
+field-fifth : (c a b g n : ℕ) → Tells (inNumber c (threeBefore a b g) true n) event.Malformed Start (32 ∷ [])
 unfolding Tells continued guardOn inNumber
 field-fifth c a b g n = (
   inr (has-byte 32 (λ q. omega arith), λ rest. (fields-space c (a ∷ b ∷ g ∷ []) n rest ∙ fields-five c a b g n rest, refl)),
   refl,
 )
+
+-- after the fourth number, anything but a line feed that follows a digit
+pub last-bad : (c a b g : ℕ) (d : Bool) (n x : ℕ) → (x ≡ 10 → d ≡ false) → Stops n x → Tells (inNumber c (threeBefore a b g) d n) event.Malformed Start (x ∷ [])
+last-bad c a b g d n x h t =
+    ⊎-elim (λ e. blank (same-true x 32 e) d refl) (λ e. field-bad c (threeBefore a b g) d n x (λ q. absurd (same-false x 32 e q)) h t) (cases (same x 32))
+  where
+    blank : x ≡ 32 → (y : Bool) → d ≡ y → Tells (inNumber c (threeBefore a b g) d n) event.Malformed Start (x ∷ [])
+    blank q true p = rw (p, q) (field-fifth c a b g n)
+    blank q false p = field-bad c (threeBefore a b g) d n x (λ e. p) h t
 
 -- ---- the ends of a run of digits
 
@@ -231,20 +236,17 @@ digits-stop h t = record { spells = h; stops = λ q. t }
 pub digits-end : {s : List ℕ} {i j : ℕ} {d e : Bool} {n m : ℕ} → Spells s i d n j e m → length s ≤ j → Digits s i d n (record { next = j; digit = e; value = m })
 digits-end h t = record { spells = h; stops = λ q. absurd (omega arith) }
 
-pub space-none : (c : ℕ) (f : Fields) (n : ℕ) → f ≡ None → Tells (inNumber c f true n) event.SliceEnd (Second c false n 0) (32 ∷ [])
+pub space-none : (c : ℕ) (f : Fields) (n : ℕ) → f ≡ None → Tells (inNumber c (beforeOf f) true n) event.SliceEnd (Second c false n 0) (32 ∷ [])
 unfolding inNumber
-space-none c f n e = rw e (field-space c None (One n) n refl)
+space-none c f n e = rw e (field-space c noneBefore (oneBefore n) n refl)
 
-pub space-one : (c : ℕ) (f : Fields) (a n : ℕ) → f ≡ One a → Tells (inNumber c f true n) event.SliceEnd (Third c false a n 0) (32 ∷ [])
+pub space-one : (c : ℕ) (f : Fields) (a n : ℕ) → f ≡ One a → Tells (inNumber c (beforeOf f) true n) event.SliceEnd (Third c false a n 0) (32 ∷ [])
 unfolding inNumber
-space-one c f a n e = rw e (field-space c (One a) (Two a n) n refl)
+space-one c f a n e = rw e (field-space c (oneBefore a) (twoBefore a n) n refl)
 
-pub space-two : (c : ℕ) (f : Fields) (a b n : ℕ) → f ≡ Two a b → Tells (inNumber c f true n) event.SliceEnd (Fourth c false a b n 0) (32 ∷ [])
+pub space-two : (c : ℕ) (f : Fields) (a b n : ℕ) → f ≡ Two a b → Tells (inNumber c (beforeOf f) true n) event.SliceEnd (Fourth c false a b n 0) (32 ∷ [])
 unfolding inNumber
-space-two c f a b n e = rw e (field-space c (Two a b) (Three a b n) n refl)
-
-pub space-three : (c : ℕ) (f : Fields) (a b g n : ℕ) → f ≡ Three a b g → Tells (inNumber c f true n) event.Malformed Start (32 ∷ [])
-space-three c f a b g n e = rw e (field-fifth c a b g n)
+space-two c f a b n e = rw e (field-space c (twoBefore a b) (threeBefore a b n) n refl)
 
 -- ---- a turn
 
@@ -254,7 +256,7 @@ turn-byte p {s} {i} q e h t = record { taken = getD s i 0 ∷ []; cut = cut-byte
 
 -- a letter and the space after it, and then as within its first number
 pub letter-turn : {s : List ℕ} {i : ℕ} {r : Parsed} → i + 1 + 1 < length s → (getD s i 0 ≡ 32 → ⊥) → (getD s i 0 ≡ 10 → ⊥) → (getD s i 0 ≡ 84 → ⊥) → (getD s i 0 ≡ 71 → ⊥)
-    → getD s (i + 1) 0 ≡ 32 → ParsesPart s (i + 1 + 1) (inNumber (getD s i 0) None false 0) r → ParsesPart s i Start r
+    → getD s (i + 1) 0 ≡ 32 → ParsesPart s (i + 1 + 1) (inNumber (getD s i 0) noneBefore false 0) r → ParsesPart s i Start r
 unfolding Tells inNumber
 letter-turn {s} {i} h p q t g e x =
     goes-turns
@@ -266,13 +268,13 @@ letter-turn {s} {i} h p q t g e x =
     x
 
 -- a number at the slice's end
-pub field-ended : (c : ℕ) (f : Fields) {d : Bool} {n : ℕ} {s : List ℕ} {i : ℕ} {r : Run} {p : Parser} → Digits s i d n r
+pub field-ended : (c : ℕ) (f : Before) {d : Bool} {n : ℕ} {s : List ℕ} {i : ℕ} {r : Run} {p : Parser} → Digits s i d n r
     → p ≡ inNumber c f (r .digit) (r .value) → ParsesPart s i (inNumber c f d n) (record { parser = p; next = r .next; event = event.SliceEnd })
 unfolding Tells
 field-ended c f h e = rw e (record { taken = h .spells .taken; cut = h .spells .cut; tells = h .spells .moves c f })
 
 -- a number and the byte after it
-pub field-turn : (c : ℕ) (f : Fields) {d : Bool} {n : ℕ} {s : List ℕ} {i : ℕ} {run : Run} (r : Parsed) → Digits s i d n run → run .next < length s
+pub field-turn : (c : ℕ) (f : Before) {d : Bool} {n : ℕ} {s : List ℕ} {i : ℕ} {run : Run} (r : Parsed) → Digits s i d n run → run .next < length s
     → r .next ≡ run .next + 1 → Tells (inNumber c f (run .digit) (run .value)) (r .event) (r .parser) (getD s (run .next) 0 ∷ [])
     → ParsesPart s i (inNumber c f d n) r
 field-turn c f {d} {n} {s} {i} {run} r h g e t =
@@ -285,11 +287,11 @@ field-turn c f {d} {n} {s} {i} {run} r h g e t =
 pub digits-from : {s : List ℕ} {i : ℕ} {d : Bool} {n : ℕ} {r : Run} → Digits s i d n r → i ≤ r .next
 digits-from h = let p = h .spells .cut .place in omega arith
 
-pub space-turn : (c : ℕ) (f : Fields) (d : Bool) (n b : ℕ) (r : Parsed) → d ≡ true → b ≡ 32
+pub space-turn : (c : ℕ) (f : Before) (d : Bool) (n b : ℕ) (r : Parsed) → d ≡ true → b ≡ 32
     → Tells (inNumber c f true n) (r .event) (r .parser) (32 ∷ []) → Tells (inNumber c f d n) (r .event) (r .parser) (b ∷ [])
 space-turn c f d n b r p q t = rw (p, q) t
 
-pub feed-turn : (c : ℕ) (f : Fields) (d : Bool) (n b : ℕ) (e : Event) → d ≡ true → b ≡ 10
+pub feed-turn : (c : ℕ) (f : Before) (d : Bool) (n b : ℕ) (e : Event) → d ≡ true → b ≡ 10
     → e ≡ told (lineOf c (values f ++ (n ∷ []))) → Tells (inNumber c f d n) e Start (b ∷ [])
 feed-turn c f d n b e p q t =
     rw (p, q, t)

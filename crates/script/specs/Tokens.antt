@@ -15,7 +15,6 @@ use Rattle.lists.specs.TestLaws.{clash, same-true, same-no}
 use Rattle.lists.specs.Rows.{has}
 use Rattle.lists.specs.Counting.{has-nil, has-cons, has-append}
 use Rattle.script.specs.declared.Line.{Line}
-use Rattle.script.specs.declared.Fields.{Fields}
 use Rattle.script.specs.declared.Parser.{Parser}
 use Rattle.script.specs.declared.Parser.the-variants.{Start}
 use Rattle.script.specs.declared.Event.{Event}
@@ -23,7 +22,7 @@ use Rattle.script.specs.declared.Event.the-variants as event
 use Rattle.script.specs.declared.Parsed.{Parsed}
 use Rattle.script.specs.declared.Run.{Run}
 use Rattle.script.specs.Grammar.{isDigit, guardLine, isGuard}
-use Rattle.script.specs.Parsing.{inNumber, continued, guardOn, started, filled, After, Whole, Cut, Says, Parses}
+use Rattle.script.specs.Parsing.{Before, inNumber, continued, guardOn, started, filled, After, Whole, Cut, Says, Parses}
 
 -- ---- bytes of a slice
 
@@ -78,7 +77,7 @@ pub record ParsesPart (s : List ℕ) (i : ℕ) (p : Parser) (r : Parsed) : Type 
 pub record Spells (s : List ℕ) (i : ℕ) (d : Bool) (n : ℕ) (j : ℕ) (e : Bool) (m : ℕ) : Type 0 where
   pub taken : List ℕ
   pub cut : Cut s i taken j
-  pub moves : (c : ℕ) (f : Fields) → Moves (inNumber c f d n) (inNumber c f e m) taken
+  pub moves : (c : ℕ) (f : Before) → Moves (inNumber c f d n) (inNumber c f e m) taken
 
 -- the byte goes on with no number: it is no digit, or makes more than 64 bits
 abbrev pub Stops : ℕ → ℕ → Type 0

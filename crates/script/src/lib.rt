@@ -11,7 +11,7 @@ ghost use Prim.Native.Nat.{ℕ, _+_, _*_, _^_, _<_};
 ghost use lib.ListN.{length};
 ghost use Rattle.lists.specs.Tests.{less};
 ghost use Rattle.script.specs.Grammar.{lineOf};
-ghost use Rattle.script.specs.Parsing.{values, inNumber, filled, After, Parses};
+ghost use Rattle.script.specs.Parsing.{threeBefore, beforeOf, values, inNumber, filled, After, Parses};
 ghost use Rattle.script.specs.Tokens.{Tells, ParsesPart, Digits, told};
 
 // A line of a script, with its numbers.
@@ -34,7 +34,6 @@ enum Fields {
     None,
     One(u64),
     Two(u64, u64),
-    Three(u64, u64, u64),
 }
 
 // What is kept of the current line: nothing is read; or the letter; or `T` or `G`, which have no number; or a letter, a
@@ -227,13 +226,12 @@ fn four(letter: u8, a: u64, b: u64, c: u64, d: u64) -> Event
 
 // A line of numbers whose line feed was read.
 fn complete(letter: u8, before: Fields, value: u64) -> Event
-    ensures { λ r. ⌜ r ≡ told (lineOf letter (values before ++ (value ∷ []))) ⌝ }
+    ensures { λ r. ⌜ r ≡ told (lineOf letter (values (beforeOf before) ++ (value ∷ []))) ⌝ }
 {
     match before {
         Fields::None => one(letter, value),
         Fields::One(a) => two(letter, a, value),
         Fields::Two(a, b) => three(letter, a, b, value),
-        Fields::Three(a, b, c) => four(letter, a, b, c, value),
     }
 }
 
@@ -299,7 +297,7 @@ fn digits(s: &[u8], from: usize, digit: bool, value: u64) -> Run
 
 // The parser within a number.
 fn in_number(letter: u8, before: Fields, digit: bool, value: u64) -> Parser
-    ensures { λ r. ⌜ r ≡ inNumber letter before digit value ⌝ }
+    ensures { λ r. ⌜ r ≡ inNumber letter (beforeOf before) digit value ⌝ }
 {
     match before {
         Fields::None => Parser::First {
@@ -320,20 +318,12 @@ fn in_number(letter: u8, before: Fields, digit: bool, value: u64) -> Parser
             b,
             value,
         },
-        Fields::Three(a, b, c) => Parser::Fourth {
-            letter,
-            digit,
-            a,
-            b,
-            c,
-            value,
-        },
     }
 }
 
 // The space after a number: one more number is read, and there are four at most.
 fn spaced(letter: u8, before: Fields, value: u64, next: usize) -> Parsed
-    ensures { λ r. ⌜ Tells (inNumber letter before true value) (r .event) (r .parser) (32 ∷ []) ⌝ }
+    ensures { λ r. ⌜ Tells (inNumber letter (beforeOf before) true value) (r .event) (r .parser) (32 ∷ []) ⌝ }
     ensures { λ r. ⌜ r .next ≡ next ⌝ }
 {
     match before {
@@ -370,18 +360,13 @@ fn spaced(letter: u8, before: Fields, value: u64, next: usize) -> Parsed
             next,
             event: Event::SliceEnd,
         },
-        Fields::Three(_, _, _) => Parsed {
-            parser: Parser::Start,
-            next,
-            event: Event::Malformed,
-        },
     }
 }
 
 // From a place in or before a number on: to the slice's end, or past the byte that ends the number.
 fn field(s: &[u8], i: usize, letter: u8, before: Fields, digit: bool, value: u64) -> Parsed
     requires { ⌜ i < length (now s) ⌝ }
-    ensures { λ r. ⌜ ParsesPart (now (s .entry)) i (inNumber letter before digit value) r ⌝ }
+    ensures { λ r. ⌜ ParsesPart (now (s .entry)) i (inNumber letter (beforeOf before) digit value) r ⌝ }
     ensures { λ r. ⌜ i < r .next ⌝ }
 {
     let run = digits(s, i, digit, value);
@@ -403,6 +388,46 @@ fn field(s: &[u8], i: usize, letter: u8, before: Fields, digit: bool, value: u64
                 parser: Parser::Start,
                 next: next + 1,
                 event: complete(letter, before, run.value),
+            };
+        }
+    }
+    Parsed {
+        parser: Parser::Start,
+        next: next + 1,
+        event: Event::Malformed,
+    }
+}
+
+// The same of the fourth number, after which a line can only end. It has a function of its own, so that the compiler still
+// puts the other, smaller one where it is called.
+fn last(s: &[u8], i: usize, letter: u8, a: u64, b: u64, c: u64, digit: bool, value: u64) -> Parsed
+    requires { ⌜ i < length (now s) ⌝ }
+    ensures { λ r. ⌜ ParsesPart (now (s .entry)) i (inNumber letter (threeBefore a b c) digit value) r ⌝ }
+    ensures { λ r. ⌜ i < r .next ⌝ }
+{
+    let run = digits(s, i, digit, value);
+    let next = run.next;
+    if next >= s.len() {
+        return Parsed {
+            parser: Parser::Fourth {
+                letter,
+                digit: run.digit,
+                a,
+                b,
+                c,
+                value: run.value,
+            },
+            next,
+            event: Event::SliceEnd,
+        };
+    }
+    let end = s[next];
+    if run.digit {
+        if end == LINE_FEED {
+            return Parsed {
+                parser: Parser::Start,
+                next: next + 1,
+                event: four(letter, a, b, c, run.value),
             };
         }
     }
@@ -566,7 +591,7 @@ fn parse_part(s: &[u8], i: usize, p: Parser) -> Parsed
             b,
             c,
             value,
-        } => field(s, i, letter, Fields::Three(a, b, c), digit, value),
+        } => last(s, i, letter, a, b, c, digit, value),
     }
 }
 

@@ -23,12 +23,6 @@ enum-known-before-2 c = search needs
 three-requires : tie.Need-three-requires
 three-requires c κs = search needs
 
-enum-known-before-3 : tie.Need-enum-known-before-3
-enum-known-before-3 c = search needs
-
-four-requires : tie.Need-four-requires
-four-requires c κs = search needs
-
 returns : tie.Need-returns
 returns c =
     c .one .ensures ∙ complete-as _ _ (sym (c .before .enum-told .given .1))
@@ -41,10 +35,6 @@ returns-3 : tie.Need-returns-3
 returns-3 c =
     c .three .ensures ∙ complete-as _ _ (sym (c .before .before .before3 .given .1))
 
-returns-4 : tie.Need-returns-4
-returns-4 c =
-    c .four .ensures ∙ complete-as _ _ (sym (c .before .before .before4 .given .1))
-
 pub complete-spec : {M : Type 1} → statement M
 complete-spec =
     tie.close
@@ -55,9 +45,6 @@ complete-spec =
     two-requires
     enum-known-before-2
     three-requires
-    enum-known-before-3
-    four-requires
     returns
     returns-2
-    returns-3
-    returns-4)
+    returns-3)

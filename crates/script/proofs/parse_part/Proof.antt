@@ -50,8 +50,8 @@ field-requires-3 c κs = search needs
 enum-known-p-5 : tie.Need-enum-known-p-5
 enum-known-p-5 c = search needs
 
-field-requires-4 : tie.Need-field-requires-4
-field-requires-4 c κs = search needs
+last-requires : tie.Need-last-requires
+last-requires c κs = search needs
 
 returns : tie.Need-returns
 returns c = (turns-as (c .before .enum-told .given .1) (c .start .ensures .0), c .start .ensures .1)
@@ -79,7 +79,7 @@ returns-7 c = (turns-as (c .before .before .p4 .given .1) (c .field3 .ensures .0
 
 returns-8 : tie.Need-returns-8
 unfolding inNumber
-returns-8 c = (turns-as (c .before .before .p5 .given .1) (c .field4 .ensures .0), c .field4 .ensures .1)
+returns-8 c = (turns-as (c .before .before .p5 .given .1) (c .last .ensures .0), c .last .ensures .1)
 
 pub parse-part-spec : {M : Type 1} → statement M
 parse-part-spec =
@@ -100,7 +100,7 @@ parse-part-spec =
     enum-known-p-4
     field-requires-3
     enum-known-p-5
-    field-requires-4
+    last-requires
     returns
     returns-2
     returns-3

@@ -7,9 +7,3 @@ pub mod FreshLaws
 pub mod WriteWalks
 pub mod LockLaws
 pub mod AddressCounts
-pub mod MergeWalks
-pub mod MergeSettles
-pub mod MergeKeeps
-pub mod MergeKeys
-pub mod Merges
-pub mod OldestWalks

@@ -1,14 +1,12 @@
 // The map: index, indexlet and phantomlet, in arrays that the caller lends. Document 01's lower crate.
 //
 // `entries` changes what the indexlet says of one address, and keeps the phantomlet; `locks` locks, unlocks and installs a
-// write set; `holders` tells who has a lock; `merge` takes a leaf's pending writes into the index. What only reads, current
-// records and the like, is in crate `queries`.
+// write set; `holders` tells who has a lock. A merge, which takes a leaf's pending writes into the index, is in crate `merging`;
+// what only reads, current records and the like, in crate `queries`.
 
 pub mod entries;
 pub mod holders;
 pub mod locks;
-pub mod merge;
-pub mod oldest;
 
 // What the layers below keep the map in, for those who lend it.
 pub type Records = index::Records;

@@ -22,9 +22,9 @@ use Rattle.limits.specs.Invariant.{standard-version}
 use Rattle.sets.specs.Leaves.{versionIn, versionsIn, lowsIn}
 use Rattle.sets.specs.SetLaws.{length-rows}
 use Rattle.lists.specs.Ascending.{mem-getD}
-use Rattle.map.specs.declared.merge.Merged.{Merged}
 use Rattle.map.specs.Views.{Lent, mapOf}
-use Rattle.map.specs.Merges.{Merges}
+use Rattle.merging.specs.declared.merge.Merged.{Merged}
+use Rattle.merging.specs.Merges.{Merges}
 use Rattle.transactions.specs.declared.Core.{Core}
 use Rattle.transactions.specs.Answering.{yields-granted}
 use Rattle.transactions.specs.Views.{Logs, stateOf}

@@ -1,0 +1,94 @@
+-- `map::merge::merge` meets its contract: nothing is pending, or the walk, the settling and the count come together.
+use mathlib.Core.Path.{_∙_}
+use Rattle.merging.specs.Merges.{merges-nothing, starting, ranging, resettling, recounting, merges-some}
+use Rattle.merging.specs.MergeSettles.{pending-of, pending-some}
+use borrow.Author.Needs.{needs}
+use Rattle.merging.proofs.merge.merge.Statement.{statement}
+use Rattle.merging.proofs.merge.merge.Tie as tie
+use Rattle.counters.proofs.take_versions.Reads as take-versions-reads
+use Rattle.index.proofs.leaves.find_leaf.Reads as find-leaf-reads
+use Rattle.index.proofs.leaves.leaf_at.Reads as leaf-at-reads
+use Rattle.index.proofs.leaves.leaf_places.Reads as leaf-places-reads
+use Rattle.merging.proofs.merge.resettle.Reads as resettle-reads
+use Rattle.merging.proofs.merge.take_all.Reads as take-all-reads
+use Rattle.phantomlet.proofs.recount.addresses_of.Reads as addresses-of-reads
+use Rattle.phantomlet.proofs.recount.recount.Reads as recount-reads
+
+find-leaf-requires : tie.Need-find-leaf-requires
+find-leaf-requires c κs = search needs
+
+leaf-at-requires : tie.Need-leaf-at-requires
+leaf-at-requires c κs = search needs
+
+returns : tie.Need-returns
+returns c =
+    let s = c .before .before .before .before .before .before in
+    let i = c .before .before .before .before .find-leaf in
+    merges-nothing (s .args .k) (s .pre .0) (s .args .a) (i .result) (i .ensures) (pending-of _ _ (c .before .before .leaf-at .ensures) ∙ c .if1 .taken)
+
+add-addresses-of : tie.Need-add-addresses-of
+add-addresses-of c = search needs
+
+addresses-of-requires : tie.Need-addresses-of-requires
+addresses-of-requires c κs =
+    let s = c .before .before .before .before .before .before .before in let i = c .before .before .before .before .before .find-leaf in ranging (s .args .k) (s .pre .0) (s .args .a) (i .result) (i .ensures)
+
+take-all-requires : tie.Need-take-all-requires
+take-all-requires c κs =
+    let s = c .before .before .before .before .before .before .before .before .before .before .before in
+    let i = c .before .before .before .before .before .before .before .before .before .find-leaf in
+    let r = c .before .before .before .addresses-of .ensures in
+    (starting (s .args .k) (s .pre .0) (s .args .a) (i .result) (i .ensures), record { range = r .0; from = r .1; to = r .2 })
+
+resettle-requires : tie.Need-resettle-requires
+resettle-requires c κs =
+    let s = c .before .before .before .before .before .before .before .before .before .before .before .before .before .before in
+    let i = c .before .before .before .before .before .before .before .before .before .before .before .before .find-leaf in
+    let w = c .before .before .take-all in
+    resettling (s .args .k) (s .pre .0) (s .args .a) (i .result) (i .ensures) (pending-some _ _ (c .before .before .before .before .before .before .before .before .before .before .leaf-at .ensures) (c .before .before .before .before .before .before .before .before .if1 .left)) (w .last .0) (w .last .1 .0) (w .result) (w .ensures) (s .pre .1)
+
+leaf-places-requires : tie.Need-leaf-places-requires
+leaf-places-requires c κs = search needs
+
+recount-requires : tie.Need-recount-requires
+recount-requires c κs =
+    let s = c .before .before .before .before .before .before .before .before .before .before .before .before .before .before .before .before .before .before .before .before in
+    let i = c .before .before .before .before .before .before .before .before .before .before .before .before .before .before .before .before .before .before .find-leaf in
+    let w = c .before .before .before .before .before .before .before .before .take-all in
+    let r = c .before .before .before .before .before .resettle in
+    recounting (s .args .k) (s .pre .0) (s .args .a) (i .result) (i .ensures) (pending-some _ _ (c .before .before .before .before .before .before .before .before .before .before .before .before .before .before .before .before .leaf-at .ensures) (c .before .before .before .before .before .before .before .before .before .before .before .before .before .before .if1 .left)) (w .last .0) (w .last .1 .0) (w .result) (w .ensures)
+    (r .last .0) (r .result .leaves) (r .result .version) (c .before .before .before .leaf-places .ensures) (r .ensures .settled) (r .ensures .hidden) (r .ensures .pending)
+
+sub-take-versions : tie.Need-sub-take-versions
+sub-take-versions c = search needs
+
+take-versions-requires : tie.Need-take-versions-requires
+take-versions-requires c κs = search needs
+
+returns-2 : tie.Need-returns-2
+returns-2 c =
+    let s = c .before .before .before .before .before .before .before .before .before .before .before .before .before .before .before .before .before .before .before .before .before .before .before .before .before in
+    let i = c .before .before .before .before .before .before .before .before .before .before .before .before .before .before .before .before .before .before .before .before .before .before .before .find-leaf in
+    let w = c .before .before .before .before .before .before .before .before .before .before .before .before .before .take-all in
+    let r = c .before .before .before .before .before .before .before .before .before .before .resettle in
+    let n = c .before .before .before .before .recount in
+    merges-some (s .args .k) (s .pre .0) (s .args .a) (i .result) (i .ensures) (pending-some _ _ (c .before .before .before .before .before .before .before .before .before .before .before .before .before .before .before .before .before .before .before .before .before .leaf-at .ensures) (c .before .before .before .before .before .before .before .before .before .before .before .before .before .before .before .before .before .before .before .if1 .left)) (w .last .0) (w .last .1 .0) (w .result) (w .ensures)
+    (r .last .0) (r .result .leaves) (r .result .version) (c .before .before .before .before .before .before .before .before .leaf-places .ensures) (r .ensures .settled) (r .ensures .hidden) (r .ensures .pending)
+    (n .last .0) (n .ensures) (c .before .take-versions .ensures .1)
+
+pub merge-spec : {M : Type 1} → statement M
+merge-spec =
+    tie.close
+    (tie.spec
+    find-leaf-requires
+    leaf-at-requires
+    returns
+    add-addresses-of
+    addresses-of-requires
+    take-all-requires
+    resettle-requires
+    leaf-places-requires
+    recount-requires
+    sub-take-versions
+    take-versions-requires
+    returns-2)

@@ -1,0 +1,6 @@
+pub mod MergeWalks
+pub mod MergeSettles
+pub mod MergeKeeps
+pub mod MergeKeys
+pub mod Merges
+pub mod OldestWalks

@@ -1,0 +1,693 @@
+-- The first part of a merge: a walk over the slots that takes the pending writes of a leaf into the index. What is left
+-- to take in is always what the slots had to begin with, from the walk's place on; and if no lock was counted, the slots
+-- behind the walk have no entry of the leaf.
+use Prim.Native.Nat.{ℕ, zero, suc, _+_, _-_, _^_, _<_, _≤_, zero-le}
+use native.Mathlib.Nat.{not-suc-le-zero, le-trans, le-of-eq, le-refl}
+use native.Mathlib.Omega.{arith}
+use mathlib.Core.Path.{_≡_, refl, sym, ap, _∙_, subst}
+use mathlib.Core.Logic.{⊎-elim}
+use mathlib.Core.Bool.{Bool, true, false, not}
+use mathlib.Core.List.{List, [], _∷_, _++_}
+use mathlib.Core.Option.{Option, none, some}
+use lib.ListN.{length, drop, drop-of-length-le, getD}
+use lib.Seq.{drop-cons}
+use Rattle.lists.specs.Tests.{pick, both, maybe, present, same}
+use Rattle.lists.specs.TestLaws.{cases, clash, same-true, same-false, same-no, same-refl}
+use Rattle.lists.specs.Rows.{Row, row, look, assign, keys, has, filter, distinct, Rising}
+use Rattle.lists.specs.RowLaws.{has-keys, length-keys, look-assign, rising-assign, length-assign, rising-different}
+use Rattle.lists.specs.Ascending.{keys-mem}
+use Rattle.lists.specs.Counting.{Within, different-within}
+use Rattle.lists.specs.Memberships.{member-has, has-left, has-right}
+use Rattle.lists.specs.Sums.{total-at, total-except}
+use Rattle.spec.specs.declared.PayloadWords.{PayloadWords}
+use Rattle.spec.specs.Records.{Record, outcome}
+use Rattle.spec.specs.Leaves.{Leaf}
+use Rattle.spec.specs.Slots.{slotCount, Pending, Content, isIdle, Slot, emptySlot, entries, contentOf, holds, enter, kept}
+use Rattle.spec.specs.Maps.{MapState, outcomeOf, current, each, takenIn, mergeEntry}
+use Rattle.laws.specs.SlotCounts.{Good, entryAt, tally, count, keyed, keyed-here, keyed-holds, holds-yes, only-here, entries-some, entries-none, slot-member}
+use Rattle.laws.specs.Entering.{Entering, entering, kept-entry}
+use Rattle.laws.specs.SlotLaws.{Room, stands, member-content}
+use Rattle.laws.specs.MapLaws.{has-entry}
+use Rattle.indexlet.specs.Words.{pendingIn, holderIn, contentIn, slotIn, slotsOf}
+use Rattle.indexlet.specs.declared.Content.{Content as ContentWords}
+use Rattle.indexlet.specs.declared.Slot.{Slot as SlotWords}
+use Rattle.indexlet.specs.Promises as indexlet
+use Rattle.index.specs.Views as index
+use Rattle.index.specs.Views.{recordPlaces, recordFrom, recordsOf}
+use Rattle.index.specs.ViewLaws.{length-records}
+use Rattle.merging.specs.declared.merge.Walk.{Walk}
+use Rattle.phantomlet.specs.Phantoms.{weigh, howMany, many-change, weigh-kept}
+use Rattle.phantomlet.specs.LeafTests.{takes}
+use Rattle.phantomlet.specs.LeafCounts.{lacking}
+use Rattle.phantomlet.specs.MergeCounts.{pick-most}
+use Rattle.map.specs.Views.{SlotRows, RecordRows}
+use Rattle.map.specs.EntryLaws.{many-most}
+
+-- a map of its three parts
+abbrev pub parts : List (Row Record) → List Leaf → List Slot → MapState
+parts rs ls ss = record { records = rs; leaves = ls; slots = ss }
+
+-- what a pending write of this kind leaves in the index
+unfoldable pub leaving : ℕ → PayloadWords → ℕ → Option Record
+leaving kind v commit = maybe (pendingIn kind v commit 0) none outcomeOf
+
+-- whenever its waiting began
+leaving-since : (kind : ℕ) (v : PayloadWords) (commit t : ℕ) → maybe (pendingIn kind v commit t) none outcomeOf ≡ leaving kind v commit
+unfolding leaving pendingIn outcomeOf
+leaving-since zero v commit t = refl
+leaving-since (suc zero) v commit t = refl
+leaving-since (suc (suc k)) v commit t = refl
+
+pub leaving-put : (kind : ℕ) (v : PayloadWords) (commit : ℕ) → kind ≡ 1 → some (recordFrom v commit) ≡ leaving kind v commit
+unfolding leaving pendingIn outcomeOf outcome
+leaving-put kind v commit e = sym (ap (λ (k : ℕ). leaving k v commit) e)
+
+pub leaving-drop : (kind : ℕ) (v : PayloadWords) (commit : ℕ) → (kind ≡ 1 → ⊥) → none ≡ leaving kind v commit
+unfolding leaving pendingIn outcomeOf outcome
+leaving-drop zero v commit n = refl
+leaving-drop (suc zero) v commit n = absurd (n refl)
+leaving-drop (suc (suc k)) v commit n = refl
+
+kind-pending : (kind : ℕ) (v : PayloadWords) (commit t : ℕ) → (kind ≡ 0 → ⊥) → (p : Pending) × (pendingIn kind v commit t ≡ some p)
+unfolding pendingIn
+kind-pending zero v commit t n = absurd (n refl)
+kind-pending (suc zero) v commit t n = (_, refl)
+kind-pending (suc (suc k)) v commit t n = (_, refl)
+
+pub lock-none : (c : ContentWords) → c .lock ≡ 0 → _≡_ {A = ℕ} 0 (pick (present (contentIn c .holder)) 1 0)
+unfolding contentIn holderIn
+lock-none c e = sym (ap (λ (n : ℕ). pick {A = ℕ} (present (holderIn n)) 1 0) e)
+
+pub lock-some : (c : ContentWords) → (c .lock ≡ 0 → ⊥) → _≡_ {A = ℕ} 1 (pick (present (contentIn c .holder)) 1 0)
+unfolding contentIn holderIn
+lock-some c n = go (c .lock) n
+  where
+    go : (k : ℕ) → (k ≡ 0 → ⊥) → _≡_ {A = ℕ} 1 (pick (present (holderIn k)) 1 0)
+    go zero n = absurd (n refl)
+    go (suc k) n = refl
+
+-- ---- what is left
+
+-- the entries from slot j on that pass the test
+unfoldable pub left : (ℕ → Bool) → List Slot → ℕ → List (Row Content)
+left p ss j = filter (takes p) (entries (drop j ss))
+
+module _ (p : ℕ → Bool) (ss : List Slot) (j : ℕ) (h : j < length ss) where
+  left-none : entryAt ss j ≡ none → left p ss j ≡ left p ss (suc j)
+  unfolding left
+  left-none e =
+      ap (λ (zs : List Slot). filter (takes p) (entries zs)) (drop-cons ss j emptySlot h)
+      ∙ ap (filter (takes p)) (entries-none (getD ss j emptySlot) (drop (suc j) ss) e)
+
+  left-some : (x : Row Content) → entryAt ss j ≡ some x → left p ss j ≡ pick (takes p x) (x ∷ left p ss (suc j)) (left p ss (suc j))
+  unfolding left filter
+  left-some x e =
+      ap (λ (zs : List Slot). filter (takes p) (entries zs)) (drop-cons ss j emptySlot h)
+      ∙ ap (filter (takes p)) (entries-some (getD ss j emptySlot) (drop (suc j) ss) x e)
+
+  -- an entry that does not pass, or none
+  left-past : (k : ℕ) (c : Content) → entryAt ss j ≡ kept k c → takes p (row k c) ≡ false → left p ss j ≡ left p ss (suc j)
+  left-past k c e f =
+      ⊎-elim
+      (λ t. left-none (e ∙ ap (λ (b : Bool). pick b none (some (row k c))) t))
+      (λ t. left-some (row k c) (e ∙ ap (λ (b : Bool). pick b none (some (row k c))) t)
+      ∙ ap (λ (b : Bool). pick b (row k c ∷ left p ss (suc j)) (left p ss (suc j))) f)
+      (cases (isIdle c))
+
+left-start : (p : ℕ → Bool) (ss : List Slot) → left p ss 0 ≡ filter (takes p) (entries ss)
+unfolding left
+left-start p ss = refl
+
+left-end : (p : ℕ → Bool) (ss : List Slot) (j : ℕ) → length ss ≤ j → left p ss j ≡ []
+unfolding left
+left-end p ss j h = ap (λ (zs : List Slot). filter (takes p) (entries zs)) (drop-of-length-le ss h) ∙ (unfold entries filter in refl)
+
+-- ---- what is said of the address at slot j changes no other slot's entry
+
+module _ {bytes : ℕ} {ss : List Slot} {e : Row Content} (j : ℕ) (c : Content) (good : Good bytes ss) (h : j < length ss) (here : entryAt ss j ≡ some e) where
+  stands-here : 1 ≤ count (keyed (e .key)) ss
+  unfolding tally
+  stands-here =
+      let one : keyed (e .key) (entryAt ss j) ≡ 1 = keyed-here (e .key) (entryAt ss j) e here refl in
+      let least : keyed (e .key) (entryAt ss j) ≤ count (keyed (e .key)) ss = total-at (λ (i : ℕ) (s : Slot). keyed (e .key) (s .entry)) ss j emptySlot h in
+      omega arith
+
+  own-slot : (at : ℕ) (old : Option (Row Content)) → at < length ss → entryAt ss at ≡ old → count (keyed (e .key)) ss ≡ keyed (e .key) old → at ≡ j
+  own-slot at old l b own =
+      ⊎-elim
+      (λ t. same-true at j t)
+      (λ f.
+      let least : 1 ≤ count (keyed (e .key)) ss = stands-here in
+      let off : holds (e .key) (getD ss at emptySlot) ≡ false
+      = only-here ss (e .key) j at (good .once (e .key)) h l (holds-yes (e .key) (getD ss j emptySlot) e here refl) (λ q. same-false at j f (sym q)) in
+      let none-there : keyed (e .key) (entryAt ss at) ≡ 0 = keyed-holds (e .key) (getD ss at emptySlot) ∙ ap (λ (b : Bool). pick b 1 0) off in
+      let z : keyed (e .key) old ≡ 0 = sym (ap (keyed (e .key)) b) ∙ none-there in
+      absurd (let q : ⊥ = omega arith in q))
+      (cases (same at j))
+
+  -- there stands what is said
+  enter-here : Room ss (e .key) c → entryAt (enter bytes ss (e .key) c) j ≡ kept (e .key) c
+  unfolding Entering
+  enter-here room =
+      ⊎-elim
+      (λ r. ap (entryAt (enter bytes ss (e .key) c)) (sym (own-slot (r .at) (r .old) (r .changed .inside) (r .changed .before) (r .own))) ∙ r .changed .after)
+      (λ r. absurd (let a : 1 ≤ count (keyed (e .key)) ss = stands-here in let b : count (keyed (e .key)) ss ≡ 0 = r .1 in let q : ⊥ = omega arith in q))
+      (entering good room)
+
+  enter-others : Room ss (e .key) c → (i : ℕ) → i < length ss → (i ≡ j → ⊥) → entryAt (enter bytes ss (e .key) c) i ≡ entryAt ss i
+  unfolding Entering
+  enter-others room i l n =
+      ⊎-elim
+      (λ r. r .changed .others i l (λ q. n (q ∙ own-slot (r .at) (r .old) (r .changed .inside) (r .changed .before) (r .own))))
+      (λ r. ap (λ (ts : List Slot). entryAt ts i) (r .0))
+      (entering good room)
+
+-- ---- keys stay within a list
+
+assign-inside : (k : ℕ) (o : Option Record) (rs : List (Row Record)) (zs : List ℕ) → Within (keys rs) zs → has k zs ≡ true → Within (keys (assign k o rs)) zs
+assign-inside k o rs zs w h j e =
+    ⊎-elim
+    (λ t. ap (λ (x : ℕ). has x zs) (sym (same-true k j t)) ∙ h)
+    (λ f. w j (has-keys rs j
+    ∙ sym (ap present (look-assign k o rs j ∙ ap (λ (b : Bool). pick b o (look rs j)) f))
+    ∙ sym (has-keys (assign k o rs) j) ∙ e))
+    (cases (same k j))
+
+inside-length : (rs : List (Row Record)) (zs : List ℕ) → Rising rs → Within (keys rs) zs → length rs ≤ distinct zs
+inside-length rs zs r w = le-trans (le-of-eq (sym (length-keys rs))) (different-within (keys rs) zs (rising-different rs r) w)
+
+entry-inside : (rs : List (Row Record)) (ss : List Slot) (j : ℕ) (e : Row Content) → entryAt ss j ≡ some e → has (e .key) (keys rs ++ keys (entries ss)) ≡ true
+entry-inside rs ss j e q = has-right (e .key) (keys rs) (keys (entries ss)) (member-has (keys-mem e (entries ss) (slot-member ss j e q)))
+
+-- ---- the walk
+
+-- The walk stands before slot j. It began with the records rs and the slots ss.
+pub record Walking (p : ℕ → Bool) (rs : List (Row Record)) (ss : List Slot) (rows : RecordRows) (slots : SlotRows) (w : Walk) (j : ℕ) : Type 0 where
+  pub rows-held : index.RecordsSorted rows (w .records)
+  pub words : indexlet.SlotsHeld slots
+  pub number : w .entries ≡ length (entries (slotsOf slots))
+  pub full : length ss ≡ slotCount
+  pub there : j ≤ slotCount
+  pub few : w .count ≤ j
+  pub few-left : w .left ≤ j
+  -- the slots from here on have the entries that they had
+  pub untouched : (i : ℕ) → j ≤ i → i < slotCount → entryAt (slotsOf slots) i ≡ entryAt ss i
+  -- an address of the index was one, or had an entry
+  pub inside : Within (keys (recordsOf rows (w .records))) (keys rs ++ keys (entries ss))
+  -- addresses that do not pass keep their records, and every count of entries there stays
+  pub apart : (k : ℕ) → p k ≡ false → look (recordsOf rows (w .records)) k ≡ look rs k
+  pub elsewhere : (q : Row Content → Bool) → ((e : Row Content) → p (e .key) ≡ true → q e ≡ false) → howMany q (slotsOf slots) ≡ howMany q ss
+  -- the rest of the run is the whole run
+  pub rest :
+      (ls : List Leaf) → each (mergeEntry 4) (parts (recordsOf rows (w .records)) ls (slotsOf slots)) (left p ss j)
+      ≡ each (mergeEntry 4) (parts rs ls ss) (filter (takes p) (entries ss))
+  pub counted : w .count + length (left p ss j) ≡ length (filter (takes p) (entries ss))
+  -- so many entries lie outside of the index now
+  pub outside-is : w .outside ≡ howMany (lacking (recordsOf rows (w .records))) (slotsOf slots)
+  -- with no lock counted, the slots so far have no entry at an address that passes
+  pub cleared : w .left ≡ 0 → (i : ℕ) → i < j → (e : Row Content) → entryAt (slotsOf slots) i ≡ some e → p (e .key) ≡ false
+
+-- what a walk begins with: as many addresses as the index has room for
+pub record Starting (rows : RecordRows) (slots : SlotRows) (n e o : ℕ) : Type 0 where
+  pub rows-held : index.RecordsSorted rows n
+  pub words : indexlet.SlotsHeld slots
+  pub number : e ≡ length (entries (slotsOf slots))
+  pub bound : distinct (keys (recordsOf rows n) ++ keys (entries (slotsOf slots))) ≤ recordPlaces
+  pub outside-is : o ≡ howMany (lacking (recordsOf rows n)) (slotsOf slots)
+
+-- a walk that began with as many addresses as the index has room for
+pub record Underway (p : ℕ → Bool) (rows : RecordRows) (slots : SlotRows) (w : Walk) (j : ℕ) : Type 0 where
+  pub records : List (Row Record)
+  pub begun : List Slot
+  pub walking : Walking p records begun rows slots w j
+  pub bound : distinct (keys records ++ keys (entries begun)) ≤ recordPlaces
+
+-- one slot on, wherever the walk began
+pub record WalksSlot (p : ℕ → Bool) (rows : RecordRows) (slots : SlotRows) (w : Walk) (j : ℕ) (rows' : RecordRows) (slots' : SlotRows) (w' : Walk) : Type 0 where
+  pub on : {rs : List (Row Record)} {ss : List Slot} → Walking p rs ss rows slots w j → Walking p rs ss rows' slots' w' (j + 1)
+
+-- what a walk leaves
+pub record Took (p : ℕ → Bool) (rows : RecordRows) (slots : SlotRows) (n : ℕ) (rows' : RecordRows) (slots' : SlotRows) (w : Walk) : Type 0 where
+  pub rows-held : index.RecordsSorted rows' (w .records)
+  pub words : indexlet.SlotsHeld slots'
+  pub number : w .entries ≡ length (entries (slotsOf slots'))
+  pub inside : Within (keys (recordsOf rows' (w .records))) (keys (recordsOf rows n) ++ keys (entries (slotsOf slots)))
+  pub apart : (k : ℕ) → p k ≡ false → look (recordsOf rows' (w .records)) k ≡ look (recordsOf rows n) k
+  pub elsewhere : (q : Row Content → Bool) → ((e : Row Content) → p (e .key) ≡ true → q e ≡ false) → howMany q (slotsOf slots') ≡ howMany q (slotsOf slots)
+  pub after :
+      (ls : List Leaf) → parts (recordsOf rows' (w .records)) ls (slotsOf slots')
+      ≡ each (mergeEntry 4) (parts (recordsOf rows n) ls (slotsOf slots)) (filter (takes p) (entries (slotsOf slots)))
+  pub count : w .count ≡ length (filter (takes p) (entries (slotsOf slots)))
+  pub outside-is : w .outside ≡ howMany (lacking (recordsOf rows' (w .records))) (slotsOf slots')
+  pub cleared : w .left ≡ 0 → (i : ℕ) → i < slotCount → (e : Row Content) → entryAt (slotsOf slots') i ≡ some e → p (e .key) ≡ false
+
+-- What the next promise asks: no difference is below 0.
+pub record OutsideFits (out before after kind lock : ℕ) : Type 0 where
+  pub small : out + lock + before < 2 ^ 64
+  pub put : kind ≡ 1 → after ≤ out + before
+  pub drop : (kind ≡ 1 → ⊥) → after + 1 ≤ out + lock + before
+
+-- How many entries lie outside of the index, once a write of this kind has entered it: `before` and `after` are the numbers
+-- of its records, `lock` is 1 if the entry stays for its lock.
+pub record OutsideNow (out before after kind lock now : ℕ) : Type 0 where
+  pub put : kind ≡ 1 → now + after ≡ out + before
+  pub drop : (kind ≡ 1 → ⊥) → now + after + 1 ≡ out + lock + before
+
+pub outside-by-put : {out before after lock : ℕ} (kind : ℕ) → OutsideFits out before after kind lock → kind ≡ 1 → OutsideNow out before after kind lock (out + before - after)
+outside-by-put {out} {before} {after} {lock} kind f k =
+    let l : after ≤ out + before = f .put k in record { put = λ e. omega arith; drop = λ n. absurd (n k) }
+
+pub outside-by-drop : {out before after lock : ℕ} (kind : ℕ) → OutsideFits out before after kind lock → (kind ≡ 1 → ⊥)
+    → OutsideNow out before after kind lock (out + lock + before - after - 1)
+outside-by-drop {out} {before} {after} {lock} kind f k =
+    let l : after + 1 ≤ out + lock + before = f .drop k in record { put = λ e. absurd (k e); drop = λ n. omega arith }
+
+abbrev pub walk : ℕ → ℕ → ℕ → ℕ → ℕ → Walk
+walk n e c f o = record { records = n; entries = e; count = c; left = f; outside = o }
+
+pub walk-start : {rows : RecordRows} {slots : SlotRows} {n e o : ℕ} (p : ℕ → Bool) → Starting rows slots n e o → Walking p (recordsOf rows n) (slotsOf slots) rows slots (walk n e 0 0 o) 0
+walk-start {rows} {slots} {n} {e} {o} p s =
+    record {
+      rows-held = s .rows-held;
+      words = s .words;
+      number = s .number;
+      full = s .words .good .size;
+      there = zero-le;
+      few = zero-le;
+      few-left = zero-le;
+      untouched = λ i a b. refl;
+      inside = λ k h. has-left k (keys (recordsOf rows n)) (keys (entries (slotsOf slots))) h;
+      apart = λ k h. refl;
+      elsewhere = λ q h. refl;
+      rest = λ ls. ap (each (mergeEntry 4) (parts (recordsOf rows n) ls (slotsOf slots))) (left-start p (slotsOf slots));
+      counted = (let z : length (left p (slotsOf slots) 0) ≡ length (filter (takes p) (entries (slotsOf slots))) = ap length (left-start p (slotsOf slots)) in omega arith);
+      outside-is = s .outside-is;
+      cleared = λ z i l. absurd (not-suc-le-zero l);
+    }
+
+pub walk-end : {p : ℕ → Bool} {rows : RecordRows} {slots : SlotRows} {n : ℕ} {rows' : RecordRows} {slots' : SlotRows} {w : Walk} {j : ℕ} → Walking p (recordsOf rows n) (slotsOf slots) rows' slots' w j → slotCount ≤ j
+    → Took p rows slots n rows' slots' w
+unfolding each
+walk-end {p} {rows} {slots} {n} {rows'} {slots'} {w} {j} r h =
+    let f : length (slotsOf slots) ≡ slotCount = r .full in
+    let e : left p (slotsOf slots) j ≡ [] = left-end p (slotsOf slots) j (omega arith) in
+    record {
+      rows-held = r .rows-held;
+      words = r .words;
+      number = r .number;
+      inside = r .inside;
+      apart = r .apart;
+      elsewhere = r .elsewhere;
+      after = λ ls. sym (ap (each (mergeEntry 4) (parts (recordsOf rows' (w .records)) ls (slotsOf slots'))) e) ∙ r .rest ls;
+      count = (let z : length (left p (slotsOf slots) j) ≡ 0 = ap length e in let y : w .count + length (left p (slotsOf slots) j) ≡ length (filter (takes p) (entries (slotsOf slots))) = r .counted in omega arith);
+      outside-is = r .outside-is;
+      cleared = λ z i l. r .cleared z i (omega arith);
+    }
+
+-- ---- one slot
+
+entry-in : (slots : SlotRows) (j : ℕ) (r : SlotWords) → slotIn r ≡ getD (slotsOf slots) j emptySlot → entryAt (slotsOf slots) j ≡ kept (r .key) (contentIn (r .content))
+unfolding slotIn
+entry-in slots j r e = sym (ap (λ (s : Slot). s .entry) e)
+
+-- an entry that is not taken, or none; the count of locks becomes f
+walk-past : {p : ℕ → Bool} {rows : RecordRows} {slots : SlotRows} {w : Walk} {j : ℕ} (r : SlotWords) (f : ℕ) → indexlet.IsSlot slots j r → j < slotCount
+    → takes p (row (r .key) (contentIn (r .content))) ≡ false → w .left ≤ f → f ≤ w .left + 1
+    → (f ≡ 0 → (e : Row Content) → entryAt (slotsOf slots) j ≡ some e → p (e .key) ≡ false) → WalksSlot p rows slots w j rows slots (walk (w .records) (w .entries) (w .count) f (w .outside))
+walk-past {p} {rows} {slots} {w} {j} r f reads h t least most gone =
+    record {
+      on = λ {rs} {ss} g.
+          let z : length ss ≡ slotCount = g .full in
+          let e : left p ss j ≡ left p ss (suc j) = left-past p ss j (omega arith) (r .key) (contentIn (r .content)) (sym (g .untouched j (le-refl j) h) ∙ entry-in slots j r (reads .slot)) t in
+          let s : suc j ≡ j + 1 = omega arith in
+          let d : left p ss (j + 1) ≡ left p ss j = sym (e ∙ ap (left p ss) s) in
+          record {
+            rows-held = g .rows-held;
+            words = g .words;
+            number = g .number;
+            full = g .full;
+            there = omega arith;
+            few = (let y : w .count ≤ j = g .few in omega arith);
+            few-left = (let y : w .left ≤ j = g .few-left in omega arith);
+            untouched = λ i a b. g .untouched i (omega arith) b;
+            inside = g .inside;
+            apart = g .apart;
+            elsewhere = g .elsewhere;
+            rest = λ ls. ap (each (mergeEntry 4) (parts (recordsOf rows (w .records)) ls (slotsOf slots))) d ∙ g .rest ls;
+            counted = (let y : w .count + length (left p ss j) ≡ length (filter (takes p) (entries ss)) = g .counted in let x : length (left p ss (j + 1)) ≡ length (left p ss j) = ap length d in omega arith);
+            outside-is = g .outside-is;
+            cleared =
+                λ z i l e q.
+                ⊎-elim
+                (λ c. gone z e (ap (entryAt (slotsOf slots)) (sym (same-true i j c)) ∙ q))
+                (λ c. let n : i ≡ j → ⊥ = same-false i j c in g .cleared (omega arith) i (omega arith) e q)
+                (cases (same i j));
+          };
+    }
+
+takes-none : (p : ℕ → Bool) (k : ℕ) (c : ContentWords) → c .kind ≡ 0 → takes p (row k (contentIn c)) ≡ false
+unfolding takes contentIn pendingIn
+takes-none p k c e = ap (λ (n : ℕ). both (present (pendingIn n (c .payload) (c .commit) (c .since))) (p k)) e
+
+both-false : (b : Bool) → both b false ≡ false
+both-false true = refl
+both-false false = refl
+
+takes-other : (p : ℕ → Bool) (k : ℕ) (c : ContentWords) → p k ≡ false → takes p (row k (contentIn c)) ≡ false
+unfolding takes
+takes-other p k c e = ap (both (present (contentIn c .pending))) e ∙ both-false (present (contentIn c .pending))
+
+-- what stands there
+stands-as : (slots : SlotRows) (j : ℕ) (r : SlotWords) → indexlet.IsSlot slots j r → (e : Row Content) → entryAt (slotsOf slots) j ≡ some e
+    → (isIdle (contentIn (r .content)) ≡ false) × (row (r .key) (contentIn (r .content)) ≡ e)
+stands-as slots j r reads e q = kept-entry (r .key) (contentIn (r .content)) e (sym (entry-in slots j r (reads .slot)) ∙ q)
+
+-- an address that does not pass
+pub walk-outside : {p : ℕ → Bool} {rows : RecordRows} {slots : SlotRows} {w : Walk} {j : ℕ} (r : SlotWords) → indexlet.IsSlot slots j r → j < slotCount → p (r .key) ≡ false → WalksSlot p rows slots w j rows slots w
+walk-outside {p} {rows} {slots} {w} {j} r reads h f =
+    walk-past r (w .left) reads h (takes-other p (r .key) (r .content) f) (le-refl (w .left)) (omega arith)
+    (λ z e q. ap (λ (x : Row Content). p (x .key)) (sym (stands-as slots j r reads e q .1)) ∙ f)
+
+-- nothing pending and no lock: no entry
+unlocked : (c : Content) (x : ℕ) → present (c .pending) ≡ false → x ≡ pick (present (c .holder)) 1 0 → x ≡ 0 → isIdle c ≡ true
+unfolding isIdle
+unlocked c x a b z =
+    ⊎-elim
+    (λ t. absurd (let y : x ≡ 1 = b ∙ ap (λ (d : Bool). pick d 1 0) t in let q : ⊥ = omega arith in q))
+    (λ t. ap (λ (d : Bool). both (not d) (not (present (c .holder)))) a ∙ ap not t)
+    (cases (present (c .holder)))
+
+-- one lock more fits
+pub left-fits : {p : ℕ → Bool} {rs : List (Row Record)} {ss : List Slot} {rows : RecordRows} {slots : SlotRows} {w : Walk} {j : ℕ} → Walking p rs ss rows slots w j → j < slotCount
+    → (c : Content) (x : ℕ) → x ≡ pick (present (c .holder)) 1 0 → w .left + x < 2 ^ 64
+left-fits {w = w} {j} g h c x b =
+    let y : w .left ≤ j = g .few-left in
+    let m : pick (present (c .holder)) 1 0 ≤ 1 = pick-most (present (c .holder)) in
+    omega arith
+
+-- nothing is pending: a lock counts
+pub walk-lock : {p : ℕ → Bool} {rows : RecordRows} {slots : SlotRows} {w : Walk} {j : ℕ} (r : SlotWords) (x : ℕ) → indexlet.IsSlot slots j r → j < slotCount → r .content .kind ≡ 0
+    → x ≡ pick (present (contentIn (r .content) .holder)) 1 0 → WalksSlot p rows slots w j rows slots (walk (w .records) (w .entries) (w .count) (w .left + x) (w .outside))
+unfolding contentIn pendingIn
+walk-lock {p} {rows} {slots} {w} {j} r x reads h k b =
+    let most : pick (present (contentIn (r .content) .holder)) 1 0 ≤ 1 = pick-most (present (contentIn (r .content) .holder)) in
+    walk-past r (w .left + x) reads h (takes-none p (r .key) (r .content) k) (omega arith) (omega arith)
+    (λ z e q. clash
+    (unlocked (contentIn (r .content)) x (ap (λ (n : ℕ). present (pendingIn n (r .content .payload) (r .content .commit) (r .content .since))) k) b (omega arith))
+    (stands-as slots j r reads e q .0))
+
+weigh-nothing : (q : Row Content → Bool) (k : ℕ) (c : Content) → q (row k c) ≡ false → weigh q (kept k c) ≡ 0
+weigh-nothing q k c e =
+    weigh-kept q k c ∙ ap (λ (b : Bool). pick (isIdle c) 0 (pick b 1 0)) e ∙ ⊎-elim (λ t. rw t) (λ t. rw t) (cases (isIdle c))
+
+-- an entry with a pending write
+module _ {slots : SlotRows} {j : ℕ} (r : SlotWords) (held : indexlet.SlotsHeld slots) (reads : indexlet.IsSlot slots j r) (kind : r .content .kind ≡ 0 → ⊥) where
+  said : Pending
+  said = kind-pending (r .content .kind) (r .content .payload) (r .content .commit) (r .content .since) kind .0
+
+  pending-is : contentIn (r .content) .pending ≡ some said
+  unfolding contentIn said
+  pending-is = kind-pending (r .content .kind) (r .content .payload) (r .content .commit) (r .content .since) kind .1
+
+  busy : isIdle (contentIn (r .content)) ≡ false
+  unfolding isIdle
+  busy = ap (λ (o : Option Pending). both (not (present o)) (not (present (contentIn (r .content) .holder)))) pending-is
+
+  entry-is : entryAt (slotsOf slots) j ≡ some (row (r .key) (contentIn (r .content)))
+  entry-is = entry-in slots j r (reads .slot) ∙ ap (λ (b : Bool). pick b none (some (row (r .key) (contentIn (r .content))))) busy
+
+  content-is : contentOf (slotsOf slots) (r .key) ≡ contentIn (r .content)
+  content-is = member-content (held .good) (slot-member (slotsOf slots) j (row (r .key) (contentIn (r .content))) entry-is)
+
+  pub slot-room : (c : Content) → Room (slotsOf slots) (r .key) c
+  slot-room c = stands (has-entry (held .good) (r .key) (ap isIdle content-is ∙ busy))
+
+  -- what enters the index and the indexlet is what the model merges
+  merged-is : (rs rs' : List (Row Record)) (ls : List Leaf) (ss' : List Slot)
+      → rs' ≡ assign (r .key) (leaving (r .content .kind) (r .content .payload) (r .content .commit)) rs
+      → ss' ≡ enter 4 (slotsOf slots) (r .key) (takenIn (contentIn (r .content)))
+      → parts rs' ls ss' ≡ mergeEntry 4 (parts rs ls (slotsOf slots)) (row (r .key) (contentIn (r .content)))
+  unfolding mergeEntry current leaving contentIn
+  merged-is rs rs' ls ss' e f =
+      let cur : current (parts rs ls (slotsOf slots)) (r .key) ≡ leaving (r .content .kind) (r .content .payload) (r .content .commit)
+      = ap (λ (o : Option Pending). maybe o (look rs (r .key)) outcomeOf) (ap (λ (c : Content). c .pending) content-is ∙ pending-is)
+      ∙ sym (ap (λ (o : Option Pending). maybe o none outcomeOf) pending-is)
+      ∙ leaving-since (r .content .kind) (r .content .payload) (r .content .commit) (r .content .since) in
+      λ i. record {
+        records = (e ∙ ap (λ (o : Option Record). assign (r .key) o rs) (sym cur)) i;
+        leaves = ls;
+        slots = (f ∙ ap (λ (c : Content). enter 4 (slotsOf slots) (r .key) (takenIn c)) (sym content-is)) i;
+      }
+
+  taken-yes : (p : ℕ → Bool) → p (r .key) ≡ true → takes p (row (r .key) (contentIn (r .content))) ≡ true
+  unfolding takes
+  taken-yes p t = ap (λ (o : Option Pending). both (present o) (p (r .key))) pending-is ∙ t
+
+  -- a count that does not look at the entry's address stays
+  many-apart : (q : Row Content → Bool) (c : Content) → ((x : Content) → q (row (r .key) x) ≡ false) → howMany q (enter 4 (slotsOf slots) (r .key) c) ≡ howMany q (slotsOf slots)
+  many-apart q c f =
+      let e : howMany q (enter 4 (slotsOf slots) (r .key) c) + weigh q (kept (r .key) (contentOf (slotsOf slots) (r .key))) ≡ howMany q (slotsOf slots) + weigh q (kept (r .key) c) = many-change (held .good) (slot-room c) q in
+      let a : weigh q (kept (r .key) (contentOf (slotsOf slots) (r .key))) ≡ 0 = weigh-nothing q (r .key) (contentOf (slotsOf slots) (r .key)) (f (contentOf (slotsOf slots) (r .key))) in
+      let b : weigh q (kept (r .key) c) ≡ 0 = weigh-nothing q (r .key) c (f c) in
+      omega arith
+
+  -- ---- entries outside of the index
+
+  -- a test of entries that changes at this address alone changes the count by the entry's own terms
+  test-moved : j < slotCount → (q q' : Row Content → Bool) → ((e : Row Content) → (e .key ≡ r .key → ⊥) → q' e ≡ q e)
+      → howMany q' (slotsOf slots) + weigh q (some (row (r .key) (contentIn (r .content)))) ≡ howMany q (slotsOf slots) + weigh q' (some (row (r .key) (contentIn (r .content))))
+  unfolding howMany tally
+  test-moved inside q q' f =
+      let long : length (slotsOf slots) ≡ slotCount = held .good .size in
+      ap (λ (o : Option (Row Content)). howMany q' (slotsOf slots) + weigh q o) (sym entry-is)
+      ∙ total-except (λ (i : ℕ) (s : Slot). weigh q (s .entry)) (λ (i : ℕ) (s : Slot). weigh q' (s .entry)) (slotsOf slots) j emptySlot (omega arith)
+      (λ i l n. alike i l n (entryAt (slotsOf slots) i) refl)
+      ∙ ap (λ (o : Option (Row Content)). howMany q (slotsOf slots) + weigh q' o) entry-is
+    where
+      alike : (i : ℕ) → i < length (slotsOf slots) → (i ≡ j → ⊥) → (o : Option (Row Content)) → entryAt (slotsOf slots) i ≡ o → weigh q' o ≡ weigh q o
+      alike i l n none e = unfold weigh in refl
+      alike i l n (some x) e =
+          unfold weigh in
+          ap (λ (b : Bool). pick b 1 0)
+          (f x (λ k.
+          let long : length (slotsOf slots) ≡ slotCount = held .good .size in
+          clash
+          (holds-yes (r .key) (getD (slotsOf slots) i emptySlot) x e k)
+          (only-here (slotsOf slots) (r .key) j i (held .good .once (r .key)) (omega arith) l
+          (holds-yes (r .key) (getD (slotsOf slots) j emptySlot) (row (r .key) (contentIn (r .content))) entry-is refl) (λ y. n (sym y)))))
+
+  -- the index with the address's record, or without
+  abbrev assigned : List (Row Record) → List (Row Record)
+  assigned rs = assign (r .key) (leaving (r .content .kind) (r .content .payload) (r .content .commit)) rs
+
+  look-assigned : (rs : List (Row Record)) → look (assigned rs) (r .key) ≡ leaving (r .content .kind) (r .content .payload) (r .content .commit)
+  look-assigned rs =
+      look-assign (r .key) (leaving (r .content .kind) (r .content .payload) (r .content .commit)) rs (r .key)
+      ∙ ap (λ (b : Bool). pick b (leaving (r .content .kind) (r .content .payload) (r .content .commit)) (look rs (r .key))) (same-refl (r .key))
+
+  -- what the entry counts before, and what is left of it after
+  outside-moved : j < slotCount → (rs : List (Row Record))
+      → howMany (lacking (assigned rs)) (enter 4 (slotsOf slots) (r .key) (takenIn (contentIn (r .content)))) + pick (not (present (look rs (r .key)))) 1 0
+      ≡ howMany (lacking rs) (slotsOf slots)
+      + pick (not (present (contentIn (r .content) .holder))) 0 (pick (not (present (leaving (r .content .kind) (r .content .payload) (r .content .commit)))) 1 0)
+  unfolding lacking weigh
+  outside-moved inside rs =
+      let c : Content = contentIn (r .content) in
+      let q' : Row Content → Bool = lacking (assigned rs) in
+      let change : howMany q' (enter 4 (slotsOf slots) (r .key) (takenIn c)) + weigh q' (kept (r .key) (contentOf (slotsOf slots) (r .key))) ≡ howMany q' (slotsOf slots) + weigh q' (kept (r .key) (takenIn c))
+      = many-change (held .good) (slot-room (takenIn c)) q' in
+      let was : weigh q' (kept (r .key) (contentOf (slotsOf slots) (r .key))) ≡ weigh q' (some (row (r .key) c))
+      = ap (λ (x : Content). weigh q' (kept (r .key) x)) content-is ∙ ap (λ (b : Bool). weigh q' (pick b none (some (row (r .key) c)))) busy in
+      let test : howMany q' (slotsOf slots) + weigh (lacking rs) (some (row (r .key) c)) ≡ howMany (lacking rs) (slotsOf slots) + weigh q' (some (row (r .key) c))
+      = test-moved inside (lacking rs) q' (λ e n. ap (λ (o : Option Record). not (present o))
+      (look-assign (r .key) (leaving (r .content .kind) (r .content .payload) (r .content .commit)) rs (e .key)
+      ∙ ap (λ (b : Bool). pick b (leaving (r .content .kind) (r .content .payload) (r .content .commit)) (look rs (e .key))) (same-no {m = r .key} {n = e .key} (λ y. n (sym y))))) in
+      let stays : weigh q' (kept (r .key) (takenIn c)) ≡ pick (not (present (c .holder))) 0 (pick (not (present (leaving (r .content .kind) (r .content .payload) (r .content .commit)))) 1 0)
+      = weigh-kept q' (r .key) (takenIn c) ∙ (unfold isIdle in ap (λ (o : Option Record). pick (not (present (c .holder))) 0 (pick (not (present o)) 1 0)) (look-assigned rs)) in
+      let own : weigh (lacking rs) (some (row (r .key) c)) ≡ pick (not (present (look rs (r .key)))) 1 0 = refl in
+      omega arith
+
+  one-of : (b : Bool) → pick b 1 0 + pick (not b) 1 0 ≡ 1
+  one-of true = refl
+  one-of false = refl
+
+  -- by the number of records: a put brings its address into the index
+  outside-put : j < slotCount → (rs rs' : List (Row Record)) (ss' : List Slot) → Rising rs → rs' ≡ assigned rs → ss' ≡ enter 4 (slotsOf slots) (r .key) (takenIn (contentIn (r .content)))
+      → r .content .kind ≡ 1 → howMany (lacking rs') ss' + length rs' ≡ howMany (lacking rs) (slotsOf slots) + length rs
+  outside-put inside rs rs' ss' f e v k =
+      let here : present (leaving (r .content .kind) (r .content .payload) (r .content .commit)) ≡ true = ap present (sym (leaving-put (r .content .kind) (r .content .payload) (r .content .commit) k)) in
+      let moved : howMany (lacking rs') ss' + pick (not (present (look rs (r .key)))) 1 0
+      ≡ howMany (lacking rs) (slotsOf slots)
+      + pick (not (present (contentIn (r .content) .holder))) 0 (pick (not (present (leaving (r .content .kind) (r .content .payload) (r .content .commit)))) 1 0)
+      = (λ i. howMany (lacking (e i)) (v i) + pick (not (present (look rs (r .key)))) 1 0) ∙ outside-moved inside rs in
+      let none-left : _≡_ {A = ℕ} (pick (not (present (contentIn (r .content) .holder))) 0 (pick (not (present (leaving (r .content .kind) (r .content .payload) (r .content .commit)))) 1 0)) 0
+      = ap (λ (b : Bool). pick (not (present (contentIn (r .content) .holder))) 0 (pick (not b) 1 0)) here ∙ zeros (not (present (contentIn (r .content) .holder))) in
+      let long : length rs' + pick (present (look rs (r .key))) 1 0 ≡ length rs + 1
+      = ap (λ (x : List (Row Record)). length x + pick (present (look rs (r .key))) 1 0) e
+      ∙ length-assign (r .key) (leaving (r .content .kind) (r .content .payload) (r .content .commit)) rs f
+      ∙ ap (λ (b : Bool). length rs + pick b 1 0) here in
+      let one : pick (present (look rs (r .key))) 1 0 + pick (not (present (look rs (r .key)))) 1 0 ≡ 1 = one-of (present (look rs (r .key))) in
+      omega arith
+    where
+      zeros : (b : Bool) → _≡_ {A = ℕ} (pick b 0 0) 0
+      zeros true = refl
+      zeros false = refl
+
+  -- a deletion takes it out, and leaves an entry there for a lock alone
+  outside-drop : j < slotCount → (rs rs' : List (Row Record)) (ss' : List Slot) → Rising rs → rs' ≡ assigned rs → ss' ≡ enter 4 (slotsOf slots) (r .key) (takenIn (contentIn (r .content)))
+      → (r .content .kind ≡ 1 → ⊥) → howMany (lacking rs') ss' + length rs' + 1 ≡ howMany (lacking rs) (slotsOf slots) + pick (present (contentIn (r .content) .holder)) 1 0 + length rs
+  outside-drop inside rs rs' ss' f e v k =
+      let gone : present (leaving (r .content .kind) (r .content .payload) (r .content .commit)) ≡ false = ap present (sym (leaving-drop (r .content .kind) (r .content .payload) (r .content .commit) k)) in
+      let moved : howMany (lacking rs') ss' + pick (not (present (look rs (r .key)))) 1 0
+      ≡ howMany (lacking rs) (slotsOf slots)
+      + pick (not (present (contentIn (r .content) .holder))) 0 (pick (not (present (leaving (r .content .kind) (r .content .payload) (r .content .commit)))) 1 0)
+      = (λ i. howMany (lacking (e i)) (v i) + pick (not (present (look rs (r .key)))) 1 0) ∙ outside-moved inside rs in
+      let stays : _≡_ {A = ℕ} (pick (not (present (contentIn (r .content) .holder))) 0 (pick (not (present (leaving (r .content .kind) (r .content .payload) (r .content .commit)))) 1 0)) (pick (present (contentIn (r .content) .holder)) 1 0)
+      = ap (λ (b : Bool). pick (not (present (contentIn (r .content) .holder))) 0 (pick (not b) 1 0)) gone ∙ turned (present (contentIn (r .content) .holder)) in
+      let long : length rs' + pick (present (look rs (r .key))) 1 0 ≡ length rs + 0
+      = ap (λ (x : List (Row Record)). length x + pick (present (look rs (r .key))) 1 0) e
+      ∙ length-assign (r .key) (leaving (r .content .kind) (r .content .payload) (r .content .commit)) rs f
+      ∙ ap (λ (b : Bool). length rs + pick b 1 0) gone in
+      let one : pick (present (look rs (r .key))) 1 0 + pick (not (present (look rs (r .key)))) 1 0 ≡ 1 = one-of (present (look rs (r .key))) in
+      omega arith
+    where
+      turned : (b : Bool) → _≡_ {A = ℕ} (pick (not b) 0 1) (pick b 1 0)
+      turned true = refl
+      turned false = refl
+
+  pub outside-fits : {p : ℕ → Bool} {rs : List (Row Record)} {ss : List Slot} {rows rows' : RecordRows} {w : Walk} (n x : ℕ) → j < slotCount → Walking p rs ss rows slots w j
+      → x ≡ pick (present (contentIn (r .content) .holder)) 1 0
+      → index.RecordsAre rows' n (assign (r .key) (leaving (r .content .kind) (r .content .payload) (r .content .commit)) (recordsOf rows (w .records)))
+      → OutsideFits (w .outside) (w .records) n (r .content .kind) x
+  outside-fits {rows = rows} {rows' = rows'} {w = w} n x inside g locks hold =
+      let o : w .outside ≡ howMany (lacking (recordsOf rows (w .records))) (slotsOf slots) = g .outside-is in
+      let a : length (recordsOf rows (w .records)) ≡ w .records = length-records rows (w .records) (g .rows-held .room) in
+      let b : length (recordsOf rows' n) ≡ n = length-records rows' n (hold .held .room) in
+      let room : w .records ≤ recordPlaces = g .rows-held .room in
+      let few : howMany (lacking (recordsOf rows (w .records))) (slotsOf slots) ≤ slotCount = many-most (held .good) (lacking (recordsOf rows (w .records))) in
+      let one : pick (present (contentIn (r .content) .holder)) 1 0 ≤ 1 = pick-most (present (contentIn (r .content) .holder)) in
+      record {
+        small = omega arith;
+        put = λ k.
+            let z : howMany (lacking (recordsOf rows' n)) (enter 4 (slotsOf slots) (r .key) (takenIn (contentIn (r .content)))) + length (recordsOf rows' n)
+            ≡ howMany (lacking (recordsOf rows (w .records))) (slotsOf slots) + length (recordsOf rows (w .records))
+            = outside-put inside (recordsOf rows (w .records)) (recordsOf rows' n) _ (g .rows-held .rising) (hold .same) refl k in
+            omega arith;
+        drop = λ k.
+            let z : howMany (lacking (recordsOf rows' n)) (enter 4 (slotsOf slots) (r .key) (takenIn (contentIn (r .content)))) + length (recordsOf rows' n) + 1
+            ≡ howMany (lacking (recordsOf rows (w .records))) (slotsOf slots) + pick (present (contentIn (r .content) .holder)) 1 0 + length (recordsOf rows (w .records))
+            = outside-drop inside (recordsOf rows (w .records)) (recordsOf rows' n) _ (g .rows-held .rising) (hold .same) refl k in
+            omega arith;
+      }
+
+  other : (p : ℕ → Bool) → p (r .key) ≡ true → (x : ℕ) → p x ≡ false → same (r .key) x ≡ false
+  other p t x f = same-no {m = r .key} {n = x} (λ e. clash (ap p (sym e) ∙ t) f)
+
+  -- there is room in the index for the entry
+  pub write-room : {p : ℕ → Bool} {rows : RecordRows} {w : Walk} → Underway p rows slots w j → j < slotCount → (x : Record)
+      → length (assign (r .key) (some x) (recordsOf rows (w .records))) ≤ recordPlaces
+  write-room {p} {rows} {w} u h x =
+      let g = u .walking in
+      le-trans
+      (inside-length (assign (r .key) (some x) (recordsOf rows (w .records))) (keys (u .records) ++ keys (entries (u .begun)))
+      (rising-assign (r .key) (some x) (recordsOf rows (w .records)) (g .rows-held .rising))
+      (assign-inside (r .key) (some x) (recordsOf rows (w .records)) (keys (u .records) ++ keys (entries (u .begun))) (g .inside)
+      (entry-inside (u .records) (u .begun) j (row (r .key) (contentIn (r .content))) (sym (g .untouched j (le-refl j) h) ∙ entry-is))))
+      (u .bound)
+
+  pub walk-on : {p : ℕ → Bool} {rows : RecordRows} {w : Walk} (rows' : RecordRows) (slots' : SlotRows) (n e x o : ℕ) (c : ContentWords) → j < slotCount → p (r .key) ≡ true
+      → x ≡ pick (present (contentIn (r .content) .holder)) 1 0
+      → index.RecordsAre rows' n (assign (r .key) (leaving (r .content .kind) (r .content .payload) (r .content .commit)) (recordsOf rows (w .records)))
+      → contentIn c ≡ takenIn (contentIn (r .content)) → indexlet.Enters slots (r .key) c slots' e
+      → OutsideNow (w .outside) (w .records) n (r .content .kind) x o
+      → WalksSlot p rows slots w j rows' slots' (walk n e (w .count + 1) (w .left + x) o)
+  unfolding each
+  walk-on {p} {rows} {w} rows' slots' n e lock out c h t locks hold ce ent now =
+      record {
+        on = λ {rs} {ss} g.
+            let z : length ss ≡ slotCount = g .full in
+            let zz : length (slotsOf slots) ≡ slotCount = held .good .size in
+            let x : Row Content = row (r .key) (contentIn (r .content)) in
+            let was : entryAt ss j ≡ some x = sym (g .untouched j (le-refl j) h) ∙ entry-is in
+            let d : left p ss j ≡ x ∷ left p ss (suc j) = left-some p ss j (omega arith) x was ∙ ap (λ (b : Bool). pick b (x ∷ left p ss (suc j)) (left p ss (suc j))) (taken-yes p t) in
+            let s : suc j ≡ j + 1 = omega arith in
+            let view : slotsOf slots' ≡ enter 4 (slotsOf slots) (r .key) (takenIn (contentIn (r .content)))
+            = ent .view ∙ ap (enter 4 (slotsOf slots) (r .key)) ce in
+            record {
+              rows-held = hold .held;
+              words = ent .held;
+              number = ent .number;
+              full = g .full;
+              there = omega arith;
+              few = (let y : w .count ≤ j = g .few in omega arith);
+              few-left =
+                  (let y : w .left ≤ j = g .few-left in
+                  let m : pick (present (contentIn (r .content) .holder)) 1 0 ≤ 1 = pick-most (present (contentIn (r .content) .holder)) in
+                  omega arith);
+              untouched =
+                  λ i a b.
+                  ap (λ (ts : List Slot). entryAt ts i) (ent .view)
+                  ∙ enter-others j (contentIn c) (held .good) (omega arith) entry-is (slot-room (contentIn c)) i (omega arith) (λ q. let y : ⊥ = omega arith in y)
+                  ∙ g .untouched i (omega arith) b;
+              inside =
+                  subst (λ (ks : List (Row Record)). Within (keys ks) (keys rs ++ keys (entries ss))) (sym (hold .same))
+                  (assign-inside (r .key) _ (recordsOf rows (w .records)) (keys rs ++ keys (entries ss)) (g .inside) (entry-inside rs ss j x was));
+              apart =
+                  λ x f.
+                  ap (λ (ks : List (Row Record)). look ks x) (hold .same)
+                  ∙ look-assign (r .key) (leaving (r .content .kind) (r .content .payload) (r .content .commit)) (recordsOf rows (w .records)) x
+                  ∙ ap (λ (b : Bool). pick b (leaving (r .content .kind) (r .content .payload) (r .content .commit)) (look (recordsOf rows (w .records)) x)) (other p t x f)
+                  ∙ g .apart x f;
+              elsewhere = λ q f. ap (howMany q) (ent .view) ∙ many-apart q (contentIn c) (λ x. f (row (r .key) x) t) ∙ g .elsewhere q f;
+              rest =
+                  λ ls.
+                  ap (λ (m : MapState). each (mergeEntry 4) m (left p ss (j + 1)))
+                  (merged-is (recordsOf rows (w .records)) (recordsOf rows' n) ls (slotsOf slots') (hold .same) view)
+                  ∙ ap (λ (k : ℕ). each (mergeEntry 4) (parts (recordsOf rows (w .records)) ls (slotsOf slots)) (x ∷ left p ss k)) (sym s)
+                  ∙ ap (each (mergeEntry 4) (parts (recordsOf rows (w .records)) ls (slotsOf slots))) (sym d)
+                  ∙ g .rest ls;
+              counted =
+                  (let y : w .count + length (left p ss j) ≡ length (filter (takes p) (entries ss)) = g .counted in
+                  let q : length (left p ss j) ≡ suc (length (left p ss (j + 1))) = ap length d ∙ ap (λ (k : ℕ). suc (length (left p ss k))) s in
+                  omega arith);
+              outside-is = outside-now (g .outside-is) (g .rows-held);
+              cleared =
+                  λ y i l o q.
+                  ⊎-elim
+                  (λ b.
+                  let here : entryAt (slotsOf slots') j ≡ kept (r .key) (contentIn c)
+                  = ap (λ (ts : List Slot). entryAt ts j) (ent .view) ∙ enter-here j (contentIn c) (held .good) (omega arith) entry-is (slot-room (contentIn c)) in
+                  clash
+                  (ap isIdle ce ∙ unlocked (takenIn (contentIn (r .content))) lock refl locks (omega arith))
+                  (kept-entry (r .key) (contentIn c) o (sym here ∙ ap (entryAt (slotsOf slots')) (sym (same-true i j b)) ∙ q) .0))
+                  (λ b.
+                  let m : i ≡ j → ⊥ = same-false i j b in
+                  g .cleared (omega arith) i (omega arith) o
+                  (sym (ap (λ (ts : List Slot). entryAt ts i) (ent .view)
+                  ∙ enter-others j (contentIn c) (held .good) (omega arith) entry-is (slot-room (contentIn c)) i (omega arith) m) ∙ q))
+                  (cases (same i j));
+            };
+      }
+    where
+      outside-now : w .outside ≡ howMany (lacking (recordsOf rows (w .records))) (slotsOf slots) → index.RecordsSorted rows (w .records)
+          → out ≡ howMany (lacking (recordsOf rows' n)) (slotsOf slots')
+      outside-now were sorted =
+          let view : slotsOf slots' ≡ enter 4 (slotsOf slots) (r .key) (takenIn (contentIn (r .content))) = ent .view ∙ ap (enter 4 (slotsOf slots) (r .key)) ce in
+          let a : length (recordsOf rows (w .records)) ≡ w .records = length-records rows (w .records) (sorted .room) in
+          let b : length (recordsOf rows' n) ≡ n = length-records rows' n (hold .held .room) in
+          ⊎-elim
+          (λ k.
+          let y : out + n ≡ w .outside + w .records = now .put (same-true (r .content .kind) 1 k) in
+          let z : howMany (lacking (recordsOf rows' n)) (slotsOf slots') + length (recordsOf rows' n) ≡ howMany (lacking (recordsOf rows (w .records))) (slotsOf slots) + length (recordsOf rows (w .records))
+          = outside-put h (recordsOf rows (w .records)) (recordsOf rows' n) (slotsOf slots') (sorted .rising) (hold .same) view (same-true (r .content .kind) 1 k) in
+          omega arith)
+          (λ k.
+          let y : out + n + 1 ≡ w .outside + lock + w .records = now .drop (same-false (r .content .kind) 1 k) in
+          let z : howMany (lacking (recordsOf rows' n)) (slotsOf slots') + length (recordsOf rows' n) + 1 ≡ howMany (lacking (recordsOf rows (w .records))) (slotsOf slots) + pick (present (contentIn (r .content) .holder)) 1 0 + length (recordsOf rows (w .records))
+          = outside-drop h (recordsOf rows (w .records)) (recordsOf rows' n) (slotsOf slots') (sorted .rising) (hold .same) view (same-false (r .content .kind) 1 k) in
+          omega arith)
+          (cases (same (r .content .kind) 1))
+
+pub rest-content : (c : ContentWords) → contentIn (record { kind = 0; payload = record { value = 0; owner = 0 }; commit = 0; since = 0; lock = c .lock; forput = c .forput }) ≡ takenIn (contentIn c)
+unfolding contentIn pendingIn
+rest-content c = refl

@@ -1,0 +1,274 @@
+// The merge (document 01: fold): a leaf's pending writes enter the index, and the leaf settles around its records.
+//
+// `take_all` walks the slots, takes the leaf's pending writes in and counts the entries that stay for their lock;
+// `resettle` settles the leaf; `recount` brings the phantomlet up to date. Nearly always no lock stays, and then `recount`
+// needs no walk of its own.
+use counters::Counters;
+use index::leaves;
+use index::settles;
+use index::settles::Settled;
+use indexlet::SLOTS;
+use map::Leaves;
+use map::Records;
+use map::Sizes;
+use map::Slots;
+use phantomlet::recount;
+use phantomlet::recount::Reach;
+use spec::Address;
+use spec::PayloadWords;
+ghost use mathlib.Core.Path.{_≡_};
+ghost use mathlib.Core.Option.{some};
+ghost use Prim.Native.Nat.{_+_, _^_, _<_, _≤_};
+ghost use lib.ListN.{length};
+ghost use Rattle.lists.specs.Tests.{pick, present};
+ghost use Rattle.lists.specs.Rows.{assign};
+ghost use Rattle.spec.specs.Records.{standard};
+ghost use Rattle.spec.specs.Slots.{slotCount};
+ghost use Rattle.laws.specs.VersionBounds.{versionsPerMerge};
+ghost use Rattle.indexlet.specs.Words.{contentIn};
+ghost use Rattle.index.specs.Views as index-views;
+ghost use Rattle.index.specs.LeafColumns.{lowsOf};
+ghost use Rattle.index.specs.SettleRows.{SettledRows};
+ghost use Rattle.phantomlet.specs.LeafTests.{placed};
+ghost use Rattle.phantomlet.specs.LeafCounts.{OneLeaf};
+ghost use Rattle.phantomlet.specs.LeafRows.{Lows, Spans};
+ghost use Rattle.map.specs.Views.{lent};
+ghost use Rattle.map.specs.MapHeld.{MapHeld};
+ghost use Rattle.merging.specs.MergeSettles.{Resettling, leafKeys};
+ghost use Rattle.merging.specs.Merges.{Merges};
+ghost use Rattle.merging.specs.MergeWalks.{leaving, OutsideFits, OutsideNow, Underway, WalksSlot, Starting, Took};
+
+// How far a walk over the slots has come: records of the index, entries of the indexlet, pending writes taken in, entries of
+// the leaf that stay, for their lock, and entries outside of the index.
+struct Walk {
+    records: usize,
+    entries: usize,
+    count: usize,
+    left: usize,
+    outside: usize,
+}
+
+// The rows of a leaf: from row `from` up to, not including, row `to`.
+struct Span {
+    from: usize,
+    to: usize,
+}
+
+// What a merge leaves: the sizes and counters, and how many pending writes it took in.
+pub struct Merged {
+    pub sizes: Sizes,
+    pub counters: Counters,
+    pub count: usize,
+}
+
+// A pending write enters the index: kind 1 puts a record, any other drops it. Answers how many records there are now.
+fn take_write(
+    rows: &mut Records,
+    n: usize,
+    a: Address,
+    kind: u64,
+    payload: PayloadWords,
+    commit: u64,
+) -> usize
+    requires { ⌜ index-views.RecordsSorted (now rows) n ⌝ }
+    requires { ⌜ length (assign a (some (index-views.recordFrom payload commit)) (index-views.recordsOf (now rows) n)) ≤ index-views.recordPlaces ⌝ }
+    ensures { λ r. ⌜ index-views.RecordsAre (now (rows .exit)) r (assign a (leaving kind payload commit) (index-views.recordsOf (now (rows .entry)) n)) ⌝ }
+{
+    if kind == 1 {
+        return index::records::put(rows, n, a, payload, commit);
+    }
+    index::records::drop(rows, n, a)
+}
+
+// 1 if somebody holds a lock.
+fn locked(c: indexlet::Content) -> usize
+    ensures { λ r. ⌜ r ≡ pick (present (contentIn c .holder)) 1 0 ⌝ }
+{
+    if c.lock == 0 {
+        return 0;
+    }
+    1
+}
+
+// How many entries lie outside of the index, after a write entered it. A put brings its address into the index; a deletion
+// takes it out, and its entry stays for a lock alone. The number of records tells whether the index had the address.
+fn outside_now(out: usize, before: usize, after: usize, kind: u64, lock: usize) -> usize
+    requires { ⌜ OutsideFits out before after kind lock ⌝ }
+    ensures { λ r. ⌜ OutsideNow out before after kind lock r ⌝ }
+{
+    if kind == 1 {
+        return out + before - after;
+    }
+    out + lock + before - after - 1
+}
+
+// The walk at slot j: a write that is pending there, in the leaf at place i, whose addresses are r, enters the index; a lock
+// stays.
+fn take_slot(
+    rows: &mut Records,
+    slots: &mut Slots,
+    leaves: &Leaves,
+    w: Walk,
+    r: Reach,
+    m: usize,
+    i: usize,
+    j: usize,
+) -> Walk
+    requires { ⌜ Underway (placed (lowsOf (now leaves)) m i) (now rows) (now slots) w j ⌝ }
+    requires { ⌜ OneLeaf (lowsOf (now leaves)) m i r ⌝ }
+    requires { ⌜ j < slotCount ⌝ }
+    ensures { λ r. ⌜ WalksSlot (placed (lowsOf (now (leaves .entry))) m i) (now (rows .entry)) (now (slots .entry)) w j (now (rows .exit)) (now (slots .exit)) r ⌝ }
+{
+    let s = indexlet::slot_at(slots, j);
+    let key = s.key;
+    if !recount::reaches(r, key) {
+        return w;
+    }
+    let c = s.content;
+    let lock = locked(c);
+    let left = w.left + lock;
+    if c.kind == 0 {
+        return Walk {
+            records: w.records,
+            entries: w.entries,
+            count: w.count,
+            left,
+            outside: w.outside,
+        };
+    }
+    let a = key as Address;
+    let payload = c.payload;
+    let n = take_write(rows, w.records, a, c.kind, payload, c.commit);
+    let nothing = PayloadWords { value: 0, owner: 0 };
+    let rest = indexlet::Content {
+        kind: 0,
+        payload: nothing,
+        commit: 0,
+        since: 0,
+        lock: c.lock,
+        forput: c.forput,
+    };
+    let e = indexlet::enter(slots, w.entries, a, rest);
+    let outside = outside_now(w.outside, w.records, n, c.kind, lock);
+    Walk {
+        records: n,
+        entries: e,
+        count: w.count + 1,
+        left,
+        outside,
+    }
+}
+
+// All pending writes of the leaf at place i enter the index. The walk goes on behind the last of them, since any slot can
+// have a lock that stays.
+fn take_all(
+    rows: &mut Records,
+    slots: &mut Slots,
+    leaves: &Leaves,
+    n: usize,
+    e: usize,
+    out: usize,
+    m: usize,
+    i: usize,
+    r: Reach,
+) -> Walk
+    requires { ⌜ Starting (now rows) (now slots) n e out ⌝ }
+    requires { ⌜ OneLeaf (lowsOf (now leaves)) m i r ⌝ }
+    ensures { λ r. ⌜ Took (placed (lowsOf (now (leaves .entry))) m i) (now (rows .entry)) (now (slots .entry)) n (now (rows .exit)) (now (slots .exit)) r ⌝ }
+{
+    let mut w = Walk {
+        records: n,
+        entries: e,
+        count: 0,
+        left: 0,
+        outside: out,
+    };
+    let mut j = 0;
+    while j < SLOTS {
+        w = take_slot(rows, slots, leaves, w, r, m, i, j);
+        j += 1;
+    }
+    w
+}
+
+// The rows of the leaf at place i.
+fn leaf_rows(rows: &Records, leaves: &Leaves, n: usize, m: usize, i: usize) -> Span
+    requires { ⌜ index-views.RecordsSorted (now rows) n ⌝ }
+    requires { ⌜ Lows (lowsOf (now leaves)) m ⌝ }
+    requires { ⌜ i < m ⌝ }
+    ensures { λ r. ⌜ Spans (placed (lowsOf (now (leaves .entry))) m i) (now (rows .entry)) n (r .from) (r .to) ⌝ }
+{
+    leaves::leaf_places(leaves);
+    let own = leaves::leaf_at(leaves, i);
+    let low = own.low as Address;
+    let from = index::records::locate(rows, n, low);
+    if i + 1 < m {
+        let next = leaves::leaf_at(leaves, i + 1);
+        let high = next.low as Address;
+        let to = index::records::locate(rows, n, high);
+        return Span { from, to };
+    }
+    Span { from, to: n }
+}
+
+// The leaf at place i settles around the records that it has now; v is the last version given.
+fn resettle(leaves: &mut Leaves, rows: &Records, n: usize, m: usize, i: usize, v: u64) -> Settled
+    requires { ⌜ Resettling (lowsOf (now leaves)) (now rows) n m i v ⌝ }
+    ensures { λ r. ⌜ SettledRows (now (leaves .entry)) m i v (leafKeys (lowsOf (now (leaves .entry))) (now (rows .entry)) n m i) (now (leaves .exit)) (r .leaves) (r .version) ⌝ }
+{
+    let s = leaf_rows(rows, leaves, n, m, i);
+    settles::settle(leaves, rows, m, i, s.from, s.to, v)
+}
+
+// A merge at an address: all pending writes of the leaf that holds it enter the index. With none, nothing changes.
+pub fn merge(
+    rows: &mut Records,
+    leaves: &mut Leaves,
+    slots: &mut Slots,
+    z: Sizes,
+    k: Counters,
+    a: Address,
+) -> Merged
+    requires { ⌜ MapHeld (lent (now rows) (now leaves) (now slots)) z (k .version) ⌝ }
+    requires { ⌜ k .version + versionsPerMerge standard < 2 ^ 64 ⌝ }
+    ensures { λ r. ⌜ Merges (lent (now (rows .entry)) (now (leaves .entry)) (now (slots .entry))) z k a (lent (now (rows .exit)) (now (leaves .exit)) (now (slots .exit))) r ⌝ }
+{
+    let m = z.leaves;
+    let i = leaves::find_leaf(leaves, m, a);
+    let own = leaves::leaf_at(leaves, i);
+    if own.pending == 0 {
+        return Merged {
+            sizes: z,
+            counters: k,
+            count: 0,
+        };
+    }
+    let r = recount::addresses_of(leaves, m, i, i + 1);
+    let w = take_all(
+        rows,
+        slots,
+        leaves,
+        z.records,
+        z.entries,
+        z.outside,
+        m,
+        i,
+        r,
+    );
+    let s = resettle(leaves, rows, w.records, m, i, k.version);
+    leaves::leaf_places(leaves);
+    recount::recount(leaves, rows, slots, w.records, s.leaves, i, m, w.left);
+    let sizes = Sizes {
+        records: w.records,
+        leaves: s.leaves,
+        entries: w.entries,
+        outside: w.outside,
+    };
+    let taken = counters::take_versions(k, s.version - k.version);
+    let counters = taken.counters;
+    Merged {
+        sizes,
+        counters,
+        count: w.count,
+    }
+}

@@ -1,0 +1,71 @@
+// The pending write that has waited longest (request 101).
+use indexlet::SLOTS;
+use map::Slots;
+use spec::Address;
+ghost use mathlib.Core.Path.{_≡_};
+ghost use Prim.Native.Nat.{_^_, _<_};
+ghost use Rattle.spec.specs.Slots.{slotCount, entries};
+ghost use Rattle.spec.specs.Maps.{oldestKey, ages};
+ghost use Rattle.indexlet.specs.Words.{slotsOf};
+ghost use Rattle.indexlet.specs.Promises as indexlet;
+ghost use Rattle.merging.specs.OldestWalks.{elder, Elder};
+
+// The oldest pending write of the slots walked over so far, if there is one: its address, and the install since which it
+// waits.
+struct Oldest {
+    there: bool,
+    key: u64,
+    since: u64,
+}
+
+// A write that waits at the key since that install has waited longer, or is the first one.
+fn is_older(o: Oldest, key: u64, since: u64) -> bool
+    ensures { λ r. ⌜ r ≡ elder o key since ⌝ }
+{
+    if !o.there {
+        return true;
+    }
+    if since == o.since {
+        return key < o.key;
+    }
+    since < o.since
+}
+
+// The oldest, slot j included.
+fn with_slot(slots: &Slots, j: usize, o: Oldest) -> Oldest
+    requires { ⌜ indexlet.SlotsHeld (now slots) ⌝ }
+    requires { ⌜ (j < slotCount) × (o .key < 2 ^ 32) ⌝ }
+    ensures { λ r. ⌜ Elder (slotsOf (now (slots .entry))) j o r ⌝ }
+{
+    let s = indexlet::slot_at(slots, j);
+    let c = s.content;
+    if c.kind == 0 {
+        return o;
+    }
+    if is_older(o, s.key, c.since) {
+        return Oldest {
+            there: true,
+            key: s.key,
+            since: c.since,
+        };
+    }
+    o
+}
+
+// The address of the pending write that has waited longest; 0 where nothing is pending.
+pub fn oldest_waiting(slots: &Slots) -> Address
+    requires { ⌜ indexlet.SlotsHeld (now slots) ⌝ }
+    ensures { λ r. ⌜ r ≡ oldestKey (ages (entries (slotsOf (now (slots .entry))))) ⌝ }
+{
+    let mut o = Oldest {
+        there: false,
+        key: 0,
+        since: 0,
+    };
+    let mut j = 0;
+    while j < SLOTS {
+        o = with_slot(slots, j, o);
+        j += 1;
+    }
+    o.key as Address
+}

@@ -60,7 +60,7 @@ struct sections {
 
 /* ---- Answers. */
 
-/* Document 01's table, and what request 102 adds. 12, 13 and 14 end the job; the others change nothing. Of several causes the
+/* Document 01's table, and what requests 102 and 107 add. 12, 13 and 14 end the job; the others change nothing. Of several causes the
  * lowest number is answered, but by lock the first of 1, 2, 4, 16, 17, 18, 9, 10, 11. */
 enum sections_refusal {
     SECTIONS_GRANTED = 0,
@@ -83,6 +83,8 @@ enum sections_refusal {
     SECTIONS_UNFIT = 16,     /* its length is outside 1 to SECTIONS_LONGEST, or its end is past the highest address */
     SECTIONS_UNCOVERED = 17, /* no scan of the job covers from 65,535 addresses before the section, or 0, to its last byte */
     SECTIONS_OVERLAP = 18,   /* another section shares a byte, as the latest such scan found it, with the job's edits laid over */
+    SECTIONS_EXPORT_OPEN = 19, /* of opening an export: one is open */
+    SECTIONS_NO_EXPORT = 20,   /* of a portion, a file or the close of an export: none is open */
     /* Of a coded step alone: there is no such kind, a seat or an address is above 32 bits, an owner above 16, or a scan has more
      * places of a buffer than lent. */
     SECTIONS_MEANINGLESS = 99
@@ -111,6 +113,8 @@ static inline const char *sections_word(enum sections_refusal refusal)
     case SECTIONS_UNFIT: return "unfit";
     case SECTIONS_UNCOVERED: return "uncovered";
     case SECTIONS_OVERLAP: return "overlap";
+    case SECTIONS_EXPORT_OPEN: return "export open";
+    case SECTIONS_NO_EXPORT: return "no export";
     case SECTIONS_MEANINGLESS: return "no meaning";
     }
     return "unknown";

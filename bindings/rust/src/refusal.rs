@@ -1,4 +1,4 @@
-//! Document 01's table of refusals, and those that request 102 adds to it.
+//! Document 01's table of refusals, and those that requests 102 and 107 add to it.
 
 use std::error::Error;
 use std::fmt;
@@ -8,7 +8,7 @@ macro_rules! refusals {
     ($($number:literal $name:ident $word:literal $cause:literal)*) => {
         /// Why a step was refused: the lowest-numbered cause that held, but for
         /// [`lock`](crate::Sections::lock), which has an order of its own. 16 to 18
-        /// are those of [guarded](crate::Sections::guarded) maps.
+        /// are those of [guarded](crate::Sections::guarded) maps, 19 and 20 those of exports.
         ///
         /// ```
         /// use sections::{Refusal, Sections};
@@ -26,7 +26,7 @@ macro_rules! refusals {
             /// All of them, by number.
             pub const ALL: &'static [Refusal] = &[$(Refusal::$name),*];
 
-            /// Document 01's word for it, or this crate's for those of request 102.
+            /// Document 01's word for it, or this crate's for those of the requests.
             pub fn word(self) -> &'static str {
                 match self { $(Refusal::$name => $word),* }
             }
@@ -53,10 +53,12 @@ refusals! {
     16 Unfit "unfit" "Lock: a length outside 1 to 65,536, or an end past the highest address."
     17 Uncovered "uncovered" "Lock: no scan from 65,535 addresses before a put to its last byte."
     18 Overlap "overlap" "Lock: another section shares a byte with a put."
+    19 ExportOpen "export open" "Opening an export: one is open."
+    20 NoExport "no export" "A portion, a file or the close of an export: none is open."
 }
 
 impl Refusal {
-    /// Document 01's number, or request 102's.
+    /// Document 01's number, or a request's.
     pub fn number(self) -> u64 {
         self as u64
     }

@@ -11,7 +11,7 @@ use Rattle.accesses.specs.declared.scans.ScanAnswer.the-variants.{Count,
 use Rattle.ranges.specs.declared.plans.Task.{Task}
 use Rattle.transactions.specs.Admits.{Turned, Entered}
 use Rattle.ranges.specs.Buffers.{Buffers, placesOf, rowsIn}
-use Rattle.ranges.specs.ShowLaws.{beyond-refl}
+use Rattle.ranges.specs.BufferLaws.{beyond-refl}
 use Rattle.sets.specs.Reads.{ReadRows}
 use Rattle.sets.specs.Leaves.{LeafSetRows}
 use Rattle.accesses.specs.ScanCauses.{DeclinedIn, PassedIn, scan-turned, scan-declined}

@@ -13,7 +13,7 @@ use Rattle.lists.specs.Texts.{Wrote}
 use Rattle.lists.specs.TextLaws.{wrote-join, wrote-length, wrote-byte}
 use Rattle.spec.specs.Records.{Payload}
 use Rattle.ranges.specs.Buffers.{Buffers, rowIn, rowsIn}
-use Rattle.ranges.specs.ShowLaws.{length-rows}
+use Rattle.ranges.specs.BufferLaws.{length-rows}
 use Rattle.engine.specs.declared.steps.Reply.{Reply}
 use Rattle.engine.specs.declared.steps.Reply.the-variants as reply
 use Rattle.engine.specs.Performs.{replyIn}

@@ -12,6 +12,8 @@ use Rattle.lists.specs.TextLaws.{wrote-join}
 use Rattle.spec.specs.Records.{standard, Record}
 use Rattle.spec.specs.Maps.{contents}
 use Rattle.map.specs.Views.{Lent}
+use Rattle.queries.specs.Contents.{allRecords}
+use Rattle.queries.specs.ContentsLaws.{contents-count}
 use Rattle.transactions.specs.Views.{Logs, stateOf}
 use Rattle.transactions.specs.Ready.{Ready}
 use Rattle.transactions.specs.declared.Core.{Core}
@@ -22,7 +24,7 @@ use Rattle.console.specs.Program.{writtenFrom, startsGuarded}
 use Rattle.console.specs.ProgramLaws.{starts-clear}
 use Rattle.console.specs.Sessions.{Started, dueFor, due}
 use Rattle.console.specs.DueLaws.{due-unguarded}
-use Rattle.console.specs.Closings.{allRecords, triplesFor, TriplesPut, contents-count}
+use Rattle.console.specs.Closings.{triplesFor, TriplesPut}
 use Rattle.console.specs.Finishes.{Finishes}
 
 -- ---- laws

@@ -17,7 +17,7 @@ use Rattle.script.specs.declared.Line.{Line}
 use Rattle.script.specs.Output.{field, absent, triple, triples, triplesOf, stepOf, answerText}
 use Rattle.script.specs.OutputLaws.{triple-most}
 use Rattle.ranges.specs.Buffers.{Buffers, buffers, rowIn, rowsIn}
-use Rattle.ranges.specs.ShowLaws.{length-rows}
+use Rattle.ranges.specs.BufferLaws.{length-rows}
 use Rattle.script.specs.declared.Line.the-variants as line
 use Rattle.engine.specs.declared.steps.Access.the-variants as access
 use Rattle.engine.specs.declared.steps.Ending.the-variants as ending

@@ -11,7 +11,7 @@ use Rattle.lists.specs.Tests.{pick, same, less, atMost, within}
 use Rattle.lists.specs.TestLaws.{atMost-yes, less-true, less-false, cases}
 use Rattle.lists.specs.Rows.{Row, row}
 use Rattle.spec.specs.declared.Refusal.{Refusal}
-use Rattle.spec.specs.declared.Refusal.the-variants.{NoWorker, WorkerFree, WorkerTaken, WrongStage, Backward, LogFull, WritesFull, ShortBuffer, Held, IndexletFull, MapFull, Changed, UnderLock, Phantom, Spent, Unfit, Uncovered, Overlap}
+use Rattle.spec.specs.declared.Refusal.the-variants.{NoWorker, WorkerFree, WorkerTaken, WrongStage, Backward, LogFull, WritesFull, ShortBuffer, Held, IndexletFull, MapFull, Changed, UnderLock, Phantom, Spent, Unfit, Uncovered, Overlap, ExportOpen, NoExport}
 use Rattle.spec.specs.Refusals.{numberOf}
 use Rattle.spec.specs.Records.{Payload, Record}
 use Rattle.spec.specs.Steps.{Step, begin, read, scan, put, remove, lock, validate, install, abort, merge, mergeOldest, Answer, refused, done, found, listed, numbered, counted, Event}
@@ -91,7 +91,7 @@ refusalOf n =
     pick (same n 1) NoWorker (pick (same n 2) WorkerFree (pick (same n 3) WorkerTaken (pick (same n 4) WrongStage (pick (same n 5) Backward
     (pick (same n 6) LogFull (pick (same n 7) WritesFull (pick (same n 8) ShortBuffer (pick (same n 9) Held (pick (same n 10) IndexletFull
     (pick (same n 11) MapFull (pick (same n 12) Changed (pick (same n 13) UnderLock (pick (same n 14) Phantom (pick (same n 15) Spent
-    (pick (same n 16) Unfit (pick (same n 17) Uncovered Overlap))))))))))))))))
+    (pick (same n 16) Unfit (pick (same n 17) Uncovered (pick (same n 18) Overlap (pick (same n 19) ExportOpen NoExport))))))))))))))))))
 
 refusal-back : (r : Refusal) → refusalOf (numberOf r) ≡ r
 unfolding same
@@ -113,6 +113,8 @@ refusal-back Spent = refl
 refusal-back Unfit = refl
 refusal-back Uncovered = refl
 refusal-back Overlap = refl
+refusal-back ExportOpen = refl
+refusal-back NoExport = refl
 
 -- ---- answers
 
@@ -172,6 +174,8 @@ kind-told (not-granted s r) = go r
     go Unfit = refl
     go Uncovered = refl
     go Overlap = refl
+    go ExportOpen = refl
+    go NoExport = refl
 kind-told (begun w) = refl
 kind-told (value w k o x) = refl
 kind-told (records w lo hi b rs) = refl

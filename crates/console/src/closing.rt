@@ -16,10 +16,11 @@ ghost use Rattle.lists.specs.Texts.{Wrote};
 ghost use Rattle.spec.specs.Records.{standard};
 ghost use Rattle.map.specs.Parts.{RecordsHeld, SlotsHeld};
 ghost use Rattle.map.specs.Views.{lent};
+ghost use Rattle.queries.specs.Contents.{allRecords};
 ghost use Rattle.transactions.specs.Views.{logs};
 ghost use Rattle.transactions.specs.Ready.{Ready};
 ghost use Rattle.script.specs.Output.{endLine};
-ghost use Rattle.console.specs.Closings.{allRecords, TriplesPut};
+ghost use Rattle.console.specs.Closings.{TriplesPut};
 ghost use Rattle.console.specs.Sessions.{Started};
 ghost use Rattle.console.specs.Finishes.{longestEnd, Finishes};
 

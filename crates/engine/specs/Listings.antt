@@ -11,7 +11,7 @@ use Rattle.spec.specs.Steps as model
 use Rattle.spec.specs.Steps.{Places, shortest, State, Step, Answer, refused, done, found, listed, numbered, counted, answer, granted, refusal, causes, scanned}
 use Rattle.laws.specs.WorkerLaws.{cause-passed}
 use Rattle.ranges.specs.Buffers.{Buffers}
-use Rattle.ranges.specs.ShowLaws.{length-rows}
+use Rattle.ranges.specs.BufferLaws.{length-rows}
 use Rattle.engine.specs.declared.steps.Access.the-variants as access
 use Rattle.engine.specs.declared.steps.Ending.the-variants as ending
 use Rattle.engine.specs.declared.steps.Op.{Op}

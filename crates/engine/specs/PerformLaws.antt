@@ -30,7 +30,7 @@ use Rattle.engine.specs.declared.steps.Performed.{Performed}
 use Rattle.transactions.specs.Begins.{plainIn}
 use Rattle.accesses.specs.Answers.{readAnswer}
 use Rattle.ranges.specs.Buffers.{Buffers, placesOf, Beyond}
-use Rattle.ranges.specs.ShowLaws.{beyond-refl}
+use Rattle.ranges.specs.BufferLaws.{beyond-refl}
 use Rattle.accesses.specs.Scans.{scanIn, places, Scans}
 use Rattle.commits.specs.Answers.{validateIn}
 use Rattle.transactions.specs.Views.{Logs}

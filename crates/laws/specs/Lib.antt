@@ -25,3 +25,5 @@ pub mod WorkerLaws
 pub mod CurrentLaws
 pub mod OldestLaws
 pub mod WaitingLaws
+pub mod FileLaws
+pub mod ExportLaws

@@ -8,7 +8,7 @@ use Rattle.lists.specs.Tests.{pick, maybe, less, atMost, within}
 use Rattle.lists.specs.TestLaws.{clash, less-true}
 use Rattle.lists.specs.Rows.{any}
 use Rattle.spec.specs.declared.Refusal.{Refusal}
-use Rattle.spec.specs.declared.Refusal.the-variants.{NoWorker, WorkerFree, WorkerTaken, WrongStage, Backward, LogFull, WritesFull, ShortBuffer, Held, IndexletFull, MapFull, Changed, UnderLock, Phantom, Spent, Unfit, Uncovered, Overlap}
+use Rattle.spec.specs.declared.Refusal.the-variants.{NoWorker, WorkerFree, WorkerTaken, WrongStage, Backward, LogFull, WritesFull, ShortBuffer, Held, IndexletFull, MapFull, Changed, UnderLock, Phantom, Spent, Unfit, Uncovered, Overlap, ExportOpen, NoExport}
 use Rattle.spec.specs.Refusals.{numberOf, ends}
 use Rattle.spec.specs.Steps.{State, workerOf, Step, begin, read, scan, put, remove, lock, validate, install, abort, merge, mergeOldest, stepWorker, isLocked, Cause, noWorker, workerFree, wrongStage, causes, refusal, effect, afterRefusal, dropped, next}
 use Rattle.laws.specs.WorkerLaws.{not-false, ended-later, mild-cause}
@@ -35,6 +35,8 @@ ends-numbers Spent = refl
 ends-numbers Unfit = refl
 ends-numbers Uncovered = refl
 ends-numbers Overlap = refl
+ends-numbers ExportOpen = refl
+ends-numbers NoExport = refl
 
 -- The step is a validation of worker w, which is locked.
 pub record Validation (σ : State) (s : Step) : Type 0 where

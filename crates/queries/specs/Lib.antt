@@ -6,4 +6,5 @@ pub mod PhantomViews
 pub mod PhantomLaws
 pub mod Contents
 pub mod NextViews
+pub mod ContentsLaws
 pub mod NextLaws

@@ -9,7 +9,7 @@ use mathlib.Core.List.{List, [], _∷_}
 use mathlib.Core.Option.{none, some}
 use lib.ListN.{length, getD}
 use Rattle.lists.specs.Tests.{pick, maybe, same, less}
-use Rattle.lists.specs.TestLaws.{cases, clash, same-true, same-false, less-true, less-false, less-yes, less-no}
+use Rattle.lists.specs.TestLaws.{cases, clash, same-true, same-false, less-true, less-false}
 use Rattle.lists.specs.Rows.{Row, row, look, From, Rising}
 use Rattle.lists.specs.RowLaws.{look-here, look-there, look-low, look-nil}
 use Rattle.lists.specs.Options.{both-options, some-same}
@@ -38,20 +38,13 @@ use Rattle.sets.specs.Reads.{recordIn}
 use Rattle.queries.specs.QueryViews.{mapWith, Sees}
 use Rattle.queries.specs.NextViews.{end, rowsFrom, nextIn, Follows, Numbers, IndexFrom, SlotFrom, Nearer, Walked, Passed, Counted}
 use Rattle.queries.specs.Contents.{firstFrom}
+use Rattle.queries.specs.ContentsLaws.{below, here, all-from, next-row, no-row}
 use Rattle.map.specs.Views.{SlotRows, RecordRows}
 use Rattle.map.specs.Parts.{RecordsHeld}
 
 -- ---- rows from a key on
 
 module _ {A : Type 0} where
-  first-on : (k : ℕ) (r : Row A) (rs : List (Row A)) → r .key < k → firstFrom k (r ∷ rs) ≡ firstFrom k rs
-  unfolding firstFrom
-  first-on k r rs h = rw (less-yes {m = r .key} {n = k} h)
-
-  first-here : (k : ℕ) (r : Row A) (rs : List (Row A)) → k ≤ r .key → firstFrom k (r ∷ rs) ≡ some r
-  unfolding firstFrom
-  first-here k r rs h = rw (less-no {m = r .key} {n = k} h)
-
   -- no row from k on
   pub first-none : (k lo : ℕ) (rs : List (Row A)) → From lo rs → ((j : ℕ) → k ≤ j → look rs j ≡ none) → firstFrom k rs ≡ none
   unfolding From
@@ -59,7 +52,7 @@ module _ {A : Type 0} where
   first-none k lo (r ∷ rs) f h =
       ⊎-elim
       (λ e. let l : r .key < k = less-true (r .key) k e in
-      first-on k r rs l ∙ first-none k (suc (r .key)) rs (f .1) (λ j g. sym (look-there r rs j (λ q. omega arith)) ∙ h j g))
+      below k r rs l .0 ∙ first-none k (suc (r .key)) rs (f .1) (λ j g. sym (look-there r rs j (λ q. omega arith)) ∙ h j g))
       (λ e. both-options (look-here r rs (r .key) refl) (h (r .key) (less-false (r .key) k e)))
       (cases (less (r .key) k))
 
@@ -71,10 +64,10 @@ module _ {A : Type 0} where
   first-some k lo (r ∷ rs) j x f g e h =
       ⊎-elim
       (λ t. let l : r .key < k = less-true (r .key) k t in
-      first-on k r rs l
+      below k r rs l .0
       ∙ first-some k (suc (r .key)) rs j x (f .1) g (sym (look-there r rs j (λ q. omega arith)) ∙ e)
       (λ i a b. sym (look-there r rs i (λ q. omega arith)) ∙ h i a b))
-      (λ t. first-here k r rs (less-false (r .key) k t) ∙ ap some (own (less-false (r .key) k t)))
+      (λ t. here k r rs (less-false (r .key) k t) .0 ∙ ap some (own (less-false (r .key) k t)))
       (cases (less (r .key) k))
     where
       own : k ≤ r .key → r ≡ row j x
@@ -90,61 +83,6 @@ module _ {A : Type 0} where
           (look-low rs {lo = suc (r .key)} j (let v : j ≤ r .key = less-false (r .key) j u in omega arith) (f .1)))
           (cases (less (r .key) j)))
           (cases (same (r .key) j))
-
-  from-on : (k : ℕ) (r : Row A) (rs : List (Row A)) → r .key < k → rowsFrom k (r ∷ rs) ≡ rowsFrom k rs
-  unfolding rowsFrom
-  from-on k r rs h = rw (less-yes {m = r .key} {n = k} h)
-
-  from-here : (k : ℕ) (r : Row A) (rs : List (Row A)) → k ≤ r .key → rowsFrom k (r ∷ rs) ≡ r ∷ rs
-  unfolding rowsFrom
-  from-here k r rs h = rw (less-no {m = r .key} {n = k} h)
-
-  from-low : (k lo : ℕ) (rs : List (Row A)) → From lo rs → k ≤ lo → rowsFrom k rs ≡ rs
-  unfolding From
-  from-low k lo [] f h = unfold rowsFrom in refl
-  from-low k lo (r ∷ rs) f h = from-here k r rs (le-trans h (f .0))
-
-  from-all : (rs : List (Row A)) → Rising rs → rowsFrom 0 rs ≡ rs
-  unfolding Rising
-  from-all rs f = from-low 0 0 rs f zero-le
-
-  -- the first of the rows, and the rows after it
-  from-next : (k lo : ℕ) (rs : List (Row A)) (r : Row A) → From lo rs → firstFrom k rs ≡ some r
-      → (length (rowsFrom k rs) ≡ suc (length (rowsFrom (suc (r .key)) rs))) × (k ≤ r .key)
-  unfolding From
-  from-next k lo [] r f e = both-options e (unfold firstFrom in refl)
-  from-next k lo (s ∷ rs) r f e =
-      ⊎-elim
-      (λ t. later (less-true (s .key) k t) (from-next k (suc (s .key)) rs r (f .1) (sym (first-on k s rs (less-true (s .key) k t)) ∙ e)))
-      (λ t. now (less-false (s .key) k t) (some-same (sym (first-here k s rs (less-false (s .key) k t)) ∙ e)))
-      (cases (less (s .key) k))
-    where
-      later : s .key < k → (length (rowsFrom k rs) ≡ suc (length (rowsFrom (suc (r .key)) rs))) × (k ≤ r .key)
-          → (length (rowsFrom k (s ∷ rs)) ≡ suc (length (rowsFrom (suc (r .key)) (s ∷ rs)))) × (k ≤ r .key)
-      later h p = (
-        ap (λ (zs : List (Row A)). length zs) (from-on k s rs h) ∙ p .0
-            ∙ sym (ap (λ (zs : List (Row A)). suc (length zs)) (from-on (suc (r .key)) s rs (let q : k ≤ r .key = p .1 in omega arith))),
-        p .1,
-      )
-
-      now : k ≤ s .key → s ≡ r → (length (rowsFrom k (s ∷ rs)) ≡ suc (length (rowsFrom (suc (r .key)) (s ∷ rs)))) × (k ≤ r .key)
-      now h q =
-          let d : s .key ≡ r .key = ap (λ (x : Row A). x .key) q in (
-            ap (λ (zs : List (Row A)). length zs) (from-here k s rs h)
-                ∙ sym
-                (ap (λ (zs : List (Row A)). suc (length zs))
-                (from-on (suc (r .key)) s rs (omega arith) ∙ from-low (suc (r .key)) (suc (s .key)) rs (f .1) (omega arith))),
-            omega arith,
-          )
-
-  from-none : (k : ℕ) (rs : List (Row A)) → firstFrom k rs ≡ none → length (rowsFrom k rs) ≡ 0
-  from-none k [] e = unfold rowsFrom in refl
-  from-none k (r ∷ rs) e =
-      ⊎-elim
-      (λ t. ap (λ (zs : List (Row A)). length zs) (from-on k r rs (less-true (r .key) k t))
-      ∙ from-none k rs (sym (first-on k r rs (less-true (r .key) k t)) ∙ e))
-      (λ t. both-options (first-here k r rs (less-false (r .key) k t)) e)
-      (cases (less (r .key) k))
 
   -- the key at a place, and the keys before it
   place-key : (k : ℕ) (rs : List (Row A)) (d : Row A) → place k rs < length rs → k ≤ getD rs (place k rs) d .key
@@ -364,14 +302,15 @@ module _ (rows : RecordRows) (n : ℕ) (slots : SlotRows) where
           small = le-refl 0;
           rest = λ ls.
               (let z : 0 + length (rowsFrom 0 (contents (mapWith rows n slots ls))) ≡ length (rowsFrom 0 (contents (mapWith rows n slots ls))) = omega arith in z)
-              ∙ ap (λ (rs : List (Row Record)). length rs) (from-all (contents (mapWith rows n slots ls)) (rising-contents (mapWith rows n slots ls) (whole .held .rising)));
+              ∙ ap (λ (rs : List (Row Record)). length rs) (all-from 0 0 (contents (mapWith rows n slots ls)) (rising-all ls) (le-refl 0));
         }
 
     -- the next record, and how many there are after it
     step : (k : ℕ) (r : Next) (a : ℕ) (v : PayloadWords) (u : ℕ) → Follows rows n slots k r → r ≡ At a v u → (ls : List Leaf)
         → (length (rowsFrom k (contents (mapWith rows n slots ls))) ≡ suc (length (rowsFrom (suc a) (contents (mapWith rows n slots ls))))) × (k ≤ a)
     step k r a v u f e ls =
-        from-next k 0 (contents (mapWith rows n slots ls)) (row a (recordFrom v u)) (rising-all ls) (sym (f .next-is ls) ∙ ap nextIn e)
+        let p = next-row k 0 (contents (mapWith rows n slots ls)) (row a (recordFrom v u)) (rising-all ls) (sym (f .next-is ls) ∙ ap nextIn e) in
+        (ap (λ (rs : List (Row Record)). length rs) (p .0), p .1)
 
     pub next-above : (k : ℕ) (r : Next) (a : ℕ) (v : PayloadWords) (u : ℕ) → Follows rows n slots k r → r ≡ At a v u → k ≤ a
     next-above k r a v u f e = step k r a v u f e [] .1
@@ -393,7 +332,7 @@ module _ (rows : RecordRows) (n : ℕ) (slots : SlotRows) where
         record {
           number-is = λ ls.
               let x : count + length (rowsFrom k (contents (mapWith rows n slots ls))) ≡ length (contents (mapWith rows n slots ls)) = c .rest ls in
-              let y : length (rowsFrom k (contents (mapWith rows n slots ls))) ≡ 0 = from-none k (contents (mapWith rows n slots ls)) (f ls) in
+              let y : length (rowsFrom k (contents (mapWith rows n slots ls))) ≡ 0 = ap (λ (rs : List (Row Record)). length rs) (no-row k (contents (mapWith rows n slots ls)) (f ls)) in
               omega arith;
         }
 

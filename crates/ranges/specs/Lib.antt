@@ -1,6 +1,7 @@
 pub mod Overlays
 pub mod Parts
 pub mod Buffers
+pub mod BufferLaws
 pub mod Walks
 pub mod WalkLaws
 pub mod ShowLaws

@@ -1,25 +1,23 @@
 -- The laws of a scan's two loops over its walk: how many are shown, and what is written to the buffers.
 use Prim.Native.Nat.{ℕ, suc, _+_, _%_, _<_, _≤_, zero-le}
-use native.Mathlib.Nat.{le-refl, le-trans}
-use native.Mathlib.Numerals.{add-one}
+use native.Mathlib.Nat.{le-refl}
 use native.Mathlib.Omega.{arith}
 use mathlib.Core.Path.{_≡_, refl, sym, ap, _∙_}
 use mathlib.Core.Logic.{⊎-elim}
 use mathlib.Core.Bool.{Bool, true, false}
 use mathlib.Core.List.{List, [], _∷_, _++_, append-assoc, append-nil}
-use lib.ListN.{length, getD, set, length-set, length-append}
-use lib.Seq.{getD-set-same, getD-set-other}
+use lib.ListN.{length, set, length-append}
 use Rattle.lists.specs.Tests.{pick}
 use Rattle.lists.specs.TestLaws.{cases}
 use Rattle.lists.specs.Rows.{Row, row}
 use Rattle.lists.specs.Tabulation.{tab, tabFrom}
-use Rattle.lists.specs.Shifts.{tab-same, tab-snoc, length-tab}
 use Rattle.spec.specs.Payloads.{owners, payloadIn}
 use Rattle.spec.specs.Records.{Payload}
 use Rattle.ranges.specs.declared.walks.Turn.{Turn}
 use Rattle.ranges.specs.Overlays.{shown}
 use Rattle.ranges.specs.Walks.{Ground, rest, Walks, Inside, turnIn, ComesNext, Fits, Shows, Room, Fills, Counting, Filling}
-use Rattle.ranges.specs.Buffers.{Buffers, buffers, rowIn, rowsIn, Unmoved, Beyond}
+use Rattle.ranges.specs.Buffers.{Buffers, buffers, rowsIn}
+use Rattle.ranges.specs.BufferLaws.{length-rows, beyond-refl, beyond-on, rows-put, beyond-put}
 use Rattle.ranges.specs.WalkLaws.{rest-end}
 
 -- ---- one turn
@@ -87,79 +85,18 @@ module _ (g : Ground) (h : Walks g) (from start : ℕ) where
 
 -- ---- buffers
 
-unmoved-refl : (n : ℕ) (ks : List ℕ) → Unmoved n ks ks
-unmoved-refl n ks = record { size = refl; same = λ p l. refl }
-
-pub beyond-refl : (n : ℕ) (b : Buffers) → Beyond n b b
-beyond-refl n b =
-    record { addresses = unmoved-refl n (b .addresses); values = unmoved-refl n (b .values); owners = unmoved-refl n (b .owners) }
-
-unmoved-on : {n m : ℕ} {ks ls us : List ℕ} → n ≤ m → Unmoved n ks ls → Unmoved m ls us → Unmoved m ks us
-unmoved-on l a b = record { size = b .size ∙ a .size; same = λ p k. b .same p k ∙ a .same p (le-trans l k) }
-
-beyond-on : {n m : ℕ} {b c d : Buffers} → n ≤ m → Beyond n b c → Beyond m c d → Beyond m b d
-beyond-on l x y =
-    record {
-      addresses = unmoved-on l (x .addresses) (y .addresses);
-      values = unmoved-on l (x .values) (y .values);
-      owners = unmoved-on l (x .owners) (y .owners);
-    }
-
-unmoved-set : (ks : List ℕ) (at x : ℕ) → Unmoved (at + 1) ks (set ks at x)
-unmoved-set ks at x =
-    record { size = length-set ks at x; same = λ p l. getD-set-other ks at p x 0 (λ e. let z : ⊥ = omega arith in z) }
-
 module _ (b : Buffers) (at : ℕ) (x : Turn) where
   pub show-there : at < length (b .addresses) → at < length (b .values) → at < length (b .owners) → x .there ≡ true
       → Shows b at x
       (buffers (set (b .addresses) at (x .address)) (set (b .values) at (x .payload .value)) (set (b .owners) at (x .payload .owner % owners)))
       (at + 1)
   show-there l k m e =
+      let r : Row Payload = row (x .address) (payloadIn (x .payload)) in
       record {
         forth = omega arith;
-        rows-are = rows-are;
-        beyond =
-            record {
-              addresses = unmoved-set (b .addresses) at (x .address);
-              values = unmoved-set (b .values) at (x .payload .value);
-              owners = unmoved-set (b .owners) at (x .payload .owner % owners);
-            };
+        rows-are = rows-put b at r l k m ∙ ap (λ (zs : List (Row Payload)). rowsIn at b ++ zs) (sym (turn-some x [] e));
+        beyond = beyond-put b at r;
       }
-    where
-      c : Buffers
-      c = buffers (set (b .addresses) at (x .address)) (set (b .values) at (x .payload .value)) (set (b .owners) at (x .payload .owner % owners))
-
-      apart : (i : ℕ) → i < at → i ≡ at → ⊥
-      apart i b q = let z : ⊥ = omega arith in z
-
-      made : {a a' v v' o o' : ℕ} → a ≡ a' → v ≡ v' → o ≡ o'
-          → row {A = Payload} a (record { value = v; owner = o }) ≡ row {A = Payload} a' (record { value = v'; owner = o' })
-      made p q r = λ i. row {A = Payload} (p i) (record { value = q i; owner = r i })
-
-      earlier : tab (rowIn c) at ≡ rowsIn at b
-      earlier = unfold rowsIn in
-          tab-same (rowIn c) (rowIn b) at
-          (λ i l. made
-          (getD-set-other (b .addresses) at i (x .address) 0 (apart i l))
-          (getD-set-other (b .values) at i (x .payload .value) 0 (apart i l))
-          (getD-set-other (b .owners) at i (x .payload .owner % owners) 0 (apart i l)))
-
-      last : rowIn c at ≡ row (x .address) (payloadIn (x .payload))
-      last =
-          made (getD-set-same (b .addresses) at (x .address) 0 l) (getD-set-same (b .values) at (x .payload .value) 0 k)
-          (getD-set-same (b .owners) at (x .payload .owner % owners) 0 m)
-
-      whole : rowsIn (at + 1) c ≡ tab (rowIn c) (at + 1)
-      whole = unfold rowsIn in refl
-
-      rows-are : rowsIn (at + 1) c ≡ rowsIn at b ++ shown (turnIn x) []
-      rows-are =
-          whole
-          ∙ ap (tab (rowIn c)) (add-one at)
-          ∙ tab-snoc (rowIn c) at
-          ∙ ap (λ (zs : List (Row Payload)). zs ++ (rowIn c at ∷ [])) earlier
-          ∙ ap (λ (r : Row Payload). rowsIn at b ++ (r ∷ [])) last
-          ∙ ap (λ (zs : List (Row Payload)). rowsIn at b ++ zs) (sym (turn-some x [] e))
 
   pub show-none : x .there ≡ false → Shows b at x b at
   show-none e =
@@ -170,10 +107,6 @@ module _ (b : Buffers) (at : ℕ) (x : Turn) where
       }
 
 -- ---- filling
-
-pub length-rows : (n : ℕ) (b : Buffers) → length (rowsIn n b) ≡ n
-unfolding rowsIn
-length-rows n b = length-tab (rowIn b) n
 
 module _ (g : Ground) (h : Walks g) (from start : ℕ) (b : Buffers) where
   pub filling-start : Inside (g .bounds) from start → Filling g from start b b from start 0

@@ -13,4 +13,5 @@ pub mod Locking
 pub mod Finishing
 pub mod Theorem
 pub mod NoOverlaps
+pub mod ExportRuns
 pub mod Edited

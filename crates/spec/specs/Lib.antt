@@ -10,6 +10,8 @@ pub mod Waiting
 pub mod Examined
 pub mod Sequential
 pub mod Claim
+pub mod Files
+pub mod Exports
 pub mod Runs
 pub mod Computing
 pub mod Crowded

@@ -2,7 +2,7 @@
 use Prim.Native.Nat.{ℕ}
 use mathlib.Core.Bool.{Bool, true, false}
 use Rattle.spec.specs.declared.Refusal.{Refusal}
-use Rattle.spec.specs.declared.Refusal.the-variants.{NoWorker, WorkerFree, WorkerTaken, WrongStage, Backward, LogFull, WritesFull, ShortBuffer, Held, IndexletFull, MapFull, Changed, UnderLock, Phantom, Spent, Unfit, Uncovered, Overlap}
+use Rattle.spec.specs.declared.Refusal.the-variants.{NoWorker, WorkerFree, WorkerTaken, WrongStage, Backward, LogFull, WritesFull, ShortBuffer, Held, IndexletFull, MapFull, Changed, UnderLock, Phantom, Spent, Unfit, Uncovered, Overlap, ExportOpen, NoExport}
 
 abbrev pub numberOf : Refusal → ℕ
 numberOf NoWorker = 1
@@ -23,6 +23,8 @@ numberOf Spent = 15
 numberOf Unfit = 16
 numberOf Uncovered = 17
 numberOf Overlap = 18
+numberOf ExportOpen = 19
+numberOf NoExport = 20
 
 -- 12, 13 and 14 end the transaction
 abbrev pub ends : Refusal → Bool
@@ -44,3 +46,5 @@ ends Spent = false
 ends Unfit = false
 ends Uncovered = false
 ends Overlap = false
+ends ExportOpen = false
+ends NoExport = false

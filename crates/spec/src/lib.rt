@@ -54,7 +54,8 @@ pub struct Current {
 }
 
 // A refusal, one variant for each row of document 01's table; then those that request 102 adds to lock in a guarded map: a
-// length or an end that does not fit, no scan that covers the section, an overlap.
+// length or an end that does not fit, no scan that covers the section, an overlap; then those of request 107: an export is
+// open already, none is open.
 pub enum Refusal {
     NoWorker,
     WorkerFree,
@@ -74,6 +75,8 @@ pub enum Refusal {
     Unfit,
     Uncovered,
     Overlap,
+    ExportOpen,
+    NoExport,
 }
 
 // The stage of a worker's transaction (document 01: a job's stage).
@@ -107,5 +110,7 @@ pub fn number_of(r: Refusal) -> u64
         Refusal::Unfit => 16,
         Refusal::Uncovered => 17,
         Refusal::Overlap => 18,
+        Refusal::ExportOpen => 19,
+        Refusal::NoExport => 20,
     }
 }

@@ -300,7 +300,7 @@ fn refusals_are_the_same() {
     let given: Vec<usize> = refusals.iter().map(|&(_, number)| number).collect();
     assert_eq!(numbers(&text), given);
     // The second model has no more of them.
-    assert_eq!(given.last(), Some(&(plain::engine::Refusal::Overlap as usize)));
+    assert_eq!(given.last(), Some(&(plain::engine::Refusal::NoExport as usize)));
 }
 
 #[test]

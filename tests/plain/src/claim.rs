@@ -8,10 +8,20 @@ use crate::step::{run, Answer, Buffers, Shown, Step};
 use std::collections::HashMap;
 
 /// A step with its answer, and what a granted scan left in the buffers.
+#[derive(PartialEq, Eq, Debug)]
 pub struct Event {
     pub step: Step,
     pub answer: Answer,
     pub found: Vec<Shown>,
+}
+
+impl Event {
+    /// Runs the step.
+    pub fn play(engine: &mut Engine, step: Step, buffers: &mut Buffers) -> Self {
+        let answer = run(engine, step, buffers);
+        let count = if let Answer::Found(count) = answer { count } else { 0 };
+        Event { step, answer, found: buffers.first(count).collect() }
+    }
 }
 
 /// A history, and the current contents at its end.
@@ -38,12 +48,8 @@ pub struct Holds {
 /// A fresh engine's history of these steps.
 pub fn record(mut engine: Engine, steps: impl IntoIterator<Item = Step>) -> Run {
     let mut buffers = Buffers::default();
-    let mut history = Vec::new();
-    for step in steps {
-        let answer = run(&mut engine, step, &mut buffers);
-        let count = if let Answer::Found(count) = answer { count } else { 0 };
-        history.push(Event { step, answer, found: buffers.first(count).collect() });
-    }
+    let steps = steps.into_iter();
+    let history = steps.map(|step| Event::play(&mut engine, step, &mut buffers)).collect();
     let contents = engine.map().contents().into_iter().map(|record| Item {
         address: record.address,
         value: record.stored.payload.value,
@@ -54,21 +60,28 @@ pub fn record(mut engine: Engine, steps: impl IntoIterator<Item = Step>) -> Run 
 }
 
 pub fn check(run: &Run) -> Result<Holds, String> {
-    let mut by_number = installed(&run.history)?;
+    let (list, holds) = replay(&run.history)?;
+    if list.items() != run.contents {
+        return Err(format!("contents {:?}, the list has {:?}", run.contents, list.items()));
+    }
+    Ok(holds)
+}
+
+/// The list after the installed transactions of a history, whose answers are compared
+/// with it on the way.
+pub fn replay(history: &[Event]) -> Result<(SequentialList, Holds), String> {
+    let mut by_number = installed(history)?;
     by_number.sort_by_key(|transaction| transaction.number);
-    check_numbers(&run.history, &by_number)?;
+    check_numbers(history, &by_number)?;
     let mut list = SequentialList::default();
     let mut answers = 0;
     for Installed { number, events, .. } in &by_number {
         for &at in events {
-            answers += feed(&mut list, *number, &run.history[at])
+            answers += feed(&mut list, *number, &history[at])
                 .map_err(|what| format!("step {}, number {number}: {what}", at + 1))?;
         }
     }
-    if list.items() != run.contents {
-        return Err(format!("contents {:?}, the list has {:?}", run.contents, list.items()));
-    }
-    Ok(Holds { transactions: by_number.len(), answers })
+    Ok((list, Holds { transactions: by_number.len(), answers }))
 }
 
 /// Reads the installed transactions off the history, in order of install.

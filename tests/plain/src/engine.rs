@@ -1,5 +1,6 @@
 //! Eight workers over one map: the steps and their refusals.
 
+use crate::export::{Export, Portion};
 use crate::guard;
 use crate::map::{Commit, Leaf, Lock, Map, Payload, Pending, Stored, Write, INDEXLET_LIMIT};
 use std::ops::Range;
@@ -10,7 +11,8 @@ pub const LEAF_LIMIT: usize = 32;
 pub const WRITE_LIMIT: usize = 16;
 pub const LAST_COMMIT: Commit = 1_000_000;
 
-/// Document 01's table of refusals, with its numbers, and request 102's three.
+/// Document 01's table of refusals, with its numbers, and those of requests 102 and
+/// 107.
 #[derive(Clone, Copy, PartialEq, Eq, Debug)]
 pub enum Refusal {
     NoWorker = 1,
@@ -31,6 +33,8 @@ pub enum Refusal {
     BadLength = 16,
     MissingScan = 17,
     Overlap = 18,
+    ExportOpen = 19,
+    NoExport = 20,
 }
 
 use Refusal::*;
@@ -55,6 +59,7 @@ pub struct Reading {
 }
 
 /// A granted scan: its range, and where in the read set its log stands.
+#[derive(Clone, PartialEq, Eq)]
 pub struct Scan {
     pub lo: u32,
     pub hi: u32,
@@ -62,7 +67,7 @@ pub struct Scan {
 }
 
 /// A seat in document 01, with its job, here a transaction.
-#[derive(Default)]
+#[derive(Clone, PartialEq, Eq, Default)]
 pub struct Worker {
     pub stage: Stage,
     /// The log of records: what was current at each address read.
@@ -102,7 +107,7 @@ impl Worker {
 }
 
 /// By default the map is not guarded.
-#[derive(Default)]
+#[derive(Clone, PartialEq, Eq, Default)]
 pub struct Engine {
     guarded: bool,
     map: Map,
@@ -110,6 +115,8 @@ pub struct Engine {
     last_commit: Commit,
     /// Installs so far, whatever their numbers.
     installs: u32,
+    /// Request 107's, while one is open.
+    export: Option<Export>,
 }
 
 impl Engine {
@@ -221,11 +228,7 @@ impl Engine {
         if found.len() > addresses.len().min(values.len()).min(owners.len()) {
             return Err(ShortBuffer);
         }
-        for (place, &(address, payload)) in found.iter().enumerate() {
-            addresses[place] = address;
-            values[place] = payload.value;
-            owners[place] = payload.owner;
-        }
+        fill(&found, addresses, values, owners);
         let first = worker.read_set.len();
         worker.read_set.extend(seen);
         worker.leaf_set.extend(leaves);
@@ -344,6 +347,55 @@ impl Engine {
 
     pub fn merge_oldest(&mut self) -> usize {
         self.map.merge_oldest()
+    }
+}
+
+/// Request 107's steps. They name no worker, and change nothing but the export.
+impl Engine {
+    /// Answers how many records it has.
+    pub fn open_export(&mut self) -> Result<usize, Refusal> {
+        if self.export.is_some() {
+            return Err(ExportOpen);
+        }
+        let export = Export::new(&self.map.contents());
+        Ok(self.export.insert(export).count())
+    }
+
+    /// Of the three buffers the shortest decides, be it of no places.
+    pub fn portion(
+        &mut self,
+        addresses: &mut [u32],
+        values: &mut [u64],
+        owners: &mut [u16],
+    ) -> Result<Portion, Refusal> {
+        let export = self.export.as_mut().ok_or(NoExport)?;
+        Ok(export.portion(addresses, values, owners))
+    }
+
+    /// Writes the export as a file to the start of the buffer. Answers how many bytes it
+    /// has.
+    pub fn file(&self, bytes: &mut [u8]) -> Result<usize, Refusal> {
+        let file = self.export.as_ref().ok_or(NoExport)?.file();
+        bytes.get_mut(..file.len()).ok_or(ShortBuffer)?.copy_from_slice(&file);
+        Ok(file.len())
+    }
+
+    pub fn close_export(&mut self) -> Result<(), Refusal> {
+        self.export.take().map(drop).ok_or(NoExport)
+    }
+}
+
+/// Writes records into the first places of three buffers that hold as many.
+pub fn fill(
+    records: &[(u32, Payload)],
+    addresses: &mut [u32],
+    values: &mut [u64],
+    owners: &mut [u16],
+) {
+    for (place, &(address, payload)) in records.iter().enumerate() {
+        addresses[place] = address;
+        values[place] = payload.value;
+        owners[place] = payload.owner;
     }
 }
 

@@ -6,6 +6,7 @@ pub mod claim;
 pub mod compare;
 pub mod damage;
 pub mod engine;
+pub mod export;
 pub mod generate;
 pub mod guard;
 pub mod list;

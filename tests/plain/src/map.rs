@@ -72,7 +72,7 @@ pub struct Lock {
 }
 
 /// One address of the indexlet. It stays while it is pending or locked.
-#[derive(Clone, Copy, Default, Debug)]
+#[derive(Clone, Copy, PartialEq, Eq, Default, Debug)]
 pub struct Entry {
     pub pending: Option<Pending>,
     pub lock: Option<Lock>,
@@ -95,6 +95,7 @@ pub struct Leaf {
     pub version: u64,
 }
 
+#[derive(Clone, PartialEq, Eq)]
 pub struct Map {
     index: Vec<Record>,
     leaves: Vec<Leaf>,

@@ -29,13 +29,14 @@ fn from_home(address: u32) -> impl Iterator<Item = usize> {
     (home..home + SLOTS).map(|slot| slot % SLOTS)
 }
 
-#[derive(Clone, Copy)]
+#[derive(Clone, Copy, PartialEq, Eq)]
 struct Slot {
     address: Option<u32>,
     /// How many entries passed it on their way.
     overflow: u32,
 }
 
+#[derive(Clone, PartialEq, Eq)]
 pub struct Slots([Slot; SLOTS]);
 
 impl Default for Slots {

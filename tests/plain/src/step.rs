@@ -5,7 +5,8 @@ use crate::map::{Commit, Payload};
 
 pub const PLACES: usize = 64;
 
-/// The last of them merges the leaf of the write that has waited longest.
+/// The last of them merges the leaf of the write that has waited longest. An export's
+/// steps have no script line, and are not among them.
 #[derive(Clone, Copy, PartialEq, Eq, Debug)]
 pub enum Step {
     Begin { worker: u32 },

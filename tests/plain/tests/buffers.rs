@@ -1,6 +1,9 @@
 //! The three buffers of a scan, of any lengths: the shortest decides, and every place
 //! is compared.
 
+mod common;
+
+use common::lent::Lent;
 use plain::engine::Engine;
 use plain::generate;
 use plain::map::{Payload, Write};
@@ -9,41 +12,11 @@ use plain::random::Random;
 use plain::step::{run, Answer, Buffers, Step};
 use std::collections::BTreeMap;
 
-/// Lent buffers, which hold something already.
-#[derive(Clone, PartialEq, Debug)]
-struct Lent {
-    addresses: Vec<u32>,
-    values: Vec<u64>,
-    owners: Vec<u16>,
-}
-
 const LENGTHS: [usize; 10] = [0, 1, 2, 3, 7, 20, 63, 64, 65, 90];
 
 impl Lent {
     fn any(random: &mut Random) -> Self {
-        Lent {
-            addresses: vec![7; random.pick(&LENGTHS)],
-            values: vec![8; random.pick(&LENGTHS)],
-            owners: vec![9; random.pick(&LENGTHS)],
-        }
-    }
-
-    fn lengths(&self) -> [usize; 3] {
-        [self.addresses.len(), self.values.len(), self.owners.len()]
-    }
-
-    fn places(&self) -> usize {
-        self.lengths().into_iter().min().expect("there are three")
-    }
-
-    /// With these records in the first places, and nothing else changed.
-    fn with(mut self, shown: &BTreeMap<u32, Payload>) -> Self {
-        for (place, (&address, payload)) in shown.iter().enumerate() {
-            self.addresses[place] = address;
-            self.values[place] = payload.value;
-            self.owners[place] = payload.owner;
-        }
-        self
+        Lent::new([(); 3].map(|()| random.pick(&LENGTHS)))
     }
 }
 
@@ -103,7 +76,8 @@ fn scan(engine: &mut Engine, step: Step, lent: &Lent, reached: &mut Reached) {
     match answer {
         Answer::Found(count) => {
             assert!(count == shown.len() && count <= lent.places(), "{step:?}: {count}");
-            assert_eq!(after, lent.clone().with(&shown), "{step:?}");
+            let records = shown.iter().map(|(&at, it)| (at, it.value, it.owner));
+            assert_eq!(after, lent.clone().with(records), "{step:?}");
         }
         Answer::Refused(8) => assert!(shown.len() > lent.places(), "{step:?}"),
         _ => {}
@@ -150,10 +124,9 @@ fn the_shortest_decides() {
     let records = engine.map().index();
     let (lo, hi) = (records[0].address, records[2].address);
     let mut reached = Reached::default();
-    for [addresses, values, owners] in (0..125).map(|n| [n / 25, n / 5 % 5, n % 5]) {
+    for lengths in (0..125).map(|n| [n / 25, n / 5 % 5, n % 5]) {
         engine.begin(0).expect("it is free");
-        let (addresses, values, owners) = (vec![7; addresses], vec![8; values], vec![9; owners]);
-        let lent = Lent { addresses, values, owners };
+        let lent = Lent::new(lengths);
         let count = shown(&engine, 0, lo, hi).len();
         let before = engine.worker(0).read_set.len();
         scan(&mut engine, Step::Scan { worker: 0, lo, hi }, &lent, &mut reached);

@@ -3,6 +3,7 @@
 mod common;
 
 use common::agrees;
+use common::lent::Lent;
 use plain::engine::{Engine, Reading, Refusal};
 use plain::map::{Map, Payload, Pending, Write};
 
@@ -343,19 +344,7 @@ fn short_buffers() {
     assert_eq!(lent, expected);
 }
 
-/// Buffers of any lengths, which hold something already.
-#[derive(PartialEq, Debug)]
-struct Lent {
-    addresses: Vec<u32>,
-    values: Vec<u64>,
-    owners: Vec<u16>,
-}
-
 impl Lent {
-    fn new([addresses, values, owners]: [usize; 3]) -> Self {
-        Lent { addresses: vec![7; addresses], values: vec![8; values], owners: vec![9; owners] }
-    }
-
     fn scan(&mut self, engine: &mut Engine) -> Result<usize, Refusal> {
         engine.scan(0, 0, 9, &mut self.addresses, &mut self.values, &mut self.owners)
     }

@@ -1,4 +1,7 @@
-//! What several tests share.
+//! What several tests share; none of them uses all of it.
+#![allow(dead_code)]
+
+pub mod lent;
 
 use plain::script;
 
@@ -9,7 +12,6 @@ pub fn answers(script: &[u8]) -> String {
 }
 
 /// Runs lines of the form `input -> output`, the last with input `(end)`.
-#[allow(dead_code)]
 pub fn agrees(run: &str) {
     let lines: Vec<(&str, &str)> = run
         .lines()

@@ -1,0 +1,99 @@
+-- `copies::copy_contents` meets its contract. The invariant: the records below an address are copied.
+use Prim.Native.Nat.{_-_}
+use native.Mathlib.Omega.{arith}
+use mathlib.Core.Path.{refl}
+use Rattle.sets.specs.Sets.{addresses}
+use Rattle.queries.specs.Contents.{allRecords}
+use Rattle.queries.specs.ContentsLaws.{rising-all, next-at, next-done}
+use Rattle.queries.specs.NextLaws.{passed-start, follows-done}
+use Rattle.exports.specs.RowLaws.{words-read}
+use Rattle.exports.specs.CopyLaws.{Copying, copying-start, copying-above, copying-room, copying-on, copying-as, copying-end}
+use borrow.Author.Needs.{needs}
+use Rattle.exports.proofs.copies.copy_contents.Statement.{statement}
+use Rattle.exports.proofs.copies.copy_contents.Tie as tie
+
+abbrev Inv-loop : tie.InvT-loop
+Inv-loop exported₀ rows slots n count₀ from₀ exported count from = Copying (allRecords rows n slots) exported count from
+
+abbrev μ-loop : tie.MeasureT-loop
+μ-loop exported₀ rows slots n count₀ from₀ exported count from = addresses - from
+
+places-requires : tie.Need-places-requires Inv-loop μ-loop
+places-requires c κs = tt
+
+loop-holds : tie.Need-loop-holds Inv-loop μ-loop
+loop-holds c = copying-start _ _ (rising-all _ _ _ (c .before .before .pre .0)) (c .places .ensures)
+
+next-record-requires : tie.Need-next-record-requires Inv-loop μ-loop
+next-record-requires c κs = let s = c .before .before .before .before in (s .pre .0, s .pre .1 .0)
+
+enum-known-next : tie.Need-enum-known-next Inv-loop μ-loop
+enum-known-next c = search needs
+
+cast-t15 : tie.Need-cast-t15 Inv-loop μ-loop
+cast-t15 c = search needs
+
+store-requires : tie.Need-store-requires Inv-loop μ-loop
+store-requires c κs =
+    let m = c .before .before .before in
+    let s = m .before .before .before .before .before .before .before in
+    copying-room (rising-all _ _ _ (s .pre .0)) (m .before .before .before .before .loop .inv) (next-at (m .before .before .next-record .ensures) (m .next .given .1)) (s .pre .1 .1)
+
+add-count : tie.Need-add-count Inv-loop μ-loop
+add-count c =
+    let m = c .before .before .before .before in
+    let s = m .before .before .before .before .before .before .before in
+    omega (arith, copying-room (rising-all _ _ _ (s .pre .0)) (m .before .before .before .before .loop .inv) (next-at (m .before .before .next-record .ensures) (m .next .given .1)) (s .pre .1 .1))
+
+cast-from : tie.Need-cast-from Inv-loop μ-loop
+cast-from c = search needs
+
+add-from : tie.Need-add-from Inv-loop μ-loop
+add-from c = search needs
+
+loop-less : tie.Need-loop-less Inv-loop μ-loop
+loop-less c =
+    let m = c .before .before .before .before in
+    let s = m .before .before .before .before .before .before .before in
+    omega (arith, m .before .before .before .loop-test .taken, copying-above (rising-all _ _ _ (s .pre .0)) (m .before .before .before .before .loop .inv) (next-at (m .before .before .next-record .ensures) (m .next .given .1)))
+
+loop-again : tie.Need-loop-again Inv-loop μ-loop
+loop-again c =
+    let m = c .before .before .before .before in
+    let s = m .before .before .before .before .before .before .before in
+    let a = m .next .given .0 .0 in
+    let v = m .next .given .0 .1 .0 in
+    copying-as (c .store .ensures)
+    (copying-on (rising-all _ _ _ (s .pre .0)) (m .before .before .before .before .loop .inv) (next-at (m .before .before .next-record .ensures) (m .next .given .1)) _ (s .pre .1 .1) (words-read a (v .value) (v .owner) (omega arith) (omega arith)))
+
+enum-told : tie.Need-enum-told Inv-loop μ-loop
+enum-told c = search needs
+
+returns : tie.Need-returns Inv-loop μ-loop
+returns c = copying-end (c .before .before .before .before .loop .inv) (next-done (c .before .before .next-record .ensures) (c .enum-told .given .1))
+
+returns-2 : tie.Need-returns-2 Inv-loop μ-loop
+returns-2 c =
+    let s = c .before .before .before .before in
+    copying-end (c .before .loop .inv) (next-done (follows-done _ _ _ (s .pre .0) (s .pre .1 .0) _ _ (passed-start _ _ _ _) (c .loop-test .left)) refl)
+
+pub copy-contents-spec : {M : Type 1} → statement M
+copy-contents-spec =
+    tie.close
+    (tie.spec
+    Inv-loop
+    μ-loop
+    places-requires
+    loop-holds
+    next-record-requires
+    enum-known-next
+    cast-t15
+    store-requires
+    add-count
+    cast-from
+    add-from
+    loop-less
+    loop-again
+    enum-told
+    returns
+    returns-2)

@@ -1,0 +1,53 @@
+-- `files::put_entries` meets its contract. The invariant: the entries of the first i records are put.
+use Prim.Native.Nat.{_-_, _≤_}
+use native.Mathlib.Omega.{arith}
+use Rattle.lists.specs.TextLaws.{wrote-length}
+use Rattle.spec.specs.Files.{entryBytes}
+use Rattle.exports.specs.FilePuts.{entries-each, Putting, putting-none, putting-on, putting-end}
+use Rattle.exports.proofs.files.put_entries.Statement.{statement}
+use Rattle.exports.proofs.files.put_entries.Tie as tie
+
+abbrev Inv-loop : tie.InvT-loop
+Inv-loop out₀ at exported n next₀ i₀ out next i = Putting entryBytes 10 exported out₀ at i out next × (i ≤ n)
+
+abbrev μ-loop : tie.MeasureT-loop
+μ-loop out₀ at exported n next₀ i₀ out next i = n - i
+
+loop-holds : tie.Need-loop-holds Inv-loop μ-loop
+loop-holds c = (putting-none entries-each _ _ _ (omega (arith, c .before .pre .0)), omega arith)
+
+get-requires : tie.Need-get-requires Inv-loop μ-loop
+get-requires c κs = omega (arith, c .loop-test .taken, c .before .before .before .pre .1)
+
+put-entry-requires : tie.Need-put-entry-requires Inv-loop μ-loop
+put-entry-requires c κs = let p = c .before .before .before .loop .inv .0 in omega (arith, p .place-is, wrote-length (p .wrote), c .before .before .loop-test .taken, c .before .before .before .before .before .pre .0)
+
+add-i : tie.Need-add-i Inv-loop μ-loop
+add-i c = omega (arith, c .before .before .before .before .before .loop-test .taken, c .before .before .before .before .before .before .before .before .pre .1)
+
+loop-less : tie.Need-loop-less Inv-loop μ-loop
+loop-less c = omega (arith, c .before .before .before .before .before .loop-test .taken)
+
+loop-again : tie.Need-loop-again Inv-loop μ-loop
+loop-again c = (putting-on entries-each _ (c .before .before .before .before .before .before .loop .inv .0) (c .before .before .before .before .get .ensures) (c .before .before .put-entry .ensures), omega (arith, c .before .before .before .before .before .loop-test .taken))
+
+same-length : tie.Need-same-length Inv-loop μ-loop
+same-length c = wrote-length (c .before .loop .inv .0 .wrote)
+
+returns : tie.Need-returns Inv-loop μ-loop
+returns c = putting-end (c .before .loop .inv .0) (c .before .loop .inv .1) (c .loop-test .left)
+
+pub put-entries-spec : {M : Type 1} → statement M
+put-entries-spec =
+    tie.close
+    (tie.spec
+    Inv-loop
+    μ-loop
+    loop-holds
+    get-requires
+    put-entry-requires
+    add-i
+    loop-less
+    loop-again
+    same-length
+    returns)

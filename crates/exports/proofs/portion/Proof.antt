@@ -1,0 +1,67 @@
+-- `portion` meets its contract.
+use Prim.Native.Nat.{_-_}
+use Rattle.ranges.specs.Buffers.{buffers}
+use Rattle.exports.specs.StepLaws.{no-portion, least-is, portion-room, gives}
+use borrow.Author.Needs.{needs}
+use Rattle.exports.proofs.portion.Statement.{statement}
+use Rattle.exports.proofs.portion.Tie as tie
+
+sub-left : tie.Need-sub-left
+sub-left c = search needs
+
+least-requires : tie.Need-least-requires
+least-requires c κs = search needs
+
+least-requires-2 : tie.Need-least-requires-2
+least-requires-2 c κs = search needs
+
+least-requires-3 : tie.Need-least-requires-3
+least-requires-3 c κs = search needs
+
+give-requires : tie.Need-give-requires
+give-requires c κs =
+    let t = c .before .before .before in
+    let s = t .before .before .before .before .before .before .before .before in
+    portion-room _ (s .pre) (least-is (buffers (s .args .addresses .now) (s .args .values .now) (s .args .owners .now)) (s .args .x .count - s .args .x .taken) (t .before .before .least .ensures) (t .before .least2 .ensures) (t .least3 .ensures))
+
+add-t13 : tie.Need-add-t13
+add-t13 c = search needs
+
+sub-t12 : tie.Need-sub-t12
+sub-t12 c = search needs
+
+same-length : tie.Need-same-length
+same-length c = search needs
+
+same-length-2 : tie.Need-same-length-2
+same-length-2 c = search needs
+
+same-length-3 : tie.Need-same-length-3
+same-length-3 c = search needs
+
+returns : tie.Need-returns
+returns c =
+    let g = c .before .before .before .before .before .before .before in
+    let t = g .before .before .before .before in
+    let s = t .before .before .before .before .before .before .before .before in
+    λ contents. gives _ (s .pre) (least-is (buffers (s .args .addresses .now) (s .args .values .now) (s .args .owners .now)) (s .args .x .count - s .args .x .taken) (t .before .before .least .ensures) (t .before .least2 .ensures) (t .least3 .ensures)) contents _ (t .before .before .before .before .if1 .taken) (g .give .ensures)
+
+returns-2 : tie.Need-returns-2
+returns-2 c = λ contents. no-portion contents _ _ _ (c .before .before .before .before .pre) (c .if1 .left)
+
+pub portion-spec : {M : Type 1} → statement M
+portion-spec =
+    tie.close
+    (tie.spec
+    sub-left
+    least-requires
+    least-requires-2
+    least-requires-3
+    give-requires
+    add-t13
+    sub-t12
+    same-length
+    same-length-2
+    same-length-3
+    returns
+    returns-2)

@@ -1,0 +1,91 @@
+-- Request 107: how a lent array and three values are read as the export beside the map, and what each step of one promises.
+use Prim.Native.Nat.{ℕ, _%_, _^_, _≤_}
+use mathlib.Core.Path.{_≡_}
+use mathlib.Core.List.{List, []}
+use mathlib.Core.Option.{Option, none, some}
+use lib.ListN.{take, getD}
+use Rattle.lists.specs.Tests.{pick}
+use Rattle.lists.specs.Rows.{Row, row}
+use Rattle.spec.specs.Payloads.{owners}
+use Rattle.spec.specs.Records.{standard, Payload, Record}
+use Rattle.spec.specs.Exports as model
+use Rattle.sets.specs.Sets.{addresses, firstRows}
+use Rattle.ranges.specs.Buffers.{Buffers, buffers, rowsIn, Unmoved, Beyond}
+use Rattle.exports.specs.declared.Export.{Export}
+use Rattle.exports.specs.declared.ExportAnswer.{ExportAnswer}
+use Rattle.exports.specs.declared.ExportAnswer.the-variants.{Opened, Given, Filed, Closed, Refused}
+use Rattle.exports.specs.declared.ExportDone.{ExportDone}
+
+-- ---- how it is read
+
+-- the lent rows of an export, as lists of words
+abbrev pub ExportedRows : Type 0
+ExportedRows = List (List ℕ)
+
+-- A row is an address, a value and an owner; of each word as many bits count as that has, so that every word has a meaning.
+abbrev pub exportRow : List ℕ → Row Payload
+exportRow ws = row (getD ws 0 0 % addresses) (record { value = getD ws 1 0 % 2 ^ 64; owner = getD ws 2 0 % owners })
+
+-- the first so many records
+abbrev pub exportedIn : ExportedRows → ℕ → List (Row Payload)
+exportedIn rows n = firstRows exportRow rows n
+
+-- the export if it is open, else none
+unfoldable pub exportIn : ExportedRows → Export → Option model.Export
+exportIn rows x = pick (x .open) (some (record { records = exportedIn rows (x .count); taken = x .taken })) none
+
+-- There is room for its records, and no more are taken than there are.
+pub record ExportHeld (x : Export) : Type 0 where
+  pub room : x .count ≤ standard .mapLimit
+  pub within : x .taken ≤ x .count
+
+-- ---- answers
+
+-- What a step is lent to write to: the buffers of a portion, the bytes of a file; empty, where it is lent none.
+pub record Space : Type 0 where
+  pub portion : Buffers
+  pub bytes : List ℕ
+
+abbrev pub noSpace : Space
+noSpace = record { portion = buffers [] [] []; bytes = [] }
+
+abbrev pub forPortion : Buffers → Space
+forPortion b = record { portion = b; bytes = [] }
+
+abbrev pub forFile : List ℕ → Space
+forFile bs = record { portion = buffers [] [] []; bytes = bs }
+
+-- an answer, with what the step left there
+unfoldable pub exportAnswerIn : ExportAnswer → Space → model.ExportAnswer
+exportAnswerIn (Opened n) s = model.opened n
+exportAnswerIn (Given n m) s = model.given (rowsIn n (s .portion)) m
+exportAnswerIn (Filed n) s = model.filed (take n (s .bytes))
+exportAnswerIn Closed s = model.closed
+exportAnswerIn (Refused r) s = model.declined r
+
+-- how many places of the buffers were written, and how many bytes
+unfoldable pub placesWritten : ExportAnswer → ℕ
+placesWritten (Opened n) = 0
+placesWritten (Given n m) = n
+placesWritten (Filed n) = 0
+placesWritten Closed = 0
+placesWritten (Refused r) = 0
+
+unfoldable pub bytesWritten : ExportAnswer → ℕ
+bytesWritten (Opened n) = 0
+bytesWritten (Given n m) = 0
+bytesWritten (Filed n) = n
+bytesWritten Closed = 0
+bytesWritten (Refused r) = 0
+
+-- ---- the promise of every step
+
+-- A step of the export in these rows, with these contents of the map: its answer and the export after it are the model's, the
+-- invariant holds again, and all that was lent is as it was past what was written.
+pub record ExportStepped (contents : List (Row Record)) (step : model.ExportStep) (rows : ExportedRows) (x : Export) (s : Space)
+    (rows' : ExportedRows) (d : ExportDone) (s' : Space) : Type 0 where
+  pub held : ExportHeld (d .export)
+  pub answer-is : exportAnswerIn (d .answer) s' ≡ model.exportAnswer contents (exportIn rows x) step
+  pub next-is : exportIn rows' (d .export) ≡ model.exportNext contents (exportIn rows x) step
+  pub places : Beyond (placesWritten (d .answer)) (s .portion) (s' .portion)
+  pub bytes : Unmoved (bytesWritten (d .answer)) (s .bytes) (s' .bytes)

@@ -1,0 +1,6 @@
+pub mod Exporting
+pub mod RowLaws
+pub mod CopyLaws
+pub mod FilePuts
+pub mod StepLaws
+pub mod ReadBacks

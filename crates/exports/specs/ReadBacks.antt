@@ -1,0 +1,93 @@
+-- For the reader: every file that is written is read back as the records of the export.
+use Prim.Native.Nat.{ℕ, zero, suc, _^_, _<_, _≤_}
+use native.Mathlib.Omega.{arith}
+use mathlib.Core.Path.{_≡_, refl, sym, ap, _∙_}
+use mathlib.Core.Logic.{⊎-elim}
+use mathlib.Core.Bool.{Bool, true, false}
+use mathlib.Core.List.{List, []}
+use mathlib.Core.Option.{Option, none, some}
+use lib.ListN.{length, take, getD}
+use Rattle.lists.specs.Tests.{pick, maybe, less}
+use Rattle.lists.specs.TestLaws.{cases}
+use Rattle.lists.specs.Rows.{Row}
+use Rattle.lists.specs.Options.{both-options, some-same}
+use Rattle.lists.specs.Tabulation.{tab, tabFrom}
+use Rattle.spec.specs.declared.Refusal.the-variants.{ShortBuffer}
+use Rattle.spec.specs.Records.{standard, Payload, Record}
+use Rattle.spec.specs.Steps.{firstCause}
+use Rattle.spec.specs.Files.{fileOf, fileSize, parsed}
+use Rattle.spec.specs.Exports as model
+use Rattle.laws.specs.FileLaws.{FileFits, AllFit, none-fit, more-fit, file-parsed}
+use Rattle.sets.specs.Sets.{firstRows}
+use Rattle.sets.specs.SetLaws.{length-rows}
+use Rattle.exports.specs.declared.Export.{Export}
+use Rattle.exports.specs.declared.ExportAnswer.{ExportAnswer}
+use Rattle.exports.specs.declared.ExportAnswer.the-variants.{Filed}
+use Rattle.exports.specs.declared.ExportDone.{ExportDone}
+use Rattle.exports.specs.Exporting.{ExportedRows, exportRow, exportedIn, exportIn, ExportHeld, forFile, exportAnswerIn, ExportStepped}
+
+-- ---- the records of an export fit a file
+
+row-fits : (ws : List ℕ) → FileFits (exportRow ws)
+row-fits ws = record { address = omega arith; value = omega arith; owner = omega arith }
+
+fit-from : (rows : ExportedRows) (i n : ℕ) → AllFit (tabFrom (λ (i : ℕ). exportRow (getD rows i [])) i n)
+unfolding tabFrom
+fit-from rows i zero = none-fit
+fit-from rows i (suc n) = more-fit (row-fits (getD rows i [])) (fit-from rows (suc i) n)
+
+exported-fit : (rows : ExportedRows) (n : ℕ) → AllFit (exportedIn rows n)
+unfolding firstRows tab
+exported-fit rows n = fit-from rows 0 n
+
+-- What a file asks of the records of an export, or of none.
+record Fileable (rs : List (Row Payload)) : Type 0 where
+  fit : AllFit rs
+  few : length rs < 2 ^ 32
+
+fileable : (rows : ExportedRows) (x : Export) → ExportHeld x → Fileable (model.exportOf (exportIn rows x) .records)
+unfolding exportIn model.exportOf
+fileable rows x h = by-cases (x .open)
+  where
+    by-cases : (b : Bool) → Fileable (model.exportOf (pick b (some (record { records = exportedIn rows (x .count); taken = x .taken })) none) .records)
+    by-cases true =
+        let l : length (exportedIn rows (x .count)) ≡ x .count = length-rows exportRow rows (x .count) in
+        let r : x .count ≤ standard .mapLimit = h .room in
+        record { fit = exported-fit rows (x .count); few = omega arith }
+    by-cases false = record { fit = none-fit; few = omega arith }
+
+-- ---- what is told
+
+abbrev bytesTold : model.ExportAnswer → Option (List ℕ)
+bytesTold (model.declined r) = none
+bytesTold (model.opened n) = none
+bytesTold (model.given rs n) = none
+bytesTold (model.filed bs) = some bs
+bytesTold model.closed = none
+
+-- bytes that are told are the file
+file-told : (contents : List (Row Record)) (o : Option model.Export) (n : ℕ) (bs : List ℕ) → model.exportAnswer contents o (model.file n) ≡ model.filed bs
+    → bs ≡ fileOf (model.exportOf o .records)
+unfolding model.exportAnswer model.exportRefusal model.exportCauses model.exportGranted model.exportOf firstCause
+file-told contents none n bs e = both-options (ap bytesTold e) refl
+file-told contents (some x) n bs e =
+    ⊎-elim
+    (λ t. both-options (ap bytesTold e) (ap bytesTold (tested true t)))
+    (λ t. some-same (ap bytesTold (sym e ∙ tested false t)))
+    (cases (less n (fileSize (x .records))))
+  where
+    tested : (b : Bool) → less n (fileSize (x .records)) ≡ b
+        → maybe (pick (less n (fileSize (x .records))) (some ShortBuffer) none) (model.filed (fileOf (x .records))) model.declined
+        ≡ maybe (pick b (some ShortBuffer) none) (model.filed (fileOf (x .records))) model.declined
+    tested b q = ap (λ (b : Bool). maybe (pick b (some ShortBuffer) none) (model.filed (fileOf (x .records))) model.declined) q
+
+-- The bytes that a step of `file` writes are read back as the records of the export.
+pub file-read-back : {contents : List (Row Record)} {rows : ExportedRows} {x : Export} {bs bs' : List ℕ} {d : ExportDone} (n : ℕ) → ExportHeld x
+    → ExportStepped contents (model.file (length bs)) rows x (forFile bs) rows d (forFile bs') → d .answer ≡ Filed n
+    → parsed (take n bs') ≡ some (model.exportOf (exportIn rows x) .records)
+unfolding exportAnswerIn
+file-read-back {contents} {rows} {x} {bs} {bs'} {d} n h p e =
+    let f = fileable rows x h in
+    ap parsed
+    (file-told contents (exportIn rows x) (length bs) (take n bs') (sym (p .answer-is) ∙ ap (λ (a : ExportAnswer). exportAnswerIn a (forFile bs')) e))
+    ∙ file-parsed (f .fit) (f .few)

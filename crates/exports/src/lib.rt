@@ -1,0 +1,185 @@
+// Request 107: an export beside the map. It is the contents at its opening, copied to an array that the caller lends, with
+// two numbers by value: how many records it has, and how many of them portions have given. No job touches it.
+//
+// `rows` reads and writes its words, and nothing else touches them; `copies` fills the array, and the buffers of a portion;
+// `files` writes the file.
+use map::Records;
+use map::Slots;
+use spec::MAP_LIMIT;
+use spec::Refusal;
+ghost use mathlib.Core.Path.{_≡_};
+ghost use mathlib.Core.List.{List};
+ghost use mathlib.Core.Option.{none};
+ghost use Prim.Native.Nat.{_≤_, min};
+ghost use lib.ListN.{length};
+ghost use Rattle.lists.specs.Rows.{Row};
+ghost use Rattle.spec.specs.Records.{standard, Record};
+ghost use Rattle.spec.specs.Exports as model;
+ghost use Rattle.map.specs.Parts.{RecordsHeld, SlotsHeld};
+ghost use Rattle.queries.specs.Contents.{allRecords};
+ghost use Rattle.ranges.specs.Buffers.{buffers, placesOf};
+ghost use Rattle.exports.specs.Exporting.{ExportedRows, exportIn, ExportHeld, noSpace, forPortion, forFile, ExportStepped};
+
+mod copies;
+mod files;
+mod rows;
+
+// How many words a record of an export has: its address, its value, its owner.
+pub const EXPORT_WORDS: usize = 3;
+
+// The records of an export, a row each.
+pub type Exported = [[u64; EXPORT_WORDS]; MAP_LIMIT];
+
+// Whether an export is open, how many records it has, and how many of them portions have given.
+pub struct Export {
+    pub open: bool,
+    pub count: usize,
+    pub taken: usize,
+}
+
+// The answer to a step: how many records the export has; how many a portion gave, and how many remain; how many bytes a file
+// has; closed; refused.
+pub enum ExportAnswer {
+    Opened(usize),
+    Given(usize, usize),
+    Filed(usize),
+    Closed,
+    Refused(Refusal),
+}
+
+// The export after a step, and the answer.
+pub struct ExportDone {
+    pub export: Export,
+    pub answer: ExportAnswer,
+}
+
+// None is open.
+pub fn no_export() -> Export
+    ensures { λ r. ⌜ ((rows : ExportedRows) → exportIn rows r ≡ none) × ExportHeld r ⌝ }
+{
+    Export {
+        open: false,
+        count: 0,
+        taken: 0,
+    }
+}
+
+// Opens an export of the contents.
+pub fn open_export(
+    exported: &mut Exported,
+    rows: &Records,
+    slots: &Slots,
+    n: usize,
+    x: Export,
+) -> ExportDone
+    requires { ⌜ RecordsHeld (now rows) n ⌝ }
+    requires { ⌜ SlotsHeld (now slots) ⌝ }
+    requires { ⌜ (length (allRecords (now rows) n (now slots)) ≤ standard .mapLimit) × ExportHeld x ⌝ }
+    ensures { λ r. ⌜ ExportStepped (allRecords (now (rows .entry)) n (now (slots .entry))) model.openExport (now (exported .entry)) x noSpace (now (exported .exit)) r noSpace ⌝ }
+{
+    if x.open {
+        return ExportDone {
+            export: x,
+            answer: ExportAnswer::Refused(Refusal::ExportOpen),
+        };
+    }
+    let count = copies::copy_contents(exported, rows, slots, n);
+    let export = Export {
+        open: true,
+        count,
+        taken: 0,
+    };
+    ExportDone {
+        export,
+        answer: ExportAnswer::Opened(count),
+    }
+}
+
+fn least(a: usize, b: usize) -> usize
+    ensures { λ r. ⌜ r ≡ min a b ⌝ }
+{
+    if a < b {
+        return a;
+    }
+    b
+}
+
+// Gives the next records, as many as there are and as the shortest buffer holds.
+pub fn portion(
+    addresses: &mut [u32],
+    values: &mut [u64],
+    owners: &mut [u16],
+    exported: &Exported,
+    x: Export,
+) -> ExportDone
+    requires { ⌜ ExportHeld x ⌝ }
+    ensures { λ r. ⌜ ((contents : List (Row Record)) → ExportStepped contents
+        (model.portion (placesOf (buffers (now (addresses .entry)) (now (values .entry)) (now (owners .entry)))))
+        (now (exported .entry)) x (forPortion (buffers (now (addresses .entry)) (now (values .entry)) (now (owners .entry))))
+        (now (exported .entry)) r (forPortion (buffers (now (addresses .exit)) (now (values .exit)) (now (owners .exit))))) ⌝ }
+{
+    if x.open {
+        let left = x.count - x.taken;
+        let two = least(addresses.len(), values.len());
+        let shortest = least(two, owners.len());
+        let n = least(left, shortest);
+        copies::give(addresses, values, owners, exported, x.taken, n);
+        let export = Export {
+            open: true,
+            count: x.count,
+            taken: x.taken + n,
+        };
+        return ExportDone {
+            export,
+            answer: ExportAnswer::Given(n, left - n),
+        };
+    }
+    ExportDone {
+        export: x,
+        answer: ExportAnswer::Refused(Refusal::NoExport),
+    }
+}
+
+// Writes the whole export as a file, whatever portions were taken.
+pub fn file(bytes: &mut [u8], exported: &Exported, x: Export) -> ExportDone
+    requires { ⌜ ExportHeld x ⌝ }
+    ensures { λ r. ⌜ ((contents : List (Row Record)) → ExportStepped contents (model.file (length (now (bytes .entry))))
+        (now (exported .entry)) x (forFile (now (bytes .entry))) (now (exported .entry)) r (forFile (now (bytes .exit)))) ⌝ }
+{
+    if x.open {
+        // The header has 8 bytes, and each record 14: an address and an entry.
+        if bytes.len() < 8 + 14 * x.count {
+            return ExportDone {
+                export: x,
+                answer: ExportAnswer::Refused(Refusal::ShortBuffer),
+            };
+        }
+        let n = files::put_file(bytes, exported, x.count);
+        return ExportDone {
+            export: x,
+            answer: ExportAnswer::Filed(n),
+        };
+    }
+    ExportDone {
+        export: x,
+        answer: ExportAnswer::Refused(Refusal::NoExport),
+    }
+}
+
+// Closes the export.
+pub fn close_export(x: Export) -> ExportDone
+    requires { ⌜ ExportHeld x ⌝ }
+    ensures { λ r. ⌜ ((contents : List (Row Record)) (rows : ExportedRows) → ExportStepped contents model.closeExport rows x noSpace rows r noSpace) ⌝ }
+{
+    if x.open {
+        let export = no_export();
+        return ExportDone {
+            export,
+            answer: ExportAnswer::Closed,
+        };
+    }
+    ExportDone {
+        export: x,
+        answer: ExportAnswer::Refused(Refusal::NoExport),
+    }
+}

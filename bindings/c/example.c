@@ -1,4 +1,4 @@
-/* A morning with the section map: two jobs, a phantom, a fold, a guard. Build it with
+/* A morning with the section map: two jobs, a phantom, a fold, an export, a guard. Build it with
  *
  *     cc -std=c11 -I bindings/c bindings/c/example.c target/staticlib/libsections.a
  *
@@ -8,7 +8,7 @@
 #include <inttypes.h>
 #include <stdio.h>
 
-/* A map is 123 KB: static memory suits it. */
+/* A map is 148 KB: static memory suits it. */
 static struct sections map;
 
 static void say(const char *step, enum sections_refusal refusal)
@@ -47,6 +47,29 @@ static void look(uint32_t seat)
     say("scan", found.refusal);
     for (size_t i = 0; i < found.count; i++)
         printf("  section at %" PRIu32 ", %" PRIu64 " bytes, owner %" PRIu16 "\n", addresses[i], lengths[i], owners[i]);
+}
+
+/* The address sheet: all that is present at the opening, here in portions of one record, and as a file. */
+static void export_sheet(void)
+{
+    static uint8_t file[SECTIONS_FILE_LIMIT];
+    struct sections_buffers one = {addresses, 1, lengths, 1, owners, 1};
+    struct sections_given given;
+    printf("export: %zu records\n", sections_export_open(&map).count);
+
+    /* Meanwhile a job drops the second record. Only the next export shows it. */
+    sections_begin(&map, 2);
+    sections_remove(&map, 2, 12288);
+    sections_lock(&map, 2);
+    sections_validate(&map, 2);
+    sections_install(&map, 2);
+
+    while ((given = sections_export_portion(&map, &one)).count)
+        printf("  section at %" PRIu32 ", %zu to come\n", addresses[0], given.remaining);
+    printf("file: %zu bytes\n", sections_export_file(&map, file, sizeof file).count);
+    say("close", sections_export_close(&map));
+    printf("export: %zu record\n", sections_export_open(&map).count);
+    sections_export_close(&map);
 }
 
 int main(void)
@@ -100,11 +123,14 @@ int main(void)
     fold = sections_fold_oldest(&map);
     printf("fold of the oldest: %zu waiting edit, then %zu\n", fold.count, sections_fold_oldest(&map).count);
 
+    /* An export goes beside the jobs. */
+    export_sheet();
+
     /* A list of steps in one call, from a fresh map: five words for each answer. */
     struct sections_code list[] = {sections_code_begin(0), sections_code_put(0, 4096, 32, FIRST_CORE),
                                    sections_code_begin(0)};
     uint64_t answers[3 * SECTIONS_ANSWER_WORDS];
-    struct sections_ran ran = sections_run(&trial, list, 3, NULL, answers, 3 * SECTIONS_ANSWER_WORDS, false);
+    struct sections_ran ran = sections_run(&trial, list, 3, NULL, NULL, 0, answers, 3 * SECTIONS_ANSWER_WORDS, false);
     printf("list: %zu of 3 steps taken\n", ran.taken);
     say("the last", (enum sections_refusal)answers[2 * SECTIONS_ANSWER_WORDS]);
 

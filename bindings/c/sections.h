@@ -8,6 +8,9 @@
  * lengths in bytes, and whatever steps it is given, no two present sections ever overlap. A job scans before it locks: each put
  * needs a scan that sees all sections that could reach into it. Lock refuses by 16, 17 or 18 what would break the promise.
  *
+ * An export (request 107) is the present records of the moment when it is opened, in portions and as a file. A map has one at a
+ * time; jobs and folds go on meanwhile, and change nothing of it.
+ *
  * Every answer is as document 01 and the requests have it, so long as the caller keeps this:
  * - A map is used after sections_init, sections_init_guarded or sections_run, and only these functions write it.
  * - One call at a time for a map. Different maps may be used at the same time.
@@ -39,8 +42,14 @@
 /* The most records that a granted scan can show: those that it logs, and the job's own edits. */
 #define SECTIONS_SCAN_LIMIT (SECTIONS_READ_LIMIT + SECTIONS_WRITE_LIMIT)
 
+/* The bytes of the file of an export: two sizes of 4, then an address of 4 and an entry of 10 for each record. */
+#define SECTIONS_FILE_BYTES(records) (8 + 14 * (records))
+#define SECTIONS_FILE_LIMIT SECTIONS_FILE_BYTES(SECTIONS_MAP_LIMIT)
+
 /* How many words an array of the map has: its rows, by the words of a row. */
 #define SECTIONS_CORE ((SECTIONS_SEATS + 2) * 5)
+#define SECTIONS_EXPORTING 3
+#define SECTIONS_EXPORTED (SECTIONS_MAP_LIMIT * 3)
 #define SECTIONS_RECORDS (SECTIONS_MAP_LIMIT * 4)
 #define SECTIONS_LEAVES ((SECTIONS_MAP_LIMIT + 1) * 4)
 #define SECTIONS_SLOTS (SECTIONS_SLOT_COUNT * 9)
@@ -48,8 +57,11 @@
 #define SECTIONS_MARKS (SECTIONS_SEATS * SECTIONS_MARK_LIMIT * 7)
 #define SECTIONS_WRITES (SECTIONS_SEATS * SECTIONS_WRITE_LIMIT * 4)
 
+/* The second and third are the map's export: its numbers, and its records. */
 struct sections {
     uint64_t core[SECTIONS_CORE];
+    uint64_t exporting[SECTIONS_EXPORTING];
+    uint64_t exported[SECTIONS_EXPORTED];
     uint64_t records[SECTIONS_RECORDS];
     uint64_t leaves[SECTIONS_LEAVES];
     uint64_t slots[SECTIONS_SLOTS];
@@ -60,8 +72,8 @@ struct sections {
 
 /* ---- Answers. */
 
-/* Document 01's table, and what requests 102 and 107 add. 12, 13 and 14 end the job; the others change nothing. Of several causes the
- * lowest number is answered, but by lock the first of 1, 2, 4, 16, 17, 18, 9, 10, 11. */
+/* Document 01's table, and what requests 102 and 107 add. 12, 13 and 14 end the job; the others change nothing. Of several causes
+ * the lowest number is answered, but by lock the first of 1, 2, 4, 16, 17, 18, 9, 10, 11, and by a file 20 before 8. */
 enum sections_refusal {
     SECTIONS_GRANTED = 0,
     SECTIONS_NO_SEAT = 1,
@@ -85,8 +97,8 @@ enum sections_refusal {
     SECTIONS_OVERLAP = 18,   /* another section shares a byte, as the latest such scan found it, with the job's edits laid over */
     SECTIONS_EXPORT_OPEN = 19, /* of opening an export: one is open */
     SECTIONS_NO_EXPORT = 20,   /* of a portion, a file or the close of an export: none is open */
-    /* Of a coded step alone: there is no such kind, a seat or an address is above 32 bits, an owner above 16, or a scan has more
-     * places of a buffer than lent. */
+    /* Of a coded step alone: there is no such kind, a seat or an address is above 32 bits, an owner above 16, or a scan or a
+     * portion has more places of a buffer than lent, or a file more bytes. */
     SECTIONS_MEANINGLESS = 99
 };
 
@@ -129,10 +141,18 @@ struct sections_value {
     uint32_t examined; /* slots of the indexlet that the look-up examined; 0 for the job's own edit */
 };
 
-/* Of a scan: how many records; of a fold: how many edits it took into the index. */
+/* Of a scan or the opening of an export: how many records; of a fold: how many edits it took into the index; of a file: how many
+ * bytes. */
 struct sections_count {
     enum sections_refusal refusal;
     size_t count;
+};
+
+/* Of a portion: how many records, and how many remain after it. */
+struct sections_given {
+    enum sections_refusal refusal;
+    size_t count;
+    size_t remaining;
 };
 
 /* Of a validate. */
@@ -141,7 +161,7 @@ struct sections_serial {
     uint32_t serial; /* from 1 */
 };
 
-/* Where a scan puts its records, by rising address; the shortest buffer decides. Places past the count are left. */
+/* Where a scan or a portion puts its records, by rising address; the shortest buffer decides. Places past the count are left. */
 struct sections_buffers {
     uint32_t *addresses;
     size_t address_places;
@@ -231,11 +251,34 @@ static inline struct sections_code sections_code_fold_oldest(void)
     return sections_code_of(10, 0, 0, 0, 0, 0, 0);
 }
 
-/* A coded answer: a number of enum sections_refusal, one of enum sections_told, what that says, the owner of the record that a
- * read found, and the slots that a granted read examined; these two are 0 otherwise. */
+/* The steps of an export, for lists alone; the places and the bytes are the first ones of those lent. */
+static inline struct sections_code sections_code_export_open(void)
+{
+    return sections_code_of(11, 0, 0, 0, 0, 0, 0);
+}
+
+static inline struct sections_code sections_code_export_portion(size_t address_places, size_t value_places,
+                                                                size_t owner_places)
+{
+    return sections_code_of(12, 0, 0, 0, address_places, value_places, owner_places);
+}
+
+static inline struct sections_code sections_code_export_file(size_t byte_places)
+{
+    return sections_code_of(13, 0, 0, 0, byte_places, 0, 0);
+}
+
+static inline struct sections_code sections_code_export_close(void)
+{
+    return sections_code_of(14, 0, 0, 0, 0, 0, 0);
+}
+
+/* A coded answer: a number of enum sections_refusal, one of enum sections_told, what that says, the number beside it (the owner of
+ * the record that a read found, or what remains after a portion), and the slots that a granted read examined; these two are 0
+ * otherwise. */
 #define SECTIONS_ANSWER_WORDS 5
 
-/* A record of a scan, in a list's answers: address, value, owner. */
+/* A record of a scan or a portion, in a list's answers: address, value, owner. */
 #define SECTIONS_SHOWN_WORDS 3
 
 /* A present record: address, value, owner, stamp. */
@@ -247,7 +290,10 @@ enum sections_told {
     SECTIONS_TOLD_ABSENT = 2,
     SECTIONS_TOLD_COUNT = 3, /* of a scan */
     SECTIONS_TOLD_SERIAL = 4,
-    SECTIONS_TOLD_FOLDED = 5
+    SECTIONS_TOLD_FOLDED = 5,
+    SECTIONS_TOLD_OPENED = 6,  /* records of an export */
+    SECTIONS_TOLD_PORTION = 7, /* its records */
+    SECTIONS_TOLD_FILE = 8     /* its bytes */
 };
 
 /* Why a list of steps was not run further. */
@@ -270,15 +316,16 @@ struct sections_ran {
 extern "C" {
 #endif
 
-void sections_fresh(uint64_t core[], uint64_t records[], uint64_t leaves[], uint64_t slots[], uint64_t reads[],
-                    uint64_t marks[], uint64_t writes[], bool guarded);
+void sections_fresh(uint64_t core[], uint64_t exporting[], uint64_t records[], uint64_t leaves[], uint64_t slots[],
+                    uint64_t reads[], uint64_t marks[], uint64_t writes[], bool guarded);
 
 void sections_step(uint64_t answer[], uint32_t *addresses, size_t address_places, uint64_t *values, size_t value_places,
                    uint16_t *owners, size_t owner_places, uint64_t core[], uint64_t records[], uint64_t leaves[],
                    uint64_t slots[], uint64_t reads[], uint64_t marks[], uint64_t writes[], const uint64_t step[]);
 
 uint64_t sections_replay(uint64_t counts[], uint64_t *out, size_t out_places, uint32_t *addresses, size_t address_places,
-                         uint64_t *values, size_t value_places, uint16_t *owners, size_t owner_places, uint64_t core[],
+                         uint64_t *values, size_t value_places, uint16_t *owners, size_t owner_places, uint8_t *bytes,
+                         size_t byte_places, uint64_t core[], uint64_t exporting[], uint64_t exported[],
                          uint64_t records[], uint64_t leaves[], uint64_t slots[], uint64_t reads[], uint64_t marks[],
                          uint64_t writes[], const uint64_t *steps, size_t step_words, bool guarded);
 
@@ -286,25 +333,38 @@ bool sections_next(uint64_t found[], const uint64_t core[], const uint64_t recor
                    const uint64_t slots[], const uint64_t reads[], const uint64_t marks[], const uint64_t writes[],
                    uint64_t from);
 
+void sections_open_export(uint64_t answer[], uint64_t exporting[], uint64_t exported[], const uint64_t core[],
+                          const uint64_t records[], const uint64_t leaves[], const uint64_t slots[],
+                          const uint64_t reads[], const uint64_t marks[], const uint64_t writes[]);
+
+void sections_portion(uint64_t answer[], uint32_t *addresses, size_t address_places, uint64_t *values,
+                      size_t value_places, uint16_t *owners, size_t owner_places, uint64_t exporting[],
+                      const uint64_t exported[]);
+
+void sections_file(uint64_t answer[], uint8_t *bytes, size_t byte_places, uint64_t exporting[],
+                   const uint64_t exported[]);
+
+void sections_close_export(uint64_t answer[], uint64_t exporting[]);
+
 #ifdef __cplusplus
 }
 #endif
 
-#define SECTIONS_ARRAYS(map) \
-    (map)->core, (map)->records, (map)->leaves, (map)->slots, (map)->reads, (map)->marks, (map)->writes
+#define SECTIONS_ROWS(map) (map)->records, (map)->leaves, (map)->slots, (map)->reads, (map)->marks, (map)->writes
+#define SECTIONS_ARRAYS(map) (map)->core, SECTIONS_ROWS(map)
 
 /* ---- Steps. */
 
 /* Makes it a fresh map, whatever it held. Values may be any numbers, and sections may overlap. */
 static inline void sections_init(struct sections *map)
 {
-    sections_fresh(SECTIONS_ARRAYS(map), false);
+    sections_fresh(map->core, map->exporting, SECTIONS_ROWS(map), false);
 }
 
 /* Makes it a fresh guarded map, whatever it held. */
 static inline void sections_init_guarded(struct sections *map)
 {
-    sections_fresh(SECTIONS_ARRAYS(map), true);
+    sections_fresh(map->core, map->exporting, SECTIONS_ROWS(map), true);
 }
 
 struct sections_answer {
@@ -337,7 +397,7 @@ static inline struct sections_buffers sections_lent(const struct sections_buffer
     return lent;
 }
 
-/* Any coded step; one that is no scan needs no buffers (NULL). */
+/* Any coded step but those of an export, which have no meaning here; one that is no scan needs no buffers (NULL). */
 static inline struct sections_answer sections_perform(struct sections *map, struct sections_code code,
                                                       const struct sections_buffers *buffers)
 {
@@ -429,6 +489,46 @@ static inline struct sections_count sections_fold_oldest(struct sections *map)
     return sections_count_of(sections_perform(map, sections_code_fold_oldest(), NULL));
 }
 
+/* ---- An export. */
+
+/* Opens one of all present records, those that wait too: how many there are. */
+static inline struct sections_count sections_export_open(struct sections *map)
+{
+    struct sections_answer answer;
+    sections_open_export(answer.words, map->exporting, map->exported, SECTIONS_ARRAYS(map));
+    return sections_count_of(answer);
+}
+
+/* The next records, as many as the shortest buffer holds; with 0 places it is granted, and gives none. */
+static inline struct sections_given sections_export_portion(struct sections *map, const struct sections_buffers *buffers)
+{
+    struct sections_spare spare = {0, 0, 0};
+    struct sections_buffers lent = sections_lent(buffers, &spare);
+    struct sections_answer answer;
+    sections_portion(answer.words, lent.addresses, lent.address_places, lent.values, lent.value_places, lent.owners,
+                     lent.owner_places, map->exporting, map->exported);
+    struct sections_given given = {sections_refusal_of(answer), (size_t)answer.words[2], (size_t)answer.words[3]};
+    return given;
+}
+
+/* All its records as a file at the start of the buffer, whatever portions were taken: how many bytes, SECTIONS_FILE_BYTES of its
+ * records. Bytes past it are left, and all of them if the buffer is too short. docs/EXPORTS.md has the layout. */
+static inline struct sections_count sections_export_file(struct sections *map, uint8_t *bytes, size_t byte_places)
+{
+    uint8_t spare = 0;
+    struct sections_answer answer;
+    sections_file(answer.words, byte_places ? bytes : &spare, byte_places, map->exporting, map->exported);
+    return sections_count_of(answer);
+}
+
+/* Records may remain. */
+static inline enum sections_refusal sections_export_close(struct sections *map)
+{
+    struct sections_answer answer;
+    sections_close_export(answer.words, map->exporting);
+    return sections_refusal_of(answer);
+}
+
 /* ---- Contents and lists. */
 
 /* The first present record from an address on; false if there is none. */
@@ -456,19 +556,23 @@ static inline bool sections_after(const struct sections *map, struct sections_re
 }
 
 /* Makes it a fresh map, guarded or not, and runs a list of steps on it. For each step the words of its answer go to `answers`,
- * and after those of a scan the words of each record. A step is taken if `answers` has room for SECTIONS_ANSWER_WORDS, and of a
- * scan for SECTIONS_SHOWN_WORDS more for each place of its shortest buffer. */
+ * and after those of a scan or a portion the words of each record. A step is taken if `answers` has room for
+ * SECTIONS_ANSWER_WORDS, and of a scan or a portion for SECTIONS_SHOWN_WORDS more for each place of its shortest buffer. Files go
+ * to the start of `bytes`, so that the last granted one stands there; an export that is still open stays open. */
 static inline struct sections_ran sections_run(struct sections *map, const struct sections_code *steps, size_t count,
-                                               const struct sections_buffers *buffers, uint64_t *answers,
-                                               size_t answer_places, bool guarded)
+                                               const struct sections_buffers *buffers, uint8_t *bytes,
+                                               size_t byte_places, uint64_t *answers, size_t answer_places,
+                                               bool guarded)
 {
     struct sections_spare spare = {0, 0, 0};
+    uint8_t byte = 0;
     uint64_t word = 0, counts[2];
     struct sections_code none = sections_code_of(0, 0, 0, 0, 0, 0, 0);
     struct sections_buffers lent = sections_lent(buffers, &spare);
     uint64_t stop = sections_replay(counts, answer_places ? answers : &word, answer_places, lent.addresses,
                                     lent.address_places, lent.values, lent.value_places, lent.owners, lent.owner_places,
-                                    SECTIONS_ARRAYS(map), count ? steps->words : none.words,
+                                    byte_places ? bytes : &byte, byte_places, map->core, map->exporting, map->exported,
+                                    SECTIONS_ROWS(map), count ? steps->words : none.words,
                                     count * SECTIONS_CODE_WORDS, guarded);
     struct sections_ran ran = {(enum sections_stop)stop, (size_t)counts[0], (size_t)counts[1]};
     return ran;

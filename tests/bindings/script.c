@@ -1,5 +1,7 @@
 /* Answers a script as mapscript does, by the functions of sections.h. Its lines must be well formed: only a T stands alone, and
- * a G as the first line. */
+ * a G as the first line. The steps of exports, for which scripts have no line, have small letters: o opens and c closes, both
+ * alone; p takes a portion, with the places of its three buffers, and f a file, with its bytes. After their answers stands
+ * everything that was lent to them. */
 #include "sections.h"
 
 #include <inttypes.h>
@@ -7,10 +9,15 @@
 
 #define PLACES 64
 
+/* More than an export needs. */
+#define LENT (SECTIONS_MAP_LIMIT + 1)
+#define BYTES (SECTIONS_FILE_LIMIT + 100)
+
 static struct sections map;
-static uint32_t addresses[PLACES];
-static uint64_t values[PLACES];
-static uint16_t owners[PLACES];
+static uint32_t addresses[LENT];
+static uint64_t values[LENT];
+static uint16_t owners[LENT];
+static uint8_t bytes[BYTES];
 static const struct sections_buffers buffers = {addresses, PLACES, values, PLACES, owners, PLACES};
 
 static uint64_t number(void)
@@ -63,6 +70,51 @@ static void put(uint32_t seat, uint32_t address)
     printf("%d", sections_put(&map, seat, address, value, (uint16_t)number()));
 }
 
+static void open_export(void)
+{
+    struct sections_count opened = sections_export_open(&map);
+    printf(opened.refusal ? "%d" : "%d %zu", opened.refusal, opened.count);
+}
+
+/* The buffers hold something already, and every place of them is shown. */
+static void portion(uint32_t m, uint32_t n, uint32_t o)
+{
+    for (size_t i = 0; i < LENT; i++) {
+        addresses[i] = 7;
+        values[i] = 8;
+        owners[i] = 9;
+    }
+    struct sections_buffers lent = {addresses, m, values, n, owners, o};
+    struct sections_given given = sections_export_portion(&map, &lent);
+    printf(given.refusal ? "%d" : "%d %zu %zu", given.refusal, given.count, given.remaining);
+    for (size_t i = 0; i < m; i++)
+        printf(" %" PRIu32, addresses[i]);
+    for (size_t i = 0; i < n; i++)
+        printf(" %" PRIu64, values[i]);
+    for (size_t i = 0; i < o; i++)
+        printf(" %" PRIu16, owners[i]);
+}
+
+static void file(uint32_t size)
+{
+    for (size_t i = 0; i < BYTES; i++)
+        bytes[i] = 85;
+    struct sections_count filed = sections_export_file(&map, bytes, size);
+    printf(filed.refusal ? "%d " : "%d %zu ", filed.refusal, filed.count);
+    for (size_t i = 0; i < size; i++)
+        printf("%02x", bytes[i]);
+}
+
+/* A line of a letter and nothing else. */
+static void answer_alone(char letter)
+{
+    switch (letter) {
+    case 'T': fold(sections_fold_oldest(&map)); break;
+    case 'o': open_export(); break;
+    case 'c': printf("%d", sections_export_close(&map)); break;
+    }
+}
+
 static void answer(char letter, uint32_t first)
 {
     uint32_t second;
@@ -80,6 +132,11 @@ static void answer(char letter, uint32_t first)
         break;
     case 'D': printf("%d", sections_remove(&map, first, number32())); break;
     case 'P': put(first, number32()); break;
+    case 'p':
+        second = number32();
+        portion(first, second, number32());
+        break;
+    case 'f': file(first); break;
     }
 }
 
@@ -102,7 +159,7 @@ int main(void)
     for (int letter = start(); letter != EOF; letter = getchar()) {
         printf("%c ", letter);
         if (getchar() == '\n')
-            fold(sections_fold_oldest(&map));
+            answer_alone((char)letter);
         else
             answer((char)letter, number32());
         printf("\n");

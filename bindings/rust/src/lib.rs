@@ -30,23 +30,26 @@
 //! # Ok::<(), Refusal>(())
 //! ```
 //!
-//! In a guarded map ([`Sections::guarded`]) no two present sections ever overlap.
+//! In a guarded map ([`Sections::guarded`]) no two present sections ever overlap. An
+//! export ([`Sections::open_export`]) keeps what is present while jobs go on.
 #![deny(unsafe_code)]
 #![warn(missing_docs)]
 
 mod contents;
 mod declared;
+mod exports;
 mod refusal;
 mod replay;
 mod steps;
 
 pub use contents::{Contents, Record};
+pub use exports::{file_bytes, Portion};
 pub use refusal::Refusal;
 pub use steps::{Answer, Reading, Section, Step};
 
-use declared::{Map, COUNT};
+use declared::Map;
 use std::fmt;
-use steps::{reading, Told};
+use steps::{reading, shown, Told};
 
 /// A seat's number: 0 to 7, any other is refused.
 pub type Seat = u32;
@@ -66,6 +69,9 @@ pub const LONGEST: Value = declared::LONGEST;
 
 /// How many seats a map has.
 pub const SEATS: usize = declared::SEATS;
+
+/// The most records that a map can hold, and an export.
+pub const MAP_LIMIT: usize = declared::MAP_LIMIT;
 
 /// The most records that a granted scan can show: those that it logs, and the
 /// job's own edits.
@@ -90,7 +96,7 @@ impl fmt::Display for SerialNumber {
     }
 }
 
-/// One map with its eight seats, 123 KB. A clone goes on by itself.
+/// One map with its eight seats and its export, 148 KB. A clone goes on by itself.
 #[derive(Clone)]
 pub struct Sections {
     map: Box<Map>,
@@ -279,7 +285,8 @@ impl Sections {
         self.call(Step::FoldOldest).map(|[_, count, ..]| count as usize)
     }
 
-    /// Any step, with buffers of its own for a scan.
+    /// Any step, with buffers of its own for a scan or a portion, and for a file, of
+    /// which only the length is told: [`file`](Sections::file) gives the bytes.
     ///
     /// ```
     /// # use sections::{Answer, Reading, Sections, Step};
@@ -291,11 +298,17 @@ impl Sections {
     pub fn perform(&mut self, step: Step) -> Result<Answer, Refusal> {
         let [m, n, o] = step.places();
         let (mut addresses, mut values, mut owners) = (vec![0; m], vec![0; n], vec![0; o]);
-        let code = step.code();
-        let words = declared::step(&mut self.map, &code, &mut addresses, &mut values, &mut owners);
+        let (addresses, values, owners) = (&mut addresses[..], &mut values[..], &mut owners[..]);
+        let map = &mut *self.map;
+        let words = match step {
+            Step::OpenExport => declared::open_export(map),
+            Step::Portion { .. } => declared::portion(map, addresses, values, owners),
+            Step::File { bytes } => declared::file(map, &mut vec![0; bytes]),
+            Step::CloseExport => declared::close_export(map),
+            _ => declared::step(map, &step.code(), addresses, values, owners),
+        };
         let told = granted(words)?;
-        let count = if told[0] == COUNT { told[1] as usize } else { 0 };
-        Ok(step.answer(told, first(count, &addresses, &values, &owners)))
+        Ok(step.answer(told, first(shown(told), addresses, values, owners)))
     }
 
     /// A step that needs no buffers.

@@ -35,14 +35,14 @@ macro_rules! refusals {
 }
 
 refusals! {
-    1 NoSeat "no seat" "All but folds: the seat is above 7."
-    2 SeatFree "seat free" "All but begin and folds."
+    1 NoSeat "no seat" "All but folds and exports: the seat is above 7."
+    2 SeatFree "seat free" "All but begin, folds and exports."
     3 SeatTaken "seat taken" "Begin."
     4 WrongStage "wrong stage" "Read, scan, put, remove, lock, validate, install."
     5 Backward "backward" "Scan: lo is above hi."
     6 LogFull "log full" "Read, scan: the log would pass its 64 record entries or its 32 marks."
     7 EditsFull "edits full" "Put, remove: a 17th address."
-    8 ShortBuffer "short buffer" "Scan: there are more records than places."
+    8 ShortBuffer "short buffer" "Scan: more records than places. File: more bytes than places."
     9 Held "held" "Lock: another seat has one of the addresses."
     10 IndexletFull "indexlet full" "Lock: more than 192 waiting and locked addresses."
     11 MapFull "map full" "Lock: more than 1,024 index, waiting and locked addresses."

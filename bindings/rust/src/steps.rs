@@ -1,10 +1,10 @@
 //! Steps and answers as data, for lists of them.
 
-use crate::declared::{Code, VALUE};
+use crate::declared::{Code, COUNT, PORTION, VALUE};
 use crate::{Address, Owner, Seat, SerialNumber, Value};
 
-/// What a granted step tells: which kind of number, that number, an owner, and slots
-/// examined.
+/// What a granted step tells: which kind of number, that number, the one beside it (an
+/// owner, or what remains of an export), and slots examined.
 pub(crate) type Told = [u64; 4];
 
 /// A step with its arguments.
@@ -55,9 +55,21 @@ pub enum Step {
     },
     /// Of the leaf with the edit that has waited longest.
     FoldOldest,
+    OpenExport,
+    /// Of the open export, into buffers of so many places.
+    Portion {
+        addresses: usize,
+        values: usize,
+        owners: usize,
+    },
+    /// Of the open export, into a buffer of so many bytes.
+    File {
+        bytes: usize,
+    },
+    CloseExport,
 }
 
-/// A record as reads and scans show it.
+/// A record as reads, scans and exports show it.
 #[derive(Clone, Copy, PartialEq, Eq, Hash, Debug)]
 pub struct Section {
     /// Where it starts.
@@ -92,6 +104,12 @@ pub enum Answer {
     Serial(SerialNumber),
     /// Of a fold: how many edits it took into the index.
     Folded(usize),
+    /// Of the opening of an export: how many records it has.
+    Opened(usize),
+    /// Of a portion: sections by rising address, and how many remain after them.
+    Given(Vec<Section>, usize),
+    /// Of a file: how many bytes it has.
+    Filed(usize),
 }
 
 impl Step {
@@ -113,29 +131,57 @@ impl Step {
             Step::Abort { seat } => (8, [seat.into(), 0, 0, 0, 0, 0]),
             Step::Fold { address } => (9, [address.into(), 0, 0, 0, 0, 0]),
             Step::FoldOldest => (10, [0; 6]),
+            Step::OpenExport => (11, [0; 6]),
+            Step::Portion { .. } => {
+                let [addresses, values, owners] = self.places().map(|places| places as u64);
+                (12, [0, 0, 0, addresses, values, owners])
+            }
+            Step::File { bytes } => (13, [0, 0, 0, bytes as u64, 0, 0]),
+            Step::CloseExport => (14, [0; 6]),
         };
         let [a, b, c, d, e, f] = numbers;
         [kind, a, b, c, d, e, f]
     }
 
-    /// The places of a scan's buffers: of addresses, of values and of owners.
+    /// The places of the buffers of a scan or a portion: of addresses, of values and of
+    /// owners.
     pub(crate) fn places(self) -> [usize; 3] {
         match self {
-            Step::Scan { addresses, values, owners, .. } => [addresses, values, owners],
+            Step::Scan { addresses, values, owners, .. }
+            | Step::Portion { addresses, values, owners } => [addresses, values, owners],
             _ => [0; 3],
         }
     }
 
-    /// What these words and a scan's records tell, if the step was granted.
-    pub(crate) fn answer(self, told: Told, found: Vec<Section>) -> Answer {
-        let [_, value, ..] = told;
+    /// The bytes of a file's buffer.
+    pub(crate) fn bytes(self) -> usize {
+        match self {
+            Step::File { bytes } => bytes,
+            _ => 0,
+        }
+    }
+
+    /// What these words and the records in the buffers tell, if the step was granted.
+    pub(crate) fn answer(self, told: Told, shown: Vec<Section>) -> Answer {
+        let [_, value, beside, _] = told;
         match self {
             Step::Read { address, .. } => Answer::Read(reading(address, told)),
-            Step::Scan { .. } => Answer::Found(found),
+            Step::Scan { .. } => Answer::Found(shown),
             Step::Validate { .. } => Answer::Serial(SerialNumber(value)),
             Step::Fold { .. } | Step::FoldOldest => Answer::Folded(value as usize),
+            Step::OpenExport => Answer::Opened(value as usize),
+            Step::Portion { .. } => Answer::Given(shown, beside as usize),
+            Step::File { .. } => Answer::Filed(value as usize),
             _ => Answer::Granted,
         }
+    }
+}
+
+/// How many records stand in the buffers: those of a scan, or of a portion.
+pub(crate) fn shown([told, count, ..]: Told) -> usize {
+    match told {
+        COUNT | PORTION => count as usize,
+        _ => 0,
     }
 }
 

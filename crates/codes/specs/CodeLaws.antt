@@ -2,9 +2,11 @@
 use Prim.Native.Nat.{ℕ, _^_, _<_, _≤_, zero-le}
 use mathlib.Core.Path.{_≡_, refl, sym, ap, _∙_, subst}
 use mathlib.Core.Bool.{Bool, true, false}
+use lib.Dec.{leb}
 use Rattle.lists.specs.Tests.{pick, both, same, less, atMost}
-use Rattle.lists.specs.TestLaws.{same-yes, same-no, less-yes, less-no, atMost-yes, atMost-no, atMost-true}
+use Rattle.lists.specs.TestLaws.{same-yes, same-no, less-yes, less-no, atMost-yes, atMost-no, atMost-true, clash}
 use Rattle.spec.specs.Steps.{Places, places}
+use Rattle.ranges.specs.Buffers.{Lends}
 use Rattle.engine.specs.declared.steps.Access.the-variants as access
 use Rattle.engine.specs.declared.steps.Ending.the-variants as ending
 use Rattle.engine.specs.declared.steps.Op.{Op}
@@ -13,7 +15,7 @@ use Rattle.engine.specs.declared.steps.Reply.{Reply}
 use Rattle.codes.specs.declared.Code.{Code}
 use Rattle.codes.specs.declared.decodes.Decoded.{Decoded}
 use Rattle.codes.specs.declared.decodes.Decoded.the-variants.{Meant, Meaningless}
-use Rattle.codes.specs.Codes.{meantWith, meantAlone, decodedScan, decodedPut, decodedAccess, decodedNumbered, decoded, codedOf}
+use Rattle.codes.specs.Codes.{placesLent, meantWith, meantAlone, decodedScan, decodedPut, decodedAccess, decodedNumbered, decoded, codedOf}
 
 -- ---- what a code means, by the number of its kind
 
@@ -48,26 +50,34 @@ module _ (k : Code) where
   put-meant h = rw (less-yes h)
 
 module _ (m : Places) (k : Code) where
+  -- by the tests of its places
+  lent-is : (x y z : Bool) → atMost (k .d) (m .addresses) ≡ x → atMost (k .e) (m .values) ≡ y → atMost (k .f) (m .owners) ≡ z → both x (both y z) ≡ placesLent m k
+  unfolding placesLent
+  lent-is x y z f g h = rw (f, g, h)
+
+  pub lent-addresses : m .addresses < k .d → false ≡ placesLent m k
+  lent-addresses f = lent-is false _ _ (atMost-no f) refl refl
+
+  pub lent-values : m .values < k .e → k .d ≤ m .addresses → false ≡ placesLent m k
+  lent-values g f = lent-is true false _ (atMost-yes f) (atMost-no g) refl
+
+  pub lent-owners : k .e ≤ m .values → k .d ≤ m .addresses → leb (k .f) (m .owners) ≡ placesLent m k
+  unfolding atMost
+  lent-owners g f = lent-is true true _ (atMost-yes f) (atMost-yes g) refl
+
   -- by its tests
-  scan-is : (x y z u : Bool) → less (k .c) (2 ^ 32) ≡ x → atMost (k .d) (m .addresses) ≡ y → atMost (k .e) (m .values) ≡ z → atMost (k .f) (m .owners) ≡ u
-      → pick (both x (both y (both z u))) (scanIn k) Meaningless ≡ decodedScan m k
+  scan-is : (x y : Bool) → less (k .c) (2 ^ 32) ≡ x → placesLent m k ≡ y → pick (both x y) (scanIn k) Meaningless ≡ decodedScan m k
   unfolding decodedScan
-  scan-is x y z u e f g h = rw (e, f, g, h)
+  scan-is x y e f = rw (e, f)
 
   pub scan-wide : 2 ^ 32 ≤ k .c → Meaningless ≡ decodedScan m k
-  scan-wide h = scan-is false _ _ _ (less-no h) refl refl refl
+  scan-wide h = scan-is false _ (less-no h) refl
 
-  pub scan-addresses : m .addresses < k .d → k .c < 2 ^ 32 → Meaningless ≡ decodedScan m k
-  scan-addresses f h = scan-is true false _ _ (less-yes h) (atMost-no f) refl refl
+  pub scan-unlent : {b : Bool} → b ≡ placesLent m k → b ≡ false → k .c < 2 ^ 32 → Meaningless ≡ decodedScan m k
+  scan-unlent e f h = scan-is true false (less-yes h) (sym e ∙ f)
 
-  pub scan-values : m .values < k .e → k .d ≤ m .addresses → k .c < 2 ^ 32 → Meaningless ≡ decodedScan m k
-  scan-values g f h = scan-is true true false _ (less-yes h) (atMost-yes f) (atMost-no g) refl
-
-  pub scan-owners : m .owners < k .f → k .e ≤ m .values → k .d ≤ m .addresses → k .c < 2 ^ 32 → Meaningless ≡ decodedScan m k
-  scan-owners e g f h = scan-is true true true false (less-yes h) (atMost-yes f) (atMost-yes g) (atMost-no e)
-
-  pub scan-meant : k .f ≤ m .owners → k .e ≤ m .values → k .d ≤ m .addresses → k .c < 2 ^ 32 → scanIn k ≡ decodedScan m k
-  scan-meant e g f h = scan-is true true true true (less-yes h) (atMost-yes f) (atMost-yes g) (atMost-yes e)
+  pub scan-meant : {b : Bool} → b ≡ placesLent m k → b ≡ true → k .c < 2 ^ 32 → scanIn k ≡ decodedScan m k
+  scan-meant e f h = scan-is true true (less-yes h) (sym e ∙ f)
 
   -- ---- read, scan, put, remove
 
@@ -115,40 +125,41 @@ reply-is e = ap codedOf (sym e)
 
 -- ---- the places that a code wants are lent
 
--- Buffers of m places have as many as are wanted.
-pub record Lends (m w : Places) : Type 0 where
-  pub addresses : w .addresses ≤ m .addresses
-  pub values : w .values ≤ m .values
-  pub owners : w .owners ≤ m .owners
-
 abbrev LendsFor : Places → Decoded → Type 0
 LendsFor m (Meant o p q s) = Lends m (places p q s)
 LendsFor m Meaningless = Unit {0}
 
-lends-none : (m : Places) → Lends m (places 0 0 0)
+pub lends-none : (m : Places) → Lends m (places 0 0 0)
 lends-none m = record { addresses = zero-le; values = zero-le; owners = zero-le }
 
 pick-lends : (m : Places) (b : Bool) (x y : Decoded) → LendsFor m x → LendsFor m y → LendsFor m (pick b x y)
 pick-lends m true x y h k = h
 pick-lends m false x y h k = k
 
-scan-lends : (m : Places) (k : Code) → LendsFor m (decodedScan m k)
-unfolding decodedScan
-scan-lends m k =
-    go (less (k .c) (2 ^ 32)) (atMost (k .d) (m .addresses)) (atMost (k .e) (m .values)) (atMost (k .f) (m .owners)) refl refl refl
+pub lent-lends : (m : Places) (k : Code) → placesLent m k ≡ true → Lends m (places (k .d) (k .e) (k .f))
+unfolding placesLent
+lent-lends m k e = go (atMost (k .d) (m .addresses)) (atMost (k .e) (m .values)) (atMost (k .f) (m .owners)) refl refl refl e
   where
-    go : (x y z u : Bool) → atMost (k .d) (m .addresses) ≡ y → atMost (k .e) (m .values) ≡ z → atMost (k .f) (m .owners) ≡ u
-        → LendsFor m (pick (both x (both y (both z u))) (scanIn k) Meaningless)
-    go true true true true f g h =
+    go : (x y z : Bool) → atMost (k .d) (m .addresses) ≡ x → atMost (k .e) (m .values) ≡ y → atMost (k .f) (m .owners) ≡ z → both x (both y z) ≡ true
+        → Lends m (places (k .d) (k .e) (k .f))
+    go true true true f g h t =
         record {
           addresses = atMost-true (k .d) (m .addresses) f;
           values = atMost-true (k .e) (m .values) g;
           owners = atMost-true (k .f) (m .owners) h;
         }
-    go true true true false f g h = tt
-    go true true false u f g h = tt
-    go true false z u f g h = tt
-    go false y z u f g h = tt
+    go true true false f g h t = clash t refl
+    go true false z f g h t = clash t refl
+    go false y z f g h t = clash t refl
+
+scan-lends : (m : Places) (k : Code) → LendsFor m (decodedScan m k)
+unfolding decodedScan
+scan-lends m k = go (less (k .c) (2 ^ 32)) (placesLent m k) refl
+  where
+    go : (x y : Bool) → placesLent m k ≡ y → LendsFor m (pick (both x y) (scanIn k) Meaningless)
+    go true true e = lent-lends m k e
+    go true false e = tt
+    go false y e = tt
 
 put-lends : (m : Places) (k : Code) → LendsFor m (decodedPut k)
 unfolding decodedPut

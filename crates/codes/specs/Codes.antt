@@ -1,5 +1,6 @@
 -- Steps and answers in numbers: what a code means, and which numbers an answer is.
 use Prim.Native.Nat.{ℕ, _^_}
+use mathlib.Core.Bool.{Bool}
 use mathlib.Core.List.{List, [], _∷_}
 use mathlib.Core.Option.{none, some}
 use lib.ListN.{length}
@@ -29,10 +30,14 @@ meantWith o w = Meant o (w .addresses) (w .values) (w .owners)
 abbrev pub meantAlone : Op → Decoded
 meantAlone o = meantWith o (places 0 0 0)
 
+-- lent buffers of m places have as many as a scan or a portion wants
+unfoldable pub placesLent : Places → Code → Bool
+placesLent m k = both (atMost (k .d) (m .addresses)) (both (atMost (k .e) (m .values)) (atMost (k .f) (m .owners)))
+
 -- a scan: the seat, the ends of the range, and the places that it wants, of lent buffers of m places
 unfoldable pub decodedScan : Places → Code → Decoded
 decodedScan m k =
-    pick (both (less (k .c) (2 ^ 32)) (both (atMost (k .d) (m .addresses)) (both (atMost (k .e) (m .values)) (atMost (k .f) (m .owners)))))
+    pick (both (less (k .c) (2 ^ 32)) (placesLent m k))
     (meantWith (op.Access (k .a) (access.Scan (k .b) (k .c))) (places (k .d) (k .e) (k .f)))
     Meaningless
 
@@ -70,7 +75,7 @@ decoded m k = pick (same (k .kind) 10) (meantAlone op.MergeOldest) (decodedNumbe
 -- ---- answers
 
 abbrev pub codedAs : ℕ → ℕ → ℕ → ℕ → ℕ → Coded
-codedAs n t v o x = record { number = n; told = t; value = v; owner = o; examined = x }
+codedAs n t v o x = record { number = n; told = t; value = v; beside = o; examined = x }
 
 -- a reply in numbers; the places of a scan stand in its buffers
 abbrev pub codedOf : Reply → Coded

@@ -3,12 +3,14 @@ use crate::Code;
 use engine::steps::Access;
 use engine::steps::Ending;
 use engine::steps::Op;
+use exports::ops::ExportOp;
 use spec::OWNERS;
 use spec::WIDE;
 ghost use mathlib.Core.Path.{_≡_};
 ghost use Prim.Native.Nat.{_^_, _<_};
 ghost use Rattle.spec.specs.Steps.{places};
-ghost use Rattle.codes.specs.Codes.{decodedScan, decodedPut, decodedAccess, decodedNumbered, decoded};
+ghost use Rattle.codes.specs.Codes.{placesLent, decodedScan, decodedPut, decodedAccess, decodedNumbered, decoded};
+ghost use Rattle.codes.specs.ExportCodes.{decodedPortion, decodedFile, decodedExport};
 
 // An operation, with how many places of the buffers for addresses, values and owners it wants; or no meaning.
 pub enum Decoded {
@@ -16,32 +18,39 @@ pub enum Decoded {
     Meaningless,
 }
 
-// A scan, if the lent buffers, of m, n and q places, have as many as it wants.
-fn decode_scan(k: Code, m: usize, n: usize, q: usize) -> Decoded
-    requires { ⌜ (k .a < 2 ^ 32) × (k .b < 2 ^ 32) ⌝ }
-    ensures { λ r. ⌜ r ≡ decodedScan (places m n q) k ⌝ }
+// The lent buffers, of m, n and q places, have as many as a scan or a portion wants.
+fn places_lent(k: Code, m: usize, n: usize, q: usize) -> bool
+    ensures { λ r. ⌜ r ≡ placesLent (places m n q) k ⌝ }
 {
     let addresses = k.d as usize;
     let values = k.e as usize;
     let owners = k.f as usize;
+    if addresses > m {
+        return false;
+    }
+    if values > n {
+        return false;
+    }
+    owners <= q
+}
+
+// A scan, if the lent buffers have as many places as it wants.
+fn decode_scan(k: Code, m: usize, n: usize, q: usize) -> Decoded
+    requires { ⌜ (k .a < 2 ^ 32) × (k .b < 2 ^ 32) ⌝ }
+    ensures { λ r. ⌜ r ≡ decodedScan (places m n q) k ⌝ }
+{
     if k.c >= WIDE {
         return Decoded::Meaningless;
     }
-    if addresses > m {
-        return Decoded::Meaningless;
+    if places_lent(k, m, n, q) {
+        return Decoded::Meant(
+            Op::Access(k.a as u32, Access::Scan(k.b as u32, k.c as u32)),
+            k.d as usize,
+            k.e as usize,
+            k.f as usize,
+        );
     }
-    if values > n {
-        return Decoded::Meaningless;
-    }
-    if owners > q {
-        return Decoded::Meaningless;
-    }
-    Decoded::Meant(
-        Op::Access(k.a as u32, Access::Scan(k.b as u32, k.c as u32)),
-        addresses,
-        values,
-        owners,
-    )
+    Decoded::Meaningless
 }
 
 // A put, if its owner has 16 bits.
@@ -107,4 +116,45 @@ pub fn decode(k: Code, m: usize, n: usize, q: usize) -> Decoded
         return Decoded::Meant(Op::MergeOldest, 0, 0, 0);
     }
     decode_numbered(k, m, n, q)
+}
+
+// An export step, with how many places of the buffers for addresses, values and owners it wants; or no meaning.
+pub enum DecodedExport {
+    Meant(ExportOp, usize, usize, usize),
+    Meaningless,
+}
+
+// A portion, if the lent buffers have as many places as it wants.
+fn decode_portion(k: Code, m: usize, n: usize, q: usize) -> DecodedExport
+    ensures { λ r. ⌜ r ≡ decodedPortion (places m n q) k ⌝ }
+{
+    if places_lent(k, m, n, q) {
+        return DecodedExport::Meant(ExportOp::Portion, k.d as usize, k.e as usize, k.f as usize);
+    }
+    DecodedExport::Meaningless
+}
+
+// A file, if as many bytes are lent as it wants.
+fn decode_file(k: Code, bytes: usize) -> DecodedExport
+    ensures { λ r. ⌜ r ≡ decodedFile bytes k ⌝ }
+{
+    let size = k.d as usize;
+    if size > bytes {
+        return DecodedExport::Meaningless;
+    }
+    DecodedExport::Meant(ExportOp::File(size), 0, 0, 0)
+}
+
+// The export step that a code means, if it means one with buffers of m, n and q places and so many bytes.
+pub fn decode_export(k: Code, m: usize, n: usize, q: usize, bytes: usize) -> DecodedExport
+    ensures { λ r. ⌜ r ≡ decodedExport (places m n q) bytes k ⌝ }
+{
+    let kind = k.kind;
+    match kind {
+        11 => DecodedExport::Meant(ExportOp::Open, 0, 0, 0),
+        12 => decode_portion(k, m, n, q),
+        13 => decode_file(k, bytes),
+        14 => DecodedExport::Meant(ExportOp::Close, 0, 0, 0),
+        _ => DecodedExport::Meaningless,
+    }
 }

@@ -13,7 +13,6 @@ use Rattle.spec.specs.Records.{standard, Record}
 use Rattle.spec.specs.Maps.{contents}
 use Rattle.map.specs.Views.{Lent}
 use Rattle.queries.specs.Contents.{allRecords}
-use Rattle.queries.specs.ContentsLaws.{contents-count}
 use Rattle.transactions.specs.Views.{Logs, stateOf}
 use Rattle.transactions.specs.Ready.{Ready}
 use Rattle.transactions.specs.declared.Core.{Core}
@@ -35,10 +34,6 @@ pub end-wrote : {rs : List (Row Record)} {old a b new : List ℕ} {at i j k n : 
 unfolding endLine
 end-wrote {rs} {old} {a} {b} {new} {at} {i} {j} {k} {n} e x y z =
     subst (λ (m : ℕ). Wrote old at ((69 ∷ field m) ++ triplesFor rs ++ (10 ∷ [])) new k) e (wrote-join (wrote-join x (y .wrote)) z)
-
-pub records-fit : {l : Lent} {g : Logs} {c : Core} → Ready l g c → length (allRecords (l .rows) (c .sizes .records) (l .slots)) ≤ standard .mapLimit
-unfolding contents
-records-fit r = contents-count (r .stored .map .bounded)
 
 module _ (l : Lent) (g : Logs) (x : Session) (old : List ℕ) where
   pub finish-stopped : x .stopped ≡ true → x .at ≤ length old → Finishes l g x old old (x .at)

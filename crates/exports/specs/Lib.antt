@@ -3,4 +3,5 @@ pub mod RowLaws
 pub mod CopyLaws
 pub mod FilePuts
 pub mod StepLaws
+pub mod FirstLaws
 pub mod ReadBacks

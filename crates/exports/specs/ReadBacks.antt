@@ -20,11 +20,12 @@ use Rattle.spec.specs.Exports as model
 use Rattle.laws.specs.FileLaws.{FileFits, AllFit, none-fit, more-fit, file-parsed}
 use Rattle.sets.specs.Sets.{firstRows}
 use Rattle.sets.specs.SetLaws.{length-rows}
+use Rattle.ranges.specs.Buffers.{Buffers}
 use Rattle.exports.specs.declared.Export.{Export}
 use Rattle.exports.specs.declared.ExportAnswer.{ExportAnswer}
 use Rattle.exports.specs.declared.ExportAnswer.the-variants.{Filed}
 use Rattle.exports.specs.declared.ExportDone.{ExportDone}
-use Rattle.exports.specs.Exporting.{ExportedRows, exportRow, exportedIn, exportIn, ExportHeld, forFile, exportAnswerIn, ExportStepped}
+use Rattle.exports.specs.Exporting.{ExportedRows, exportRow, exportedIn, exportIn, ExportHeld, space, exportAnswerIn, ExportStepped}
 
 -- ---- the records of an export fit a file
 
@@ -82,12 +83,12 @@ file-told contents (some x) n bs e =
     tested b q = ap (λ (b : Bool). maybe (pick b (some ShortBuffer) none) (model.filed (fileOf (x .records))) model.declined) q
 
 -- The bytes that a step of `file` writes are read back as the records of the export.
-pub file-read-back : {contents : List (Row Record)} {rows : ExportedRows} {x : Export} {bs bs' : List ℕ} {d : ExportDone} (n : ℕ) → ExportHeld x
-    → ExportStepped contents (model.file (length bs)) rows x (forFile bs) rows d (forFile bs') → d .answer ≡ Filed n
+pub file-read-back : {contents : List (Row Record)} {rows : ExportedRows} {x : Export} {b : Buffers} {bs bs' : List ℕ} {d : ExportDone} (n : ℕ) → ExportHeld x
+    → ExportStepped contents (model.file (length bs)) rows x (space b bs) rows d (space b bs') → d .answer ≡ Filed n
     → parsed (take n bs') ≡ some (model.exportOf (exportIn rows x) .records)
 unfolding exportAnswerIn
-file-read-back {contents} {rows} {x} {bs} {bs'} {d} n h p e =
+file-read-back {contents} {rows} {x} {b} {bs} {bs'} {d} n h p e =
     let f = fileable rows x h in
     ap parsed
-    (file-told contents (exportIn rows x) (length bs) (take n bs') (sym (p .answer-is) ∙ ap (λ (a : ExportAnswer). exportAnswerIn a (forFile bs')) e))
+    (file-told contents (exportIn rows x) (length bs) (take n bs') (sym (p .answer-is) ∙ ap (λ (a : ExportAnswer). exportAnswerIn a (space b bs')) e))
     ∙ file-parsed (f .fit) (f .few)

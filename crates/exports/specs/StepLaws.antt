@@ -1,5 +1,5 @@
 -- The laws of an export's steps: refused ones, and granted ones of each kind.
-use Prim.Native.Nat.{ℕ, _+_, _-_, _*_, _<_, _≤_, min}
+use Prim.Native.Nat.{ℕ, _+_, _-_, _*_, _<_, _≤_, zero-le, min}
 use native.Mathlib.Omega.{arith}
 use mathlib.Core.Path.{_≡_, refl, sym, ap, _∙_}
 use mathlib.Core.Logic.{⊎-elim}
@@ -24,7 +24,7 @@ use Rattle.ranges.specs.BufferLaws.{length-rows as places-count, unmoved-refl, 
 use Rattle.exports.specs.declared.Export.{Export}
 use Rattle.exports.specs.declared.ExportAnswer.the-variants.{Opened, Given, Filed, Closed, Refused}
 use Rattle.exports.specs.declared.ExportDone.{ExportDone}
-use Rattle.exports.specs.Exporting.{ExportedRows, exportRow, exportedIn, exportIn, ExportHeld, Space, noSpace, forPortion, forFile, exportAnswerIn, placesWritten, bytesWritten, ExportStepped}
+use Rattle.exports.specs.Exporting.{ExportedRows, exportRow, exportedIn, exportIn, ExportHeld, Space, space, exportAnswerIn, placesWritten, bytesWritten, placesWanted, bytesWanted, ExportStepped}
 use Rattle.exports.specs.RowLaws.{part-rows}
 use Rattle.exports.specs.CopyLaws.{Copied, GiveRoom, Gives}
 use Rattle.exports.specs.FilePuts.{first-bytes, bytes-stay}
@@ -77,13 +77,17 @@ module _ (contents : List (Row Record)) (step : model.ExportStep) (rows : Export
         next-is = is ∙ after (some r) e;
         places = beyond-refl 0 (s .portion);
         bytes = unmoved-refl 0 (s .bytes);
+        few-places = zero-le;
+        few-bytes = zero-le;
       }
 
   grants : {s s' : Space} {rows' : ExportedRows} {d : ExportDone} → model.exportRefusal o step ≡ none → ExportHeld (d .export)
       → exportAnswerIn (d .answer) s' ≡ model.exportGranted contents o step → exportIn rows' (d .export) ≡ model.exportEffect contents o step
       → Beyond (placesWritten (d .answer)) (s .portion) (s' .portion) → Unmoved (bytesWritten (d .answer)) (s .bytes) (s' .bytes)
+      → placesWritten (d .answer) ≤ placesWanted step → bytesWritten (d .answer) ≤ bytesWanted step
       → ExportStepped contents step rows x s rows' d s'
-  grants e h a n p b = record { held = h; answer-is = a ∙ answered none e; next-is = n ∙ after none e; places = p; bytes = b }
+  grants e h a n p b k l =
+      record { held = h; answer-is = a ∙ answered none e; next-is = n ∙ after none e; places = p; bytes = b; few-places = k; few-bytes = l }
 
 -- refusals that need no look at the export
 
@@ -112,71 +116,78 @@ file-tested x n b e = ap (λ (b : Bool). pick b (some ShortBuffer) none) e
 module _ (contents : List (Row Record)) (rows : ExportedRows) (x : Export) where
   -- ---- refused
 
-  pub open-already : ExportHeld x → x .open ≡ true → ExportStepped contents model.openExport rows x noSpace rows (record { export = x; answer = Refused ExportOpen }) noSpace
-  open-already h e = declines contents model.openExport rows x (some (openIn rows x)) (open-in rows x e) ExportOpen noSpace h (open-refused (openIn rows x))
+  module _ (s : Space) (h : ExportHeld x) where
+    pub open-already : x .open ≡ true → ExportStepped contents model.openExport rows x s rows (record { export = x; answer = Refused ExportOpen }) s
+    open-already e = declines contents model.openExport rows x (some (openIn rows x)) (open-in rows x e) ExportOpen s h (open-refused (openIn rows x))
 
-  pub no-portion : (b : Buffers) → ExportHeld x → x .open ≡ false
-      → ExportStepped contents (model.portion (placesOf b)) rows x (forPortion b) rows (record { export = x; answer = Refused NoExport }) (forPortion b)
-  no-portion b h e = declines contents (model.portion (placesOf b)) rows x none (none-in rows x e) NoExport (forPortion b) h (portion-refused (placesOf b))
+    pub no-portion : (w : Places) → x .open ≡ false → ExportStepped contents (model.portion w) rows x s rows (record { export = x; answer = Refused NoExport }) s
+    no-portion w e = declines contents (model.portion w) rows x none (none-in rows x e) NoExport s h (portion-refused w)
 
-  pub no-file : (bs : List ℕ) → ExportHeld x → x .open ≡ false
-      → ExportStepped contents (model.file (length bs)) rows x (forFile bs) rows (record { export = x; answer = Refused NoExport }) (forFile bs)
-  no-file bs h e = declines contents (model.file (length bs)) rows x none (none-in rows x e) NoExport (forFile bs) h (file-refused (length bs))
+    pub no-file : (n : ℕ) → x .open ≡ false → ExportStepped contents (model.file n) rows x s rows (record { export = x; answer = Refused NoExport }) s
+    no-file n e = declines contents (model.file n) rows x none (none-in rows x e) NoExport s h (file-refused n)
 
-  pub no-close : ExportHeld x → x .open ≡ false → ExportStepped contents model.closeExport rows x noSpace rows (record { export = x; answer = Refused NoExport }) noSpace
-  no-close h e = declines contents model.closeExport rows x none (none-in rows x e) NoExport noSpace h close-refused
+    pub no-close : x .open ≡ false → ExportStepped contents model.closeExport rows x s rows (record { export = x; answer = Refused NoExport }) s
+    no-close e = declines contents model.closeExport rows x none (none-in rows x e) NoExport s h close-refused
 
   size-of : fileSize (exportedIn rows (x .count)) ≡ 8 + 14 * x .count
   unfolding fileSize
   size-of = ap (λ (n : ℕ). 8 + 14 * n) (length-rows exportRow rows (x .count))
 
-  pub file-short : (bs : List ℕ) → ExportHeld x → x .open ≡ true → length bs < 8 + 14 * x .count
-      → ExportStepped contents (model.file (length bs)) rows x (forFile bs) rows (record { export = x; answer = Refused ShortBuffer }) (forFile bs)
-  file-short bs h e l =
+  pub file-short : (s : Space) (n : ℕ) → ExportHeld x → x .open ≡ true → n < 8 + 14 * x .count
+      → ExportStepped contents (model.file n) rows x s rows (record { export = x; answer = Refused ShortBuffer }) s
+  file-short s n h e l =
       let z : fileSize (exportedIn rows (x .count)) ≡ 8 + 14 * x .count = size-of in
-      declines contents (model.file (length bs)) rows x (some (openIn rows x)) (open-in rows x e) ShortBuffer (forFile bs) h
-      (file-tested (openIn rows x) (length bs) true (less-yes (omega arith)))
+      declines contents (model.file n) rows x (some (openIn rows x)) (open-in rows x e) ShortBuffer s h
+      (file-tested (openIn rows x) n true (less-yes (omega arith)))
 
   -- ---- granted
 
-  pub opens : {rows' : ExportedRows} {count : ℕ} → x .open ≡ false → length contents ≤ standard .mapLimit → Copied contents rows' count
-      → ExportStepped contents model.openExport rows x noSpace rows'
-      (record { export = record { «open» = true; count = count; taken = 0 }; answer = Opened count }) noSpace
+  pub opens : {rows' : ExportedRows} {count : ℕ} (s : Space) → x .open ≡ false → length contents ≤ standard .mapLimit → Copied contents rows' count
+      → ExportStepped contents model.openExport rows x s rows'
+      (record { export = record { «open» = true; count = count; taken = 0 }; answer = Opened count }) s
   unfolding exportAnswerIn placesWritten bytesWritten exportIn model.exportRefusal model.exportCauses firstCause model.exportGranted model.exportEffect
-  opens {rows'} {count} e l c =
+  opens {rows'} {count} s e l c =
       let q : count ≡ length contents = c .count-is in
-      grants contents model.openExport rows x none (none-in rows x e) {s = noSpace} {s' = noSpace} {rows' = rows'}
+      grants contents model.openExport rows x none (none-in rows x e) {s = s} {s' = s} {rows' = rows'}
       refl
       (record { room = omega arith; within = omega arith })
       (ap model.opened q)
       (ap (λ (rs : List (Row Payload)). some (record { records = rs; taken = 0 })) (c .rows-are))
-      (beyond-refl 0 (noSpace .portion))
-      (unmoved-refl 0 [])
+      (beyond-refl 0 (s .portion))
+      (unmoved-refl 0 (s .bytes))
+      zero-le
+      zero-le
 
-  pub closes : {e : Export} → x .open ≡ true → ((rows : ExportedRows) → exportIn rows e ≡ none) × ExportHeld e
-      → ExportStepped contents model.closeExport rows x noSpace rows (record { export = e; answer = Closed }) noSpace
+  pub closes : {e : Export} (s : Space) → x .open ≡ true → ((rows : ExportedRows) → exportIn rows e ≡ none) × ExportHeld e
+      → ExportStepped contents model.closeExport rows x s rows (record { export = e; answer = Closed }) s
   unfolding exportAnswerIn placesWritten bytesWritten model.exportRefusal model.exportCauses firstCause model.exportGranted model.exportEffect
-  closes {e} o n =
-      grants contents model.closeExport rows x (some (openIn rows x)) (open-in rows x o) {s = noSpace} {s' = noSpace} {rows' = rows}
+  closes {e} s o n =
+      grants contents model.closeExport rows x (some (openIn rows x)) (open-in rows x o) {s = s} {s' = s} {rows' = rows}
       refl
       (n .1)
       refl
       (n .0 rows)
-      (beyond-refl 0 (noSpace .portion))
-      (unmoved-refl 0 [])
+      (beyond-refl 0 (s .portion))
+      (unmoved-refl 0 (s .bytes))
+      zero-le
+      zero-le
 
-  pub files : {bs bs' : List ℕ} {n : ℕ} → ExportHeld x → x .open ≡ true → 8 + 14 * x .count ≤ length bs → Wrote bs 0 (fileOf (exportedIn rows (x .count))) bs' n
-      → ExportStepped contents (model.file (length bs)) rows x (forFile bs) rows (record { export = x; answer = Filed n }) (forFile bs')
-  unfolding exportAnswerIn placesWritten bytesWritten model.exportGranted model.exportEffect model.exportOf
-  files {bs} {bs'} {n} h e l w =
+  pub files : {bs bs' : List ℕ} {n : ℕ} (b : Buffers) → ExportHeld x → x .open ≡ true → 8 + 14 * x .count ≤ length bs → Wrote bs 0 (fileOf (exportedIn rows (x .count))) bs' n
+      → ExportStepped contents (model.file (length bs)) rows x (space b bs) rows (record { export = x; answer = Filed n }) (space b bs')
+  unfolding exportAnswerIn placesWritten bytesWritten bytesWanted model.exportGranted model.exportEffect model.exportOf
+  files {bs} {bs'} {n} b h e l w =
       let z : fileSize (exportedIn rows (x .count)) ≡ 8 + 14 * x .count = size-of in
-      grants contents (model.file (length bs)) rows x (some (openIn rows x)) (open-in rows x e) {s = forFile bs} {s' = forFile bs'} {rows' = rows}
+      grants contents (model.file (length bs)) rows x (some (openIn rows x)) (open-in rows x e) {s = space b bs} {s' = space b bs'} {rows' = rows}
       (file-tested (openIn rows x) (length bs) false (less-no (omega arith)))
       h
       (ap model.filed (first-bytes w))
       (open-in rows x e)
-      (beyond-refl 0 (noSpace .portion))
+      (beyond-refl 0 b)
       (bytes-stay w)
+      zero-le
+      (let p : n ≡ 0 + length (fileOf (exportedIn rows (x .count))) = w .place in
+      let i : 0 + length (fileOf (exportedIn rows (x .count))) ≤ length bs = w .within in
+      omega arith)
 
 -- ---- a portion
 
@@ -202,7 +213,7 @@ module _ (x : Export) (h : ExportHeld x) {b : Buffers} {n : ℕ} (m : n ≡ min 
       let r : x .count ≤ standard .mapLimit = h .room in
       record { addresses = omega arith; values = omega arith; owners = omega arith; rows = omega arith }
 
-  module _ (contents : List (Row Record)) (rows : ExportedRows) {c : Buffers} (e : x .open ≡ true) (g : Gives rows (x .taken) n b c) where
+  module _ (contents : List (Row Record)) (rows : ExportedRows) (bs : List ℕ) {c : Buffers} (e : x .open ≡ true) (g : Gives rows (x .taken) n b c) where
     portion-is : rowsIn n c ≡ model.portionOf (openIn rows x) (placesOf b)
     portion-is =
         let w : x .taken ≤ x .count = h .within in
@@ -213,9 +224,9 @@ module _ (x : Export) (h : ExportHeld x) {b : Buffers} {n : ℕ} (m : n ≡ min 
         ∙ part-rows rows (x .taken) n (x .count) i
         ∙ sym (take-least (shortest (placesOf b)) n (drop (x .taken) (exportedIn rows (x .count))) (let q : n ≡ min (length (drop (x .taken) (exportedIn rows (x .count)))) (shortest (placesOf b)) = m ∙ ap (λ (k : ℕ). min k (shortest (placesOf b))) (sym (d ∙ ap (λ (k : ℕ). k - x .taken) l)) in q))
 
-    pub gives : ExportStepped contents (model.portion (placesOf b)) rows x (forPortion b) rows
-        (record { export = record { «open» = true; count = x .count; taken = x .taken + n }; answer = Given n (x .count - x .taken - n) }) (forPortion c)
-    unfolding exportAnswerIn placesWritten bytesWritten exportIn model.exportRefusal model.exportCauses firstCause model.exportGranted model.exportEffect model.exportOf
+    pub gives : ExportStepped contents (model.portion (placesOf b)) rows x (space b bs) rows
+        (record { export = record { «open» = true; count = x .count; taken = x .taken + n }; answer = Given n (x .count - x .taken - n) }) (space c bs)
+    unfolding exportAnswerIn placesWritten bytesWritten placesWanted exportIn model.exportRefusal model.exportCauses firstCause model.exportGranted model.exportEffect model.exportOf
     gives =
         let w : x .taken ≤ x .count = h .within in
         let r : x .count ≤ standard .mapLimit = h .room in
@@ -224,10 +235,12 @@ module _ (x : Export) (h : ExportHeld x) {b : Buffers} {n : ℕ} (m : n ≡ min 
         let left : x .count - x .taken - n ≡ length (model.remaining (model.afterPortion (openIn rows x) (placesOf b)))
         = (let q : x .count - x .taken - n ≡ x .count - (x .taken + n) = omega arith in q)
         ∙ sym (length-drop (x .taken + length (model.portionOf (openIn rows x) (placesOf b))) (exportedIn rows (x .count)) ∙ (λ i. l i - (x .taken + k i))) in
-        grants contents (model.portion (placesOf b)) rows x (some (openIn rows x)) (open-in rows x e) {s = forPortion b} {s' = forPortion c} {rows' = rows}
+        grants contents (model.portion (placesOf b)) rows x (some (openIn rows x)) (open-in rows x e) {s = space b bs} {s' = space c bs} {rows' = rows}
         refl
         (record { room = r; within = omega arith })
         (λ i. model.given (portion-is i) (left i))
         (ap (λ (j : ℕ). some (record { records = exportedIn rows (x .count); taken = x .taken + j })) (sym k))
         (g .beyond)
-        (unmoved-refl 0 [])
+        (unmoved-refl 0 bs)
+        (omega arith)
+        zero-le

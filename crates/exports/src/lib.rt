@@ -2,7 +2,7 @@
 // two numbers by value: how many records it has, and how many of them portions have given. No job touches it.
 //
 // `rows` reads and writes its words, and nothing else touches them; `copies` fills the array, and the buffers of a portion;
-// `files` writes the file.
+// `files` writes the file. `ops` takes any step as one operation.
 use map::Records;
 use map::Slots;
 use spec::MAP_LIMIT;
@@ -10,18 +10,19 @@ use spec::Refusal;
 ghost use mathlib.Core.Path.{_≡_};
 ghost use mathlib.Core.List.{List};
 ghost use mathlib.Core.Option.{none};
-ghost use Prim.Native.Nat.{_≤_, min};
+ghost use Prim.Native.Nat.{ℕ, _≤_, min};
 ghost use lib.ListN.{length};
 ghost use Rattle.lists.specs.Rows.{Row};
 ghost use Rattle.spec.specs.Records.{standard, Record};
 ghost use Rattle.spec.specs.Exports as model;
 ghost use Rattle.map.specs.Parts.{RecordsHeld, SlotsHeld};
 ghost use Rattle.queries.specs.Contents.{allRecords};
-ghost use Rattle.ranges.specs.Buffers.{buffers, placesOf};
-ghost use Rattle.exports.specs.Exporting.{ExportedRows, exportIn, ExportHeld, noSpace, forPortion, forFile, ExportStepped};
+ghost use Rattle.ranges.specs.Buffers.{Buffers, buffers, placesOf};
+ghost use Rattle.exports.specs.Exporting.{ExportedRows, exportIn, ExportHeld, Space, space, ExportStepped};
 
 mod copies;
 mod files;
+pub mod ops;
 mod rows;
 
 // How many words a record of an export has: its address, its value, its owner.
@@ -75,7 +76,8 @@ pub fn open_export(
     requires { ⌜ RecordsHeld (now rows) n ⌝ }
     requires { ⌜ SlotsHeld (now slots) ⌝ }
     requires { ⌜ (length (allRecords (now rows) n (now slots)) ≤ standard .mapLimit) × ExportHeld x ⌝ }
-    ensures { λ r. ⌜ ExportStepped (allRecords (now (rows .entry)) n (now (slots .entry))) model.openExport (now (exported .entry)) x noSpace (now (exported .exit)) r noSpace ⌝ }
+    ensures { λ r. ⌜ ((s : Space) → ExportStepped (allRecords (now (rows .entry)) n (now (slots .entry))) model.openExport
+        (now (exported .entry)) x s (now (exported .exit)) r s) ⌝ }
 {
     if x.open {
         return ExportDone {
@@ -113,10 +115,10 @@ pub fn portion(
     x: Export,
 ) -> ExportDone
     requires { ⌜ ExportHeld x ⌝ }
-    ensures { λ r. ⌜ ((contents : List (Row Record)) → ExportStepped contents
+    ensures { λ r. ⌜ ((contents : List (Row Record)) (bs : List ℕ) → ExportStepped contents
         (model.portion (placesOf (buffers (now (addresses .entry)) (now (values .entry)) (now (owners .entry)))))
-        (now (exported .entry)) x (forPortion (buffers (now (addresses .entry)) (now (values .entry)) (now (owners .entry))))
-        (now (exported .entry)) r (forPortion (buffers (now (addresses .exit)) (now (values .exit)) (now (owners .exit))))) ⌝ }
+        (now (exported .entry)) x (space (buffers (now (addresses .entry)) (now (values .entry)) (now (owners .entry))) bs)
+        (now (exported .entry)) r (space (buffers (now (addresses .exit)) (now (values .exit)) (now (owners .exit))) bs)) ⌝ }
 {
     if x.open {
         let left = x.count - x.taken;
@@ -143,8 +145,8 @@ pub fn portion(
 // Writes the whole export as a file, whatever portions were taken.
 pub fn file(bytes: &mut [u8], exported: &Exported, x: Export) -> ExportDone
     requires { ⌜ ExportHeld x ⌝ }
-    ensures { λ r. ⌜ ((contents : List (Row Record)) → ExportStepped contents (model.file (length (now (bytes .entry))))
-        (now (exported .entry)) x (forFile (now (bytes .entry))) (now (exported .entry)) r (forFile (now (bytes .exit)))) ⌝ }
+    ensures { λ r. ⌜ ((contents : List (Row Record)) (b : Buffers) → ExportStepped contents (model.file (length (now (bytes .entry))))
+        (now (exported .entry)) x (space b (now (bytes .entry))) (now (exported .entry)) r (space b (now (bytes .exit)))) ⌝ }
 {
     if x.open {
         // The header has 8 bytes, and each record 14: an address and an entry.
@@ -169,7 +171,7 @@ pub fn file(bytes: &mut [u8], exported: &Exported, x: Export) -> ExportDone
 // Closes the export.
 pub fn close_export(x: Export) -> ExportDone
     requires { ⌜ ExportHeld x ⌝ }
-    ensures { λ r. ⌜ ((contents : List (Row Record)) (rows : ExportedRows) → ExportStepped contents model.closeExport rows x noSpace rows r noSpace) ⌝ }
+    ensures { λ r. ⌜ ((contents : List (Row Record)) (rows : ExportedRows) (s : Space) → ExportStepped contents model.closeExport rows x s rows r s) ⌝ }
 {
     if x.open {
         let export = no_export();

@@ -2,7 +2,7 @@
 use Prim.Native.Nat.{ℕ, suc, _+_, _<_, _≤_}
 use native.Mathlib.Nat.{le-trans, le-of-eq}
 use native.Mathlib.Omega.{arith}
-use mathlib.Core.Path.{_≡_, refl, sym, ap, _∙_}
+use mathlib.Core.Path.{_≡_, refl, sym, ap, _∙_, subst}
 use mathlib.Core.Logic.{⊎-elim}
 use mathlib.Core.Bool.{true, false}
 use mathlib.Core.List.{List, [], _∷_, _++_}
@@ -15,13 +15,15 @@ use Rattle.lists.specs.RowLaws.{has-keys, length-keys, rising-different}
 use Rattle.lists.specs.Counting.{has-append, different-within}
 use Rattle.lists.specs.Options.{both-options, some-same}
 use Rattle.spec.specs.declared.PayloadWords.{PayloadWords}
-use Rattle.spec.specs.Records.{Settings}
+use Rattle.spec.specs.Records.{Settings, standard, Record}
 use Rattle.spec.specs.Slots.{Content, entries}
 use Rattle.spec.specs.Maps.{MapState, outcomeOf, current, contents}
 use Rattle.laws.specs.SlotLaws.{content-none}
 use Rattle.laws.specs.MapBounds.{Bounded}
 use Rattle.laws.specs.ContentLaws.{look-contents, rising-contents}
-use Rattle.map.specs.Views.{recordFrom, SlotRows, RecordRows}
+use Rattle.map.specs.declared.Sizes.{Sizes}
+use Rattle.map.specs.Views.{recordFrom, SlotRows, RecordRows, Lent, mapOf}
+use Rattle.map.specs.MapHeld.{MapHeld}
 use Rattle.map.specs.Parts.{RecordsHeld}
 use Rattle.queries.specs.declared.Next.{Next}
 use Rattle.queries.specs.declared.Next.the-variants.{At, Done}
@@ -53,10 +55,20 @@ module _ {s : Settings} {v : ℕ} {m : MapState} (b : Bounded s v m) where
       (cases (has k (keys (entries (m .slots))))))
       (cases (has k (keys (m .records))))
 
-  pub contents-count : length (contents m) ≤ s .mapLimit
+  contents-count : length (contents m) ≤ s .mapLimit
   contents-count =
       le-trans (le-of-eq (sym (length-keys (contents m))))
       (le-trans (different-within (keys (contents m)) (keys (m .records) ++ keys (entries (m .slots))) (rising-different (contents m) (rising-contents m (b .records))) listed) (b .addresses))
+
+-- ---- of lent arrays
+
+-- leaves play no part
+pub contents-of : {l : Lent} {z : Sizes} {v : ℕ} → MapHeld l z v → contents (mapOf l z) ≡ allRecords (l .rows) (z .records) (l .slots)
+unfolding contents
+contents-of h = refl
+
+pub records-fit : {l : Lent} {z : Sizes} {v : ℕ} → MapHeld l z v → length (allRecords (l .rows) (z .records) (l .slots)) ≤ standard .mapLimit
+records-fit h = subst (λ (rs : List (Row Record)). length rs ≤ standard .mapLimit) (contents-of h) (contents-count (h .bounded))
 
 -- ---- rows from a key on, one by one
 

@@ -2,7 +2,7 @@
 use Prim.Native.Nat.{ℕ, _≤_}
 use mathlib.Core.Path.{_≡_}
 use mathlib.Core.List.{List}
-use lib.ListN.{length, getD}
+use lib.ListN.{length, getD, take, drop}
 use Rattle.lists.specs.Rows.{Row, row}
 use Rattle.lists.specs.Tabulation.{tab}
 use Rattle.spec.specs.Records.{Payload}
@@ -39,3 +39,18 @@ pub record Beyond (n : ℕ) (b c : Buffers) : Type 0 where
   pub addresses : Unmoved n (b .addresses) (c .addresses)
   pub values : Unmoved n (b .values) (c .values)
   pub owners : Unmoved n (b .owners) (c .owners)
+
+-- ---- a part of the buffers
+
+-- Buffers of m places have as many as are wanted.
+pub record Lends (m w : Places) : Type 0 where
+  pub addresses : w .addresses ≤ m .addresses
+  pub values : w .values ≤ m .values
+  pub owners : w .owners ≤ m .owners
+
+-- the first places of the buffers, so many of each, and the others
+abbrev pub firstOf : Places → Buffers → Buffers
+firstOf w b = buffers (take (w .addresses) (b .addresses)) (take (w .values) (b .values)) (take (w .owners) (b .owners))
+
+abbrev pub othersOf : Places → Buffers → Buffers
+othersOf w b = buffers (drop (w .addresses) (b .addresses)) (drop (w .values) (b .values)) (drop (w .owners) (b .owners))

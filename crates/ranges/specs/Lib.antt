@@ -2,6 +2,7 @@ pub mod Overlays
 pub mod Parts
 pub mod Buffers
 pub mod BufferLaws
+pub mod FirstPlaces
 pub mod Walks
 pub mod WalkLaws
 pub mod ShowLaws

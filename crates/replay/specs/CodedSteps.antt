@@ -1,9 +1,8 @@
 -- What a step in numbers promises: what its code means is done with the first places of the buffers, or nothing.
 use mathlib.Core.Path.{_≡_}
-use lib.ListN.{take, drop}
 use Rattle.spec.specs.Steps.{Places}
 use Rattle.map.specs.Views.{Lent}
-use Rattle.ranges.specs.Buffers.{Buffers, buffers, placesOf}
+use Rattle.ranges.specs.Buffers.{Buffers, placesOf, firstOf, othersOf}
 use Rattle.transactions.specs.declared.Core.{Core}
 use Rattle.transactions.specs.Views.{Logs}
 use Rattle.engine.specs.declared.steps.Op.{Op}
@@ -14,13 +13,6 @@ use Rattle.codes.specs.declared.Code.{Code}
 use Rattle.codes.specs.declared.decodes.Decoded.the-variants.{Meaningless}
 use Rattle.codes.specs.Codes.{meantWith, decoded, codedOf, noMeaning}
 use Rattle.replay.specs.declared.steps.Stepped.{Stepped}
-
--- the first places of the buffers, so many of each, and the others
-abbrev pub firstOf : Places → Buffers → Buffers
-firstOf w b = buffers (take (w .addresses) (b .addresses)) (take (w .values) (b .values)) (take (w .owners) (b .owners))
-
-abbrev pub othersOf : Places → Buffers → Buffers
-othersOf w b = buffers (drop (w .addresses) (b .addresses)) (drop (w .values) (b .values)) (drop (w .owners) (b .owners))
 
 -- A step performed with the first places of the buffers, as many of each as it wants; the others are as they were.
 pub record PerformsFirst (l : Lent) (g : Logs) (c : Core) (o : Op) (w : Places) (b : Buffers) (l' : Lent) (g' : Logs) (b' : Buffers) (r : Performed) : Type 0 where

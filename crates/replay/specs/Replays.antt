@@ -1,53 +1,72 @@
--- A list of coded steps, run from a fresh map: which steps are taken, what is written, and what the run promises, demand 3
--- included.
+-- A list of coded steps, run from a fresh map with no export open: which steps are taken, what is written, and what the run
+-- promises, demand 3 included.
 use Prim.Native.Nat.{ℕ, _+_, _-_, _*_}
 use mathlib.Core.Path.{_≡_}
 use mathlib.Core.Bool.{Bool}
 use mathlib.Core.List.{List, [], _∷_, _++_, map}
+use mathlib.Core.Option.{Option, none, some}
 use lib.ListN.{length}
 use lib.Seq.{sets}
-use Rattle.lists.specs.Tests.{pick, less}
+use Rattle.lists.specs.Tests.{pick, maybe, less}
 use Rattle.lists.specs.Rows.{Row}
 use Rattle.lists.specs.Texts.{Wrote}
 use Rattle.spec.specs.Records.{standard, Payload}
 use Rattle.spec.specs.Maps.{contents}
-use Rattle.spec.specs.Steps.{Places, places, shortest, State, Step, fresh, Answer, refused, done, found, listed, numbered, counted, answer, next, Event}
+use Rattle.spec.specs.Steps.{Places, places, shortest, fresh, Answer, refused, done, found, listed, numbered, counted}
 use Rattle.spec.specs.Claim.{SerialRun}
+use Rattle.spec.specs.Exports.{ExportAnswer, declined, opened, given, filed, closed, Exporting, Request, job, exporting, Exchange, jobTold, exportTold, exchange, nextOf, startingAt, jobEvents, recordsGiven}
 use Rattle.map.specs.Views.{Lent, mapOf}
-use Rattle.ranges.specs.Buffers.{Buffers, placesOf}
+use Rattle.ranges.specs.Buffers.{placesOf}
+use Rattle.exports.specs.declared.Export.{Export}
+use Rattle.exports.specs.Exporting.{ExportedRows, exportIn, ExportHeld, Space, exportStepIn}
+use Rattle.transactions.specs.declared.Core.{Core}
 use Rattle.transactions.specs.Views.{Logs, stateOf}
 use Rattle.transactions.specs.Ready.{Ready}
-use Rattle.engine.specs.declared.steps.Op.{Op}
 use Rattle.engine.specs.Performs.{stepIn}
 use Rattle.codes.specs.declared.Code.{Code}
 use Rattle.codes.specs.declared.decodes.Decoded.{Decoded}
-use Rattle.codes.specs.declared.decodes.Decoded.the-variants.{Meant, Meaningless}
+use Rattle.codes.specs.declared.decodes.Decoded.the-variants as decoding
+use Rattle.codes.specs.declared.decodes.DecodedExport.{DecodedExport}
+use Rattle.codes.specs.declared.decodes.DecodedExport.the-variants as exportDecoding
 use Rattle.codes.specs.Codes.{decoded, wordsOf}
-use Rattle.replay.specs.declared.runs.Stop.{Stop}
-use Rattle.replay.specs.declared.runs.Stop.the-variants as stop
+use Rattle.codes.specs.ExportCodes.{decodedExport, exportWords}
+use Rattle.replay.specs.declared.stops.Stop.{Stop}
+use Rattle.replay.specs.declared.stops.Stop.the-variants as stop
 use Rattle.replay.specs.declared.runs.Replayed.{Replayed}
+
+-- ---- what a code asks for
+
+-- A request, and how many places it wants of each of the lent buffers.
+pub record Asked : Type 0 where
+  pub request : Request
+  pub wants : Places
+
+abbrev pub askedJob : Decoded → Option Asked
+askedJob (decoding.Meant o p q s) = some (record { request = job (stepIn o (places p q s)); wants = places p q s })
+askedJob decoding.Meaningless = none
+
+abbrev pub askedExport : DecodedExport → Option Asked
+askedExport (exportDecoding.Meant o p q s) = some (record { request = exporting (exportStepIn o (places p q s)); wants = places p q s })
+askedExport exportDecoding.Meaningless = none
+
+-- with lent buffers of m places and n bytes; the kinds of export steps stand behind those of jobs
+unfoldable pub asked : Places → ℕ → Code → Option Asked
+asked m n k = pick (less (k .kind) 11) (askedJob (decoded m k)) (askedExport (decodedExport m n k))
 
 -- ---- which steps are taken
 
 -- The steps taken with their answers, why no more were taken, and the state after them.
 pub record Ran : Type 0 where
-  pub events : List Event
+  pub told : List Exchange
   pub stop : Stop
-  pub state : State
+  pub after : Exporting
 
-abbrev pub ended : Stop → State → Ran
-ended t σ = record { events = []; stop = t; state = σ }
-
-abbrev pub event : Step → Answer → Event
-event s a = record { step = s; answer = a }
+abbrev pub ended : Stop → Exporting → Ran
+ended t ξ = record { told = []; stop = t; after = ξ }
 
 -- one step, and then those
-abbrev pub followedBy : Event → Ran → Ran
-followedBy e r = record { events = e ∷ r .events; stop = r .stop; state = r .state }
-
-abbrev pub byMeaning : Decoded → Ran → (Op → Places → Ran) → Ran
-byMeaning (Meant o p q s) r f = f o (places p q s)
-byMeaning Meaningless r f = r
+abbrev pub followedBy : Exchange → Ran → Ran
+followedBy e r = record { told = e ∷ r .told; stop = r .stop; after = r .after }
 
 -- the words of a step
 abbrev pub stepWords : ℕ
@@ -60,74 +79,122 @@ codeOf k a b c d e f = record { kind = k; a = a; b = b; c = c; d = d; e = e; f =
 abbrev pub longestAnswer : Places → ℕ
 longestAnswer w = 5 + 3 * shortest w
 
--- The run of a list of words, so many to a step, from a state, with lent scan buffers of m places and room for so many
+-- the words of an answer
+unfoldable pub toldWords : Exchange → List ℕ
+toldWords (jobTold e) = wordsOf (e .answer)
+toldWords (exportTold s a) = exportWords a
+
+-- The run of a list of words, so many to a step, from a state, with lent buffers of m places, n lent bytes and room for so many
 -- words of answers. It stops at a code with no meaning, where the longest answer of a step would find no room, or at the end;
 -- words that make no whole code have no meaning.
-unfoldable pub ran : Places → State → ℕ → List ℕ → Ran
-ran m σ room [] = ended stop.Complete σ
-ran m σ room (k ∷ []) = ended stop.Meaningless σ
-ran m σ room (k ∷ a ∷ []) = ended stop.Meaningless σ
-ran m σ room (k ∷ a ∷ b ∷ []) = ended stop.Meaningless σ
-ran m σ room (k ∷ a ∷ b ∷ c ∷ []) = ended stop.Meaningless σ
-ran m σ room (k ∷ a ∷ b ∷ c ∷ d ∷ []) = ended stop.Meaningless σ
-ran m σ room (k ∷ a ∷ b ∷ c ∷ d ∷ e ∷ []) = ended stop.Meaningless σ
-ran m σ room (k ∷ a ∷ b ∷ c ∷ d ∷ e ∷ f ∷ ws) =
-    byMeaning (decoded m (codeOf k a b c d e f)) (ended stop.Meaningless σ)
-    (λ (o : Op) (w : Places). pick (less room (longestAnswer w)) (ended stop.Full σ)
-    (followedBy (event (stepIn o w) (answer σ (stepIn o w)))
-    (ran m (next σ (stepIn o w)) (room - length (wordsOf (answer σ (stepIn o w)))) ws)))
+unfoldable pub ran : Places → ℕ → Exporting → ℕ → List ℕ → Ran
+ran m n ξ room [] = ended stop.Complete ξ
+ran m n ξ room (k ∷ []) = ended stop.Meaningless ξ
+ran m n ξ room (k ∷ a ∷ []) = ended stop.Meaningless ξ
+ran m n ξ room (k ∷ a ∷ b ∷ []) = ended stop.Meaningless ξ
+ran m n ξ room (k ∷ a ∷ b ∷ c ∷ []) = ended stop.Meaningless ξ
+ran m n ξ room (k ∷ a ∷ b ∷ c ∷ d ∷ []) = ended stop.Meaningless ξ
+ran m n ξ room (k ∷ a ∷ b ∷ c ∷ d ∷ e ∷ []) = ended stop.Meaningless ξ
+ran m n ξ room (k ∷ a ∷ b ∷ c ∷ d ∷ e ∷ f ∷ ws) =
+    maybe (asked m n (codeOf k a b c d e f)) (ended stop.Meaningless ξ)
+    (λ (q : Asked). pick (less room (longestAnswer (q .wants))) (ended stop.Full ξ)
+    (followedBy (exchange ξ (q .request))
+    (ran m n (nextOf ξ (q .request)) (room - length (toldWords (exchange ξ (q .request)))) ws)))
 
 -- ---- what is written
 
 -- the answers in numbers, one after the other
-unfoldable pub allWords : List Event → List ℕ
+unfoldable pub allWords : List Exchange → List ℕ
 allWords [] = []
-allWords (e ∷ es) = wordsOf (e .answer) ++ allWords es
+allWords (e ∷ es) = toldWords e ++ allWords es
 
--- a scan's records in the first places of its buffers
-abbrev pub listedIn : (Row Payload → ℕ) → Answer → List ℕ → List ℕ
-listedIn f (refused r) ks = ks
-listedIn f done ks = ks
-listedIn f (found p x) ks = ks
-listedIn f (listed rs) ks = sets ks 0 (map f rs)
-listedIn f (numbered n) ks = ks
-listedIn f (counted n) ks = ks
+-- the records of a scan
+unfoldable pub scanned : Answer → List (Row Payload)
+scanned (refused r) = []
+scanned done = []
+scanned (found p x) = []
+scanned (listed rs) = rs
+scanned (numbered n) = []
+scanned (counted n) = []
 
--- a scan buffer after the steps
-unfoldable pub leftIn : (Row Payload → ℕ) → List Event → List ℕ → List ℕ
+-- what a step leaves in the first places of the lent buffers: the records of a scan or a portion
+unfoldable pub shownBy : Exchange → List (Row Payload)
+shownBy (jobTold e) = scanned (e .answer)
+shownBy (exportTold s a) = recordsGiven a
+
+-- ... and in the first lent bytes: those of a file
+unfoldable pub bytesOf : ExportAnswer → List ℕ
+bytesOf (declined r) = []
+bytesOf (opened n) = []
+bytesOf (given rs n) = []
+bytesOf (filed bs) = bs
+bytesOf closed = []
+
+unfoldable pub filedBy : Exchange → List ℕ
+filedBy (jobTold e) = []
+filedBy (exportTold s a) = bytesOf a
+
+-- a buffer after the steps, by what each of them leaves in its first places
+unfoldable pub leftIn : (Exchange → List ℕ) → List Exchange → List ℕ → List ℕ
 leftIn f [] ks = ks
-leftIn f (e ∷ es) ks = leftIn f es (listedIn f (e .answer) ks)
+leftIn f (e ∷ es) ks = leftIn f es (sets ks 0 (f e))
 
-abbrev pub addressOf : Row Payload → ℕ
-addressOf r = r .key
+abbrev pub addressesBy : Exchange → List ℕ
+addressesBy e = map (λ (r : Row Payload). r .key) (shownBy e)
 
-abbrev pub valueOf : Row Payload → ℕ
-valueOf r = r .item .value
+abbrev pub valuesBy : Exchange → List ℕ
+valuesBy e = map (λ (r : Row Payload). r .item .value) (shownBy e)
 
-abbrev pub ownerOf : Row Payload → ℕ
-ownerOf r = r .item .owner
+abbrev pub ownersBy : Exchange → List ℕ
+ownersBy e = map (λ (r : Row Payload). r .item .owner) (shownBy e)
 
--- the scan buffers after the steps
-pub record BuffersBecome (es : List Event) (b b' : Buffers) : Type 0 where
-  pub addresses : b' .addresses ≡ leftIn addressOf es (b .addresses)
-  pub values : b' .values ≡ leftIn valueOf es (b .values)
-  pub owners : b' .owners ≡ leftIn ownerOf es (b .owners)
+-- the lent buffers and bytes after the steps
+pub record SpaceBecomes (es : List Exchange) (s s' : Space) : Type 0 where
+  pub addresses : s' .portion .addresses ≡ leftIn addressesBy es (s .portion .addresses)
+  pub values : s' .portion .values ≡ leftIn valuesBy es (s .portion .values)
+  pub owners : s' .portion .owners ≡ leftIn ownersBy es (s .portion .owners)
+  pub bytes : s' .bytes ≡ leftIn filedBy es (s .bytes)
 
 -- ---- what is promised
 
--- The run of these words, with these buffers, from a fresh map, guarded or not.
-abbrev pub runOf : Bool → List ℕ → Buffers → List ℕ → Ran
-runOf guarded words b out = ran (placesOf b) (fresh standard guarded) (length out) words
+-- The engine's arrays and core, and beside them the rows and the numbers of the export.
+pub record Whole : Type 0 where
+  pub map : Lent
+  pub logs : Logs
+  pub core : Core
+  pub exported : ExportedRows
+  pub export : Export
 
--- Whether the map is guarded, the words of the steps, the scan buffers and the answer buffer before, the arrays, the buffers and the outcome after.
-pub record Replays (guarded : Bool) (words : List ℕ) (b : Buffers) (out : List ℕ) (l : Lent) (g : Logs) (b' : Buffers) (out' : List ℕ) (r : Replayed) : Type 0 where
-  pub ready : Ready l g (r .core)
+abbrev pub whole : Lent → Logs → Core → ExportedRows → Export → Whole
+whole l g c xs x = record { map = l; logs = g; core = c; exported = xs; export = x }
+
+-- how they are read
+abbrev pub exportingIn : Whole → Exporting
+exportingIn h = record { state = stateOf (h .map) (h .logs) (h .core); export = exportIn (h .exported) (h .export) }
+
+-- the invariant of both
+pub record WholeReady (h : Whole) : Type 0 where
+  pub engine : Ready (h .map) (h .logs) (h .core)
+  pub export : ExportHeld (h .export)
+
+-- The run of these words, with these buffers and bytes, from a fresh map, guarded or not.
+abbrev pub runOf : Bool → List ℕ → Space → List ℕ → Ran
+runOf guarded words s out = ran (placesOf (s .portion)) (length (s .bytes)) (startingAt (fresh standard guarded)) (length out) words
+
+-- what a run left: the arrays, with the core and the export's numbers of its outcome
+abbrev pub leftBy : Lent → Logs → ExportedRows → Replayed → Whole
+leftBy l g xs r = whole l g (r .core) xs (r .export)
+
+-- Whether the map is guarded, the words of the steps, the lent space and the answer buffer before, the arrays, the space, the
+-- answer buffer and the outcome after.
+pub record Replays (guarded : Bool) (words : List ℕ) (s : Space) (out : List ℕ) (l : Lent) (g : Logs) (xs : ExportedRows) (s' : Space) (out' : List ℕ) (r : Replayed) : Type 0 where
+  pub ready : WholeReady (leftBy l g xs r)
   -- the steps that the run takes are taken, and why no more
-  pub state : stateOf l g (r .core) ≡ runOf guarded words b out .state
-  pub stop : r .stop ≡ runOf guarded words b out .stop
-  pub taken : r .taken ≡ length (runOf guarded words b out .events)
+  pub after : exportingIn (leftBy l g xs r) ≡ runOf guarded words s out .after
+  pub stop : r .stop ≡ runOf guarded words s out .stop
+  pub taken : r .taken ≡ length (runOf guarded words s out .told)
   -- their answers are written, and nothing past them
-  pub answers : Wrote out 0 (allWords (runOf guarded words b out .events)) out' (r .written)
-  pub buffers : BuffersBecome (runOf guarded words b out .events) b b'
-  -- demand 3, of these steps, these answers and the contents after them
-  pub serial : SerialRun (runOf guarded words b out .events) (contents (mapOf l (r .core .sizes)))
+  pub answers : Wrote out 0 (allWords (runOf guarded words s out .told)) out' (r .written)
+  pub space : SpaceBecomes (runOf guarded words s out .told) s s'
+  -- demand 3, of the jobs' steps among these, their answers and the contents after them
+  pub serial : SerialRun (jobEvents (runOf guarded words s out .told)) (contents (mapOf l (r .core .sizes)))

@@ -1,5 +1,5 @@
--- A scan's buffers after a step: its records in the first places, and the rest as it was.
-use Prim.Native.Nat.{ℕ, zero, suc, _+_, _-_, _*_, _<_, _≤_}
+-- The lent buffers and bytes after a step: what it wrote in the first places, and the rest as it was.
+use Prim.Native.Nat.{ℕ, zero, suc, _+_, _-_, _*_, _<_, _≤_, zero-le}
 use native.Mathlib.Nat.{zero-add}
 use native.Mathlib.Omega.{arith}
 use mathlib.Core.Path.{_≡_, refl, sym, ap, _∙_}
@@ -9,35 +9,42 @@ use lib.Seq.{sets, sets-eq, ext-getD, getD-drop, length-take-le, drop-cons}
 use Rattle.lists.specs.Tabulation.{tab, tabFrom}
 use Rattle.lists.specs.Rows.{Row}
 use Rattle.spec.specs.Records.{Payload}
-use Rattle.spec.specs.Steps.{Places, shortest, Step}
-use Rattle.ranges.specs.Buffers.{Buffers, placesOf, rowIn, rowsIn, Unmoved, Beyond}
+use Rattle.spec.specs.Steps.{Places, shortest}
+use Rattle.spec.specs.Exports.{Exchange, recordsGiven}
+use Rattle.ranges.specs.Buffers.{Buffers, placesOf, rowIn, rowsIn, Unmoved, Beyond, Lends}
+use Rattle.exports.specs.declared.ExportAnswer.{ExportAnswer}
+use Rattle.exports.specs.declared.ExportAnswer.the-variants as export
+use Rattle.exports.specs.Exporting.{Space, exportAnswerIn, placesWritten, bytesWritten}
 use Rattle.engine.specs.declared.steps.Reply.{Reply}
 use Rattle.engine.specs.declared.steps.Reply.the-variants as reply
 use Rattle.engine.specs.Performs.{replyIn, placesIn}
-use Rattle.codes.specs.CodeLaws.{Lends}
-use Rattle.codes.specs.Words.{Roomy}
-use Rattle.replay.specs.Replays.{event, listedIn, leftIn, addressOf, valueOf, ownerOf, BuffersBecome, longestAnswer}
+use Rattle.replay.specs.Replays.{longestAnswer, scanned, shownBy, bytesOf, filedBy, leftIn, SpaceBecomes}
 
--- room for the longest answer is room for this one
-pub roomy : (p : Reply) (w : Places) (b b' : Buffers) (out : List ℕ) (at : ℕ) → placesIn p ≤ shortest w → Lends (placesOf b) w
-    → Beyond (placesIn p) b b' → at ≤ length out → longestAnswer w ≤ length out - at → Roomy p b' out at
+-- ---- room
+
+-- room for the longest answer is room for one of n records
+pub room-left : {n at : ℕ} (w : Places) (out : List ℕ) → n ≤ shortest w → at ≤ length out → longestAnswer w ≤ length out - at → at + 5 + 3 * n ≤ length out
+room-left w out h i r = omega arith
+
+-- the places that were written are in the buffers
+pub places-left : {n : ℕ} (w : Places) (b : Buffers) → n ≤ shortest w → Lends (placesOf b) w → n ≤ shortest (placesOf b)
 unfolding shortest
-roomy p w b b' out at h n y i r =
+places-left w b h n =
     let x : w .addresses ≤ length (b .addresses) = n .addresses in
     let v : w .values ≤ length (b .values) = n .values in
     let o : w .owners ≤ length (b .owners) = n .owners in
-    let x' : length (b' .addresses) ≡ length (b .addresses) = y .addresses .size in
-    let v' : length (b' .values) ≡ length (b .values) = y .values .size in
-    let o' : length (b' .owners) ≡ length (b .owners) = y .owners .size in
-    record {
-      places = let k : placesIn p ≤ shortest (placesOf b') = omega arith in k;
-      words = let k : at + 5 + 3 * placesIn p ≤ length out = omega arith in k;
-    }
+    omega arith
+
+-- as many as before the step
+pub places-kept : {n k : ℕ} (b b' : Buffers) → k ≤ shortest (placesOf b) → Beyond n b b' → k ≤ shortest (placesOf b')
+unfolding shortest
+places-kept b b' h y =
+    let x : length (b' .addresses) ≡ length (b .addresses) = y .addresses .size in
+    let v : length (b' .values) ≡ length (b .values) = y .values .size in
+    let o : length (b' .owners) ≡ length (b .owners) = y .owners .size in
+    omega arith
 
 -- ---- the buffers
-
-unwritten : (ks ls : List ℕ) → Unmoved 0 ks ls → ls ≡ ks
-unwritten ks ls b = ext-getD 0 ls ks (b .size) (λ i h. b .same i (let k : 0 ≤ i = omega arith in k))
 
 map-tabFrom : {A B : Type 0} (f : A → B) (g : ℕ → A) (i n : ℕ) → map f (tabFrom g i n) ≡ tabFrom (λ (j : ℕ). f (g j)) i n
 unfolding tabFrom
@@ -63,47 +70,70 @@ filled ks ls n h b =
     ∙ ap (λ (xs : List ℕ). take n ls ++ xs) (d ∙ ap (λ (k : ℕ). drop k ks) (sym t ∙ sym (zero-add (length (take n ls)))))
     ∙ sym (sets-eq (take n ls) ks 0 (let k : 0 + length (take n ls) ≤ length ks = omega arith in k))
 
--- one buffer, by what its places hold of the rows
-shown-in : (f : Row Payload → ℕ) (p : Reply) (ks ls : List ℕ) (b : Buffers) → placesIn p ≤ length ks → Unmoved (placesIn p) ks ls
-    → ((n : ℕ) → n ≤ length ls → map f (rowsIn n b) ≡ take n ls) → ls ≡ listedIn f (replyIn p b) ks
-shown-in f reply.Granted ks ls b h u e = unwritten ks ls u
-shown-in f (reply.Value v o x) ks ls b h u e = unwritten ks ls u
-shown-in f (reply.Absent x) ks ls b h u e = unwritten ks ls u
-shown-in f (reply.Listed n) ks ls b h u e =
-    filled ks ls n h u ∙ ap (sets ks 0) (sym (e n (let s : length ls ≡ length ks = u .size in let k : n ≤ length ls = omega arith in k)))
-shown-in f (reply.Numbered n) ks ls b h u e = unwritten ks ls u
-shown-in f (reply.Counted n) ks ls b h u e = unwritten ks ls u
-shown-in f (reply.Refused r) ks ls b h u e = unwritten ks ls u
-
 module _ (b : Buffers) (n : ℕ) where
   column : (f : Row Payload → ℕ) (ls : List ℕ) → map f (rowsIn n b) ≡ tabFrom (λ (i : ℕ). getD ls i 0) 0 n → n ≤ length ls → map f (rowsIn n b) ≡ take n ls
   column f ls e h = e ∙ take-from ls 0 n (let k : 0 + n ≤ length ls = omega arith in k)
 
-  rows-addresses : n ≤ length (b .addresses) → map addressOf (rowsIn n b) ≡ take n (b .addresses)
+  rows-addresses : n ≤ length (b .addresses) → map (λ (r : Row Payload). r .key) (rowsIn n b) ≡ take n (b .addresses)
   unfolding rowsIn tab
-  rows-addresses = column addressOf (b .addresses) (map-tabFrom addressOf (rowIn b) 0 n)
+  rows-addresses = column (λ (r : Row Payload). r .key) (b .addresses) (map-tabFrom (λ (r : Row Payload). r .key) (rowIn b) 0 n)
 
-  rows-values : n ≤ length (b .values) → map valueOf (rowsIn n b) ≡ take n (b .values)
+  rows-values : n ≤ length (b .values) → map (λ (r : Row Payload). r .item .value) (rowsIn n b) ≡ take n (b .values)
   unfolding rowsIn tab
-  rows-values = column valueOf (b .values) (map-tabFrom valueOf (rowIn b) 0 n)
+  rows-values = column (λ (r : Row Payload). r .item .value) (b .values) (map-tabFrom (λ (r : Row Payload). r .item .value) (rowIn b) 0 n)
 
-  rows-owners : n ≤ length (b .owners) → map ownerOf (rowsIn n b) ≡ take n (b .owners)
+  rows-owners : n ≤ length (b .owners) → map (λ (r : Row Payload). r .item .owner) (rowsIn n b) ≡ take n (b .owners)
   unfolding rowsIn tab
-  rows-owners = column ownerOf (b .owners) (map-tabFrom ownerOf (rowIn b) 0 n)
+  rows-owners = column (λ (r : Row Payload). r .item .owner) (b .owners) (map-tabFrom (λ (r : Row Payload). r .item .owner) (rowIn b) 0 n)
 
-pub shown : (p : Reply) (s : Step) (w : Places) (b b' : Buffers) → placesIn p ≤ shortest w → Lends (placesOf b) w → Beyond (placesIn p) b b'
-    → BuffersBecome (event s (replyIn p b') ∷ []) b b'
+-- the first n places of the buffers and the first k bytes were written
+pub space-shown : (e : Exchange) (s s' : Space) (n k : ℕ) → shownBy e ≡ rowsIn n (s' .portion) → filedBy e ≡ take k (s' .bytes)
+    → n ≤ shortest (placesOf (s .portion)) → Beyond n (s .portion) (s' .portion) → k ≤ length (s .bytes) → Unmoved k (s .bytes) (s' .bytes)
+    → SpaceBecomes (e ∷ []) s s'
 unfolding leftIn shortest
-shown p s w b b' h n y =
-    let x : w .addresses ≤ length (b .addresses) = n .addresses in
-    let v : w .values ≤ length (b .values) = n .values in
-    let o : w .owners ≤ length (b .owners) = n .owners in
+space-shown e s s' n k q p h y i u =
+    let b = s .portion in
+    let b' = s' .portion in
+    let x : length (b' .addresses) ≡ length (b .addresses) = y .addresses .size in
+    let v : length (b' .values) ≡ length (b .values) = y .values .size in
+    let o : length (b' .owners) ≡ length (b .owners) = y .owners .size in
     record {
       addresses =
-          shown-in addressOf p (b .addresses) (b' .addresses) b' (let k : placesIn p ≤ length (b .addresses) = omega arith in k) (y .addresses)
-          (rows-addresses b');
+          filled (b .addresses) (b' .addresses) n (omega arith) (y .addresses)
+          ∙ ap (sets (b .addresses) 0) (sym (rows-addresses b' n (omega arith)) ∙ ap (map (λ (r : Row Payload). r .key)) (sym q));
       values =
-          shown-in valueOf p (b .values) (b' .values) b' (let k : placesIn p ≤ length (b .values) = omega arith in k) (y .values) (rows-values b');
+          filled (b .values) (b' .values) n (omega arith) (y .values)
+          ∙ ap (sets (b .values) 0) (sym (rows-values b' n (omega arith)) ∙ ap (map (λ (r : Row Payload). r .item .value)) (sym q));
       owners =
-          shown-in ownerOf p (b .owners) (b' .owners) b' (let k : placesIn p ≤ length (b .owners) = omega arith in k) (y .owners) (rows-owners b');
+          filled (b .owners) (b' .owners) n (omega arith) (y .owners)
+          ∙ ap (sets (b .owners) 0) (sym (rows-owners b' n (omega arith)) ∙ ap (map (λ (r : Row Payload). r .item .owner)) (sym q));
+      bytes = filled (s .bytes) (s' .bytes) k i u ∙ ap (sets (s .bytes) 0) (sym p);
     }
+
+-- ---- what a step shows
+
+pub reply-shown : (p : Reply) (b : Buffers) → scanned (replyIn p b) ≡ rowsIn (placesIn p) b
+unfolding scanned rowsIn tab tabFrom
+reply-shown reply.Granted b = refl
+reply-shown (reply.Value v o x) b = refl
+reply-shown (reply.Absent x) b = refl
+reply-shown (reply.Listed n) b = refl
+reply-shown (reply.Numbered n) b = refl
+reply-shown (reply.Counted n) b = refl
+reply-shown (reply.Refused r) b = refl
+
+pub export-shown : (a : ExportAnswer) (s : Space) → recordsGiven (exportAnswerIn a s) ≡ rowsIn (placesWritten a) (s .portion)
+unfolding recordsGiven exportAnswerIn placesWritten rowsIn tab tabFrom
+export-shown (export.Opened n) s = refl
+export-shown (export.Given n m) s = refl
+export-shown (export.Filed n) s = refl
+export-shown export.Closed s = refl
+export-shown (export.Refused r) s = refl
+
+pub export-filed : (a : ExportAnswer) (s : Space) → bytesOf (exportAnswerIn a s) ≡ take (bytesWritten a) (s .bytes)
+unfolding bytesOf exportAnswerIn bytesWritten
+export-filed (export.Opened n) s = refl
+export-filed (export.Given n m) s = refl
+export-filed (export.Filed n) s = refl
+export-filed export.Closed s = refl
+export-filed (export.Refused r) s = refl

@@ -2,28 +2,34 @@
 use Prim.Native.Nat.{ℕ}
 use mathlib.Core.Path.{_≡_, refl, sym, ap, _∙_, subst}
 use mathlib.Core.Bool.{Bool, false}
-use mathlib.Core.List.{List, [], _∷_, _++_}
+use mathlib.Core.List.{List, [], _∷_, _++_, map}
 use lib.ListN.{length}
 use Rattle.lists.specs.Rows.{Row, row}
 use Rattle.lists.specs.Texts.{Wrote}
+use Rattle.spec.specs.declared.Refusal.the-variants.{ShortBuffer, ExportOpen, NoExport}
 use Rattle.spec.specs.Records.{standard, Record}
 use Rattle.spec.specs.Leaves.{cuts}
 use Rattle.spec.specs.Slots.{homeSlot}
 use Rattle.spec.specs.Maps.{contents}
-use Rattle.spec.specs.Steps.{Places, shortest, State, Step, begin, read, scan, put, remove, lock, validate, install, abort, merge, mergeOldest, fresh, final, Event, stepsOf}
+use Rattle.spec.specs.Steps.{Places, places, shortest, firstCause, State, Step, begin, read, scan, put, remove, lock, validate, install, abort, merge, mergeOldest, Answer, done, numbered, fresh, final, Event}
 use Rattle.spec.specs.Computing.{model}
-use Rattle.spec.specs.Runs.{wide, owned, ownersTold, Run, home, leaves, script, starred, Holds}
+use Rattle.spec.specs.Files.{littleEndian, addressBytes, entryBytes, fileOf, fileSize}
+use Rattle.spec.specs.Exports.{ExportStep, openExport, portion, file, closeExport, declined, opened, given, filed, closed, exportOf, exportCauses, exportRefusal, exportGranted, exportEffect, exportAnswer, exportNext, Exporting, Request, job, exporting, Exchange, jobTold, exportTold, exchange, nextOf, startingAt, jobSteps}
+use Rattle.spec.specs.Runs.{wide, event, owned, ownersTold, Run, home, leaves, script, starred}
 use Rattle.map.specs.Views.{Lent, mapOf}
-use Rattle.ranges.specs.Buffers.{Buffers, placesOf}
+use Rattle.ranges.specs.Buffers.{placesOf}
+use Rattle.exports.specs.Exporting.{ExportedRows, Space}
 use Rattle.transactions.specs.Views.{Logs, stateOf}
 use Rattle.calls.specs.CallLaws.{map-in}
-use Rattle.codes.specs.Codes.{decodedScan, decodedPut, decodedAccess, decoded, decodedNumbered, listedWords, wordsOf}
-use Rattle.replay.specs.declared.runs.Stop.the-variants as stop
+use Rattle.codes.specs.Codes.{placesLent, decodedScan, decodedPut, decodedAccess, decoded, decodedNumbered, listedWords, wordsOf}
+use Rattle.codes.specs.ExportCodes.{decodedPortion, decodedFile, decodedExport, exportWords}
+use Rattle.replay.specs.declared.stops.Stop.the-variants as stop
 use Rattle.replay.specs.declared.runs.Replayed.{Replayed}
-use Rattle.replay.specs.Replays.{Ran, ran, allWords, Replays}
-use Rattle.replay.specs.LoopLaws.{ran-model}
+use Rattle.replay.specs.Replays.{asked, Ran, ran, toldWords, allWords, Replays}
+use Rattle.replay.specs.LoopLaws.{requestsOf, ran-final}
 
--- a step in coded form
+-- ---- steps in coded form
+
 abbrev pub codeFor : Step → List ℕ
 codeFor (begin w) = 0 ∷ w ∷ 0 ∷ 0 ∷ 0 ∷ 0 ∷ 0 ∷ []
 codeFor (read w k) = 1 ∷ w ∷ k ∷ 0 ∷ 0 ∷ 0 ∷ 0 ∷ []
@@ -37,60 +43,109 @@ codeFor (abort w) = 8 ∷ w ∷ 0 ∷ 0 ∷ 0 ∷ 0 ∷ 0 ∷ []
 codeFor (merge a) = 9 ∷ a ∷ 0 ∷ 0 ∷ 0 ∷ 0 ∷ 0 ∷ []
 codeFor mergeOldest = 10 ∷ 0 ∷ 0 ∷ 0 ∷ 0 ∷ 0 ∷ 0 ∷ []
 
-abbrev pub codesFor : List Event → List ℕ
+abbrev pub exportCode : ExportStep → List ℕ
+exportCode openExport = 11 ∷ 0 ∷ 0 ∷ 0 ∷ 0 ∷ 0 ∷ 0 ∷ []
+exportCode (portion b) = 12 ∷ 0 ∷ 0 ∷ 0 ∷ b .addresses ∷ b .values ∷ b .owners ∷ []
+exportCode (file n) = 13 ∷ 0 ∷ 0 ∷ 0 ∷ n ∷ 0 ∷ 0 ∷ []
+exportCode closeExport = 14 ∷ 0 ∷ 0 ∷ 0 ∷ 0 ∷ 0 ∷ 0 ∷ []
+
+abbrev pub codesFor : List Request → List ℕ
 codesFor [] = []
-codesFor (e ∷ es) = codeFor (e .step) ++ codesFor es
+codesFor (job s ∷ rs) = codeFor s ++ codesFor rs
+codesFor (exporting s ∷ rs) = exportCode s ++ codesFor rs
+
+-- ---- what is said of a row
 
 -- The outcome of a replay is the row's: every step is taken, the answers are written, the contents are left.
-pub record Shows (h : List Event) (rs : List (Row Record)) (out : List ℕ) (l : Lent) (out' : List ℕ) (r : Replayed) : Type 0 where
+pub record Shows (x : List Exchange) (rs : List (Row Record)) (out : List ℕ) (l : Lent) (out' : List ℕ) (r : Replayed) : Type 0 where
   pub complete : r .stop ≡ stop.Complete
-  pub answers : Wrote out 0 (allWords h) out' (r .written)
+  pub answers : Wrote out 0 (allWords x) out' (r .written)
   pub same-contents : contents (mapOf l (r .core .sizes)) ≡ rs
 
--- the words of room in what is said of the rows; the places are those in which every scan fits
+-- the words of room, and the bytes, in what is said of the rows; the places are those in which every scan fits
 abbrev pub room : ℕ
 room = 4096
 
--- what a row says of the engine: of every replay of its steps with so many places and so much room
+abbrev pub bytes : ℕ
+bytes = 64
+
+-- of every replay of these steps with so many places, so many bytes and so much room
+abbrev pub AllShow : Bool → List Exchange → List (Row Record) → Type 0
+AllShow b x rs =
+    (s : Space) (out : List ℕ) (l : Lent) (g : Logs) (xs : ExportedRows) (s' : Space) (out' : List ℕ) (r : Replayed)
+    → placesOf (s .portion) ≡ wide → length (s .bytes) ≡ bytes → length out ≡ room → Replays b (codesFor (requestsOf x)) s out l g xs s' out' r
+    → Shows x rs out l out' r
+
+-- what a row says of the engine
 abbrev pub HoldsOf : Run → Type 0
 HoldsOf (home a h) = homeSlot (standard .bytes) a ≡ h
 HoldsOf (leaves n ns) = cuts standard n ≡ ns
-HoldsOf (script b h rs) =
-    (d : Buffers) (out : List ℕ) (l : Lent) (g : Logs) (d' : Buffers) (out' : List ℕ) (r : Replayed)
-    → placesOf d ≡ wide → length out ≡ room → Replays b (codesFor h) d out l g d' out' r
-    → Shows h rs out l out' r
+HoldsOf (script b h rs) = AllShow b (map jobTold h) rs
 
 abbrev pub AllHoldOf : List Run → Type 0
 AllHoldOf [] = Unit {0}
 AllHoldOf (r ∷ rs) = HoldsOf r × AllHoldOf rs
 
--- a script's steps are all taken, and answered as the table says
-abbrev Runs : Bool → List Event → Type 0
-Runs b h = (ran wide (fresh standard b) room (codesFor h) .events ≡ h) × (ran wide (fresh standard b) room (codesFor h) .stop ≡ stop.Complete)
+-- the run of a row's steps in coded form
+abbrev runFor : Bool → List Exchange → Ran
+runFor b x = ran wide bytes (startingAt (fresh standard b)) room (codesFor (requestsOf x))
 
-shows : (b : Bool) (h : List Event) (rs : List (Row Record)) → Runs b h → Holds (script b h rs) → HoldsOf (script b h rs)
-shows b h rs e k d out l g d' out' r m o p =
-    let run = ran wide (fresh standard b) room (codesFor h) in
-    let same : ran (placesOf d) (fresh standard b) (length out) (codesFor h) ≡ run
-    = ap (λ (w : Places). ran w (fresh standard b) (length out) (codesFor h)) m
-    ∙ ap (λ (n : ℕ). ran wide (fresh standard b) n (codesFor h)) o in
-    let state : stateOf l g (r .core) ≡ final (fresh standard b) (stepsOf h)
-    = p .state
-    ∙ ap (λ (x : Ran). x .state) same
-    ∙ sym (ran-model wide (fresh standard b) room (codesFor h) .state)
-    ∙ ap (λ (es : List Event). final (fresh standard b) (stepsOf es)) (e .0) in
+-- its steps are all taken, and answered as the row says
+abbrev Runs : Bool → List Exchange → Type 0
+Runs b x = (runFor b x .told ≡ x) × (runFor b x .stop ≡ stop.Complete)
+
+shows : (b : Bool) (x : List Exchange) (rs : List (Row Record)) → Runs b x → contents (final (fresh standard b) (jobSteps (requestsOf x)) .map) ≡ rs → AllShow b x rs
+shows b x rs e k s out l g xs s' out' r m n o p =
+    let same : ran (placesOf (s .portion)) (length (s .bytes)) (startingAt (fresh standard b)) (length out) (codesFor (requestsOf x)) ≡ runFor b x
+    = λ i. ran (m i) (n i) (startingAt (fresh standard b)) (o i) (codesFor (requestsOf x)) in
+    let state : stateOf l g (r .core) ≡ final (fresh standard b) (jobSteps (requestsOf x))
+    = ap (λ (ξ : Exporting). ξ .state) (p .after ∙ ap (λ (y : Ran). y .after) same)
+    ∙ ran-final b wide bytes room (codesFor (requestsOf x))
+    ∙ ap (λ (es : List Exchange). final (fresh standard b) (jobSteps (requestsOf es))) (e .0) in
     record {
-      complete = p .stop ∙ ap (λ (x : Ran). x .stop) same ∙ e .1;
-      answers = subst (λ (es : List Event). Wrote out 0 (allWords es) out' (r .written)) (ap (λ (x : Ran). x .events) same ∙ e .0) (p .answers);
-      same-contents = ap contents (sym (map-in l g (r .core)) ∙ ap (λ (σ : State). σ .map) state) ∙ k .1;
+      complete = p .stop ∙ ap (λ (y : Ran). y .stop) same ∙ e .1;
+      answers = subst (λ (es : List Exchange). Wrote out 0 (allWords es) out' (r .written)) (ap (λ (y : Ran). y .told) same ∙ e .0) (p .answers);
+      same-contents = ap contents (sym (map-in l g (r .core)) ∙ ap (λ (σ : State). σ .map) state) ∙ k;
     }
 
 pub starred-replay : AllHoldOf starred
-unfolding model shortest ran decoded decodedNumbered decodedAccess decodedScan decodedPut wordsOf listedWords
+unfolding model shortest ran asked exchange nextOf jobSteps decoded decodedNumbered decodedAccess decodedScan placesLent decodedPut toldWords wordsOf listedWords
 starred-replay =
-    (refl, (refl, (refl, (refl, (refl, (refl, (refl, (shows _ _ _ (refl, refl) (refl, refl), (shows _ _ _ (refl, refl) (refl, refl), (shows _ _ _ (refl, refl) (refl, refl), (shows _ _ _ (refl, refl) (refl, refl), (shows _ _ _ (refl, refl) (refl, refl), (shows _ _ _ (refl, refl) (refl, refl), (shows _ _ _ (refl, refl) (refl, refl), tt))))))))))))))
+    (refl, (refl, (refl, (refl, (refl, (refl, (refl, (shows _ _ _ (refl, refl) refl, (shows _ _ _ (refl, refl) refl, (shows _ _ _ (refl, refl) refl, (shows _ _ _ (refl, refl) refl, (shows _ _ _ (refl, refl) refl, (shows _ _ _ (refl, refl) refl, (shows _ _ _ (refl, refl) refl, tt))))))))))))))
 
 -- Request 106's run too: owners in numbers, and a scan that the third buffer decides.
 pub owners-replay : HoldsOf (script false ownersTold (row 7 (record { payload = owned 5 65535; commit = 2 }) ∷ []))
-unfolding model shortest ran decoded decodedNumbered decodedAccess decodedScan decodedPut wordsOf listedWords
-owners-replay = shows _ _ _ (refl, refl) (refl, refl)
+unfolding model shortest ran asked exchange nextOf jobSteps decoded decodedNumbered decodedAccess decodedScan placesLent decodedPut toldWords wordsOf listedWords
+owners-replay = shows _ _ _ (refl, refl) refl
+
+-- Request 107's: an export held open while a job installs. It shows the contents at its opening, in portions and as a file.
+abbrev pub exportsTold : List Exchange
+exportsTold =
+    exportTold closeExport (declined NoExport)
+    ∷ jobTold (event (begin 0) done)
+    ∷ jobTold (event (put 0 7 (owned 5 9)) done)
+    ∷ jobTold (event (put 0 260 (owned 6 10)) done)
+    ∷ jobTold (event (lock 0) done)
+    ∷ jobTold (event (validate 0) (numbered 1))
+    ∷ jobTold (event (install 0) done)
+    ∷ exportTold openExport (opened 2)
+    ∷ jobTold (event (begin 1) done)
+    ∷ jobTold (event (remove 1 7) done)
+    ∷ jobTold (event (lock 1) done)
+    ∷ jobTold (event (validate 1) (numbered 2))
+    ∷ jobTold (event (install 1) done)
+    ∷ exportTold openExport (declined ExportOpen)
+    ∷ exportTold (portion (places 3 3 0)) (given [] 2)
+    ∷ exportTold (portion (places 1 3 2)) (given (row 7 (owned 5 9) ∷ []) 1)
+    ∷ exportTold (file 35) (declined ShortBuffer)
+    ∷ exportTold (file 40)
+    (filed (2 ∷ 0 ∷ 0 ∷ 0 ∷ 10 ∷ 0 ∷ 0 ∷ 0 ∷ 7 ∷ 0 ∷ 0 ∷ 0 ∷ 4 ∷ 1 ∷ 0 ∷ 0 ∷ 5 ∷ 0 ∷ 0 ∷ 0 ∷ 0 ∷ 0 ∷ 0 ∷ 0 ∷ 9 ∷ 0 ∷ 6 ∷ 0 ∷ 0 ∷ 0 ∷ 0 ∷ 0 ∷ 0 ∷ 0 ∷ 10 ∷ 0 ∷ []))
+    ∷ exportTold (portion (places 3 3 3)) (given (row 260 (owned 6 10) ∷ []) 0)
+    ∷ exportTold closeExport closed
+    ∷ exportTold (portion (places 3 3 3)) (declined NoExport)
+    ∷ exportTold openExport (opened 1)
+    ∷ []
+
+pub exports-replay : AllShow false exportsTold (row 260 (record { payload = owned 6 10; commit = 1 }) ∷ [])
+unfolding model shortest ran asked exchange nextOf jobSteps decoded decodedNumbered decodedAccess decodedScan placesLent decodedPut toldWords wordsOf listedWords decodedExport decodedPortion decodedFile exportWords exportOf exportCauses exportRefusal exportGranted exportEffect exportAnswer exportNext firstCause littleEndian addressBytes entryBytes fileOf fileSize
+exports-replay = shows _ _ _ (refl, refl) refl

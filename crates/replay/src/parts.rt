@@ -13,8 +13,7 @@ ghost use Rattle.spec.specs.Steps.{places};
 ghost use Rattle.map.specs.Views.{lent};
 ghost use Rattle.transactions.specs.Views.{logs};
 ghost use Rattle.transactions.specs.Ready.{Ready};
-ghost use Rattle.ranges.specs.Buffers.{buffers, placesOf};
-ghost use Rattle.codes.specs.CodeLaws.{Lends};
+ghost use Rattle.ranges.specs.Buffers.{buffers, placesOf, Lends};
 ghost use Rattle.replay.specs.CodedSteps.{PerformsFirst};
 
 // Performs a step with the first m places of the address buffer, the first n of the value buffer and the first q of the owner

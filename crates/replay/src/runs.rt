@@ -1,10 +1,12 @@
-// A list of steps in coded form, run from a fresh map.
-use crate::parts;
+// A list of steps in coded form, run from a fresh map with no export open.
+use crate::exporting;
+use crate::jobs;
+use crate::stops::Stop;
 use codes::Code;
+use codes::FIRST_EXPORT;
 use codes::STEP_WORDS;
-use codes::decodes;
-use codes::decodes::Decoded;
-use codes::words;
+use exports::Export;
+use exports::Exported;
 use map::Leaves;
 use map::Records;
 use map::Slots;
@@ -14,57 +16,35 @@ use sets::WriteSets;
 use transactions::Core;
 use transactions::starts;
 ghost use mathlib.Core.Path.{_≡_};
-ghost use mathlib.Core.Bool.{not};
+ghost use mathlib.Core.Option.{none};
 ghost use Prim.Native.Nat.{_+_, _*_, _%_, _^_, _<_, _≤_};
 ghost use lib.ListN.{length};
-ghost use Rattle.lists.specs.Tests.{less};
-ghost use Rattle.spec.specs.Steps.{places};
 ghost use Rattle.map.specs.Views.{lent};
 ghost use Rattle.transactions.specs.Views.{logs};
 ghost use Rattle.transactions.specs.Ready.{Ready};
 ghost use Rattle.transactions.specs.Starts.{Fresh};
 ghost use Rattle.ranges.specs.Buffers.{buffers};
-ghost use Rattle.replay.specs.Replays.{stepWords, longestAnswer, Replays};
+ghost use Rattle.exports.specs.Exporting.{exportIn, ExportHeld, space};
+ghost use Rattle.replay.specs.Replays.{stepWords, whole, Replays};
 ghost use Rattle.replay.specs.RunLaws.{codeAt, TakesCode};
 ghost use Rattle.replay.specs.LoopLaws.{restStop};
 
-// Why no more steps were taken: there are none; a code has no meaning; the answer buffer has no room for its longest answer.
-pub enum Stop {
-    Complete,
-    Meaningless,
-    Full,
-}
-
-// The core after the steps, how many were taken, how many words of answers were written, and why no more.
+// The core and the export's numbers after the steps, how many were taken, how many words of answers were written, and why no
+// more.
 pub struct Replayed {
     pub core: Core,
+    pub export: Export,
     pub taken: usize,
     pub written: usize,
     pub stop: Stop,
 }
 
-// After one code: the core, the place after the answers, and whether it was taken (complete).
+// After one code: the core and the export's numbers, the place after the answers, and whether it was taken (complete).
 struct AfterCode {
     core: Core,
+    export: Export,
     at: usize,
     stop: Stop,
-}
-
-// There is room for the longest answer of a step that wants m, n and q places: one of these numbers is small enough.
-fn fits(room: usize, m: usize, n: usize, q: usize) -> bool
-    ensures { λ r. ⌜ r ≡ not (less room (longestAnswer (places m n q))) ⌝ }
-{
-    if room < 5 {
-        return false;
-    }
-    let third = (room - 5) / 3;
-    if m <= third {
-        return true;
-    }
-    if n <= third {
-        return true;
-    }
-    q <= third
 }
 
 // The code at place i, which is not the largest number.
@@ -84,70 +64,81 @@ fn code_at(steps: &[u64], i: usize) -> Code
     }
 }
 
-// One code: takes its step and writes the answer, or says why not.
+// One code: a job's step, which leaves the export, or an export's, which leaves the map.
 fn take_code(
     out: &mut [u64],
     addresses: &mut [u32],
     values: &mut [u64],
     owners: &mut [u16],
+    bytes: &mut [u8],
     rows: &mut Records,
     leaves: &mut Leaves,
     slots: &mut Slots,
     reads: &mut ReadSets,
     leafsets: &mut LeafSets,
     writes: &mut WriteSets,
+    exported: &mut Exported,
     c: Core,
+    x: Export,
     k: Code,
     at: usize,
 ) -> AfterCode
     requires { ⌜ Ready (lent (now rows) (now leaves) (now slots)) (logs (now reads) (now leafsets) (now writes)) c ⌝ }
-    requires { ⌜ at ≤ length (now out) ⌝ }
-    ensures { λ r. ⌜ TakesCode (lent (now (rows .entry)) (now (leaves .entry)) (now (slots .entry)))
-        (logs (now (reads .entry)) (now (leafsets .entry)) (now (writes .entry))) c k
-        (buffers (now (addresses .entry)) (now (values .entry)) (now (owners .entry))) (now (out .entry)) at
-        (lent (now (rows .exit)) (now (leaves .exit)) (now (slots .exit))) (logs (now (reads .exit)) (now (leafsets .exit)) (now (writes .exit)))
-        (buffers (now (addresses .exit)) (now (values .exit)) (now (owners .exit))) (now (out .exit)) r ⌝ }
+    requires { ⌜ (at ≤ length (now out)) × ExportHeld x ⌝ }
+    ensures { λ r. ⌜ TakesCode (whole (lent (now (rows .entry)) (now (leaves .entry)) (now (slots .entry)))
+        (logs (now (reads .entry)) (now (leafsets .entry)) (now (writes .entry))) c (now (exported .entry)) x) k
+        (space (buffers (now (addresses .entry)) (now (values .entry)) (now (owners .entry))) (now (bytes .entry))) (now (out .entry)) at
+        (whole (lent (now (rows .exit)) (now (leaves .exit)) (now (slots .exit)))
+        (logs (now (reads .exit)) (now (leafsets .exit)) (now (writes .exit))) (r .core) (now (exported .exit)) (r .export))
+        (space (buffers (now (addresses .exit)) (now (values .exit)) (now (owners .exit))) (now (bytes .exit))) (now (out .exit)) (r .at) (r .stop) ⌝ }
 {
-    let d = decodes::decode(k, addresses.len(), values.len(), owners.len());
-    match d {
-        Decoded::Meant(op, m, n, q) => {
-            if !fits(out.len() - at, m, n, q) {
-                return AfterCode {
-                    core: c,
-                    at,
-                    stop: Stop::Full,
-                };
-            }
-            let p = parts::perform_first(
-                addresses,
-                values,
-                owners,
-                rows,
-                leaves,
-                slots,
-                reads,
-                leafsets,
-                writes,
-                c,
-                op,
-                m,
-                n,
-                q,
-            );
-            let core = p.core;
-            let reply = p.reply;
-            let next = words::put_answer_words(out, at, addresses, values, owners, reply);
-            AfterCode {
-                core,
-                at: next,
-                stop: Stop::Complete,
-            }
-        }
-        Decoded::Meaningless => AfterCode {
-            core: c,
+    if k.kind < FIRST_EXPORT {
+        let t = jobs::take_job(
+            out,
+            addresses,
+            values,
+            owners,
+            rows,
+            leaves,
+            slots,
+            reads,
+            leafsets,
+            writes,
+            c,
+            k,
             at,
-            stop: Stop::Meaningless,
-        },
+        );
+        let core = t.core;
+        let stop = t.stop;
+        return AfterCode {
+            core,
+            export: x,
+            at: t.at,
+            stop,
+        };
+    }
+    let sizes = c.sizes;
+    let t = exporting::take_export(
+        out,
+        addresses,
+        values,
+        owners,
+        bytes,
+        exported,
+        rows,
+        slots,
+        sizes.records,
+        x,
+        k,
+        at,
+    );
+    let export = t.export;
+    let stop = t.stop;
+    AfterCode {
+        core: c,
+        export,
+        at: t.at,
+        stop,
     }
 }
 
@@ -161,29 +152,34 @@ fn last_stop(steps: &[u64]) -> Stop
     Stop::Meaningless
 }
 
-// All codes, one after the other, on a fresh map.
+// All codes, one after the other, on a fresh map with no export open.
 fn take_all(
     out: &mut [u64],
     addresses: &mut [u32],
     values: &mut [u64],
     owners: &mut [u16],
+    bytes: &mut [u8],
     rows: &mut Records,
     leaves: &mut Leaves,
     slots: &mut Slots,
     reads: &mut ReadSets,
     leafsets: &mut LeafSets,
     writes: &mut WriteSets,
+    exported: &mut Exported,
     steps: &[u64],
     start: Core,
+    first: Export,
 ) -> Replayed
     requires { ⌜ Fresh (lent (now rows) (now leaves) (now slots)) (logs (now reads) (now leafsets) (now writes)) (start .guarded) start ⌝ }
+    requires { ⌜ (exportIn (now exported) first ≡ none) × ExportHeld first ⌝ }
     ensures { λ r. ⌜ Replays (start .guarded) (now (steps .entry))
-        (buffers (now (addresses .entry)) (now (values .entry)) (now (owners .entry))) (now (out .entry))
-        (lent (now (rows .exit)) (now (leaves .exit)) (now (slots .exit))) (logs (now (reads .exit)) (now (leafsets .exit)) (now (writes .exit)))
-        (buffers (now (addresses .exit)) (now (values .exit)) (now (owners .exit))) (now (out .exit)) r ⌝ }
+        (space (buffers (now (addresses .entry)) (now (values .entry)) (now (owners .entry))) (now (bytes .entry))) (now (out .entry))
+        (lent (now (rows .exit)) (now (leaves .exit)) (now (slots .exit))) (logs (now (reads .exit)) (now (leafsets .exit)) (now (writes .exit))) (now (exported .exit))
+        (space (buffers (now (addresses .exit)) (now (values .exit)) (now (owners .exit))) (now (bytes .exit))) (now (out .exit)) r ⌝ }
 {
     let count = steps.len() / STEP_WORDS;
     let mut core = start;
+    let mut export = first;
     let mut at = 0;
     let mut i = 0;
     while i < count {
@@ -193,27 +189,33 @@ fn take_all(
             addresses,
             values,
             owners,
+            bytes,
             rows,
             leaves,
             slots,
             reads,
             leafsets,
             writes,
+            exported,
             core,
+            export,
             k,
             at,
         );
         let stop = t.stop;
         let after = t.core;
+        let exporting = t.export;
         match stop {
             Stop::Complete => {
                 core = after;
+                export = exporting;
                 at = t.at;
                 i += 1;
             }
             Stop::Meaningless => {
                 return Replayed {
                     core: after,
+                    export: exporting,
                     taken: i,
                     written: t.at,
                     stop: Stop::Meaningless,
@@ -222,6 +224,7 @@ fn take_all(
             Stop::Full => {
                 return Replayed {
                     core: after,
+                    export: exporting,
                     taken: i,
                     written: t.at,
                     stop: Stop::Full,
@@ -232,6 +235,7 @@ fn take_all(
     let stop = last_stop(steps);
     Replayed {
         core,
+        export,
         taken: i,
         written: at,
         stop,
@@ -239,39 +243,45 @@ fn take_all(
 }
 
 // Runs a list of steps, STEP_WORDS words to each (`Code`), from a fresh map in the lent arrays, guarded or not, whatever they hold,
-// and writes the answers one after the other. The buffers may have any lengths.
+// with no export open, and writes the answers one after the other. The buffers and the bytes may have any lengths.
 pub fn replay(
     out: &mut [u64],
     addresses: &mut [u32],
     values: &mut [u64],
     owners: &mut [u16],
+    bytes: &mut [u8],
     rows: &mut Records,
     leaves: &mut Leaves,
     slots: &mut Slots,
     reads: &mut ReadSets,
     leafsets: &mut LeafSets,
     writes: &mut WriteSets,
+    exported: &mut Exported,
     steps: &[u64],
     guarded: bool,
 ) -> Replayed
     ensures { λ r. ⌜ Replays guarded (now (steps .entry))
-        (buffers (now (addresses .entry)) (now (values .entry)) (now (owners .entry))) (now (out .entry))
-        (lent (now (rows .exit)) (now (leaves .exit)) (now (slots .exit))) (logs (now (reads .exit)) (now (leafsets .exit)) (now (writes .exit)))
-        (buffers (now (addresses .exit)) (now (values .exit)) (now (owners .exit))) (now (out .exit)) r ⌝ }
+        (space (buffers (now (addresses .entry)) (now (values .entry)) (now (owners .entry))) (now (bytes .entry))) (now (out .entry))
+        (lent (now (rows .exit)) (now (leaves .exit)) (now (slots .exit))) (logs (now (reads .exit)) (now (leafsets .exit)) (now (writes .exit))) (now (exported .exit))
+        (space (buffers (now (addresses .exit)) (now (values .exit)) (now (owners .exit))) (now (bytes .exit))) (now (out .exit)) r ⌝ }
 {
     let start = starts::fresh_state(rows, leaves, slots, reads, leafsets, writes, guarded);
+    let first = exports::no_export();
     take_all(
         out,
         addresses,
         values,
         owners,
+        bytes,
         rows,
         leaves,
         slots,
         reads,
         leafsets,
         writes,
+        exported,
         steps,
         start,
+        first,
     )
 }

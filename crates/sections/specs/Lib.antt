@@ -1,4 +1,4 @@
 pub mod Saved
 pub mod SavedLaws
-pub mod Exports
-pub mod ExportLaws
+pub mod Entries
+pub mod EntryLaws

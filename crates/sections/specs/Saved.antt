@@ -1,5 +1,6 @@
 -- The core in rows of words: for each seat its stage (0 free, 1 open, 2 locked, 3 checked), its number and the counts of its
 -- three sets; then the four sizes; then the three counters, and 1 if the map is guarded. A seat's number is the low 32 bits of its word, a count the low 8.
+-- The numbers of an export have three words of their own.
 use Prim.Native.Nat.{ℕ, _+_, _%_, _^_}
 use mathlib.Core.Path.{_≡_}
 use mathlib.Core.Bool.{Bool}
@@ -14,6 +15,7 @@ use Rattle.sets.specs.declared.workers.Worker.{Worker}
 use Rattle.sets.specs.Sets.{firstRows}
 use Rattle.map.specs.declared.Sizes.{Sizes}
 use Rattle.counters.specs.declared.Counters.{Counters}
+use Rattle.exports.specs.declared.Export.{Export}
 use Rattle.transactions.specs.declared.Core.{Core}
 
 unfoldable pub stageOf : ℕ → Stage
@@ -62,3 +64,7 @@ savedCore rs =
 pub record Seated (rs : List (List ℕ)) (xs : List Worker) : Type 0 where
   pub rows : length rs ≡ standard .workers + 2
   pub workers : savedWorkers rs ≡ xs
+
+-- an export: 1 if it is open, how many records it has, how many of them portions have given
+unfoldable pub savedExport : List ℕ → Export
+savedExport ws = record { «open» = eqb (getD ws 0 0) 1; count = getD ws 1 0; taken = getD ws 2 0 }

@@ -1,10 +1,11 @@
--- The core is read from its rows, and put into them.
+-- The core is read from its rows, and put into them; so are the numbers of an export.
 use Prim.Native.Nat.{ℕ, _+_, _%_, _^_, _<_, _≤_}
 use native.Mathlib.Nat.{not-suc-le-zero}
 use native.Mathlib.Omega.{arith}
 use mathlib.Core.Path.{_≡_, refl, sym, ap, _∙_}
 use mathlib.Core.Logic.{⊎-elim}
 use mathlib.Core.List.{List, [], _∷_}
+use lib.Dec.{eqb}
 use lib.ListN.{length, getD, set, length-set}
 use mir.Val.{boolByte}
 use lib.Seq.{ext-getD, getD-set-same, getD-set-other}
@@ -19,8 +20,9 @@ use Rattle.sets.specs.Sets.{firstRows}
 use Rattle.sets.specs.ReadLaws.{flag-back}
 use Rattle.sets.specs.SetLaws.{length-rows, row-at}
 use Rattle.map.specs.declared.Sizes.{Sizes}
+use Rattle.exports.specs.declared.Export.{Export}
 use Rattle.transactions.specs.declared.Core.{Core}
-use Rattle.sections.specs.Saved.{stageOf, stageNumber, savedWorker, savedWorkers, savedSizes, savedCounters, savedGuarded, savedCore, Seated}
+use Rattle.sections.specs.Saved.{stageOf, stageNumber, savedWorker, savedWorkers, savedSizes, savedCounters, savedGuarded, savedCore, Seated, savedExport}
 
 -- ---- a seat
 
@@ -147,3 +149,13 @@ module _ (core : Core) (rs : List (List ℕ)) where
         counters = savedCounters (getD-set-same withSizes (standard .workers + 1) (countersRow core) [] (omega arith) i);
         guarded = (ap savedGuarded (getD-set-same withSizes (standard .workers + 1) (countersRow core) [] (omega arith)) ∙ flag-back (core .guarded)) i;
       }
+
+-- ---- an export
+
+pub export-read : (ws : List ℕ) {n m : ℕ} → n ≡ getD ws 1 0 → m ≡ getD ws 2 0 → record { «open» = eqb (getD ws 0 0) 1; count = n; taken = m } ≡ savedExport ws
+unfolding savedExport
+export-read ws e f = λ i. record { «open» = eqb (getD ws 0 0) 1; count = e i; taken = f i }
+
+pub export-put : (x : Export) → savedExport (boolByte (x .open) ∷ x .count ∷ x .taken ∷ []) ≡ x
+unfolding savedExport
+export-put x = λ i. record { «open» = flag-back (x .open) i; count = x .count; taken = x .taken }

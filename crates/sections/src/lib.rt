@@ -1,33 +1,45 @@
-// The map for programs in other languages, as a static library. All state lies in arrays of rows that the caller lends: the
-// engine's six, and the core (`saved::Saved`). The caller keeps them as the last call left them, and begins with
-// `sections_fresh`.
+// The map for programs in other languages, as a static library. All state lies in arrays that the caller lends: the engine's
+// six of rows, the core (`saved::Saved`), and of an export (request 107) its numbers (`saved::ExportWords`) and its records
+// (`exports::Exported`). The caller keeps them as the last call left them, and begins with `sections_fresh`.
 mod saved;
 
+use crate::saved::ExportWords;
 use crate::saved::Saved;
 use codes::Code;
 use codes::Coded;
 use codes::StepWords;
+use codes::words;
+use exports::ExportDone;
+use exports::Exported;
 use map::Leaves;
 use map::Records;
 use map::Slots;
 use queries::Next;
 use replay::runs;
-use replay::runs::Stop;
 use replay::steps;
+use replay::stops::Stop;
 use sets::LeafSets;
 use sets::ReadSets;
 use sets::WriteSets;
 use spec::OWNERS;
 use transactions::starts;
 ghost use mathlib.Core.Path.{_≡_};
+ghost use mathlib.Core.List.{List};
+ghost use mathlib.Core.Option.{none};
+ghost use Prim.Native.Nat.{ℕ};
+ghost use lib.ListN.{length};
+ghost use Rattle.lists.specs.Rows.{Row};
+ghost use Rattle.spec.specs.Records.{Record};
+ghost use Rattle.spec.specs.Exports as model;
 ghost use Rattle.map.specs.Views.{lent};
 ghost use Rattle.transactions.specs.Views.{logs};
 ghost use Rattle.transactions.specs.Ready.{Ready};
 ghost use Rattle.transactions.specs.Starts.{Fresh};
-ghost use Rattle.ranges.specs.Buffers.{buffers};
+ghost use Rattle.ranges.specs.Buffers.{Buffers, buffers, placesOf};
+ghost use Rattle.exports.specs.Exporting.{ExportedRows, exportIn, ExportHeld, Space, space};
 ghost use Rattle.replay.specs.Replays.{Replays};
-ghost use Rattle.sections.specs.Saved.{savedCore};
-ghost use Rattle.sections.specs.Exports.{codeIn, codedIn, ExportedStep, stopNumber, CountsAre, replayedIn, NextRecord};
+ghost use Rattle.sections.specs.Saved.{savedCore, savedExport};
+ghost use Rattle.sections.specs.Entries.{codeIn, codedIn, StepEntry, stopNumber, CountsAre, replayedIn, contentsIn, NextRecord, DoneIn, ExportEntry};
 
 // An answer in words.
 pub const ANSWER_WORDS: usize = 5;
@@ -44,10 +56,11 @@ pub const FOUND_WORDS: usize = 4;
 
 pub type FoundWords = [u64; FOUND_WORDS];
 
-// Makes the arrays a fresh map, guarded or not (request 102), whatever they hold.
+// Makes the arrays a fresh map, guarded or not (request 102), with no export open, whatever they hold.
 #[no_mangle]
 pub extern "C" fn sections_fresh(
     core: &mut Saved,
+    export: &mut ExportWords,
     rows: &mut Records,
     leaves: &mut Leaves,
     slots: &mut Slots,
@@ -57,15 +70,18 @@ pub extern "C" fn sections_fresh(
     guarded: bool,
 )
     ensures { λ _. ⌜ Fresh (lent (now (rows .exit)) (now (leaves .exit)) (now (slots .exit))) (logs (now (reads .exit)) (now (leafsets .exit)) (now (writes .exit))) guarded (savedCore (now (core .exit))) ⌝ }
+    ensures { λ _. ⌜ ((rows : ExportedRows) → exportIn rows (savedExport (now (export .exit))) ≡ none) × ExportHeld (savedExport (now (export .exit))) ⌝ }
 {
     let c = starts::fresh_state(rows, leaves, slots, reads, leafsets, writes, guarded);
     saved::store(core, c);
+    let x = exports::no_export();
+    saved::store_export(export, x);
 }
 
 fn put_answer(answer: &mut AnswerWords, a: Coded)
     ensures { λ _. ⌜ codedIn (now (answer .exit)) ≡ a ⌝ }
 {
-    let all = [a.number, a.told, a.value, a.owner, a.examined];
+    let all = [a.number, a.told, a.value, a.beside, a.examined];
     *answer = all;
 }
 
@@ -101,7 +117,7 @@ pub extern "C" fn sections_step(
     step: &StepWords,
 )
     requires { ⌜ Ready (lent (now rows) (now leaves) (now slots)) (logs (now reads) (now leafsets) (now writes)) (savedCore (now core)) ⌝ }
-    ensures { λ _. ⌜ ExportedStep (lent (now (rows .entry)) (now (leaves .entry)) (now (slots .entry)))
+    ensures { λ _. ⌜ StepEntry (lent (now (rows .entry)) (now (leaves .entry)) (now (slots .entry)))
         (logs (now (reads .entry)) (now (leafsets .entry)) (now (writes .entry))) (now (core .entry)) (codeIn (now (step .entry))) (buffers (now (addresses .entry)) (now (values .entry)) (now (owners .entry)))
         (lent (now (rows .exit)) (now (leaves .exit)) (now (slots .exit))) (logs (now (reads .exit)) (now (leafsets .exit)) (now (writes .exit))) (now (core .exit))
         (buffers (now (addresses .exit)) (now (values .exit)) (now (owners .exit))) (now (answer .exit)) ⌝ }
@@ -144,9 +160,9 @@ fn put_counts(counts: &mut CountWords, taken: usize, written: usize)
     *counts = all;
 }
 
-// A list of steps, seven numbers to each, from a fresh map, guarded or not (`replay::runs::replay`, whose promise is
-// demand 3). It counts the steps taken and the words of answers written, and returns why no more were taken: 0 there are
-// none, 1 a code has no meaning, 2 no room for answers.
+// A list of steps, seven numbers to each, those of exports among them, from a fresh map, guarded or not, with no export open
+// (`replay::runs::replay`, whose promise is demand 3). It counts the steps taken and the words of answers written, and returns
+// why no more were taken: 0 there are none, 1 a code has no meaning, 2 no room for answers.
 #[no_mangle]
 pub extern "C" fn sections_replay(
     counts: &mut CountWords,
@@ -154,7 +170,10 @@ pub extern "C" fn sections_replay(
     addresses: &mut [u32],
     values: &mut [u64],
     owners: &mut [u16],
+    bytes: &mut [u8],
     core: &mut Saved,
+    export: &mut ExportWords,
+    exported: &mut Exported,
     rows: &mut Records,
     leaves: &mut Leaves,
     slots: &mut Slots,
@@ -164,27 +183,33 @@ pub extern "C" fn sections_replay(
     steps: &[u64],
     guarded: bool,
 ) -> u64
-    ensures { λ r. ⌜ Replays guarded (now (steps .entry)) (buffers (now (addresses .entry)) (now (values .entry)) (now (owners .entry))) (now (out .entry))
-        (lent (now (rows .exit)) (now (leaves .exit)) (now (slots .exit))) (logs (now (reads .exit)) (now (leafsets .exit)) (now (writes .exit)))
-        (buffers (now (addresses .exit)) (now (values .exit)) (now (owners .exit))) (now (out .exit)) (replayedIn (now (core .exit)) (now (counts .exit)) r) ⌝ }
+    ensures { λ r. ⌜ Replays guarded (now (steps .entry))
+        (space (buffers (now (addresses .entry)) (now (values .entry)) (now (owners .entry))) (now (bytes .entry))) (now (out .entry))
+        (lent (now (rows .exit)) (now (leaves .exit)) (now (slots .exit))) (logs (now (reads .exit)) (now (leafsets .exit)) (now (writes .exit))) (now (exported .exit))
+        (space (buffers (now (addresses .exit)) (now (values .exit)) (now (owners .exit))) (now (bytes .exit))) (now (out .exit))
+        (replayedIn (now (core .exit)) (now (export .exit)) (now (counts .exit)) r) ⌝ }
 {
     let p = runs::replay(
         out,
         addresses,
         values,
         owners,
+        bytes,
         rows,
         leaves,
         slots,
         reads,
         leafsets,
         writes,
+        exported,
         steps,
         guarded,
     );
     let c = p.core;
+    let x = p.export;
     let stop = p.stop;
     saved::store(core, c);
+    saved::store_export(export, x);
     put_counts(counts, p.taken, p.written);
     stop_number(stop)
 }
@@ -226,4 +251,92 @@ pub extern "C" fn sections_next(
         }
         Next::Done => false,
     }
+}
+
+// Keeps the numbers of the export after a step, and tells its answer in five numbers (`Coded`).
+fn put_done(answer: &mut AnswerWords, export: &mut ExportWords, d: ExportDone)
+    ensures { λ _. ⌜ DoneIn (now (export .exit)) (now (answer .exit)) d ⌝ }
+{
+    let next = d.export;
+    let told = d.answer;
+    saved::store_export(export, next);
+    let a = words::encode_export(told);
+    put_answer(answer, a);
+}
+
+// Opens an export of the contents (request 107): its records go to `exported`, which no step of a job touches.
+#[no_mangle]
+pub extern "C" fn sections_open_export(
+    answer: &mut AnswerWords,
+    export: &mut ExportWords,
+    exported: &mut Exported,
+    core: &Saved,
+    rows: &Records,
+    leaves: &Leaves,
+    slots: &Slots,
+    reads: &ReadSets,
+    leafsets: &LeafSets,
+    writes: &WriteSets,
+)
+    requires { ⌜ Ready (lent (now rows) (now leaves) (now slots)) (logs (now reads) (now leafsets) (now writes)) (savedCore (now core)) ⌝ }
+    requires { ⌜ ExportHeld (savedExport (now export)) ⌝ }
+    ensures { λ _. ⌜ ((s : Space) → ExportEntry (contentsIn (lent (now (rows .entry)) (now (leaves .entry)) (now (slots .entry))) (now (core .entry))) model.openExport
+        (now (exported .entry)) (now (export .entry)) s (now (exported .exit)) (now (export .exit)) s (now (answer .exit))) ⌝ }
+{
+    let c = saved::load(core);
+    let sizes = c.sizes;
+    let x = saved::load_export(export);
+    let d = exports::open_export(exported, rows, slots, sizes.records, x);
+    put_done(answer, export, d);
+}
+
+// Gives the next records of the export in the first places of the buffers, as many as there are and as the shortest holds.
+#[no_mangle]
+pub extern "C" fn sections_portion(
+    answer: &mut AnswerWords,
+    addresses: &mut [u32],
+    values: &mut [u64],
+    owners: &mut [u16],
+    export: &mut ExportWords,
+    exported: &Exported,
+)
+    requires { ⌜ ExportHeld (savedExport (now export)) ⌝ }
+    ensures { λ _. ⌜ ((contents : List (Row Record)) (bs : List ℕ) → ExportEntry contents
+        (model.portion (placesOf (buffers (now (addresses .entry)) (now (values .entry)) (now (owners .entry)))))
+        (now (exported .entry)) (now (export .entry)) (space (buffers (now (addresses .entry)) (now (values .entry)) (now (owners .entry))) bs)
+        (now (exported .entry)) (now (export .exit)) (space (buffers (now (addresses .exit)) (now (values .exit)) (now (owners .exit))) bs) (now (answer .exit))) ⌝ }
+{
+    let x = saved::load_export(export);
+    let d = exports::portion(addresses, values, owners, exported, x);
+    put_done(answer, export, d);
+}
+
+// Writes the whole export as a file into the first bytes, whatever portions were taken.
+#[no_mangle]
+pub extern "C" fn sections_file(
+    answer: &mut AnswerWords,
+    bytes: &mut [u8],
+    export: &mut ExportWords,
+    exported: &Exported,
+)
+    requires { ⌜ ExportHeld (savedExport (now export)) ⌝ }
+    ensures { λ _. ⌜ ((contents : List (Row Record)) (b : Buffers) → ExportEntry contents (model.file (length (now (bytes .entry))))
+        (now (exported .entry)) (now (export .entry)) (space b (now (bytes .entry)))
+        (now (exported .entry)) (now (export .exit)) (space b (now (bytes .exit))) (now (answer .exit))) ⌝ }
+{
+    let x = saved::load_export(export);
+    let d = exports::file(bytes, exported, x);
+    put_done(answer, export, d);
+}
+
+// Closes the export.
+#[no_mangle]
+pub extern "C" fn sections_close_export(answer: &mut AnswerWords, export: &mut ExportWords)
+    requires { ⌜ ExportHeld (savedExport (now export)) ⌝ }
+    ensures { λ _. ⌜ ((contents : List (Row Record)) (rows : ExportedRows) (s : Space) → ExportEntry contents model.closeExport
+        rows (now (export .entry)) s rows (now (export .exit)) s (now (answer .exit))) ⌝ }
+{
+    let x = saved::load_export(export);
+    let d = exports::close_export(x);
+    put_done(answer, export, d);
 }

@@ -1,6 +1,8 @@
 // The core in lent words: what goes by value between Rattle functions, another language keeps in an array. A row for each
-// seat, then one for the sizes, and one for the counters and whether the map is guarded (1 or 0).
+// seat, then one for the sizes, and one for the counters and whether the map is guarded (1 or 0). The numbers of an export
+// lie in words of their own.
 use counters::Counters;
+use exports::Export;
 use map::Sizes;
 use sets::workers::Worker;
 use spec::Stage;
@@ -10,7 +12,7 @@ ghost use mathlib.Core.Path.{_≡_};
 ghost use Prim.Native.Nat.{_%_, _^_, _<_};
 ghost use lib.ListN.{length};
 ghost use Rattle.spec.specs.Records.{standard};
-ghost use Rattle.sections.specs.Saved.{stageOf, stageNumber, savedWorker, savedWorkers, savedSizes, savedCore, Seated};
+ghost use Rattle.sections.specs.Saved.{stageOf, stageNumber, savedWorker, savedWorkers, savedSizes, savedCore, Seated, savedExport};
 
 // How many words a row has.
 pub const CORE_WORDS: usize = 5;
@@ -19,6 +21,11 @@ pub type Row = [u64; CORE_WORDS];
 
 // The rows of a core.
 pub type Saved = [Row; WORKERS + 2];
+
+// Whether an export is open (1 or 0), how many records it has, and how many of them portions have given.
+pub const EXPORT_NUMBERS: usize = 3;
+
+pub type ExportWords = [u64; EXPORT_NUMBERS];
 
 fn stage_of(n: u64) -> Stage
     ensures { λ r. ⌜ r ≡ stageOf n ⌝ }
@@ -184,4 +191,25 @@ pub fn store(words: &mut Saved, core: Core)
     let counters = [k.number, k.version, k.installs, core.guarded as u64, 0];
     rows[WORKERS + 1] = counters;
     *words = rows;
+}
+
+// The export whose numbers the words hold.
+pub fn load_export(words: &ExportWords) -> Export
+    ensures { λ r. ⌜ r ≡ savedExport (now (words .entry)) ⌝ }
+{
+    let count = size(words[1]);
+    let taken = size(words[2]);
+    Export {
+        open: words[0] == 1,
+        count,
+        taken,
+    }
+}
+
+// Puts the numbers of an export into the words.
+pub fn store_export(words: &mut ExportWords, x: Export)
+    ensures { λ _. ⌜ savedExport (now (words .exit)) ≡ x ⌝ }
+{
+    let all = [x.open as u64, x.count as u64, x.taken as u64];
+    *words = all;
 }

@@ -182,6 +182,7 @@ impl Signature {
 fn c_number(name: &str) -> &'static str {
     match name {
         "()" => "void",
+        "u8" => "uint8_t",
         "u16" => "uint16_t",
         "u32" => "uint32_t",
         "u64" => "uint64_t",

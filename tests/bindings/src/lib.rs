@@ -1,6 +1,10 @@
 //! The bindings, held to the second model.
 
 pub mod abi;
+pub mod exports;
+pub mod lent;
+pub mod mixtures;
+pub mod programs;
 pub mod subjects;
 
 use plain::engine::Reading;
@@ -17,12 +21,16 @@ pub fn fresh(guarded: bool) -> Sections {
     }
 }
 
-/// A list of steps on such a map.
-pub fn replay(steps: &[Step], guarded: bool) -> (Sections, Vec<Result<sections::Answer, Refusal>>) {
+/// A list of steps on such a map, with bytes for its files.
+pub fn replay(
+    steps: &[Step],
+    bytes: &mut [u8],
+    guarded: bool,
+) -> (Sections, Vec<Result<sections::Answer, Refusal>>) {
     if guarded {
-        Sections::replay_guarded(steps)
+        Sections::replay_guarded(steps, bytes)
     } else {
-        Sections::replay(steps)
+        Sections::replay(steps, bytes)
     }
 }
 

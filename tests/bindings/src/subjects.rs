@@ -41,7 +41,7 @@ impl Subject for Replaying {
     fn answers(&self, script: &[u8]) -> io::Result<Vec<u8>> {
         let (steps, guarded) = (steps(script), guarded(script));
         let list: Vec<Step> = steps.iter().map(|&step| script_step(step)).collect();
-        let (map, answers) = replay(&list, guarded);
+        let (map, answers) = replay(&list, &mut [], guarded);
         let mut text = Vec::new();
         write_start(&mut text, guarded);
         for (step, answer) in steps.into_iter().zip(answers) {
@@ -55,6 +55,7 @@ impl Subject for Replaying {
     }
 }
 
-fn contents(map: &Sections) -> Vec<Shown> {
+/// Without stamps.
+pub fn contents(map: &Sections) -> Vec<Shown> {
     map.iter().map(|record| (record.address, record.value, record.owner)).collect()
 }

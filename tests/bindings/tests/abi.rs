@@ -2,17 +2,22 @@
 //! same numbers and words.
 
 use bindings::abi::{Passed, Signature, Sources};
+use bindings::programs::{compile, output_of, root, C};
 use sections::Refusal;
-use std::path::{Path, PathBuf};
+use std::fs;
+use std::path::PathBuf;
 use std::process::Command;
-use std::{env, fs};
 
-const FUNCTIONS: [&str; 4] =
-    ["sections_fresh", "sections_step", "sections_replay", "sections_next"];
-
-fn root() -> PathBuf {
-    Path::new(env!("CARGO_MANIFEST_DIR")).join("../..")
-}
+const FUNCTIONS: [&str; 8] = [
+    "sections_fresh",
+    "sections_step",
+    "sections_replay",
+    "sections_next",
+    "sections_open_export",
+    "sections_portion",
+    "sections_file",
+    "sections_close_export",
+];
 
 fn crates() -> Sources {
     Sources::of_crates(&root().join("crates")).expect("the crates are there")
@@ -22,11 +27,26 @@ fn library(name: &str) -> Signature {
     crates().signature("sections", name).unwrap_or_else(|| panic!("{name} is not read"))
 }
 
-/// The arrays of a map. Besides them a fresh one is made from whether it is guarded.
+/// The arrays of a map, in the order in which a list is lent them, after its counts.
 fn arrays() -> Vec<Passed> {
-    let mut parameters = library("sections_fresh").parameters;
-    assert_eq!(parameters.pop(), Some(Passed::Number("bool".into())));
-    parameters
+    let mut arrays = library("sections_replay").parameters;
+    arrays.retain(|parameter| !parameter.dimensions().is_empty());
+    arrays.split_off(1)
+}
+
+/// A fresh map is made in all of them but the records of its export, and from whether it
+/// is guarded.
+#[test]
+fn arrays_of_a_fresh_map() {
+    let mut fresh = library("sections_fresh").parameters;
+    assert_eq!(fresh.pop(), Some(Passed::Number("bool".into())));
+    let mut arrays = arrays();
+    let exported = arrays.remove(2);
+    assert_eq!(fresh, arrays);
+    let [_, export, records, ..] = &library("sections_open_export").parameters[..] else {
+        panic!("an export is opened without its arrays");
+    };
+    assert_eq!((export, records), (&arrays[1], &exported));
 }
 
 fn header() -> String {
@@ -38,19 +58,9 @@ fn printed(name: &str, text: &str, compiler: &[&str]) -> String {
     let folder = PathBuf::from(env!("CARGO_TARGET_TMPDIR"));
     let (source, program) = (folder.join(format!("{name}.c")), folder.join(name));
     fs::write(&source, format!("#include \"sections.h\"\n#include <stdio.h>\n{text}")).unwrap();
-    let mut command = Command::new(compiler[0]);
-    command.args(&compiler[1..]).args(["-Wall", "-Wextra", "-Werror", "-pedantic", "-I"]);
-    command.arg(root().join("bindings/c")).arg(source).arg("-o").arg(&program);
-    // After `-x c++` the archive would be read as a text.
-    command.args(["-x", "none"]).arg(root().join("target/staticlib/libsections.a"));
-    let output = command.output().expect("there is a compiler");
-    assert!(output.status.success(), "{}", String::from_utf8_lossy(&output.stderr));
-    let output = Command::new(program).output().expect("it was compiled");
-    assert!(output.status.success());
-    String::from_utf8(output.stdout).expect("it prints text")
+    compile(compiler, &source, &program);
+    output_of(&mut Command::new(program))
 }
-
-const C: [&str; 2] = ["cc", "-std=c11"];
 
 #[test]
 fn header_declares_what_the_library_has() {
@@ -65,6 +75,7 @@ fn header_is_cpp_too() {
     int main() {
         sections_init(&map);
         sections_init_guarded(&map);
+        if (sections_export_open(&map).refusal || sections_export_close(&map)) return 1;
         return sections_begin(&map, 0);
     }\n";
     printed("cpp", text, &["c++", "-std=c++11", "-x", "c++"]);
@@ -85,9 +96,9 @@ fn guarded_or_not() {
         uint64_t answers[15];
         sections_init_guarded(&map);
         printf(\"%d\\n\", lock());
-        sections_run(&map, steps, 3, NULL, answers, 15, false);
+        sections_run(&map, steps, 3, NULL, NULL, 0, answers, 15, false);
         printf(\"%d\\n%d\\n\", (int)answers[10], lock());
-        sections_run(&map, steps, 3, NULL, answers, 15, true);
+        sections_run(&map, steps, 3, NULL, NULL, 0, answers, 15, true);
         printf(\"%d\\n%d\\n\", (int)answers[10], lock());
         sections_init(&map);
         printf(\"%d\\n\", lock());
@@ -111,7 +122,7 @@ fn words_of_a_list() {
                                         sections_code_scan(0, 0, 9, 2, 1, 0), sections_code_read(1, 5)};
         enum { ROOM = 7 * SECTIONS_ANSWER_WORDS + SECTIONS_SHOWN_WORDS };
         uint64_t answers[ROOM];
-        struct sections_ran ran = sections_run(&map, steps, 7, &buffers, answers, ROOM, false);
+        struct sections_ran ran = sections_run(&map, steps, 7, &buffers, NULL, 0, answers, ROOM, false);
         for (size_t i = 0; i < ran.written; i++)
             printf(\"%d\\n\", (int)answers[i]);
         struct sections_value read[] = {sections_read(&map, 0, 6), sections_read(&map, 0, 5), sections_read(&map, 1, 5)};
@@ -127,8 +138,94 @@ fn words_of_a_list() {
     assert_eq!(numbers(&printed("list", text, &C)), words);
 }
 
+/// One record is exported, first by a list, then by the functions, which go on with what
+/// the list left open. 8, 19 and 20; a record and what remains of a portion; a file in
+/// the first of the bytes.
+#[test]
+fn words_of_an_export() {
+    let text = "static struct sections map;
+    static uint32_t addresses[2];
+    static uint64_t values[1];
+    static uint16_t owners[3];
+    static uint8_t bytes[24];
+    static const struct sections_buffers buffers = {addresses, 2, values, 1, owners, 3};
+    static void show(struct sections_given given) {
+        printf(\"%d\\n%zu\\n%zu\\n\", given.refusal, given.count, given.remaining);
+    }
+    int main(void) {
+        struct sections_code steps[] = {
+            sections_code_export_close(), sections_code_begin(0), sections_code_put(0, 5, 9, 65535),
+            sections_code_lock(0), sections_code_validate(0), sections_code_install(0),
+            sections_code_export_portion(2, 1, 3), sections_code_export_open(), sections_code_export_open(),
+            sections_code_export_portion(2, 1, 0), sections_code_export_portion(2, 1, 3),
+            sections_code_export_file(21), sections_code_export_file(22), sections_code_export_close(),
+            sections_code_export_file(24), sections_code_export_open()};
+        enum { COUNT = sizeof steps / sizeof *steps, ROOM = COUNT * SECTIONS_ANSWER_WORDS + SECTIONS_SHOWN_WORDS };
+        uint64_t answers[ROOM];
+        struct sections_ran ran = sections_run(&map, steps, COUNT, &buffers, bytes, 24, answers, ROOM, false);
+        for (size_t i = 0; i < ran.written; i++)
+            printf(\"%d\\n\", (int)answers[i]);
+        for (size_t i = 0; i < 24; i++)
+            printf(\"%d\\n\", bytes[i]);
+        printf(\"%d\\n\", sections_export_open(&map).refusal);
+        show(sections_export_portion(&map, &buffers));
+        show(sections_export_portion(&map, &buffers));
+        printf(\"%d\\n\", sections_export_file(&map, bytes, 21).refusal);
+        printf(\"%d\\n\", sections_export_close(&map));
+        printf(\"%d\\n\", sections_export_close(&map));
+        show(sections_export_portion(&map, &buffers));
+        printf(\"%d\\n\", sections_export_file(&map, bytes, 24).refusal);
+        printf(\"%zu\\n\", sections_export_open(&map).count);
+        printf(\"%zu\\n\", sections_export_file(&map, bytes, 24).count);
+        return 0;
+    }\n";
+    let (nothing, opened, refused) = ([0; 5], [0, 6, 1, 0, 0], |number| [number, 0, 0, 0, 0]);
+    let job = [nothing, nothing, nothing, [0, 4, 1, 0, 0], nothing];
+    let before = [&[refused(20)], &job[..], &[refused(20), opened, refused(19)]].concat();
+    let portions = [0, 7, 0, 1, 0, 0, 7, 1, 0, 0, 5, 9, 65535];
+    let after = [refused(8), [0, 8, 22, 0, 0], nothing, refused(20), opened];
+    let file = [1, 0, 0, 0, 10, 0, 0, 0, 5, 0, 0, 0, 9, 0, 0, 0, 0, 0, 0, 0, 255, 255, 0, 0];
+    let functions = [19, 0, 1, 0, 0, 0, 0, 8, 0, 20, 20, 0, 0, 20, 1, 22];
+    let words = [&before.concat()[..], &portions, &after.concat(), &file, &functions].concat();
+    assert_eq!(numbers(&printed("export", text, &C)), words);
+}
+
+/// Each function that makes a map anew leaves it without an export, whatever it had.
+#[test]
+fn fresh_maps_have_no_export() {
+    let text = "static struct sections map;
+    static void reopen(void) {
+        printf(\"%d\\n\", sections_export_close(&map));
+        printf(\"%d\\n\", sections_export_open(&map).refusal);
+    }
+    int main(void) {
+        sections_init(&map);
+        reopen();
+        sections_init(&map);
+        reopen();
+        sections_init_guarded(&map);
+        reopen();
+        sections_run(&map, NULL, 0, NULL, NULL, 0, NULL, 0, false);
+        reopen();
+        return 0;
+    }\n";
+    assert_eq!(numbers(&printed("reopened", text, &C)), [[20, 0]; 4].concat());
+}
+
+/// What is told, in the order of the numbers that the words of a list have for it.
+#[test]
+fn numbers_of_what_is_told() {
+    let told = ["NOTHING", "VALUE", "ABSENT", "COUNT", "SERIAL", "FOLDED"];
+    let of_exports = ["OPENED", "PORTION", "FILE"];
+    let line = |name: &&str| format!("printf(\"%d\\n\", SECTIONS_TOLD_{name});\n");
+    let lines: String = told.iter().chain(&of_exports).map(line).collect();
+    let text = printed("told", &format!("int main(void) {{ {lines}return 0; }}\n"), &C);
+    assert_eq!(numbers(&text), (0..9).collect::<Vec<_>>());
+}
+
 /// A list has room for a scan if it has three words for each place of the shortest
-/// buffer; and an owner of 17 bits, or a place too many, has no meaning.
+/// buffer; and an owner of 17 bits, or a place too many, has no meaning. A portion is
+/// like a scan, and a file may want no byte too many.
 #[test]
 fn ends_of_a_list() {
     let text = "static struct sections map;
@@ -139,7 +236,8 @@ fn ends_of_a_list() {
     static void run(struct sections_code last, size_t room) {
         struct sections_code steps[] = {sections_code_begin(0), last};
         uint64_t answers[32];
-        struct sections_ran ran = sections_run(&map, steps, 2, &buffers, answers, room, false);
+        uint8_t bytes[5];
+        struct sections_ran ran = sections_run(&map, steps, 2, &buffers, bytes, 5, answers, room, false);
         printf(\"%d\\n%zu\\n%zu\\n\", ran.stop, ran.taken, ran.written);
     }
     int main(void) {
@@ -153,12 +251,22 @@ fn ends_of_a_list() {
         run(sections_code_scan(0, 0, 9, 4, 4, 5), 32);
         run(sections_code_of(3, 0, 7, 1, 65535, 0, 0), 32);
         run(sections_code_of(3, 0, 7, 1, 65536, 0, 0), 32);
+        run(sections_code_export_portion(2, 4, 3), room);
+        run(sections_code_export_portion(4, 3, 2), room - 1);
+        run(sections_code_export_portion(5, 4, 4), 32);
+        run(sections_code_export_portion(4, 5, 4), 32);
+        run(sections_code_export_portion(4, 4, 5), 32);
+        run(sections_code_export_file(5), room);
+        run(sections_code_export_file(6), room);
+        run(sections_code_of(15, 0, 0, 0, 0, 0, 0), room);
         return 0;
     }\n";
     let (whole, full, meaningless) = ([0, 2, 10], [2, 1, 5], [1, 1, 5]);
     let scans = [whole, whole, whole, full, meaningless, meaningless, meaningless];
     let puts = [whole, meaningless];
-    let expected = [scans.concat(), puts.concat()].concat();
+    let portions = [whole, full, meaningless, meaningless, meaningless];
+    let others = [whole, meaningless, meaningless];
+    let expected = [scans.concat(), puts.concat(), portions.concat(), others.concat()].concat();
     assert_eq!(numbers(&printed("ends", text, &C)), expected);
 }
 
@@ -173,7 +281,7 @@ fn null_where_there_are_no_places() {
         struct sections_buffers some[] = {{NULL, 0, NULL, 0, NULL, 0}, {NULL, 0, values, 1, owners, 1},
                                           {addresses, 1, NULL, 0, owners, 1}, {addresses, 1, values, 1, NULL, 0},
                                           {addresses, 1, values, 1, owners, 1}};
-        struct sections_ran ran = sections_run(&map, NULL, 0, NULL, NULL, 0, false);
+        struct sections_ran ran = sections_run(&map, NULL, 0, NULL, NULL, 0, NULL, 0, false);
         printf(\"%d\\n%zu\\n\", ran.stop, ran.taken);
         sections_begin(&map, 0);
         for (int i = 0; i < 5; i++)
@@ -183,12 +291,18 @@ fn null_where_there_are_no_places() {
             printf(\"%d\\n\", sections_scan(&map, 0, 0, 9, &some[i]).refusal);
         printf(\"%d\\n%d\\n%d\\n\", (int)addresses[0], (int)values[0], owners[0]);
         struct sections_code steps[] = {sections_code_begin(0), sections_code_scan(0, 0, 9, 0, 0, 0)};
-        ran = sections_run(&map, steps, 2, &some[0], NULL, 0, false);
+        ran = sections_run(&map, steps, 2, &some[0], NULL, 0, NULL, 0, false);
         printf(\"%d\\n%zu\\n\", ran.stop, ran.taken);
+        printf(\"%d\\n\", sections_export_open(&map).refusal);
+        printf(\"%d\\n\", sections_export_portion(&map, NULL).refusal);
+        for (int i = 0; i < 5; i++)
+            printf(\"%d\\n\", sections_export_portion(&map, &some[i]).refusal);
+        printf(\"%d\\n\", sections_export_file(&map, NULL, 0).refusal);
         return 0;
     }\n";
     let (empty, one, put) = ([0; 5], [8, 8, 8, 8, 0], [4, 5, 6]);
-    let expected = [&[0, 0][..], &empty, &one, &put, &[2, 0]].concat();
+    let export = [0, 0, 0, 0, 0, 0, 0, 8];
+    let expected = [&[0, 0][..], &empty, &one, &put, &[2, 0], &export].concat();
     assert_eq!(numbers(&printed("null", text, &C)), expected);
 }
 
@@ -234,9 +348,10 @@ fn numbers(text: &str) -> Vec<usize> {
 /// Document 01's limits stand in the lengths of the arrays.
 #[test]
 fn header_has_the_limits_of_the_code() {
-    let [_, records, _, slots, reads, marks, writes] = &arrays()[..] else {
+    let [_, _, exported, records, _, slots, reads, marks, writes] = &arrays()[..] else {
         panic!("the library has other arrays");
     };
+    assert_eq!(exported.dimensions()[0], records.dimensions()[0]);
     let longest = crates().constant("LONGEST").expect("the longest section");
     let step = library("sections_step").parameters;
     let (first, last) = (&step[0], step.last().expect("a step has a code"));
@@ -251,12 +366,16 @@ fn header_has_the_limits_of_the_code() {
         ("SECTIONS_ANSWER_WORDS", first.dimensions()[0]),
         ("SECTIONS_CODE_WORDS", last.dimensions()[0]),
         ("SECTIONS_FOUND_WORDS", library("sections_next").parameters[0].dimensions()[0]),
+        // By request 107: 4 and 4 bytes, then 4 and 10 for each record.
+        ("SECTIONS_FILE_LIMIT", 4 + 4 + (4 + 10) * exported.dimensions()[0]),
+        ("SECTIONS_FILE_BYTES(0)", 8),
     ];
     let lines: String =
         limits.iter().map(|(name, _)| format!("printf(\"%d\\n\", {name});\n")).collect();
     let text = printed("limits", &format!("int main(void) {{ {lines}return 0; }}\n"), &C);
     assert_eq!(numbers(&text), limits.map(|(_, limit)| limit));
-    assert_eq!(sections::SEATS, limits[0].1);
+    assert_eq!((sections::SEATS, sections::MAP_LIMIT), (limits[0].1, limits[1].1));
+    assert_eq!([sections::MAP_LIMIT, 0].map(sections::file_bytes), [limits[10].1, 8]);
     assert_eq!(sections::SCAN_LIMIT, limits[3].1 + limits[5].1);
     assert_eq!(sections::LONGEST, longest as u64);
     assert_eq!(crates().constant("OWNERS"), Some(usize::from(sections::Owner::MAX) + 1));

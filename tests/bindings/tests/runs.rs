@@ -170,10 +170,10 @@ fn clones_go_on_by_themselves() {
 
 #[test]
 fn an_empty_list() {
-    let (map, answers) = Sections::replay(&[]);
+    let (map, answers) = Sections::replay(&[], &mut []);
     assert_eq!((map.iter().count(), answers.len()), (0, 0));
     let steps = [Step::Abort { seat: 3 }, Step::Fold { address: 0 }, Step::FoldOldest];
-    let (_, answers) = Sections::replay(&steps);
+    let (_, answers) = Sections::replay(&steps, &mut []);
     let none = Ok(Answer::Folded(0));
     assert_eq!(answers, [Err(Refusal::SeatFree), none.clone(), none]);
 }

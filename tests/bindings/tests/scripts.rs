@@ -1,5 +1,6 @@
 //! The random scripts of the second model through the library.
 
+use bindings::lent::Lent;
 use bindings::subjects::{Replaying, Stepwise};
 use bindings::{answer_of, by_method, fresh, replay, step_of};
 use plain::compare::suite::{by_script, random, Size};
@@ -39,25 +40,6 @@ const PROFILES_OF_SCANS: [&str; 6] = ["ordinary", "scans", "ends", "leaves", "li
 
 fn profiles_of_scans() -> impl Iterator<Item = &'static Profile> {
     PROFILES_OF_SCANS.iter().map(|name| find(name, 0).expect("it is a profile"))
-}
-
-/// The three buffers that are lent to a scan, of any lengths.
-#[derive(Clone, PartialEq, Debug)]
-struct Lent {
-    addresses: Vec<u32>,
-    values: Vec<u64>,
-    owners: Vec<u16>,
-}
-
-impl Lent {
-    /// They hold something already.
-    fn new([m, n, o]: [usize; 3]) -> Self {
-        Lent { addresses: vec![7; m], values: vec![8; n], owners: vec![9; o] }
-    }
-
-    fn lengths(&self) -> [usize; 3] {
-        [self.addresses.len(), self.values.len(), self.owners.len()]
-    }
 }
 
 /// The one that is shorter than both others.
@@ -164,7 +146,7 @@ fn lists_with_different_buffers() {
         let played = play_all(profile, 6, &mut reached);
         let coded = |played: &Played| step_of(played.step, played.lent.lengths());
         let list: Vec<sections::Step> = played.iter().map(coded).collect();
-        let (_, answers) = replay(&list, profile.guarded);
+        let (_, answers) = replay(&list, &mut [], profile.guarded);
         let mut map = fresh(profile.guarded);
         for ((code, given), Played { step, answer, lent }) in
             list.into_iter().zip(answers).zip(played)

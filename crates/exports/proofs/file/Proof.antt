@@ -11,7 +11,7 @@ add-if2 : tie.Need-add-if2
 add-if2 c = search needs
 
 returns : tie.Need-returns
-returns c = λ contents. file-short contents _ _ _ (c .before .before .before .before .pre) (c .before .before .if1 .taken) (c .if2 .taken)
+returns c = λ contents b. file-short contents _ _ _ _ (c .before .before .before .before .pre) (c .before .before .if1 .taken) (c .if2 .taken)
 
 put-file-requires : tie.Need-put-file-requires
 put-file-requires c κs = search needs
@@ -20,10 +20,10 @@ same-length : tie.Need-same-length
 same-length c = search needs
 
 returns-2 : tie.Need-returns-2
-returns-2 c = λ contents. files contents _ _ (c .before .before .before .before .before .before .before .before .pre) (c .before .before .before .before .before .before .if1 .taken) (c .before .before .before .before .if2 .left) (c .before .before .put-file .ensures)
+returns-2 c = λ contents b. files contents _ _ b (c .before .before .before .before .before .before .before .before .pre) (c .before .before .before .before .before .before .if1 .taken) (c .before .before .before .before .if2 .left) (c .before .before .put-file .ensures)
 
 returns-3 : tie.Need-returns-3
-returns-3 c = λ contents. no-file contents _ _ _ (c .before .before .pre) (c .if1 .left)
+returns-3 c = λ contents b. no-file contents _ _ _ (c .before .before .pre) _ (c .if1 .left)
 
 pub file-spec : {M : Type 1} → statement M
 file-spec =

@@ -44,10 +44,10 @@ returns c =
     let g = c .before .before .before .before .before .before .before in
     let t = g .before .before .before .before in
     let s = t .before .before .before .before .before .before .before .before in
-    λ contents. gives _ (s .pre) (least-is (buffers (s .args .addresses .now) (s .args .values .now) (s .args .owners .now)) (s .args .x .count - s .args .x .taken) (t .before .before .least .ensures) (t .before .least2 .ensures) (t .least3 .ensures)) contents _ (t .before .before .before .before .if1 .taken) (g .give .ensures)
+    λ contents bs. gives _ (s .pre) (least-is (buffers (s .args .addresses .now) (s .args .values .now) (s .args .owners .now)) (s .args .x .count - s .args .x .taken) (t .before .before .least .ensures) (t .before .least2 .ensures) (t .least3 .ensures)) contents _ bs (t .before .before .before .before .if1 .taken) (g .give .ensures)
 
 returns-2 : tie.Need-returns-2
-returns-2 c = λ contents. no-portion contents _ _ _ (c .before .before .before .before .pre) (c .if1 .left)
+returns-2 c = λ contents bs. no-portion contents _ _ _ (c .before .before .before .before .pre) _ (c .if1 .left)
 
 pub portion-spec : {M : Type 1} → statement M
 portion-spec =

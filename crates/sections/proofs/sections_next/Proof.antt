@@ -1,5 +1,5 @@
 -- `sections_next` meets its contract: the first record, or none.
-use Rattle.sections.specs.ExportLaws.{ready-loaded, next-record-one, next-record-none}
+use Rattle.sections.specs.EntryLaws.{ready-loaded, next-record-one, next-record-none}
 use borrow.Author.Needs.{needs}
 use Rattle.map.specs.Parts.{records-held, slots-held}
 use Rattle.sections.proofs.sections_next.Statement.{statement}

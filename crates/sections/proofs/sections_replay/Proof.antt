@@ -1,5 +1,5 @@
 -- `sections_replay` meets its contract: `runs::replay`, its outcome in the words.
-use Rattle.sections.specs.ExportLaws.{replayed}
+use Rattle.sections.specs.EntryLaws.{replayed}
 use borrow.Author.Needs.{needs}
 use Rattle.sections.proofs.sections_replay.Statement.{statement}
 use Rattle.sections.proofs.sections_replay.Tie as tie
@@ -9,6 +9,9 @@ replay-requires c κs = search needs
 
 store-requires : tie.Need-store-requires
 store-requires c κs = search needs
+
+store-export-requires : tie.Need-store-export-requires
+store-export-requires c κs = search needs
 
 put-counts-requires : tie.Need-put-counts-requires
 put-counts-requires c κs = search needs
@@ -28,10 +31,11 @@ same-length-3 c = search needs
 same-length-4 : tie.Need-same-length-4
 same-length-4 c = search needs
 
+same-length-5 : tie.Need-same-length-5
+same-length-5 c = search needs
+
 returns : tie.Need-returns
-returns c =
-    let s = c .before .before .before .before .before .before .before .before .before .before .before .before .before .before in
-    replayed _ _ _ (s .replay .result) (s .replay .ensures) (c .before .before .before .store .ensures) (c .before .put-counts .ensures) (c .stop-number .ensures)
+returns c = replayed _ _ _ _ (c .before .before .before .before .before .before .before .before .before .before .before .before .before .before .before .before .before .before .before .replay .result) (c .before .before .before .before .before .before .before .before .before .before .before .before .before .before .before .before .before .before .before .replay .ensures) (c .before .before .before .before .before .store .ensures) (c .before .before .before .store-export .ensures) (c .before .put-counts .ensures) (c .stop-number .ensures)
 
 pub sections-replay-spec : {M : Type 1} → statement M
 sections-replay-spec =
@@ -39,10 +43,12 @@ sections-replay-spec =
     (tie.spec
     replay-requires
     store-requires
+    store-export-requires
     put-counts-requires
     stop-number-requires
     same-length
     same-length-2
     same-length-3
     same-length-4
+    same-length-5
     returns)

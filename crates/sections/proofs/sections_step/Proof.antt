@@ -1,5 +1,5 @@
 -- `sections_step` meets its contract: `steps::step` between a core loaded and a core stored.
-use Rattle.sections.specs.ExportLaws.{ready-loaded, steps-workers, exported-step}
+use Rattle.sections.specs.EntryLaws.{ready-loaded, steps-workers, step-entry}
 use borrow.Author.Needs.{needs}
 use Rattle.sections.proofs.sections_step.Statement.{statement}
 use Rattle.sections.proofs.sections_step.Tie as tie
@@ -38,7 +38,7 @@ returns c =
     let s = c .before .before .before .before .before .before .before .before .before .before .before .before in
     let k = s .before .before .before .before .before .before .before .before .before .before in
     let d = k .before in
-    exported-step (s .step .result) (d .load .ensures) (k .code-in .ensures) (d .before .before .before .before .before .pre) (s .step .ensures) (c .before .before .store .ensures)
+    step-entry (s .step .result) (d .load .ensures) (k .code-in .ensures) (d .before .before .before .before .before .pre) (s .step .ensures) (c .before .before .store .ensures)
     (c .put-answer .ensures)
 
 pub sections-step-spec : {M : Type 1} → statement M

@@ -2,7 +2,8 @@
 use native.Mathlib.Omega.{arith}
 use Rattle.lists.specs.TextLaws.{wrote-length}
 use Rattle.map.specs.Parts.{records-held, slots-held}
-use Rattle.console.specs.FinishLaws.{records-fit, finish-stopped, finish-whole, finish-inside}
+use Rattle.queries.specs.ContentsLaws.{records-fit}
+use Rattle.console.specs.FinishLaws.{finish-stopped, finish-whole, finish-inside}
 use Rattle.console.proofs.closing.finish.Statement.{statement}
 use Rattle.console.proofs.closing.finish.Tie as tie
 
@@ -16,7 +17,7 @@ put-contents-requires : tie.Need-put-contents-requires
 put-contents-requires c κs =
     let s = c .before .before .before .before .before .before .before in
     let t = s .pre .0 .stored .map .tables in
-    (records-held t, (slots-held t, (records-fit (s .pre .0), s .pre .1 .1)))
+    (records-held t, (slots-held t, (records-fit (s .pre .0 .stored .map), s .pre .1 .1)))
 
 same-length : tie.Need-same-length
 same-length c = wrote-length (c .before .before .put-contents .ensures)

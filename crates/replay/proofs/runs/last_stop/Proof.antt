@@ -3,7 +3,7 @@ use mathlib.Core.Path.{sym, ap}
 use mathlib.Core.Bool.{Bool}
 use Rattle.lists.specs.Tests.{pick}
 use Rattle.lists.specs.TestLaws.{same-yes, same-no}
-use Rattle.replay.specs.declared.runs.Stop.the-variants as stop
+use Rattle.replay.specs.declared.stops.Stop.the-variants as stop
 use Rattle.replay.proofs.runs.last_stop.Statement.{statement}
 use Rattle.replay.proofs.runs.last_stop.Tie as tie
 

@@ -1,34 +1,12 @@
--- `runs::take_code` meets its contract: without meaning, full, or taken.
-use Rattle.codes.specs.CodeLaws.{meant-lends}
-use Rattle.replay.specs.FitLaws.{fits-yes, fits-no}
-use Rattle.replay.specs.RunLaws.{code-unmeant, code-full, code-taken, performs-roomy}
+-- `runs::take_code` meets its contract: by the number of its kind.
+use Rattle.map.specs.Parts.{records-held, slots-held}
+use Rattle.queries.specs.ContentsLaws.{contents-of, records-fit}
 use borrow.Author.Needs.{needs}
 use Rattle.replay.proofs.runs.take_code.Statement.{statement}
 use Rattle.replay.proofs.runs.take_code.Tie as tie
 
-decode-requires : tie.Need-decode-requires
-decode-requires c κs = search needs
-
-enum-known-d : tie.Need-enum-known-d
-enum-known-d c = search needs
-
-sub-fits : tie.Need-sub-fits
-sub-fits c = search needs
-
-fits-requires : tie.Need-fits-requires
-fits-requires c κs = search needs
-
-returns : tie.Need-returns
-returns c = code-full _ _ _ (c .before .before .before .before .before .before .before .before .before .before .pre .0) (c .before .before .before .before .before .before .before .before .before .before .pre .1) (c .before .before .before .before .before .decode .ensures) (c .before .before .before .d .given .1) (fits-no _ _ (c .before .fits2 .ensures) (c .if1 .taken))
-
-perform-first-requires : tie.Need-perform-first-requires
-perform-first-requires c κs = (c .before .before .before .before .before .before .before .before .before .before .before .before .before .before .before .before .before .before .before .pre .0, meant-lends _ _ (c .before .before .before .before .before .before .before .before .before .before .before .before .before .before .decode .ensures) (c .before .before .before .before .before .before .before .before .before .before .before .before .d .given .1))
-
-put-answer-words-requires : tie.Need-put-answer-words-requires
-put-answer-words-requires c κs = performs-roomy _ _ (meant-lends _ _ (c .before .before .before .before .before .before .before .before .before .before .before .before .before .before .before .before .before .before .before .before .before .before .before .before .before .before .decode .ensures) (c .before .before .before .before .before .before .before .before .before .before .before .before .before .before .before .before .before .before .before .before .before .before .before .before .d .given .1)) (c .before .before .before .before .before .before .before .before .before .before .before .perform-first .ensures) (c .before .before .before .before .before .before .before .before .before .before .before .before .before .before .before .before .before .before .before .before .before .before .before .before .before .before .before .before .before .before .before .pre .1) (fits-yes _ _ (c .before .before .before .before .before .before .before .before .before .before .before .before .before .before .before .before .before .before .before .before .before .before .fits2 .ensures) (c .before .before .before .before .before .before .before .before .before .before .before .before .before .before .before .before .before .before .before .before .before .if1 .left))
-
-enum-told : tie.Need-enum-told
-enum-told c = search needs
+take-job-requires : tie.Need-take-job-requires
+take-job-requires c κs = (c .before .before .before .before .before .before .before .before .before .before .before .before .before .before .before .before .before .pre .0, (c .before .before .before .before .before .before .before .before .before .before .before .before .before .before .before .before .before .pre .1 .0, c .before .before .before .before .before .before .before .before .before .before .if1 .taken))
 
 same-length : tie.Need-same-length
 same-length c = search needs
@@ -42,27 +20,44 @@ same-length-3 c = search needs
 same-length-4 : tie.Need-same-length-4
 same-length-4 c = search needs
 
-returns-2 : tie.Need-returns-2
-returns-2 c = code-taken (c .before .before .before .before .before .before .before .before .before .before .before .before .before .before .perform-first .result) (fits-yes _ _ (c .before .before .before .before .before .before .before .before .before .before .before .before .before .before .before .before .before .before .before .before .before .before .before .before .before .fits2 .ensures) (c .before .before .before .before .before .before .before .before .before .before .before .before .before .before .before .before .before .before .before .before .before .before .before .before .if1 .left)) (c .before .before .before .before .before .before .before .before .before .before .before .before .before .before .before .before .before .before .before .before .before .before .before .before .before .before .before .before .before .decode .ensures) (c .before .before .before .before .before .before .before .before .before .before .before .before .before .before .before .before .before .before .before .before .before .before .before .before .before .before .before .d .given .1) (c .before .before .before .before .before .before .before .before .before .before .before .before .before .before .perform-first .ensures) (c .before .before .put-answer-words .ensures)
+returns : tie.Need-returns
+returns c = c .before .before .before .before .before .before .before .before .before .take-job .ensures _ _ _ (c .before .before .before .before .before .before .before .before .before .before .before .before .before .before .before .before .before .before .before .before .before .before .before .before .before .before .before .pre .1 .1)
 
-returns-3 : tie.Need-returns-3
-returns-3 c = code-unmeant _ _ _ (c .before .before .before .before .before .before .before .pre .0) (c .before .before .before .before .before .before .before .pre .1) (c .before .before .decode .ensures) (c .enum-told .given .1)
+take-export-requires : tie.Need-take-export-requires
+take-export-requires c κs = let t = c .before .before .before .before .before .before .before .before .before .before .before .before .before .before .before .before .pre .0 .stored .map .tables in (records-held t, (slots-held t, ((records-fit (c .before .before .before .before .before .before .before .before .before .before .before .before .before .before .before .before .pre .0 .stored .map), c .before .before .before .before .before .before .before .before .before .before .before .before .before .before .before .before .pre .1 .1), (c .before .before .before .before .before .before .before .before .before .before .before .before .before .before .before .before .pre .1 .0, c .before .before .before .before .before .before .before .before .before .if1 .left))))
+
+same-length-5 : tie.Need-same-length-5
+same-length-5 c = search needs
+
+same-length-6 : tie.Need-same-length-6
+same-length-6 c = search needs
+
+same-length-7 : tie.Need-same-length-7
+same-length-7 c = search needs
+
+same-length-8 : tie.Need-same-length-8
+same-length-8 c = search needs
+
+same-length-9 : tie.Need-same-length-9
+same-length-9 c = search needs
+
+returns-2 : tie.Need-returns-2
+returns-2 c = c .before .before .before .before .before .before .before .before .before .before .before .take-export .ensures _ _ _ (c .before .before .before .before .before .before .before .before .before .before .before .before .before .before .before .before .before .before .before .before .before .before .before .before .before .before .before .before .pre .0) (contents-of (c .before .before .before .before .before .before .before .before .before .before .before .before .before .before .before .before .before .before .before .before .before .before .before .before .before .before .before .before .pre .0 .stored .map))
 
 pub take-code-spec : {M : Type 1} → statement M
 take-code-spec =
     tie.close
     (tie.spec
-    decode-requires
-    enum-known-d
-    sub-fits
-    fits-requires
-    returns
-    perform-first-requires
-    put-answer-words-requires
-    enum-told
+    take-job-requires
     same-length
     same-length-2
     same-length-3
     same-length-4
-    returns-2
-    returns-3)
+    returns
+    take-export-requires
+    same-length-5
+    same-length-6
+    same-length-7
+    same-length-8
+    same-length-9
+    returns-2)

@@ -1,7 +1,7 @@
--- `runs::fits` meets its contract: the places wanted against a third of the room.
+-- `stops::fits` meets its contract: the places wanted against a third of the room.
 use Rattle.replay.specs.FitLaws.{fits-few, fits-addresses, fits-values, fits-owners}
-use Rattle.replay.proofs.runs.fits.Statement.{statement}
-use Rattle.replay.proofs.runs.fits.Tie as tie
+use Rattle.replay.proofs.stops.fits.Statement.{statement}
+use Rattle.replay.proofs.stops.fits.Tie as tie
 
 returns : tie.Need-returns
 returns c = fits-few _ _ (c .if1 .taken)

@@ -1,5 +1,5 @@
--- From what the Rattle functions promise to what the exported ones promise.
-use Prim.Native.Nat.{ℕ, _%_}
+-- From what the Rattle functions promise to what the entries promise.
+use Prim.Native.Nat.{ℕ, _%_, _≤_}
 use mathlib.Core.Path.{_≡_, refl, sym, ap, _∙_, subst}
 use mathlib.Core.Bool.{Bool, true, false}
 use mathlib.Core.List.{List, [], _∷_}
@@ -11,29 +11,35 @@ use Rattle.spec.specs.declared.PayloadWords.{PayloadWords}
 use Rattle.spec.specs.Payloads.{owners}
 use Rattle.spec.specs.Records.{standard, Record}
 use Rattle.spec.specs.Steps.{places}
+use Rattle.spec.specs.Leaves.{Leaf}
 use Rattle.spec.specs.Maps.{contents}
+use Rattle.spec.specs.Exports as model
 use Rattle.queries.specs.declared.Next.{Next}
 use Rattle.queries.specs.declared.Next.the-variants.{At, Done}
-use Rattle.map.specs.Views.{recordFrom, Lent, mapOf}
+use Rattle.map.specs.Views.{recordFrom, RecordRows, SlotRows, Lent, mapOf}
+use Rattle.queries.specs.QueryViews.{mapWith}
 use Rattle.queries.specs.NextViews.{nextIn, Follows}
-use Rattle.queries.specs.Contents.{firstFrom}
+use Rattle.queries.specs.Contents.{firstFrom, allRecords}
 use Rattle.transactions.specs.declared.Core.{Core}
 use Rattle.transactions.specs.Views.{Logs}
 use Rattle.transactions.specs.Ready.{Ready}
 use Rattle.transactions.specs.Starts.{Fresh}
 use Rattle.ranges.specs.Buffers.{Buffers, placesOf}
+use Rattle.exports.specs.declared.Export.{Export}
+use Rattle.exports.specs.declared.ExportDone.{ExportDone}
+use Rattle.exports.specs.Exporting.{ExportedRows, exportIn, ExportHeld, Space, ExportStepped}
 use Rattle.codes.specs.declared.Code.{Code}
 use Rattle.codes.specs.declared.decodes.Decoded.{Decoded}
 use Rattle.codes.specs.declared.decodes.Decoded.the-variants.{Meant, Meaningless}
 use Rattle.codes.specs.Codes.{decoded}
 use Rattle.replay.specs.declared.steps.Stepped.{Stepped}
-use Rattle.replay.specs.declared.runs.Stop.{Stop}
-use Rattle.replay.specs.declared.runs.Stop.the-variants as stop
+use Rattle.replay.specs.declared.stops.Stop.{Stop}
+use Rattle.replay.specs.declared.stops.Stop.the-variants as stop
 use Rattle.replay.specs.declared.runs.Replayed.{Replayed}
 use Rattle.replay.specs.CodedSteps.{CodedStep}
 use Rattle.replay.specs.Replays.{Replays}
-use Rattle.sections.specs.Saved.{savedCore}
-use Rattle.sections.specs.Exports.{codedIn, steppedIn, ExportedStep, stopNumber, stopOf, CountsAre, replayedIn, recordWords, NextRecord}
+use Rattle.sections.specs.Saved.{savedCore, savedExport}
+use Rattle.sections.specs.Entries.{codedIn, steppedIn, StepEntry, stopNumber, stopOf, CountsAre, replayedIn, contentsIn, recordWords, NextRecord, DoneIn, ExportEntry}
 
 -- ---- the core in the rows
 
@@ -59,10 +65,10 @@ module _ {l l' : Lent} {g g' : Logs} {c : Core} {k : Code} {b b' : Buffers} {r :
   pub steps-workers : length (r .core .workers) ≡ standard .workers
   steps-workers = steps-ready .stored .workers
 
-pub exported-step : {l l' : Lent} {g g' : Logs} {c : Core} {j k : Code} {b b' : Buffers} {answer : List ℕ} {core core' : List (List ℕ)} (r : Stepped)
+pub step-entry : {l l' : Lent} {g g' : Logs} {c : Core} {j k : Code} {b b' : Buffers} {answer : List ℕ} {core core' : List (List ℕ)} (r : Stepped)
     → c ≡ savedCore core → j ≡ k → Ready l g (savedCore core) → CodedStep l g c j b l' g' b' r → savedCore core' ≡ r .core → codedIn answer ≡ r .answer
-    → ExportedStep l g core k b l' g' core' b' answer
-exported-step {l} {l'} {g} {g'} {c} {j} {k} {b} {b'} {answer} {core} {core'} r e f h s p q =
+    → StepEntry l g core k b l' g' core' b' answer
+step-entry {l} {l'} {g} {g'} {c} {j} {k} {b} {b'} {answer} {core} {core'} r e f h s p q =
     record {
       ready = subst (Ready l' g') (sym p) (steps-ready (ready-loaded core e h) s);
       step =
@@ -79,13 +85,15 @@ stop-back stop.Complete = refl
 stop-back stop.Meaningless = refl
 stop-back stop.Full = refl
 
-pub replayed : {guarded : Bool} {words : List ℕ} {b b' : Buffers} {out out' : List ℕ} {l : Lent} {g : Logs} (core : List (List ℕ)) (counts : List ℕ) (n : ℕ) (r : Replayed)
-    → Replays guarded words b out l g b' out' r → savedCore core ≡ r .core → CountsAre counts (r .taken) (r .written) → n ≡ stopNumber (r .stop)
-    → Replays guarded words b out l g b' out' (replayedIn core counts n)
-replayed {guarded} {words} {b} {b'} {out} {out'} {l} {g} core counts n r h e f q =
-    subst (Replays guarded words b out l g b' out')
+pub replayed : {guarded : Bool} {words : List ℕ} {s s' : Space} {out out' : List ℕ} {l : Lent} {g : Logs} {xs : ExportedRows} (core : List (List ℕ)) (export counts : List ℕ) (n : ℕ) (r : Replayed)
+    → Replays guarded words s out l g xs s' out' r → savedCore core ≡ r .core → savedExport export ≡ r .export
+    → CountsAre counts (r .taken) (r .written) → n ≡ stopNumber (r .stop)
+    → Replays guarded words s out l g xs s' out' (replayedIn core export counts n)
+replayed {guarded} {words} {s} {s'} {out} {out'} {l} {g} {xs} core export counts n r h e x f q =
+    subst (Replays guarded words s out l g xs s' out')
     (λ i. record {
       core = sym e i;
+      export = sym x i;
       taken = sym (f .taken-is) i;
       written = sym (f .written-is) i;
       stop = sym (ap stopOf q ∙ stop-back (r .stop)) i;
@@ -96,12 +104,12 @@ replayed {guarded} {words} {b} {b'} {out} {out'} {l} {g} core counts n r h e f q
 
 module _ (l : Lent) (core : List (List ℕ)) {c : Core} {from : ℕ} {r : Next} (e : c ≡ savedCore core)
     (h : Follows (l .rows) (c .sizes .records) (l .slots) from r) where
-  first-is : nextIn r ≡ firstFrom from (contents (mapOf l (savedCore core .sizes)))
+  first-is : nextIn r ≡ firstFrom from (contentsIn l core)
   first-is = h .next-is (mapOf l (c .sizes) .leaves) ∙ ap (λ (x : Core). firstFrom from (contents (mapOf l (x .sizes)))) e
 
   next-record : (old : List ℕ) (o : Option (Row Record)) → nextIn r ≡ o → NextRecord l core from old (maybe o old recordWords) (present o)
   next-record old o q =
-      let p : o ≡ firstFrom from (contents (mapOf l (savedCore core .sizes))) = sym q ∙ first-is in
+      let p : o ≡ firstFrom from (contentsIn l core) = sym q ∙ first-is in
       record { there = ap present p; words = ap (λ (x : Option (Row Record)). maybe x old recordWords) p }
 
   pub next-record-one : {old : List ℕ} {a : ℕ} {v : PayloadWords} {n : ℕ} → r ≡ At a v n → NextRecord l core from old (a ∷ v .value ∷ v .owner % owners ∷ n ∷ []) true
@@ -109,3 +117,33 @@ module _ (l : Lent) (core : List (List ℕ)) {c : Core} {from : ℕ} {r : Next} 
 
   pub next-record-none : {old : List ℕ} → r ≡ Done → NextRecord l core from old old false
   next-record-none {old} q = next-record old none (ap nextIn q)
+
+-- ---- an export
+
+-- none is open
+pub none-saved : {x : Export} (words : List ℕ) → ((rows : ExportedRows) → exportIn rows x ≡ none) × ExportHeld x → savedExport words ≡ x
+    → ((rows : ExportedRows) → exportIn rows (savedExport words) ≡ none) × ExportHeld (savedExport words)
+none-saved words h e = (λ rows. ap (exportIn rows) e ∙ h .0 rows, subst ExportHeld (sym e) (h .1))
+
+pub held-loaded : {x : Export} (words : List ℕ) → x ≡ savedExport words → ExportHeld (savedExport words) → ExportHeld x
+held-loaded words e h = subst ExportHeld (sym e) h
+
+module _ {step : model.ExportStep} {rows rows' : ExportedRows} {s s' : Space} {words words' told : List ℕ} where
+  pub export-entry : {rs : List (Row Record)} {x : Export} (d : ExportDone) → x ≡ savedExport words → ExportStepped rs step rows x s rows' d s' → DoneIn words' told d
+      → ExportEntry rs step rows words s rows' words' s' told
+  export-entry {rs} {x} d e h t =
+      record {
+        answer = d .answer;
+        stepped =
+            subst (λ (y : Export). ExportStepped rs step rows y s rows' (record { export = savedExport words'; answer = d .answer }) s') e
+            (subst (λ (y : Export). ExportStepped rs step rows x s rows' (record { export = y; answer = d .answer }) s') (sym (t .export-is)) h);
+        words-are = t .answer-is;
+      }
+
+  -- leaves play no part in the contents
+  pub contents-entry : (records : RecordRows) (slots : SlotRows) (core : List (List ℕ)) (ls : List Leaf) {c : Core} → c ≡ savedCore core
+      → ExportEntry (allRecords records (c .sizes .records) slots) step rows words s rows' words' s' told
+      → ExportEntry (contents (mapWith records (savedCore core .sizes .records) slots ls)) step rows words s rows' words' s' told
+  unfolding contents
+  contents-entry records slots core ls e h =
+      subst (λ (k : Core). ExportEntry (contents (mapWith records (k .sizes .records) slots ls)) step rows words s rows' words' s' told) e h

@@ -1,6 +1,5 @@
 -- Why a scan is refused in the model, from what its tests told of the arrays.
 use Prim.Native.Nat.{ℕ, _+_, _<_, _≤_}
-use native.Mathlib.Omega.{arith}
 use mathlib.Core.Path.{_≡_, refl, sym, ap, _∙_, subst}
 use mathlib.Core.Logic.{⊎-elim}
 use mathlib.Core.Bool.{Bool, true, false}
@@ -13,7 +12,7 @@ use Rattle.lists.specs.Rows.{Row, between, mapItems, any}
 use Rattle.spec.specs.declared.Refusal.{Refusal}
 use Rattle.spec.specs.declared.Refusal.the-variants.{Backward, LogFull, ShortBuffer}
 use Rattle.spec.specs.Refusals.{ends}
-use Rattle.spec.specs.Records.{standard, Record, Write, ownView, payloadOf}
+use Rattle.spec.specs.Records.{standard, Payload, Record, Write, ownView, payloadOf}
 use Rattle.spec.specs.Maps.{current, indexedBetween}
 use Rattle.spec.specs.Steps as model
 use Rattle.spec.specs.Steps.{Places, shortest, State, workerOf, scan, isOpen, scanned, scanReads, scanVersions, scanLogFull, Cause, cause, noWorker, workerFree, wrongStage, causes, firstCause, refusal, refused}
@@ -32,7 +31,7 @@ use Rattle.ranges.specs.Overlays.{overlay}
 use Rattle.ranges.specs.Parts.{length-walk}
 use Rattle.ranges.specs.Walks.{seenFrom, ownFrom, rest}
 use Rattle.ranges.specs.Scanning.{span, across, seenIn}
-use Rattle.ranges.specs.Plans.{Planning, shownOf, Measured, Declined, backward, full, short, Roomy, Passed}
+use Rattle.ranges.specs.Plans.{Planning, shownOf, Measured, Declined, backward, full, short, Passed}
 use Rattle.transactions.specs.declared.Core.{Core}
 use Rattle.transactions.specs.Answering.{cause-holds, cause-fails, front, front-first}
 use Rattle.transactions.specs.Admits.{Turned, Entered}
@@ -51,11 +50,6 @@ DeclinedIn l g c w x lo hi b r = Declined (l .rows) (l .lows) (l .slots) (getD (
 
 abbrev pub PassedIn : Lent → Logs → Core → ℕ → Worker → ℕ → ℕ → Places → Task → Type 0
 PassedIn l g c w x lo hi b t = Passed (l .rows) (l .lows) (l .slots) (getD (g .writes) w []) (c .sizes) x lo hi b t
-
--- what fits each buffer fits the shortest
-all-fit : {t : Task} {b : Places} → Roomy t b → t .count ≤ shortest b
-unfolding shortest
-all-fit {t} {b} r = omega (arith, r .addresses, r .values, r .owners)
 
 -- ---- the causes
 
@@ -156,9 +150,6 @@ module _ {l : Lent} {g : Logs} {c : Core} {w : ℕ} {x : Worker} (k : Ready l g 
         ∙ ap (λ (y : model.Worker). overlay (mapItems ownView (between lo hi (y .writes))) (mapItems payloadOf (indexedBetween (stateOf l g c .map) lo hi)))
         (sym (worker-is isOpen l g c w x k e))
 
-    count-is : (t : Task) → MeasuredIn l g c w x lo hi t → t .count ≡ length (scanned (stateOf l g c) w lo hi)
-    count-is t d = d .count ∙ ap length (scan-shown t d)
-
     log-full : (a b : Range) → Spans (l .rows) (c .sizes .records) lo hi a → Meets (l .lows) (c .sizes .leaves) lo hi b
         → scanLogFull (stateOf l g c) w lo hi ≡ either (less (standard .readLimit) (x .reads + span a)) (less (standard .leafSetLimit) (x .leaves + span b))
     unfolding scanLogFull stateOf
@@ -204,7 +195,7 @@ module _ {l : Lent} {g : Logs} {c : Core} {w : ℕ} {x : Worker} (k : Ready l g 
           past-full t d
           ∙ cause-holds (less (shortest b) (length (scanned (stateOf l g c) w lo hi))) ShortBuffer []
           (less-yes {m = shortest b} {n = length (scanned (stateOf l g c) w lo hi)}
-          (let s : t .count ≡ length (scanned (stateOf l g c) w lo hi) = count-is t d in subst (λ (n : ℕ). shortest b < n) s h))
+          (subst (λ (os : List (Row Payload)). shortest b < length os) (scan-shown t d) h))
           ∙ ap (λ (y : Refusal). some y) (sym q)
 
       pub scan-declined : (r : Refusal) → DeclinedIn l g c w x lo hi b r → Refines l g c (scan w lo hi b) l g c (refused r)
@@ -214,7 +205,7 @@ module _ {l : Lent} {g : Logs} {c : Core} {w : ℕ} {x : Worker} (k : Ready l g 
       pub passed-is : (t : Task) → PassedIn l g c w x lo hi b t → refusal (stateOf l g c) (scan w lo hi b) ≡ none
       unfolding firstCause
       passed-is t p =
-          let s : t .count ≡ length (scanned (stateOf l g c) w lo hi) = count-is t (p .measured) in
           past-full t (p .measured)
           ∙ cause-fails (less (shortest b) (length (scanned (stateOf l g c) w lo hi))) ShortBuffer []
-          (less-no {m = shortest b} {n = length (scanned (stateOf l g c) w lo hi)} (subst (λ (n : ℕ). n ≤ shortest b) s (all-fit (p .roomy))))
+          (less-no {m = shortest b} {n = length (scanned (stateOf l g c) w lo hi)}
+          (subst (λ (os : List (Row Payload)). length os ≤ shortest b) (scan-shown t (p .measured)) (p .fits)))

@@ -9,6 +9,7 @@ use Rattle.map.specs.Views.{Lent}
 use Rattle.transactions.specs.declared.Core.{Core}
 use Rattle.accesses.specs.declared.scans.ScanAnswer.the-variants.{Count, Refused}
 use Rattle.ranges.specs.declared.plans.Task.{Task}
+use Rattle.ranges.specs.declared.plans.Done.{Done}
 use Rattle.transactions.specs.Admits.{Turned, Entered}
 use Rattle.ranges.specs.Buffers.{Buffers, placesOf, rowsIn}
 use Rattle.ranges.specs.BufferLaws.{beyond-refl}
@@ -35,13 +36,13 @@ scans-declined {r} lo hi b k e d =
     record { refines = scan-declined k e lo hi (placesOf b) r d; beyond = beyond-refl 0 b }
 
 -- granted
-pub scans-granted : {l : Lent} {g : Logs} {c : Core} {w : ℕ} {x : Worker} {o : Core} {t : Task} {d : Buffers} {rs : ReadRows} {ls : LeafSetRows} {y : Worker} (lo hi : ℕ) (b : Buffers)
-    → Ready l g c → Entered isOpen (c .workers) w x → PassedIn l g c w x lo hi (placesOf b) t → CarriedIn l g c w x t lo hi b d rs ls y → o ≡ coreWith c w y
-    → Scans l g c w lo hi b (logging g w rs ls) d (record { core = o; answer = Count (t .count) })
-scans-granted {l} {g} {c} {w} {t = t} {d} {rs} {ls} {y} lo hi b k e p h q =
+pub scans-granted : {l : Lent} {g : Logs} {c : Core} {w : ℕ} {x : Worker} {o : Core} {t : Task} {d : Buffers} {rs : ReadRows} {ls : LeafSetRows} {r : Done} (lo hi : ℕ) (b : Buffers)
+    → Ready l g c → Entered isOpen (c .workers) w x → PassedIn l g c w x lo hi (placesOf b) t → CarriedIn l g c w x t lo hi b d rs ls r → o ≡ coreWith c w (r .worker)
+    → Scans l g c w lo hi b (logging g w rs ls) d (record { core = o; answer = Count (r .count) })
+scans-granted {l} {g} {c} {w} {t = t} {d} {rs} {ls} {r} lo hi b k e p h q =
     record {
       refines =
-          subst (λ (z : Core). Refines l g c (scan w lo hi (placesOf b)) l (logging g w rs ls) z (listed (rowsIn (t .count) d))) (sym q)
-          (scan-granted k e lo hi t b d rs ls y p h);
+          subst (λ (z : Core). Refines l g c (scan w lo hi (placesOf b)) l (logging g w rs ls) z (listed (rowsIn (r .count) d))) (sym q)
+          (scan-granted k e lo hi t b d rs ls r p h);
       beyond = h .fills .beyond;
     }

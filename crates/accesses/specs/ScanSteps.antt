@@ -32,6 +32,7 @@ use Rattle.queries.specs.declared.Range.{Range}
 use Rattle.queries.specs.QueryViews.{versionIn}
 use Rattle.queries.specs.ScanLaws.{length-leaves}
 use Rattle.ranges.specs.declared.plans.Task.{Task}
+use Rattle.ranges.specs.declared.plans.Done.{Done}
 use Rattle.ranges.specs.Parts.{length-walk, getD-walk}
 use Rattle.ranges.specs.Buffers.{Buffers, placesOf, rowsIn}
 use Rattle.ranges.specs.Scanning.{span, across, seenIn, lowIn, marked}
@@ -93,18 +94,22 @@ some-there {xs = []} m = absurd (List·Memᴰ·not-nil m)
 some-there {xs = y ∷ ys} m = suc-le-suc zero-le
 
 -- what the scan of worker w left of its sets
-abbrev pub CarriedIn : Lent → Logs → Core → ℕ → Worker → Task → ℕ → ℕ → Buffers → Buffers → ReadRows → LeafSetRows → Worker → Type 0
-CarriedIn l g c w x t lo hi b b' rs ls y =
+abbrev pub CarriedIn : Lent → Logs → Core → ℕ → Worker → Task → ℕ → ℕ → Buffers → Buffers → ReadRows → LeafSetRows → Done → Type 0
+CarriedIn l g c w x t lo hi b b' rs ls r =
     Carried (l .rows) (l .lows) (l .versions) (l .slots) (getD (g .writes) w []) (c .sizes) x t lo hi
-    b (getD (g .reads) w []) (getD (g .leaves) w []) b' rs ls y
+    b (getD (g .reads) w []) (getD (g .leaves) w []) b' rs ls r
 
 -- the arrays with these sets of worker w
 abbrev pub logging : Logs → ℕ → ReadRows → LeafSetRows → Logs
 logging g w rs ls = logs (set (g .reads) w rs) (set (g .leaves) w ls) (g .writes)
 
 module _ {l : Lent} {g : Logs} {c : Core} {w : ℕ} {x : Worker} (k : Ready l g c) (e : Entered isOpen (c .workers) w x)
-    (lo hi : ℕ) (t : Task) (b b' : Buffers) (rs : ReadRows) (ls : LeafSetRows) (y : Worker)
-    (p : PassedIn l g c w x lo hi (placesOf b) t) (d : CarriedIn l g c w x t lo hi b b' rs ls y) where
+    (lo hi : ℕ) (t : Task) (b b' : Buffers) (rs : ReadRows) (ls : LeafSetRows) (r : Done)
+    (p : PassedIn l g c w x lo hi (placesOf b) t) (d : CarriedIn l g c w x t lo hi b b' rs ls r) where
+  -- the worker after it
+  abbrev y : Worker
+  y = r .worker
+
   others : OthersSame g (logging g w rs ls) w
   others =
       record {
@@ -201,11 +206,11 @@ module _ {l : Lent} {g : Logs} {c : Core} {w : ℕ} {x : Worker} (k : Ready l g 
       (subst (λ (s : LeafSetRows). LowsStay (leavesIn (l .lows) (l .versions) (c .sizes .leaves)) s (y .leaves))
       (sym (own-set (λ (s : LeafSetRows). s) (g .leaves) w ls (k .stored .leaves) (e .inside))) own-lows)
 
-  answer-is : granted (stateOf l g c) (scan w lo hi (placesOf b)) ≡ listed (rowsIn (t .count) b')
+  answer-is : granted (stateOf l g c) (scan w lo hi (placesOf b)) ≡ listed (rowsIn (r .count) b')
   unfolding granted
   answer-is = ap (λ (os : List (Row Payload)). listed os) (sym (d .fills .rows-are ∙ scan-shown k e lo hi t (p .measured)))
 
-  pub scan-granted : Refines l g c (scan w lo hi (placesOf b)) l (logging g w rs ls) (coreWith c w y) (listed (rowsIn (t .count) b'))
+  pub scan-granted : Refines l g c (scan w lo hi (placesOf b)) l (logging g w rs ls) (coreWith c w y) (listed (rowsIn (r .count) b'))
   scan-granted =
       subst (Refines l g c (scan w lo hi (placesOf b)) l (logging g w rs ls) (coreWith c w y)) answer-is
       (refines k (yields-granted (stateOf l g c) (scan w lo hi (placesOf b)) (passed-is k e lo hi (placesOf b) t p)) state-is stored)

@@ -1,4 +1,4 @@
-// Scan: the records of a range, as the transaction sees them. It counts and tests first and writes after.
+// Scan: the records of a range, as the transaction sees them. It tests first and writes after.
 use crate::cores;
 use map::Leaves;
 use map::Records;
@@ -73,7 +73,7 @@ pub fn scan(
                     answer: ScanAnswer::Refused(r),
                 },
                 Plan::Go(t) => {
-                    let y = plans::carry_out(
+                    let done = plans::carry_out(
                         addresses,
                         values,
                         owners,
@@ -89,10 +89,10 @@ pub fn scan(
                         lo,
                         hi,
                     );
-                    let core = cores::with_worker(c, v, y);
+                    let core = cores::with_worker(c, v, done.worker);
                     ScanDone {
                         core,
-                        answer: ScanAnswer::Count(t.count),
+                        answer: ScanAnswer::Count(done.count),
                     }
                 }
             }

@@ -9,7 +9,7 @@ use mathlib.Core.List.{List, [], _∷_}
 use mathlib.Core.Option.{Option, none, some}
 use lib.ListN.{getD}
 use Rattle.lists.specs.Tests.{pick, both, maybe, present, less}
-use Rattle.lists.specs.TestLaws.{clash, less-yes, less-no, less-false}
+use Rattle.lists.specs.TestLaws.{clash, less-false}
 use Rattle.lists.specs.Rows.{Row, keys, any, Rising}
 use Rattle.lists.specs.RowLaws.{rising-different}
 use Rattle.spec.specs.declared.Refusal.{Refusal}
@@ -34,7 +34,7 @@ use Rattle.map.specs.declared.Sizes.{Sizes}
 use Rattle.map.specs.Views.{slotsIn, recordsIn, SlotRows, RecordRows, Lent, mapOf}
 use Rattle.map.specs.Entries.{MapBecomes}
 use Rattle.map.specs.LockLaws.{Lockable}
-use Rattle.map.specs.AddressCounts.{Waits, Addressed}
+use Rattle.map.specs.AddressCounts.{WaitsBeyond, AddressedBeyond}
 use Rattle.guards.specs.declared.Judged.{Judged}
 use Rattle.guards.specs.declared.Judged.the-variants.{Passed}
 use Rattle.guards.specs.declared.Judged.the-variants as guarded
@@ -81,36 +81,28 @@ module _ (rows : RecordRows) (slots : SlotRows) (us : WriteRows) (z : Sizes) (n 
   unfolding lockTests
   tested-held t = record { is = λ m e s. cause-holds _ Held _ (in-map m s ∙ t) }
 
-  module _ (free : b ≡ false) {v : ℕ} (waits : Waits slots us n v) where
-    pub tested-full : standard .waitingLimit < v → Tested rows slots us z n w (Refused IndexletFull)
+  module _ (free : b ≡ false) {v : Bool} (waits : WaitsBeyond slots us n v) where
+    pub tested-full : v ≡ true → Tested rows slots us z n w (Refused IndexletFull)
     unfolding lockTests
     tested-full l =
         record {
-          is = λ m e s.
-              cause-fails _ Held _ (in-map m s ∙ free)
-              ∙ cause-holds _ IndexletFull _ (ap (less (standard .waitingLimit)) (sym (waits .is m s)) ∙ less-yes {m = standard .waitingLimit} {n = v} l);
+          is = λ m e s. cause-fails _ Held _ (in-map m s ∙ free) ∙ cause-holds _ IndexletFull _ (sym (waits .is m s) ∙ l);
         }
 
-    module _ (few : v ≤ standard .waitingLimit) {u : ℕ} (all : Addressed rows slots us z n u) where
+    module _ (few : v ≡ false) {u : Bool} (all : AddressedBeyond rows slots us z n u) where
       past : (m : MapState) → m .slots ≡ slotsIn slots
           → lockTests m (keys (writesOf us n)) w ≡ firstCause (cause (less (standard .mapLimit) (addressesWith m (keys (writesOf us n)))) MapFull ∷ [])
       unfolding lockTests
       past m s =
           cause-fails _ Held _ (in-map m s ∙ free)
-          ∙ cause-fails _ IndexletFull _ (ap (less (standard .waitingLimit)) (sym (waits .is m s)) ∙ less-no {m = standard .waitingLimit} {n = v} few)
+          ∙ cause-fails _ IndexletFull _ (sym (waits .is m s) ∙ few)
 
-      pub tested-map : standard .mapLimit < u → Tested rows slots us z n w (Refused MapFull)
-      tested-map l =
-          record {
-            is = λ m e s. past m s ∙ cause-holds _ MapFull [] (ap (less (standard .mapLimit)) (sym (all .is m e s)) ∙ less-yes {m = standard .mapLimit} {n = u} l);
-          }
+      pub tested-map : u ≡ true → Tested rows slots us z n w (Refused MapFull)
+      tested-map l = record { is = λ m e s. past m s ∙ cause-holds _ MapFull [] (sym (all .is m e s) ∙ l) }
 
-      pub tested-passed : u ≤ standard .mapLimit → Tested rows slots us z n w Granted
+      pub tested-passed : u ≡ false → Tested rows slots us z n w Granted
       unfolding firstCause
-      tested-passed l =
-          record {
-            is = λ m e s. past m s ∙ cause-fails _ MapFull [] (ap (less (standard .mapLimit)) (sym (all .is m e s)) ∙ less-no {m = standard .mapLimit} {n = u} l);
-          }
+      tested-passed l = record { is = λ m e s. past m s ∙ cause-fails _ MapFull [] (sym (all .is m e s) ∙ l) }
 
 -- the tests are passed
 tested-lockable : (m : MapState) (us : List (Row Write)) (w : ℕ) → lockTests m (keys us) w ≡ none → Rising us → Lockable m us

@@ -9,9 +9,7 @@ use sets::ReadSets;
 use sets::WriteSet;
 use sets::WriteSets;
 use sets::workers::Worker;
-use spec::MAP_LIMIT;
 use spec::Refusal;
-use spec::WAITING_LIMIT;
 use transactions::Core;
 use transactions::admits;
 use transactions::admits::Admit;
@@ -47,12 +45,10 @@ fn lock_tests(rows: &Records, slots: &Slots, ws: &WriteSet, z: Sizes, n: usize, 
     if map::locks::held(slots, ws, n, w) {
         return Plain::Refused(Refusal::Held);
     }
-    let waiting = map::locks::waiting_with(slots, ws, n, z.entries);
-    let addresses = map::locks::addresses_with(rows, slots, ws, n, z);
-    if WAITING_LIMIT < waiting {
+    if map::locks::waits_beyond(slots, ws, n, z.entries) {
         return Plain::Refused(Refusal::IndexletFull);
     }
-    if MAP_LIMIT < addresses {
+    if map::locks::addresses_beyond(rows, slots, ws, n, z) {
         return Plain::Refused(Refusal::MapFull);
     }
     Plain::Granted

@@ -5,12 +5,13 @@
 // `files` writes the file. `ops` takes any step as one operation.
 use map::Records;
 use map::Slots;
+use ranges::plans;
 use spec::MAP_LIMIT;
 use spec::Refusal;
 ghost use mathlib.Core.Path.{_≡_};
 ghost use mathlib.Core.List.{List};
 ghost use mathlib.Core.Option.{none};
-ghost use Prim.Native.Nat.{ℕ, _≤_, min};
+ghost use Prim.Native.Nat.{ℕ, _≤_};
 ghost use lib.ListN.{length};
 ghost use Rattle.lists.specs.Rows.{Row};
 ghost use Rattle.spec.specs.Records.{standard, Record};
@@ -97,15 +98,6 @@ pub fn open_export(
     }
 }
 
-fn least(a: usize, b: usize) -> usize
-    ensures { λ r. ⌜ r ≡ min a b ⌝ }
-{
-    if a < b {
-        return a;
-    }
-    b
-}
-
 // Gives the next records, as many as there are and as the shortest buffer holds.
 pub fn portion(
     addresses: &mut [u32],
@@ -122,9 +114,9 @@ pub fn portion(
 {
     if x.open {
         let left = x.count - x.taken;
-        let two = least(addresses.len(), values.len());
-        let shortest = least(two, owners.len());
-        let n = least(left, shortest);
+        let two = plans::lesser(addresses.len(), values.len());
+        let shortest = plans::lesser(two, owners.len());
+        let n = plans::lesser(left, shortest);
         copies::give(addresses, values, owners, exported, x.taken, n);
         let export = Export {
             open: true,

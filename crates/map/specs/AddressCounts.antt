@@ -9,8 +9,9 @@ use mathlib.Core.Bool.{Bool, true, false, not}
 use mathlib.Core.List.{List, [], _∷_, _++_}
 use mathlib.Core.Option.{Option, none, some}
 use lib.ListN.{length, length-append}
-use Rattle.lists.specs.Tests.{pick, both, either, present}
-use Rattle.lists.specs.TestLaws.{cases, clash}
+use lib.Dec.{ltb}
+use Rattle.lists.specs.Tests.{pick, both, either, present, less}
+use Rattle.lists.specs.TestLaws.{cases, clash, less-no}
 use Rattle.lists.specs.Rows.{Row, look, keys, has, filter, distinct, Rising, Different}
 use Rattle.lists.specs.RowLaws.{has-keys, length-keys, rising-different}
 use Rattle.lists.specs.Ascending.{mem-filter, filter-mem}
@@ -18,7 +19,7 @@ use Rattle.lists.specs.Counting.{has-here, has-there, has-append, Within, disti
 use Rattle.lists.specs.Memberships.{member-has, has-member, has-left, has-right, has-parts}
 use Rattle.lists.specs.Options.{options}
 use Rattle.lists.specs.Sums.{total}
-use Rattle.spec.specs.Records.{Record}
+use Rattle.spec.specs.Records.{standard, Record}
 use Rattle.spec.specs.Slots.{slotCount, Content, isIdle, Slot, entries, contentOf}
 use Rattle.spec.specs.Maps.{MapState, waitingWith, addressesWith}
 use Rattle.laws.specs.SlotCounts.{tally, count-cons, entries-some, entries-none, entries-most}
@@ -297,6 +298,15 @@ pub record Waits (slots : SlotRows) (ws : WriteRows) (n r : ℕ) : Type 0 where
 pub record Addressed (rows : RecordRows) (slots : SlotRows) (ws : WriteRows) (z : Sizes) (n r : ℕ) : Type 0 where
   pub is : (m : MapState) → m .records ≡ recordsOf rows (z .records) → m .slots ≡ slotsOf slots → r ≡ addressesWith m (keys (writesOf ws n))
 
+-- r tells whether the one is above the limit, and the other
+pub record WaitsBeyond (slots : SlotRows) (ws : WriteRows) (n : ℕ) (r : Bool) : Type 0 where
+  pub is : (m : MapState) → m .slots ≡ slotsOf slots → r ≡ less (standard .waitingLimit) (waitingWith m (keys (writesOf ws n)))
+
+pub record AddressedBeyond (rows : RecordRows) (slots : SlotRows) (ws : WriteRows) (z : Sizes) (n : ℕ) (r : Bool) : Type 0 where
+  pub is :
+      (m : MapState) → m .records ≡ recordsOf rows (z .records) → m .slots ≡ slotsOf slots
+      → r ≡ less (standard .mapLimit) (addressesWith m (keys (writesOf ws n)))
+
 -- the sizes count the records, the entries, and the entries outside of the index
 pub record Counted (rows : RecordRows) (slots : SlotRows) (z : Sizes) : Type 0 where
   pub rows-held : index.RecordsSorted rows (z .records)
@@ -340,6 +350,37 @@ module _ (slots : SlotRows) (ws : WriteRows) (n : ℕ) (h : indexlet.SlotsHeld s
             ∙ ap (λ (ss : List Slot). distinct (keys (entries ss) ++ keys (writesOf ws n))) (sym s);
       }
 
+-- a count of some addresses of a write set is at most that of its rows
+some-keys : (p : ℕ → Bool) (ws : WriteRows) (n : ℕ) → length (filter p (keys (writesOf ws n))) ≤ n
+some-keys p ws n =
+    let a : length (filter p (keys (writesOf ws n))) ≤ length (keys (writesOf ws n)) = filter-most p (keys (writesOf ws n)) in
+    let b : length (keys (writesOf ws n)) ≡ length (writesOf ws n) = length-keys (writesOf ws n) in
+    let c : length (writesOf ws n) ≡ n = length-rows writeIn ws n in
+    omega arith
+
+-- by the count
+pub beyond-counted : {slots : SlotRows} {ws : WriteRows} {n r : ℕ} → Waits slots ws n r → WaitsBeyond slots ws n (ltb (standard .waitingLimit) r)
+beyond-counted h = record { is = λ m s. unfold less in ap (λ (x : ℕ). ltb (standard .waitingLimit) x) (h .is m s) }
+
+pub addressed-counted : {rows : RecordRows} {slots : SlotRows} {ws : WriteRows} {z : Sizes} {n r : ℕ} → Addressed rows slots ws z n r
+    → AddressedBeyond rows slots ws z n (ltb (standard .mapLimit) r)
+addressed-counted h = record { is = λ m e s. unfold less in ap (λ (x : ℕ). ltb (standard .mapLimit) x) (h .is m e s) }
+
+-- without one: all addresses of the write set could be new, and still there is room
+module _ (slots : SlotRows) (ws : WriteRows) (n : ℕ) (h : indexlet.SlotsHeld slots) where
+  pub entries-fit : (e : ℕ) → e ≡ length (entries (slotsOf slots)) → n ≤ 16 → e + n < 2 ^ 64
+  entries-fit e q few = let a : length (entries (slotsOf slots)) ≤ slotCount = entry-most h in omega arith
+
+  pub beyond-few : (e : ℕ) → e ≡ length (entries (slotsOf slots)) → Rising (writesOf ws n) → e + n ≤ standard .waitingLimit → WaitsBeyond slots ws n false
+  beyond-few e q rising few =
+      let v = e + length (filter (entryless slots) (keys (writesOf ws n))) in
+      let a : length (filter (entryless slots) (keys (writesOf ws n))) ≤ n = some-keys (entryless slots) ws n in
+      record {
+        is =
+            λ m s. sym (less-no {m = standard .waitingLimit} {n = v} (omega arith))
+            ∙ ap (less (standard .waitingLimit)) (waits slots ws n h e v q rising refl .is m s);
+      }
+
 module _ (rows : RecordRows) (slots : SlotRows) (ws : WriteRows) (z : Sizes) (n : ℕ) (h : Counted rows slots z) where
   -- a map with these records and slots
   indexed : MapState
@@ -351,6 +392,9 @@ module _ (rows : RecordRows) (slots : SlotRows) (ws : WriteRows) (z : Sizes) (n 
       let a : z .outside ≡ howMany (outsideAny indexed) (slotsOf slots) = h .outside-are indexed refl in
       let b : howMany (outsideAny indexed) (slotsOf slots) ≤ slotCount = many-most (h .slots-held .good) (outsideAny indexed) in
       omega arith
+
+  pub all-fit : n ≤ 16 → z .records + z .outside + n < 2 ^ 64
+  all-fit few = let a = h .rows-held .room in let b = outside-most in omega arith
 
   pub base-fits : z .records + z .outside < 2 ^ 64
   base-fits = let a = h .rows-held .room in let b = outside-most in omega arith
@@ -391,3 +435,13 @@ module _ (rows : RecordRows) (slots : SlotRows) (ws : WriteRows) (z : Sizes) (n 
           let b = outside-number in
           let c = all in
           omega arith
+
+  pub addressed-few : Rising (writesOf ws n) → z .records + z .outside + n ≤ standard .mapLimit → AddressedBeyond rows slots ws z n false
+  addressed-few rising few =
+      let v = z .records + z .outside + length (filter (unknown rows (z .records) slots) (keys (writesOf ws n))) in
+      let a : length (filter (unknown rows (z .records) slots) (keys (writesOf ws n))) ≤ n = some-keys (unknown rows (z .records) slots) ws n in
+      record {
+        is =
+            λ m e s. sym (less-no {m = standard .mapLimit} {n = v} (omega arith))
+            ∙ ap (less (standard .mapLimit)) (addressed v rising refl .is m e s);
+      }

@@ -11,6 +11,8 @@ use sets::WriteSet;
 use sets::writes;
 use sets::writes::Entry;
 use spec::Address;
+use spec::MAP_LIMIT;
+use spec::WAITING_LIMIT;
 ghost use mathlib.Core.Path.{_≡_};
 ghost use mathlib.Core.Bool.{false};
 ghost use Prim.Native.Nat.{ℕ, _+_, _^_, _<_};
@@ -31,7 +33,7 @@ ghost use Rattle.map.specs.MapHeld.{Tables, MapHeld};
 ghost use Rattle.map.specs.Entries.{MapBecomes, ContentSet};
 ghost use Rattle.map.specs.WriteWalks.{Writing, writeAt};
 ghost use Rattle.map.specs.LockLaws.{heldBy, holding, pendingKind, Lockable};
-ghost use Rattle.map.specs.AddressCounts.{entryless, unknown, Waits, Addressed, Counted};
+ghost use Rattle.map.specs.AddressCounts.{entryless, unknown, Waits, Addressed, WaitsBeyond, AddressedBeyond, Counted};
 
 // The address of row i.
 fn key_at(ws: &WriteSet, n: usize, i: usize) -> Address
@@ -304,7 +306,7 @@ fn entryless_at(slots: &Slots, ws: &WriteSet, n: usize, i: usize) -> usize
 
 // How many addresses are waiting or locked, those of the write set included (refusal 10); `entries` is the number of
 // entries.
-pub fn waiting_with(slots: &Slots, ws: &WriteSet, n: usize, entries: usize) -> usize
+fn waiting_with(slots: &Slots, ws: &WriteSet, n: usize, entries: usize) -> usize
     requires { ⌜ indexlet.SlotsHeld (now slots) ⌝ }
     requires { ⌜ entries ≡ length (model.entries (slotsOf (now slots))) ⌝ }
     requires { ⌜ Writing (now ws) n ⌝ }
@@ -318,6 +320,21 @@ pub fn waiting_with(slots: &Slots, ws: &WriteSet, n: usize, entries: usize) -> u
         i += 1;
     }
     sum
+}
+
+// Whether they are too many (refusal 10). If even all addresses of the write set as new ones fit, nothing is searched.
+pub fn waits_beyond(slots: &Slots, ws: &WriteSet, n: usize, entries: usize) -> bool
+    requires { ⌜ indexlet.SlotsHeld (now slots) ⌝ }
+    requires { ⌜ entries ≡ length (model.entries (slotsOf (now slots))) ⌝ }
+    requires { ⌜ Writing (now ws) n ⌝ }
+    requires { ⌜ Rising (writesOf (now ws) n) ⌝ }
+    ensures { λ r. ⌜ WaitsBeyond (now (slots .entry)) (now (ws .entry)) n r ⌝ }
+{
+    if entries + n <= WAITING_LIMIT {
+        return false;
+    }
+    let waiting = waiting_with(slots, ws, n, entries);
+    WAITING_LIMIT < waiting
 }
 
 // 1 if the address in row i has no entry and the index lacks it.
@@ -343,7 +360,7 @@ fn unknown_at(
 }
 
 // How many addresses the index, the indexlet and the write set have together (refusal 11).
-pub fn addresses_with(rows: &Records, slots: &Slots, ws: &WriteSet, n: usize, z: Sizes) -> usize
+fn addresses_with(rows: &Records, slots: &Slots, ws: &WriteSet, n: usize, z: Sizes) -> usize
     requires { ⌜ Counted (now rows) (now slots) z ⌝ }
     requires { ⌜ Writing (now ws) n ⌝ }
     requires { ⌜ Rising (writesOf (now ws) n) ⌝ }
@@ -357,4 +374,18 @@ pub fn addresses_with(rows: &Records, slots: &Slots, ws: &WriteSet, n: usize, z:
         i += 1;
     }
     sum
+}
+
+// Whether they are too many (refusal 11). If even all addresses of the write set as new ones fit, nothing is searched.
+pub fn addresses_beyond(rows: &Records, slots: &Slots, ws: &WriteSet, n: usize, z: Sizes) -> bool
+    requires { ⌜ Counted (now rows) (now slots) z ⌝ }
+    requires { ⌜ Writing (now ws) n ⌝ }
+    requires { ⌜ Rising (writesOf (now ws) n) ⌝ }
+    ensures { λ r. ⌜ AddressedBeyond (now (rows .entry)) (now (slots .entry)) (now (ws .entry)) z n r ⌝ }
+{
+    if z.records + z.outside + n <= MAP_LIMIT {
+        return false;
+    }
+    let addresses = addresses_with(rows, slots, ws, n, z);
+    MAP_LIMIT < addresses
 }

@@ -3,10 +3,11 @@ pub mod Parts
 pub mod Buffers
 pub mod BufferLaws
 pub mod FirstPlaces
+pub mod Scanning
 pub mod Walks
 pub mod WalkLaws
 pub mod ShowLaws
-pub mod Scanning
 pub mod LogLaws
+pub mod LoggedWalks
 pub mod Plans
 pub mod PlanLaws

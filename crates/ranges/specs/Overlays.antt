@@ -1,13 +1,14 @@
 -- One list of rows laid over another, taken row by row: the smaller first key comes first, and at one key the upper list
 -- decides.
-use Prim.Native.Nat.{ℕ, zero, suc, _<_, _≤_}
+use Prim.Native.Nat.{ℕ, zero, suc, _+_, _<_, _≤_, zero-le, suc-le-suc}
 use native.Mathlib.Nat.{le-refl, le-step}
 use native.Mathlib.Omega.{arith}
 use mathlib.Core.Path.{_≡_, refl, sym, ap, _∙_, subst}
+use mathlib.Core.Bool.{Bool, true, false}
 use mathlib.Core.List.{List, [], _∷_, map}
 use mathlib.Core.Option.{Option, none, some}
-use lib.ListN.{take, drop}
-use Rattle.lists.specs.Tests.{maybe}
+use lib.ListN.{length, take, drop}
+use Rattle.lists.specs.Tests.{pick, maybe, same, less}
 use Rattle.lists.specs.TestLaws.{same-no, same-refl, less-yes, less-no}
 use Rattle.lists.specs.Rows.{Row, row, insert, delete, assign, lay, From, Rising}
 use Rattle.lists.specs.RowLaws.{from-weaken, from-assign}
@@ -115,6 +116,49 @@ module _ {A : Type 0} where
       ∙ ap (λ (k : ℕ). assign (e .key) (e .item) (lay es (shown (row k (i .item)) (lay is [])))) q
       ∙ ap (assign (e .key) (e .item)) (lay-behind (e .key) (i .item) es (lay is []) f)
       ∙ assign-over (e .key) (i .item) (e .item) (suc (e .key)) (lay es (lay is [])) (le-refl (suc (e .key))) (unfold overlay in from-overlay (suc (e .key)) es is f g)
+
+  -- ---- how many rows
+
+  few-either : (b : Bool) (xs ys : List (Row A)) (n : ℕ) → length xs ≤ n → length ys ≤ n → length (pick b xs ys) ≤ n
+  few-either true xs ys n h l = h
+  few-either false xs ys n h l = l
+
+  few-deleted : (k : ℕ) (rs : List (Row A)) → length (delete k rs) ≤ length rs
+  unfolding delete
+  few-deleted k [] = zero-le
+  few-deleted k (r ∷ rs) =
+      let h : length (delete k rs) ≤ length rs = few-deleted k rs in
+      few-either (same (r .key) k) (delete k rs) (r ∷ delete k rs) (suc (length rs)) (le-step h) (suc-le-suc h)
+
+  few-inserted : (k : ℕ) (a : A) (rs : List (Row A)) → length (insert k a rs) ≤ suc (length rs)
+  unfolding insert
+  few-inserted k a [] = le-refl 1
+  few-inserted k a (r ∷ rs) =
+      let h : length (insert k a rs) ≤ suc (length rs) = few-inserted k a rs in
+      few-either (less k (r .key)) (row k a ∷ r ∷ rs) (pick (same k (r .key)) (row k a ∷ rs) (r ∷ insert k a rs)) (suc (suc (length rs)))
+      (le-refl (suc (suc (length rs))))
+      (few-either (same k (r .key)) (row k a ∷ rs) (r ∷ insert k a rs) (suc (suc (length rs))) (le-step (le-refl (suc (length rs)))) (suc-le-suc h))
+
+  few-assigned : (k : ℕ) (o : Option A) (rs : List (Row A)) → length (assign k o rs) ≤ suc (length rs)
+  unfolding assign
+  few-assigned k none rs = le-step (few-deleted k rs)
+  few-assigned k (some a) rs = few-inserted k a rs
+
+  few-laid : (es : List (Row (Option A))) (rs : List (Row A)) → length (lay es rs) ≤ length es + length rs
+  unfolding lay
+  few-laid [] rs = let h : length rs ≤ 0 + length rs = omega arith in h
+  few-laid (e ∷ es) rs =
+      let h : length (lay es rs) ≤ length es + length rs = few-laid es rs in
+      let l : length (assign (e .key) (e .item) (lay es rs)) ≤ suc (length (lay es rs)) = few-assigned (e .key) (e .item) (lay es rs) in
+      omega arith
+
+  -- each row of either list gives at most one
+  pub few-overlaid : (es is : List (Row (Option A))) → length (overlay es is) ≤ length es + length is
+  unfolding overlay
+  few-overlaid es is =
+      let h : length (lay es (lay is [])) ≤ length es + length (lay is []) = few-laid es (lay is []) in
+      let l : length (lay is []) ≤ length is + 0 = few-laid is [] in
+      omega arith
 
 -- ---- parts of rising rows
 

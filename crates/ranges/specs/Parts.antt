@@ -1,5 +1,5 @@
 -- Parts of a list: a walk over places, one after the other, and the first rows of a set.
-use Prim.Native.Nat.{ℕ, zero, suc, _+_, _-_, _<_, _≤_}
+use Prim.Native.Nat.{ℕ, zero, suc, _+_, _-_, _<_, _≤_, zero-le, suc-le-suc}
 use native.Mathlib.Nat.{not-suc-le-zero}
 use native.Mathlib.Omega.{arith}
 use mathlib.Core.Path.{_≡_, refl, sym, ap, _∙_}
@@ -37,6 +37,16 @@ module _ {A : Type 0} where
   getD-walk f i zero k d h = absurd (not-suc-le-zero h)
   getD-walk f i (suc n) zero d h = ap f (let e : i ≡ i + 0 = omega arith in e)
   getD-walk f i (suc n) (suc k) d h = getD-walk f (suc i) n k d (omega arith) ∙ ap f (let e : suc i + k ≡ i + suc k = omega arith in e)
+
+  pub walk-same : (f g : ℕ → A) (i j n : ℕ) → ((k : ℕ) → k < n → f (i + k) ≡ g (j + k)) → walk f i n ≡ walk g j n
+  unfolding walk
+  walk-same f g i j zero h = refl
+  walk-same f g i j (suc n) h =
+      ap (λ (x : A). x ∷ walk f (suc i) n)
+      (ap f (let e : i ≡ i + 0 = omega arith in e) ∙ h 0 (suc-le-suc zero-le) ∙ ap g (let e : j + 0 ≡ j = omega arith in e))
+      ∙ ap (λ (xs : List A). g j ∷ xs)
+      (walk-same f g (suc i) (suc j) n
+      (λ k l. ap f (let e : suc i + k ≡ i + suc k = omega arith in e) ∙ h (suc k) (suc-le-suc l) ∙ ap g (let e : j + suc k ≡ suc j + k = omega arith in e)))
 
   -- one more element, from what is left to what is done
   pub done-one : (xs ys zs us : List A) (x : A) → us ≡ xs ++ (x ∷ []) → ys ≡ x ∷ zs → us ++ zs ≡ xs ++ ys

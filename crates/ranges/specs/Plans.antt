@@ -3,7 +3,7 @@ use Prim.Native.Nat.{ℕ, _+_, _<_, _≤_}
 use mathlib.Core.Path.{_≡_}
 use mathlib.Core.Logic.{_⊎_}
 use mathlib.Core.List.{List}
-use lib.ListN.{length, getD}
+use lib.ListN.{length}
 use Rattle.lists.specs.Rows.{Row}
 use Rattle.spec.specs.Records.{standard, Payload}
 use Rattle.spec.specs.Steps.{Places, shortest}
@@ -18,6 +18,7 @@ use Rattle.map.specs.declared.Sizes.{Sizes}
 use Rattle.queries.specs.declared.Range.{Range}
 use Rattle.queries.specs.QueryViews.{Spans, Meets}
 use Rattle.ranges.specs.declared.plans.Task.{Task}
+use Rattle.ranges.specs.declared.plans.Done.{Done}
 use Rattle.ranges.specs.declared.plans.Plan.{Plan}
 use Rattle.ranges.specs.declared.plans.Plan.the-variants.{Refused, Go}
 use Rattle.ranges.specs.Buffers.{Buffers}
@@ -38,7 +39,7 @@ pub record Planning (rows : RecordRows) (lows : List ℕ) (slots : SlotRows) (ws
 -- what the scan walks over
 abbrev pub field : RecordRows → SlotRows → WriteRows → Sizes → Task → Ground
 field rows slots ws z t =
-    ground rows slots ws (record { records = z .records; to = t .index .to; end = t .own .to })
+    ground (seenIn rows (z .records) slots) ws (record { to = t .index .to; end = t .own .to })
 
 -- and what it shows
 abbrev pub shownOf : RecordRows → SlotRows → WriteRows → Sizes → Task → List (Row Payload)
@@ -52,26 +53,19 @@ pub record Measured (rows : RecordRows) (lows : List ℕ) (slots : SlotRows) (ws
   pub own : OwnSpans ws (x .writes) lo hi (t .own)
   pub reads-fit : x .reads + span (t .index) ≤ standard .readLimit
   pub leaves-fit : x .leaves + span (t .met) ≤ standard .leafSetLimit
-  pub count : t .count ≡ length (shownOf rows slots ws z t)
 
 -- the tests refuse
 pub data Declined (rows : RecordRows) (lows : List ℕ) (slots : SlotRows) (ws : WriteRows) (z : Sizes) (x : Worker) (lo hi : ℕ) (b : Places) (r : Refusal) : Type 0 where
   backward : r ≡ Backward → hi < lo → Declined rows lows slots ws z x lo hi b r
   full : r ≡ LogFull → (a d : Range) → lo ≤ hi → Spans rows (z .records) lo hi a → Meets lows (z .leaves) lo hi d
       → (standard .readLimit < x .reads + span a) ⊎ (standard .leafSetLimit < x .leaves + span d) → Declined rows lows slots ws z x lo hi b r
-  short : r ≡ ShortBuffer → (t : Task) → Measured rows lows slots ws z x lo hi t → shortest b < t .count
+  short : r ≡ ShortBuffer → (t : Task) → Measured rows lows slots ws z x lo hi t → shortest b < length (shownOf rows slots ws z t)
       → Declined rows lows slots ws z x lo hi b r
-
--- places for what is shown
-pub record Roomy (t : Task) (b : Places) : Type 0 where
-  pub addresses : t .count ≤ b .addresses
-  pub values : t .count ≤ b .values
-  pub owners : t .count ≤ b .owners
 
 -- they pass
 pub record Passed (rows : RecordRows) (lows : List ℕ) (slots : SlotRows) (ws : WriteRows) (z : Sizes) (x : Worker) (lo hi : ℕ) (b : Places) (t : Task) : Type 0 where
   pub measured : Measured rows lows slots ws z x lo hi t
-  pub roomy : Roomy t b
+  pub fits : length (shownOf rows slots ws z t) ≤ shortest b
 
 abbrev pub Plans : RecordRows → List ℕ → SlotRows → WriteRows → Sizes → Worker → ℕ → ℕ → Places → Plan → Type 0
 Plans rows lows slots ws z x lo hi b (Refused r) = Declined rows lows slots ws z x lo hi b r
@@ -87,17 +81,16 @@ pub record Planned (rows : RecordRows) (lows : List ℕ) (slots : SlotRows) (ws 
   pub own-within : t .own .to ≤ x .writes
   pub reads-fit : x .reads + span (t .index) ≤ standard .readLimit
   pub leaves-fit : x .leaves + span (t .met) ≤ standard .leafSetLimit
-  pub count : t .count ≡ length (shownOf rows slots ws z t)
-  pub roomy : Roomy t b
+  pub fits : length (shownOf rows slots ws z t) ≤ shortest b
 
 -- the scan from lo to hi, as the transaction remembers it
 abbrev pub scanMade : Worker → Task → ℕ → ℕ → Scanned
 scanMade x t lo hi = record { lo = lo; hi = hi; from = x .reads; count = span (t .index) }
 
--- the buffers and the worker's sets after the scan, and the worker with its new counts
+-- the buffers and the worker's sets after the scan, how many records are shown, and the worker with its new counts
 pub record Carried (rows : RecordRows) (lows versions : List ℕ) (slots : SlotRows) (ws : WriteRows) (z : Sizes) (x : Worker) (t : Task) (lo hi : ℕ)
-    (b : Buffers) (rs : ReadRows) (ls : LeafSetRows) (c : Buffers) (rs' : ReadRows) (ls' : LeafSetRows) (y : Worker) : Type 0 where
-  pub fills : Fills b (shownOf rows slots ws z t) c (t .count)
-  pub logs-rows : LogsRows rs (x .reads) (seenIn rows (z .records) slots) (t .index) rs' (y .reads)
-  pub logs-leaves : LogsLeaves ls (x .leaves) lows versions (t .met) (scanMade x t lo hi) ls' (y .leaves)
-  pub worker : y ≡ record { stage = x .stage; number = x .number; reads = y .reads; leaves = y .leaves; writes = x .writes }
+    (b : Buffers) (rs : ReadRows) (ls : LeafSetRows) (c : Buffers) (rs' : ReadRows) (ls' : LeafSetRows) (r : Done) : Type 0 where
+  pub fills : Fills b (shownOf rows slots ws z t) c (r .count)
+  pub logs-rows : LogsRows rs (x .reads) (seenIn rows (z .records) slots) (t .index) rs' (r .worker .reads)
+  pub logs-leaves : LogsLeaves ls (x .leaves) lows versions (t .met) (scanMade x t lo hi) ls' (r .worker .leaves)
+  pub worker : r .worker ≡ record { stage = x .stage; number = x .number; reads = r .worker .reads; leaves = r .worker .leaves; writes = x .writes }

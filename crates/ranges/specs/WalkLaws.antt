@@ -5,7 +5,7 @@ use mathlib.Core.Path.{_≡_, refl, sym, ap, _∙_, subst}
 use mathlib.Core.Bool.{Bool, true, false}
 use mathlib.Core.List.{List, [], _∷_}
 use mathlib.Core.Option.{Option, none, some}
-use lib.ListN.{length, take, drop}
+use lib.ListN.{length, take, drop, length-drop}
 use lib.Dec.{eqb}
 use Rattle.lists.specs.Tests.{pick, same}
 use Rattle.lists.specs.Rows.{Row, row, mapItems, From, Rising}
@@ -16,16 +16,20 @@ use Rattle.spec.specs.Maps.{current}
 use Rattle.sets.specs.declared.writes.Entry.{Entry}
 use Rattle.sets.specs.declared.reads.Observed.{Observed}
 use Rattle.sets.specs.Reads.{observedIn}
-use Rattle.sets.specs.Writes.{writeOf, entryIn, writesOf, GivesWrite}
+use Rattle.sets.specs.Writes.{writeOf, writeIn, entryIn, writesOf, GivesWrite}
+use Rattle.sets.specs.SetLaws.{length-rows}
 use Rattle.map.specs.WriteWalks.{rest-none, rest-cons, given}
 use Rattle.map.specs.WriteWalks as walks
 use Rattle.index.specs.Views.{noRow, recordsOf}
 use Rattle.index.specs.ViewLaws.{length-records}
-use Rattle.queries.specs.QueryViews.{mapWith, indexedAt, SeenAt}
+use Rattle.queries.specs.QueryViews.{mapWith, walk, indexedAt, SeenAt}
 use Rattle.queries.specs.RangeLaws.{walk-map}
-use Rattle.ranges.specs.Parts.{walk-on, walk-past}
-use Rattle.ranges.specs.Overlays.{from-drop, shown, overlay, overlay-none, overlay-upper, overlay-lower, overlay-both, rising-part, rising-tail, rising-map}
-use Rattle.ranges.specs.Walks.{Ground, seenFrom, ownFrom, rest, Walks, Inside, indexTurn, ownTurn, turnIn, ComesNext}
+use Rattle.ranges.specs.Parts.{walk-on, walk-past, length-walk}
+use Rattle.ranges.specs.Overlays.{from-drop, shown, overlay, few-overlaid, overlay-none, overlay-upper, overlay-lower, overlay-both, rising-part, rising-tail, rising-map}
+use Rattle.ranges.specs.Scanning.{seenIn}
+use Rattle.ranges.specs.Walks.{Ground, seenFrom, ownFrom, rest, Walks, Inside, Stands, indexTurn, ownTurn, turnIn, ComesNext}
+use Rattle.map.specs.Views.{SlotRows, RecordRows}
+use Rattle.map.specs.Parts.{RecordsHeld}
 
 -- ---- what a turn shows
 
@@ -56,34 +60,48 @@ own-shows : (e : Entry) (i j : ℕ) → turnIn (ownTurn e i j) ≡ owned (entryI
 unfolding turnIn owned writeOf same
 own-shows e i j = ap (λ (o : Option Payload). row (e .address) o) (own-pick (eqb (e .kind) 1) (payloadIn (e .payload)))
 
+length-items : {A B : Type 0} (f : A → B) (rs : List (Row A)) → length (mapItems f rs) ≡ length rs
+unfolding mapItems
+length-items f [] = refl
+length-items f (r ∷ rs) = ap suc (length-items f rs)
+
 -- ---- the two lists
+
+-- ---- what stands at a place
+
+pub stands-seen : {rows : RecordRows} {n : ℕ} {slots : SlotRows} {to i : ℕ} {s : Observed} → SeenAt rows n slots i s → Stands (seenIn rows n slots) to i s
+stands-seen a = record { is = λ l. a .seen-is [] }
+
+pub stands-past : {f : ℕ → Row (Option Record)} {to i : ℕ} {s : Observed} → to ≤ i → Stands f to i s
+stands-past h = record { is = λ l. absurd (let z : ⊥ = omega arith in z) }
+
+-- the index's records rise
+pub rising-index : {rows : RecordRows} {n : ℕ} (slots : SlotRows) (to i : ℕ) → RecordsHeld rows n → to ≤ n → i ≤ to → Rising (walk (seenIn rows n slots) i (to - i))
+unfolding indexedAt
+rising-index {rows} {n} slots to i h t l =
+    let m : length (recordsOf rows n) ≡ n = length-records rows n (h .held .room) in
+    subst (Rising {A = Option Record})
+    (sym (walk-map (λ (r : Row Record). row (r .key) (current (mapWith rows n slots []) (r .key))) (recordsOf rows n) noRow i (to - i) (omega arith)))
+    (rising-map (current (mapWith rows n slots [])) (take (to - i) (drop i (recordsOf rows n))) (rising-part (to - i) i (recordsOf rows n) (h .held .rising)))
 
 module _ (g : Ground) (h : Walks g) where
   rising-seen : (i : ℕ) → i ≤ g .bounds .to → Rising (seenFrom g i)
-  unfolding seenFrom indexedAt
-  rising-seen i l =
-      let n : length (recordsOf (g .rows) (g .bounds .records)) ≡ g .bounds .records = length-records (g .rows) (g .bounds .records) (h .rows .held .room) in
-      let t : g .bounds .to ≤ g .bounds .records = h .within in
-      subst (Rising {A = Option Record})
-      (sym (walk-map (λ (r : Row Record). row (r .key) (current (mapWith (g .rows) (g .bounds .records) (g .slots) []) (r .key)))
-      (recordsOf (g .rows) (g .bounds .records)) noRow i (g .bounds .to - i) (omega arith)))
-      (rising-map (current (mapWith (g .rows) (g .bounds .records) (g .slots) []))
-      (take (g .bounds .to - i) (drop i (recordsOf (g .rows) (g .bounds .records))))
-      (rising-part (g .bounds .to - i) i (recordsOf (g .rows) (g .bounds .records)) (h .rows .held .rising)))
+  unfolding seenFrom
+  rising-seen i l = h .rising i l
 
   seen-end : (i : ℕ) → g .bounds .to ≤ i → seenFrom g i ≡ []
   unfolding seenFrom
-  seen-end i l = walk-past (indexedAt (mapWith (g .rows) (g .bounds .records) (g .slots) [])) i (g .bounds .to) l
+  seen-end i l = walk-past (g .seen) i (g .bounds .to) l
 
-  seen-on : (i : ℕ) (s : Observed) → i < g .bounds .to → SeenAt (g .rows) (g .bounds .records) (g .slots) i s → seenFrom g i ≡ observedIn s ∷ seenFrom g (i + 1)
+  seen-on : (i : ℕ) (s : Observed) → i < g .bounds .to → Stands (g .seen) (g .bounds .to) i s → seenFrom g i ≡ observedIn s ∷ seenFrom g (i + 1)
   unfolding seenFrom
   seen-on i s l a =
-      walk-on (indexedAt (mapWith (g .rows) (g .bounds .records) (g .slots) [])) i (g .bounds .to) l
-      ∙ ap (λ (r : Row (Option Record)). r ∷ seenFrom g (i + 1)) (sym (a .seen-is []))
+      walk-on (g .seen) i (g .bounds .to) l
+      ∙ ap (λ (r : Row (Option Record)). r ∷ seenFrom g (i + 1)) (sym (a .is l))
 
   rising-own : (j : ℕ) → Rising (ownFrom g j)
   unfolding ownFrom Rising
-  rising-own j = from-drop j 0 (writesOf (g .writes) (g .bounds .end)) (h .writes .rising)
+  rising-own j = from-drop j 0 (writesOf (g .writes) (g .bounds .end)) (h .nears .writes .rising)
 
   own-end : (j : ℕ) → g .bounds .end ≤ j → ownFrom g j ≡ []
   unfolding ownFrom walks.rest
@@ -107,20 +125,20 @@ module _ (g : Ground) (h : Walks g) where
   own-tail j e l w = rising-tail (entryIn e) (ownFrom g (j + 1)) (subst (Rising {A = Write}) (own-on j e l w) (rising-own j))
 
   -- all index addresses from place i on
-  seen-tail : (i : ℕ) (s : Observed) → i < g .bounds .to → SeenAt (g .rows) (g .bounds .records) (g .slots) i s → From (suc (s .address)) (seenFrom g (i + 1))
+  seen-tail : (i : ℕ) (s : Observed) → i < g .bounds .to → Stands (g .seen) (g .bounds .to) i s → From (suc (s .address)) (seenFrom g (i + 1))
   seen-tail i s l a =
       rising-tail (observedIn s) (seenFrom g (i + 1)) (subst (Rising {A = Option Record}) (seen-on i s l a) (rising-seen i (let b : i ≤ g .bounds .to = omega arith in b)))
 
   past-above : (a i : ℕ) → g .bounds .to ≤ i → From (suc a) (seenFrom g i)
   past-above a i l = subst (From (suc a)) (sym (seen-end i l)) (unfold From in tt)
 
-  seen-above : (b i : ℕ) (s : Observed) → i < g .bounds .to → SeenAt (g .rows) (g .bounds .records) (g .slots) i s → b < s .address → From (suc b) (seenFrom g i)
+  seen-above : (b i : ℕ) (s : Observed) → i < g .bounds .to → Stands (g .seen) (g .bounds .to) i s → b < s .address → From (suc b) (seenFrom g i)
   unfolding From
   seen-above b i s l a h = subst (From (suc b)) (sym (seen-on i s l a)) (h, seen-tail i s l a)
 
   -- ---- what comes next
 
-  index-first : (i j : ℕ) (s : Observed) → i < g .bounds .to → SeenAt (g .rows) (g .bounds .records) (g .slots) i s → From (suc (s .address)) (ownFrom g j)
+  index-first : (i j : ℕ) (s : Observed) → i < g .bounds .to → Stands (g .seen) (g .bounds .to) i s → From (suc (s .address)) (ownFrom g j)
       → rest g i j ≡ shown (turnIn (indexTurn s (i + 1) j)) (rest g (i + 1) j)
   unfolding rest mapItems paid
   index-first i j s l a f =
@@ -138,7 +156,7 @@ module _ (g : Ground) (h : Walks g) where
       (from-mapItems ownView (ownFrom g (j + 1)) (suc (e .address)) (own-tail j e l a)) (from-mapItems payloadOf (seenFrom g i) (suc (e .address)) f)
       ∙ ap (λ (r : Row (Option Payload)). shown r (overlay (mapItems ownView (ownFrom g (j + 1))) (mapItems payloadOf (seenFrom g i)))) (sym (own-shows e i (j + 1)))
 
-  both-first : (i j : ℕ) (s : Observed) (e : Entry) → i < g .bounds .to → SeenAt (g .rows) (g .bounds .records) (g .slots) i s
+  both-first : (i j : ℕ) (s : Observed) (e : Entry) → i < g .bounds .to → Stands (g .seen) (g .bounds .to) i s
       → j < g .bounds .end → GivesWrite (g .writes) j e → s .address ≡ e .address
       → rest g i j ≡ shown (turnIn (ownTurn e (i + 1) (j + 1))) (rest g (i + 1) (j + 1))
   unfolding rest mapItems owned paid
@@ -158,12 +176,24 @@ module _ (g : Ground) (h : Walks g) where
       ∙ ap (λ (xs : List (Row Write)). overlay (mapItems ownView xs) []) (own-end j k)
       ∙ overlay-none
 
+  -- each place shows at most one record
+  pub rest-few : (i j : ℕ) → length (rest g i j) ≤ g .bounds .to - i + (g .bounds .end - j)
+  unfolding rest seenFrom ownFrom
+  rest-few i j =
+      let a : length (rest g i j) ≤ length (mapItems ownView (ownFrom g j)) + length (mapItems payloadOf (seenFrom g i)) = few-overlaid (mapItems ownView (ownFrom g j)) (mapItems payloadOf (seenFrom g i)) in
+      let b : length (mapItems payloadOf (seenFrom g i)) ≡ length (seenFrom g i) = length-items payloadOf (seenFrom g i) in
+      let c : length (mapItems ownView (ownFrom g j)) ≡ length (ownFrom g j) = length-items ownView (ownFrom g j) in
+      let d : length (seenFrom g i) ≡ g .bounds .to - i = length-walk (g .seen) i (g .bounds .to - i) in
+      let e : length (ownFrom g j) ≡ length (writesOf (g .writes) (g .bounds .end)) - j = length-drop j (writesOf (g .writes) (g .bounds .end)) in
+      let f : length (writesOf (g .writes) (g .bounds .end)) ≡ g .bounds .end = length-rows writeIn (g .writes) (g .bounds .end) in
+      omega arith
+
   module _ (i j : ℕ) (at : Inside (g .bounds) i j) (more : i + j < g .bounds .to + g .bounds .end) where
     -- no write is left
-    pub index-left : g .bounds .end ≤ j → i < g .bounds .to
+    index-left : g .bounds .end ≤ j → i < g .bounds .to
     index-left l = let k : j ≤ g .bounds .end = at .own in omega arith
 
-    pub step-index-only : (s : Observed) → g .bounds .end ≤ j → SeenAt (g .rows) (g .bounds .records) (g .slots) i s → ComesNext g i j (indexTurn s (i + 1) j)
+    pub step-index-only : (s : Observed) → g .bounds .end ≤ j → Stands (g .seen) (g .bounds .to) i s → ComesNext g i j (indexTurn s (i + 1) j)
     step-index-only s l a =
         let b : i < g .bounds .to = index-left l in
         record {
@@ -181,7 +211,7 @@ module _ (g : Ground) (h : Walks g) where
           rest-is = own-first i j e k a (past-above (e .address) i l);
         }
 
-    module _ (s : Observed) (e : Entry) (l : i < g .bounds .to) (k : j < g .bounds .end) (a : SeenAt (g .rows) (g .bounds .records) (g .slots) i s)
+    module _ (s : Observed) (e : Entry) (l : i < g .bounds .to) (k : j < g .bounds .end) (a : Stands (g .seen) (g .bounds .to) i s)
         (b : GivesWrite (g .writes) j e) where
       pub step-index : s .address < e .address → ComesNext g i j (indexTurn s (i + 1) j)
       step-index h =

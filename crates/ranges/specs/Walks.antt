@@ -5,16 +5,18 @@ use mathlib.Core.Path.{_≡_}
 use mathlib.Core.Bool.{true}
 use mathlib.Core.List.{List, [], _++_}
 use mathlib.Core.Option.{Option, none, some}
-use lib.ListN.{length, drop}
+use lib.ListN.{length, getD, drop}
 use lib.Dec.{eqb}
 use Rattle.lists.specs.Tests.{pick}
-use Rattle.lists.specs.Rows.{Row, row, mapItems}
+use Rattle.lists.specs.Rows.{Row, row, mapItems, Rising}
 use Rattle.spec.specs.Payloads.{payloadIn}
-use Rattle.spec.specs.Records.{Payload, Record, Write, ownView, payloadOf}
+use Rattle.spec.specs.Records.{standard, Payload, Record, Write, ownView, payloadOf}
 use Rattle.sets.specs.declared.writes.Entry.{Entry}
 use Rattle.sets.specs.declared.reads.Observed.{Observed}
+use Rattle.sets.specs.Reads.{ReadRows, readIn, observedIn, ReadSetHeld}
 use Rattle.sets.specs.Writes.{WriteRows, WriteSetOrdered, writesOf}
-use Rattle.queries.specs.QueryViews.{mapWith, walk, indexedAt}
+use Rattle.queries.specs.QueryViews.{walk}
+use Rattle.index.specs.Views.{recordPlaces}
 use Rattle.ranges.specs.declared.walks.Bounds.{Bounds}
 use Rattle.ranges.specs.declared.walks.Turn.{Turn}
 use Rattle.ranges.specs.Overlays.{shown, overlay}
@@ -22,19 +24,22 @@ use Rattle.map.specs.Views.{SlotRows, RecordRows}
 use Rattle.map.specs.Parts.{RecordsHeld, SlotsHeld}
 use Rattle.ranges.specs.Buffers.{Buffers, rowsIn, Beyond}
 
--- What is walked over: the rows of the index, of the slots and of the worker's write set, and where the walk ends.
+-- What is walked over: the record at each place, the rows of the worker's write set, and where the walk ends.
 pub record Ground : Type 0 where
-  pub rows : RecordRows
-  pub slots : SlotRows
+  pub seen : ℕ → Row (Option Record)
   pub writes : WriteRows
   pub bounds : Bounds
 
-abbrev pub ground : RecordRows → SlotRows → WriteRows → Bounds → Ground
-ground rows slots writes b = record { rows = rows; slots = slots; writes = writes; bounds = b }
+abbrev pub ground : (ℕ → Row (Option Record)) → WriteRows → Bounds → Ground
+ground f writes b = record { seen = f; writes = writes; bounds = b }
 
--- the records from place i of the index on, each address with its current record
+-- the record in row first + i of a read set
+abbrev pub logRow : ReadRows → ℕ → ℕ → Row (Option Record)
+logRow rs first i = readIn (getD rs (first + i) [])
+
+-- the records from place i on
 unfoldable pub seenFrom : Ground → ℕ → List (Row (Option Record))
-seenFrom g i = walk (indexedAt (mapWith (g .rows) (g .bounds .records) (g .slots) [])) i (g .bounds .to - i)
+seenFrom g i = walk (g .seen) i (g .bounds .to - i)
 
 -- the worker's writes from place j on
 unfoldable pub ownFrom : Ground → ℕ → List (Row Write)
@@ -44,12 +49,26 @@ ownFrom g j = drop j (writesOf (g .writes) (g .bounds .end))
 unfoldable pub rest : Ground → ℕ → ℕ → List (Row Payload)
 rest g i j = overlay (mapItems ownView (ownFrom g j)) (mapItems payloadOf (seenFrom g i))
 
--- the invariants of the rows
+-- the writes rise, and there are no more records than the index can have
+pub record Nears (ws : WriteRows) (b : Bounds) : Type 0 where
+  pub writes : WriteSetOrdered ws (b .end)
+  pub few : b .to ≤ recordPlaces
+
+-- and the records rise
 pub record Walks (g : Ground) : Type 0 where
-  pub rows : RecordsHeld (g .rows) (g .bounds .records)
-  pub slots : SlotsHeld (g .slots)
-  pub writes : WriteSetOrdered (g .writes) (g .bounds .end)
-  pub within : g .bounds .to ≤ g .bounds .records
+  pub nears : Nears (g .writes) (g .bounds)
+  pub rising : (i : ℕ) → i ≤ g .bounds .to → Rising (walk (g .seen) i (g .bounds .to - i))
+
+-- the index's first records can be looked up
+pub record Sees (rows : RecordRows) (slots : SlotRows) (n to : ℕ) : Type 0 where
+  pub rows-held : RecordsHeld rows n
+  pub slots-held : SlotsHeld slots
+  pub within : to ≤ n
+
+-- the rows from `first` on of a read set can be read
+pub record Keeps (rs : ReadRows) (first to : ℕ) : Type 0 where
+  pub held : ReadSetHeld rs
+  pub room : first + to ≤ standard .readLimit
 
 -- places of the walk
 pub record Inside (b : Bounds) (i j : ℕ) : Type 0 where
@@ -74,6 +93,14 @@ pub record ComesNext (g : Ground) (i j : ℕ) (r : Turn) : Type 0 where
   pub on : i + j < r .i + r .j
   pub inside : Inside (g .bounds) (r .i) (r .j)
   pub rest-is : rest g i j ≡ shown (turnIn r) (rest g (r .i) (r .j))
+
+-- s stands at place i, unless that is past the last
+pub record Stands (f : ℕ → Row (Option Record)) (to i : ℕ) (s : Observed) : Type 0 where
+  pub is : i < to → observedIn s ≡ f i
+
+-- r comes next in every walk that has s at place i
+pub record GoesOn (ws : WriteRows) (b : Bounds) (s : Observed) (i j : ℕ) (r : Turn) : Type 0 where
+  pub comes : (f : ℕ → Row (Option Record)) → Walks (ground f ws b) → Stands f (b .to) i s → ComesNext (ground f ws b) i j r
 
 -- there is a place for what is shown
 pub record Fits (b : Buffers) (at : ℕ) (x : Turn) : Type 0 where

@@ -17,7 +17,8 @@ use spec::Address;
 use spec::LEAF_SET_LIMIT;
 use spec::READ_LIMIT;
 use spec::Refusal;
-ghost use Prim.Native.Nat.{_≤_};
+ghost use Prim.Native.Nat.{_≤_, min};
+ghost use mathlib.Core.Path.{_≡_};
 ghost use Rattle.spec.specs.Steps.{places};
 ghost use Rattle.sets.specs.Reads.{ReadSetHeld};
 ghost use Rattle.sets.specs.Leaves.{LeafSetHeld};
@@ -27,11 +28,16 @@ ghost use Rattle.ranges.specs.Buffers.{buffers, placesOf};
 ghost use Rattle.ranges.specs.Scanning.{OwnSpans};
 ghost use Rattle.ranges.specs.Plans.{Planning, Plans, Planned, Carried};
 
-// What a scan has to do: the places of the records, of the leaves and of the worker's writes, and how many it shows.
+// What a scan has to do: the places of the records, of the leaves and of the worker's writes.
 pub struct Task {
     pub index: Range,
     pub met: Range,
     pub own: Range,
+}
+
+// A scan carried out: the worker with the new counts, and how many records are shown.
+pub struct Done {
+    pub worker: Worker,
     pub count: usize,
 }
 
@@ -57,6 +63,16 @@ fn writes_between(writes: &WriteSet, n: usize, lo: Address, hi: Address) -> Rang
         return Range { from, to: to + 1 };
     }
     Range { from, to }
+}
+
+// The lesser of two numbers.
+pub fn lesser(a: usize, b: usize) -> usize
+    ensures { λ r. ⌜ r ≡ min a b ⌝ }
+{
+    if a <= b {
+        return a;
+    }
+    b
 }
 
 // Tests a scan of a worker with k, m and n places for addresses, values and owners, and finds what it has to do. Nothing is written.
@@ -89,30 +105,26 @@ pub fn measure(
     }
     let own = writes_between(writes, x.writes as usize, lo, hi);
     let b = Bounds {
-        records: z.records,
         to: index.to,
         end: own.to,
     };
-    let count = walks::count_shown(rows, slots, writes, b, index.from, own.from);
-    if k < count {
+    let shortest = lesser(lesser(k, m), n);
+    if walks::exceeds(
+        rows,
+        slots,
+        writes,
+        z.records,
+        b,
+        index.from,
+        own.from,
+        shortest,
+    ) {
         return Plan::Refused(Refusal::ShortBuffer);
     }
-    if m < count {
-        return Plan::Refused(Refusal::ShortBuffer);
-    }
-    if n < count {
-        return Plan::Refused(Refusal::ShortBuffer);
-    }
-    Plan::Go(Task {
-        index,
-        met,
-        own,
-        count,
-    })
+    Plan::Go(Task { index, met, own })
 }
 
-// Writes the records shown, logs what the scan from lo to hi passed, and remembers the scan. Answers the worker with the new
-// counts.
+// Logs what the scan from lo to hi passed, writes the records shown, and remembers the scan.
 pub fn carry_out(
     addresses: &mut [u32],
     values: &mut [u64],
@@ -128,7 +140,7 @@ pub fn carry_out(
     t: Task,
     lo: Address,
     hi: Address,
-) -> Worker
+) -> Done
     requires { ⌜ Planning (now rows) (lowsOf (now leaves)) (now slots) (now writes) z x ⌝ }
     requires { ⌜ Planned (now rows) (lowsOf (now leaves)) (now slots) (now writes) z x t (placesOf (buffers (now addresses) (now values) (now owners))) ⌝ }
     requires { ⌜ ReadSetHeld (now reads) ⌝ }
@@ -141,35 +153,27 @@ pub fn carry_out(
     let met = t.met;
     let own = t.own;
     let stage = x.stage;
+    let first = x.reads as usize;
+    let passed = index.to - index.from;
+    let logged = logs::log_rows(reads, rows, slots, z.records, first, index);
     let b = Bounds {
-        records: z.records,
-        to: index.to,
+        to: passed,
         end: own.to,
     };
-    walks::fill(
-        addresses,
-        values,
-        owners,
-        rows,
-        slots,
-        writes,
-        b,
-        index.from,
-        own.from,
-    );
-    let logged = logs::log_rows(reads, rows, slots, z.records, x.reads as usize, index);
+    let count = walks::fill(addresses, values, owners, reads, writes, first, b, own.from);
     let scan = Scanned {
         lo: lo as u64,
         hi: hi as u64,
         from: x.reads as u64,
-        count: (index.to - index.from) as u64,
+        count: passed as u64,
     };
     let logged_leaves = logs::log_leaves(leafset, leaves, x.leaves as usize, met, scan);
-    Worker {
+    let worker = Worker {
         stage,
         number: x.number,
         reads: logged as u8,
         leaves: logged_leaves as u8,
         writes: x.writes,
-    }
+    };
+    Done { worker, count }
 }

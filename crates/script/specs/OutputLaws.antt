@@ -1,14 +1,14 @@
 -- Decimal digits, how many there are, and what is written for a number, for triples and for an answer.
-use Prim.Native.Nat.{ℕ, zero, suc, _+_, _-_, _*_, _/_, _%_, _^_, _<_, _≤_}
-use native.Mathlib.Nat.{le-refl, pow-suc}
+use Prim.Native.Nat.{ℕ, zero, suc, _+_, _*_, _/_, _%_, _^_, _<_, _≤_}
+use native.Mathlib.Nat.{pow-suc}
 use native.Mathlib.Numerals.{add-one}
 use native.Mathlib.Omega.{arith}
 use mathlib.Core.Path.{_≡_, refl, sym, ap, _∙_, subst}
 use mathlib.Core.Logic.{⊎-elim}
 use mathlib.Core.List.{List, [], _∷_, _++_, append-assoc, append-nil}
-use lib.ListN.{length, getD, take, set, length-append}
-use lib.Seq.{sets, length-sets, set-comm, append-snoc, take-suc, length-take-le}
-use Rattle.lists.specs.Tests.{pick, less}
+use lib.ListN.{length, getD, take, length-append}
+use lib.Seq.{take-suc, length-take-le}
+use Rattle.lists.specs.Tests.{less}
 use Rattle.lists.specs.TestLaws.{cases, less-yes, less-no, less-true, less-false}
 use Rattle.lists.specs.Texts.{Wrote}
 use Rattle.lists.specs.TextLaws.{wrote-join}
@@ -48,66 +48,79 @@ decimal-more (suc n) h =
     within-more (suc n) (suc n) h
     ∙ ap (λ (x : List ℕ). x ++ ((48 + suc n % 10) ∷ [])) (within-any n (suc n / 10) (suc n / 10) (omega arith) (omega arith))
 
--- ---- the last digits of a number, and how many it has
+-- ---- parts of known width
 
--- the last k digits
-unfoldable pub lastDigits : ℕ → ℕ → List ℕ
-lastDigits zero n = []
-lastDigits (suc k) n = lastDigits k (n / 10) ++ ((48 + n % 10) ∷ [])
+-- two digits of a number below 100
+unfoldable pub pair : ℕ → List ℕ
+pair n = (48 + n / 10) ∷ (48 + n % 10) ∷ []
 
--- how many digits stand before the last: none if the rest is 0
-unfoldable pub others : ℕ → ℕ
-others n = pick (less 0 n) (length (decimal n)) 0
+-- four of one below 10,000
+unfoldable pub four : ℕ → List ℕ
+four n = pair (n / 100) ++ pair (n % 100)
 
-pub others-none : (n : ℕ) → n ≤ 0 → others n ≡ 0
-unfolding others
-others-none n h = rw (less-no h)
+-- eight of one below 100,000,000
+unfoldable pub eight : ℕ → List ℕ
+eight n = four (n / 10000) ++ four (n % 10000)
 
-others-some : (n : ℕ) → 0 < n → others n ≡ length (decimal n)
-unfolding others
-others-some n h = rw (less-yes h)
+pub length-pair : (n : ℕ) → length (pair n) ≡ 2
+unfolding pair
+length-pair n = refl
 
-pub decimal-count : (n : ℕ) → length (decimal n) ≡ others (n / 10) + 1
-decimal-count n =
-    ⊎-elim
-    (λ e. let l : n < 10 = less-true n 10 e in
-    let o : others (n / 10) ≡ 0 = others-none (n / 10) (omega arith) in
-    ap length (decimal-one n l) ∙ omega arith)
-    (λ e. let l : 10 ≤ n = less-false n 10 e in
-    let o : others (n / 10) ≡ length (decimal (n / 10)) = others-some (n / 10) (omega arith) in
-    let a : length (decimal (n / 10) ++ ((48 + n % 10) ∷ [])) ≡ length (decimal (n / 10)) + 1 = length-append (decimal (n / 10)) ((48 + n % 10) ∷ []) in
-    ap length (decimal-more n l) ∙ omega arith)
-    (cases (less n 10))
+pub length-four : (n : ℕ) → length (four n) ≡ 4
+unfolding pair four
+length-four n = refl
 
-pub others-more : (n : ℕ) → 0 < n → others n ≡ others (n / 10) + 1
-others-more n h = others-some n h ∙ decimal-count n
+pub length-eight : (n : ℕ) → length (eight n) ≡ 8
+unfolding pair four eight
+length-eight n = refl
 
-last-one : (n : ℕ) → n < 10 → decimal n ≡ lastDigits (length (decimal n)) n
-unfolding lastDigits
-last-one n h = rw (decimal-one n h) (ap (λ (x : ℕ). (48 + x) ∷ []) (omega arith))
+decimal-pair : (n : ℕ) → 10 ≤ n → n < 100 → decimal n ≡ pair n
+unfolding pair
+decimal-pair n h g = decimal-more n h ∙ ap (λ (x : List ℕ). x ++ ((48 + n % 10) ∷ [])) (decimal-one (n / 10) (omega arith))
 
-last-more : (n : ℕ) → 10 ≤ n → decimal (n / 10) ≡ lastDigits (length (decimal (n / 10))) (n / 10) → decimal n ≡ lastDigits (length (decimal n)) n
-unfolding lastDigits
-last-more n h e =
-    let a : length (decimal n) ≡ suc (length (decimal (n / 10)))
-    = ap length (decimal-more n h) ∙ length-append (decimal (n / 10)) ((48 + n % 10) ∷ []) ∙ add-one (length (decimal (n / 10))) in
-    decimal-more n h
-    ∙ ap (λ (x : List ℕ). x ++ ((48 + n % 10) ∷ [])) e
-    ∙ ap (λ (k : ℕ). lastDigits k n) (sym a)
+-- a number of more than two digits ends with its last two
+decimal-two : (n : ℕ) → 100 ≤ n → decimal n ≡ decimal (n / 100) ++ pair (n % 100)
+unfolding pair
+decimal-two n h =
+    let a : n / 10 / 10 ≡ n / 100 = omega arith in
+    let b : n / 10 % 10 ≡ n % 100 / 10 = omega arith in
+    let d : n % 10 ≡ n % 100 % 10 = omega arith in
+    decimal-more n (omega arith)
+    ∙ ap (λ (x : List ℕ). x ++ ((48 + n % 10) ∷ [])) (decimal-more (n / 10) (omega arith))
+    ∙ append-assoc (decimal (n / 10 / 10)) ((48 + n / 10 % 10) ∷ []) ((48 + n % 10) ∷ [])
+    ∙ ap (λ (x : ℕ). decimal x ++ ((48 + n / 10 % 10) ∷ (48 + n % 10) ∷ [])) a
+    ∙ ap (λ (x : ℕ). decimal (n / 100) ++ ((48 + x) ∷ (48 + n % 10) ∷ [])) b
+    ∙ ap (λ (x : ℕ). decimal (n / 100) ++ ((48 + n % 100 / 10) ∷ (48 + x) ∷ [])) d
 
-last-within : (f n : ℕ) → n ≤ f → decimal n ≡ lastDigits (length (decimal n)) n
-last-within zero n h = last-one n (omega arith)
-last-within (suc f) n h =
-    ⊎-elim
-    (λ e. last-one n (less-true n 10 e))
-    (λ e. let l : 10 ≤ n = less-false n 10 e in last-more n l (last-within f (n / 10) (omega arith)))
-    (cases (less n 10))
+decimal-four : (n : ℕ) → 10000 ≤ n → decimal n ≡ decimal (n / 10000) ++ four (n % 10000)
+unfolding four
+decimal-four n h =
+    let a : n / 100 / 100 ≡ n / 10000 = omega arith in
+    let b : n / 100 % 100 ≡ n % 10000 / 100 = omega arith in
+    let d : n % 100 ≡ n % 10000 % 100 = omega arith in
+    decimal-two n (omega arith)
+    ∙ ap (λ (x : List ℕ). x ++ pair (n % 100)) (decimal-two (n / 100) (omega arith))
+    ∙ append-assoc (decimal (n / 100 / 100)) (pair (n / 100 % 100)) (pair (n % 100))
+    ∙ ap (λ (x : ℕ). decimal x ++ (pair (n / 100 % 100) ++ pair (n % 100))) a
+    ∙ ap (λ (x : ℕ). decimal (n / 10000) ++ (pair x ++ pair (n % 100))) b
+    ∙ ap (λ (x : ℕ). decimal (n / 10000) ++ (pair (n % 10000 / 100) ++ pair x)) d
 
--- a number is its last digits, as many as it has
-decimal-last : (n : ℕ) → decimal n ≡ lastDigits (length (decimal n)) n
-decimal-last n = last-within n n (le-refl n)
+decimal-eight : (n : ℕ) → 100000000 ≤ n → decimal n ≡ decimal (n / 100000000) ++ eight (n % 100000000)
+unfolding eight
+decimal-eight n h =
+    let a : n / 10000 / 10000 ≡ n / 100000000 = omega arith in
+    let b : n / 10000 % 10000 ≡ n % 100000000 / 10000 = omega arith in
+    let d : n % 10000 ≡ n % 100000000 % 10000 = omega arith in
+    decimal-four n (omega arith)
+    ∙ ap (λ (x : List ℕ). x ++ four (n % 10000)) (decimal-four (n / 10000) (omega arith))
+    ∙ append-assoc (decimal (n / 10000 / 10000)) (four (n / 10000 % 10000)) (four (n % 10000))
+    ∙ ap (λ (x : ℕ). decimal x ++ (four (n / 10000 % 10000) ++ four (n % 10000))) a
+    ∙ ap (λ (x : ℕ). decimal (n / 100000000) ++ (four x ++ four (n % 10000))) b
+    ∙ ap (λ (x : ℕ). decimal (n / 100000000) ++ (four (n % 100000000 / 10000) ++ four x)) d
 
-decimal-most : (k n : ℕ) → n < 10 ^ suc k → length (decimal n) ≤ suc k
+-- ---- how many digits a number has
+
+pub decimal-most : (k n : ℕ) → n < 10 ^ suc k → length (decimal n) ≤ suc k
 decimal-most zero n h = let e : length (decimal n) ≡ 1 = ap length (decimal-one n h) in omega arith
 decimal-most (suc k) n h =
     ⊎-elim
@@ -120,74 +133,31 @@ decimal-most (suc k) n h =
     omega arith)
     (cases (less n 10))
 
-pub decimal-word : (n : ℕ) → n < 2 ^ 64 → length (decimal n) ≤ 20
+decimal-word : (n : ℕ) → n < 2 ^ 64 → length (decimal n) ≤ 20
 decimal-word n h = decimal-most 19 n (omega arith)
 
--- ---- stores
-
-set-sets : (l : List ℕ) (i j : ℕ) (w : List ℕ) (d : ℕ) → j < i → set (sets l i w) j d ≡ sets (set l j d) i w
-set-sets l i j [] d h = refl
-set-sets l i j (a ∷ w) d h =
-    set-sets (set l i a) (suc i) j w d (omega arith)
-    ∙ ap (λ (x : List ℕ). sets x (suc i) w) (set-comm l i j a d (λ e. omega arith))
-
--- a store before a text is a text one longer
-set-before : (l : List ℕ) (j : ℕ) (w : List ℕ) (d : ℕ) → set (sets l (suc j) w) j d ≡ sets l j (d ∷ w)
-set-before l j w d = set-sets l (suc j) j w d (le-refl (suc j))
-
--- ---- writing a number from its last digit to its first
-
--- the digits after place i are written, and rest is what is left of n
-pub record Spelling (old : List ℕ) (at k n : ℕ) (new : List ℕ) (i rest : ℕ) : Type 0 where
-  pub text : List ℕ
-  pub stored : new ≡ sets old (at + i) text
-  pub whole : lastDigits i rest ++ text ≡ lastDigits k n
-  pub below : i ≤ k
-
-pub spelling-none : (l : List ℕ) (at k n : ℕ) → Spelling l at k n l k n
-spelling-none l at k n = record { text = []; stored = refl; whole = append-nil (lastDigits k n); below = le-refl k }
-
-spelling-suc : {l m : List ℕ} {at k n : ℕ} (j : ℕ) {rest : ℕ} → Spelling l at k n m (suc j) rest
-    → Spelling l at k n (set m (at + j) (48 + rest % 10)) j (rest / 10)
-unfolding lastDigits
-spelling-suc {l} {m} {at} {k} {n} j {rest} h =
-    record {
-      text = (48 + rest % 10) ∷ h .text;
-      stored =
-          ap (λ (x : List ℕ). set x (at + j) (48 + rest % 10))
-          (h .stored ∙ ap (λ (x : ℕ). sets l x (h .text)) (omega arith))
-          ∙ set-before l (at + j) (h .text) (48 + rest % 10);
-      whole = sym (append-snoc (lastDigits j (rest / 10)) (48 + rest % 10) (h .text)) ∙ h .whole;
-      below = let b = h .below in omega arith;
-    }
-
-pub spelling-digit : {l m : List ℕ} {at k n : ℕ} (i : ℕ) {rest : ℕ} → Spelling l at k n m i rest → 0 < i
-    → Spelling l at k n (set m (at + (i - 1)) (48 + rest % 10)) (i - 1) (rest / 10)
-spelling-digit zero h p = absurd (omega arith)
-spelling-digit {l} {m} {at} {k} {n} (suc j) {rest} h p =
-    let e : j ≡ suc j - 1 = omega arith in
-    subst (λ (x : ℕ). Spelling l at k n (set m (at + x) (48 + rest % 10)) x (rest / 10)) e (spelling-suc j h)
-
-pub spelling-end : {l m : List ℕ} {at k n : ℕ} (i : ℕ) {rest : ℕ} → Spelling l at k n m i rest → i ≤ 0 → m ≡ sets l at (lastDigits k n)
-unfolding lastDigits
-spelling-end {l} {m} {at} zero h p = h .stored ∙ ap (λ (x : ℕ). sets l x (h .text)) (omega arith) ∙ ap (sets l at) (h .whole)
-spelling-end (suc i) h p = absurd (omega arith)
-
-pub spelling-length : {l m : List ℕ} {at k n i rest : ℕ} → Spelling l at k n m i rest → length m ≡ length l
-spelling-length {l} {at = at} {i = i} h = ap length (h .stored) ∙ length-sets l (at + i) (h .text)
-
--- a number whose last digits, as many as it has, are written
-pub wrote-number : {l m : List ℕ} {at : ℕ} (n k : ℕ) → k ≡ length (decimal n) → k ≤ 20 → at + 20 ≤ length l → m ≡ sets l at (lastDigits k n) → Wrote l at (decimal n) m (at + k)
-wrote-number {l} {m} {at} n k e h r w =
-    record {
-      written = w ∙ ap (sets l at) (ap (λ (x : ℕ). lastDigits x n) e ∙ sym (decimal-last n));
-      within = omega arith;
-      place = ap (λ (x : ℕ). at + x) e;
-    }
+-- ---- writing a number
 
 -- a number of one digit
-pub wrote-digit : {l m : List ℕ} {at j : ℕ} (n : ℕ) → n < 10 → Wrote l at ((48 + n) ∷ []) m j → Wrote l at (decimal n) m j
-wrote-digit n h w = rw (decimal-one n h) w
+pub wrote-one : {l m : List ℕ} {at j : ℕ} (n : ℕ) → n < 10 → Wrote l at ((48 + n) ∷ []) m j → Wrote l at (decimal n) m j
+wrote-one n h w = rw (decimal-one n h) w
+
+-- of two
+pub wrote-pair : {l m : List ℕ} {at j : ℕ} (n : ℕ) → 10 ≤ n → n < 100 → Wrote l at (pair n) m j → Wrote l at (decimal n) m j
+wrote-pair n h g w = rw (decimal-pair n h g) w
+
+-- its first digits, then the others
+pub wrote-two : {l m o : List ℕ} {at i j : ℕ} (n : ℕ) → 100 ≤ n → Wrote l at (decimal (n / 100)) m i → Wrote m i (pair (n % 100)) o j
+    → Wrote l at (decimal n) o j
+wrote-two n h x y = rw (decimal-two n h) (wrote-join x y)
+
+pub wrote-four : {l m o : List ℕ} {at i j : ℕ} (n : ℕ) → 10000 ≤ n → Wrote l at (decimal (n / 10000)) m i → Wrote m i (four (n % 10000)) o j
+    → Wrote l at (decimal n) o j
+wrote-four n h x y = rw (decimal-four n h) (wrote-join x y)
+
+pub wrote-eight : {l m o : List ℕ} {at i j : ℕ} (n : ℕ) → 100000000 ≤ n → Wrote l at (decimal (n / 100000000)) m i
+    → Wrote m i (eight (n % 100000000)) o j → Wrote l at (decimal n) o j
+wrote-eight n h x y = rw (decimal-eight n h) (wrote-join x y)
 
 -- the most bytes of a field
 pub field-most : (n : ℕ) → n < 2 ^ 64 → length (field n) ≤ 21

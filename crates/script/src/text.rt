@@ -4,37 +4,9 @@ ghost use mathlib.Core.Path.{_≡_};
 ghost use mathlib.Core.List.{[], _∷_, _++_};
 ghost use Prim.Native.Nat.{_+_, _*_, _≤_, _<_};
 ghost use lib.ListN.{length, take};
-ghost use lib.Seq.{sets};
 ghost use Rattle.lists.specs.Texts.{Wrote};
 ghost use Rattle.script.specs.Output.{decimal, field as Output·field, absent, triple, triplesOf, guardedAnswer, malformedLine};
-ghost use Rattle.script.specs.OutputLaws.{lastDigits};
-
-// How many digits a number has.
-fn width(n: u64) -> usize
-    ensures { λ r. ⌜ (r ≡ length (decimal n)) × (r ≤ 20) ⌝ }
-{
-    let mut k = 1;
-    let mut rest = n / 10;
-    while rest > 0 {
-        rest /= 10;
-        k += 1;
-    }
-    k
-}
-
-// The last k digits of n, put from a place on, from the last to the first.
-fn spell(out: &mut [u8], at: usize, k: usize, n: u64)
-    requires { ⌜ at + k ≤ length (now out) ⌝ }
-    ensures { λ _. ⌜ now (out .exit) ≡ sets (now (out .entry)) at (lastDigits k n) ⌝ }
-{
-    let mut i = k;
-    let mut rest = n;
-    while i > 0 {
-        i -= 1;
-        out[at + i] = 48 + (rest % 10) as u8;
-        rest /= 10;
-    }
-}
+ghost use Rattle.script.specs.OutputLaws.{pair, four, eight};
 
 // A byte.
 pub fn put_byte(out: &mut [u8], at: usize, b: u8) -> usize
@@ -45,6 +17,83 @@ pub fn put_byte(out: &mut [u8], at: usize, b: u8) -> usize
     at + 1
 }
 
+// Two digits. Numbers are written in parts of known width, so that digits are neither counted nor divided off one by one.
+fn put_pair(out: &mut [u8], at: usize, n: u64) -> usize
+    requires { ⌜ (n < 100) × (at + 2 ≤ length (now out)) ⌝ }
+    ensures { λ r. ⌜ Wrote (now (out .entry)) at (pair n) (now (out .exit)) r ⌝ }
+{
+    let next = put_byte(out, at, 48 + (n / 10) as u8);
+    put_byte(out, next, 48 + (n % 10) as u8)
+}
+
+// Four digits.
+fn put_four(out: &mut [u8], at: usize, n: u64) -> usize
+    requires { ⌜ (n < 10000) × (at + 4 ≤ length (now out)) ⌝ }
+    ensures { λ r. ⌜ Wrote (now (out .entry)) at (four n) (now (out .exit)) r ⌝ }
+{
+    let next = put_pair(out, at, n / 100);
+    put_pair(out, next, n % 100)
+}
+
+// Eight digits.
+fn put_eight(out: &mut [u8], at: usize, n: u64) -> usize
+    requires { ⌜ (n < 100000000) × (at + 8 ≤ length (now out)) ⌝ }
+    ensures { λ r. ⌜ Wrote (now (out .entry)) at (eight n) (now (out .exit)) r ⌝ }
+{
+    let next = put_four(out, at, n / 10_000);
+    put_four(out, next, n % 10_000)
+}
+
+// A number of one or two digits.
+fn put_small(out: &mut [u8], at: usize, n: u64) -> usize
+    requires { ⌜ (n < 100) × (at + 2 ≤ length (now out)) ⌝ }
+    ensures { λ r. ⌜ Wrote (now (out .entry)) at (decimal n) (now (out .exit)) r ⌝ }
+{
+    if n >= 10 {
+        return put_pair(out, at, n);
+    }
+    put_byte(out, at, 48 + n as u8)
+}
+
+// A number of at most four digits.
+fn put_short(out: &mut [u8], at: usize, n: u64) -> usize
+    requires { ⌜ (n < 10000) × (at + 4 ≤ length (now out)) ⌝ }
+    ensures { λ r. ⌜ Wrote (now (out .entry)) at (decimal n) (now (out .exit)) r ⌝ }
+{
+    if n < 100 {
+        return put_small(out, at, n);
+    }
+    let next = put_small(out, at, n / 100);
+    put_pair(out, next, n % 100)
+}
+
+// A number of at most eight digits.
+fn put_middle(out: &mut [u8], at: usize, n: u64) -> usize
+    requires { ⌜ (n < 100000000) × (at + 8 ≤ length (now out)) ⌝ }
+    ensures { λ r. ⌜ Wrote (now (out .entry)) at (decimal n) (now (out .exit)) r ⌝ }
+{
+    if n < 10_000 {
+        return put_short(out, at, n);
+    }
+    let next = put_short(out, at, n / 10_000);
+    put_four(out, next, n % 10_000)
+}
+
+// A number of nine digits or more.
+fn put_long(out: &mut [u8], at: usize, n: u64) -> usize
+    requires { ⌜ (100000000 ≤ n) × (at + 20 ≤ length (now out)) ⌝ }
+    ensures { λ r. ⌜ Wrote (now (out .entry)) at (decimal n) (now (out .exit)) r ⌝ }
+{
+    let high = n / 100_000_000;
+    if high < 100_000_000 {
+        let next = put_middle(out, at, high);
+        return put_eight(out, next, n % 100_000_000);
+    }
+    let next = put_short(out, at, high / 100_000_000);
+    let last = put_eight(out, next, high % 100_000_000);
+    put_eight(out, last, n % 100_000_000)
+}
+
 // A number in decimal. Most have one digit, which needs no division.
 fn put_number(out: &mut [u8], at: usize, n: u64) -> usize
     requires { ⌜ at + 20 ≤ length (now out) ⌝ }
@@ -53,9 +102,10 @@ fn put_number(out: &mut [u8], at: usize, n: u64) -> usize
     if n < 10 {
         return put_byte(out, at, 48 + n as u8);
     }
-    let k = width(n);
-    spell(out, at, k, n);
-    at + k
+    if n < 100_000_000 {
+        return put_middle(out, at, n);
+    }
+    put_long(out, at, n)
 }
 
 // A space and a number.

@@ -1,7 +1,8 @@
-//! Programs in C over the header and the library.
+//! Programs over the library, compiled and run.
 
+use std::io::Read;
 use std::path::{Path, PathBuf};
-use std::process::Command;
+use std::process::{Command, Stdio};
 
 /// The repository.
 pub fn root() -> PathBuf {
@@ -22,10 +23,18 @@ pub fn compile(compiler: &[&str], source: &Path, program: &Path) {
     assert!(output.status.success(), "{}", String::from_utf8_lossy(&output.stderr));
 }
 
-/// What a command prints, which must succeed.
+/// No program prints as much.
+const MOST: u64 = 1 << 26;
+
+/// What a command prints, which must succeed. One that does not come to an end is ended
+/// by the pipe that nobody reads any more.
 pub fn output_of(command: &mut Command) -> String {
-    let output = command.output().unwrap_or_else(|no| panic!("{command:?}: {no}"));
-    let said = String::from_utf8_lossy(&output.stderr);
-    assert!(output.status.success(), "{command:?}: {said}");
-    String::from_utf8(output.stdout).expect("it prints text")
+    let child = command.stdout(Stdio::piped()).spawn();
+    let mut child = child.unwrap_or_else(|no| panic!("{command:?}: {no}"));
+    let mut text = String::new();
+    let pipe = child.stdout.take().expect("it is piped");
+    pipe.take(MOST).read_to_string(&mut text).expect("it prints text");
+    let status = child.wait().expect("it was started");
+    assert!(status.success(), "{command:?}: {status}");
+    text
 }

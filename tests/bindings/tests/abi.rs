@@ -138,19 +138,25 @@ fn words_of_a_list() {
     assert_eq!(numbers(&printed("list", text, &C)), words);
 }
 
-/// One record is exported, first by a list, then by the functions, which go on with what
-/// the list left open. 8, 19 and 20; a record and what remains of a portion; a file in
-/// the first of the bytes.
-#[test]
-fn words_of_an_export() {
-    let text = "static struct sections map;
+/// A list exports its one record, and leaves an export open, with which the functions go
+/// on.
+const EXPORT: &str = "static struct sections map;
     static uint32_t addresses[2];
     static uint64_t values[1];
     static uint16_t owners[3];
     static uint8_t bytes[24];
     static const struct sections_buffers buffers = {addresses, 2, values, 1, owners, 3};
-    static void show(struct sections_given given) {
-        printf(\"%d\\n%zu\\n%zu\\n\", given.refusal, given.count, given.remaining);
+    static void show(int refusal, size_t count) {
+        printf(\"%d\\n%zu\\n\", refusal, count);
+    }
+    static void portion(void) {
+        struct sections_given given = sections_export_portion(&map, &buffers);
+        show(given.refusal, given.count);
+        printf(\"%zu\\n\", given.remaining);
+    }
+    static void file(size_t size) {
+        struct sections_count filed = sections_export_file(&map, bytes, size);
+        show(filed.refusal, filed.count);
     }
     int main(void) {
         struct sections_code steps[] = {
@@ -167,27 +173,36 @@ fn words_of_an_export() {
             printf(\"%d\\n\", (int)answers[i]);
         for (size_t i = 0; i < 24; i++)
             printf(\"%d\\n\", bytes[i]);
-        printf(\"%d\\n\", sections_export_open(&map).refusal);
-        show(sections_export_portion(&map, &buffers));
-        show(sections_export_portion(&map, &buffers));
-        printf(\"%d\\n\", sections_export_file(&map, bytes, 21).refusal);
-        printf(\"%d\\n\", sections_export_close(&map));
-        printf(\"%d\\n\", sections_export_close(&map));
-        show(sections_export_portion(&map, &buffers));
-        printf(\"%d\\n\", sections_export_file(&map, bytes, 24).refusal);
-        printf(\"%zu\\n\", sections_export_open(&map).count);
-        printf(\"%zu\\n\", sections_export_file(&map, bytes, 24).count);
+        struct sections_count opened = sections_export_open(&map);
+        show(opened.refusal, opened.count);
+        portion();
+        portion();
+        file(21);
+        show(sections_export_close(&map), 0);
+        show(sections_export_close(&map), 0);
+        portion();
+        file(24);
+        opened = sections_export_open(&map);
+        show(opened.refusal, opened.count);
+        file(24);
         return 0;
     }\n";
+
+/// Words of a list with 8, 19 and 20; a record and what remains of a portion; a file in
+/// the first of the bytes. The functions answer the same.
+#[test]
+fn words_of_an_export() {
     let (nothing, opened, refused) = ([0; 5], [0, 6, 1, 0, 0], |number| [number, 0, 0, 0, 0]);
     let job = [nothing, nothing, nothing, [0, 4, 1, 0, 0], nothing];
     let before = [&[refused(20)], &job[..], &[refused(20), opened, refused(19)]].concat();
     let portions = [0, 7, 0, 1, 0, 0, 7, 1, 0, 0, 5, 9, 65535];
     let after = [refused(8), [0, 8, 22, 0, 0], nothing, refused(20), opened];
     let file = [1, 0, 0, 0, 10, 0, 0, 0, 5, 0, 0, 0, 9, 0, 0, 0, 0, 0, 0, 0, 255, 255, 0, 0];
-    let functions = [19, 0, 1, 0, 0, 0, 0, 8, 0, 20, 20, 0, 0, 20, 1, 22];
-    let words = [&before.concat()[..], &portions, &after.concat(), &file, &functions].concat();
-    assert_eq!(numbers(&printed("export", text, &C)), words);
+    let left_open = [19, 0, 0, 1, 0, 0, 0, 0, 8, 0, 0, 0];
+    let closed = [20, 0, 20, 0, 0, 20, 0, 0, 1, 0, 22];
+    let lists = [&before.concat()[..], &portions, &after.concat(), &file].concat();
+    let words = [&lists[..], &left_open, &closed].concat();
+    assert_eq!(numbers(&printed("export", EXPORT, &C)), words);
 }
 
 /// Each function that makes a map anew leaves it without an export, whatever it had.

@@ -9,20 +9,20 @@ use Rattle.exports.proofs.portion.Tie as tie
 sub-left : tie.Need-sub-left
 sub-left c = search needs
 
-least-requires : tie.Need-least-requires
-least-requires c κs = search needs
+lesser-requires : tie.Need-lesser-requires
+lesser-requires c κs = search needs
 
-least-requires-2 : tie.Need-least-requires-2
-least-requires-2 c κs = search needs
+lesser-requires-2 : tie.Need-lesser-requires-2
+lesser-requires-2 c κs = search needs
 
-least-requires-3 : tie.Need-least-requires-3
-least-requires-3 c κs = search needs
+lesser-requires-3 : tie.Need-lesser-requires-3
+lesser-requires-3 c κs = search needs
 
 give-requires : tie.Need-give-requires
 give-requires c κs =
     let t = c .before .before .before in
     let s = t .before .before .before .before .before .before .before .before in
-    portion-room _ (s .pre) (least-is (buffers (s .args .addresses .now) (s .args .values .now) (s .args .owners .now)) (s .args .x .count - s .args .x .taken) (t .before .before .least .ensures) (t .before .least2 .ensures) (t .least3 .ensures))
+    portion-room _ (s .pre) (least-is (buffers (s .args .addresses .now) (s .args .values .now) (s .args .owners .now)) (s .args .x .count - s .args .x .taken) (t .before .before .lesser .ensures) (t .before .lesser2 .ensures) (t .lesser3 .ensures))
 
 add-t13 : tie.Need-add-t13
 add-t13 c = search needs
@@ -44,7 +44,7 @@ returns c =
     let g = c .before .before .before .before .before .before .before in
     let t = g .before .before .before .before in
     let s = t .before .before .before .before .before .before .before .before in
-    λ contents bs. gives _ (s .pre) (least-is (buffers (s .args .addresses .now) (s .args .values .now) (s .args .owners .now)) (s .args .x .count - s .args .x .taken) (t .before .before .least .ensures) (t .before .least2 .ensures) (t .least3 .ensures)) contents _ bs (t .before .before .before .before .if1 .taken) (g .give .ensures)
+    λ contents bs. gives _ (s .pre) (least-is (buffers (s .args .addresses .now) (s .args .values .now) (s .args .owners .now)) (s .args .x .count - s .args .x .taken) (t .before .before .lesser .ensures) (t .before .lesser2 .ensures) (t .lesser3 .ensures)) contents _ bs (t .before .before .before .before .if1 .taken) (g .give .ensures)
 
 returns-2 : tie.Need-returns-2
 returns-2 c = λ contents bs. no-portion contents _ _ _ (c .before .before .before .before .pre) _ (c .if1 .left)
@@ -54,9 +54,9 @@ portion-spec =
     tie.close
     (tie.spec
     sub-left
-    least-requires
-    least-requires-2
-    least-requires-3
+    lesser-requires
+    lesser-requires-2
+    lesser-requires-3
     give-requires
     add-t13
     sub-t12

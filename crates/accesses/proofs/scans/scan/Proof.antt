@@ -87,7 +87,7 @@ carry-out-requires c κs =
     let s = o .before .before .before .before .before .before in
     let e = subst (Admitted isOpen _ _) (x .x .given .1) (o .«open» .ensures) in
     let p = subst (Plans _ _ _ _ _ _ _ _ _) (a .t .given .1) (m .measure .ensures) in
-    (planning (s .pre) e, (planned (p .measured) (p .roomy), (s .pre .stored .reads .at _ (e .inside), s .pre .stored .leaves .at _ (e .inside))))
+    (planning (s .pre) e, (planned p, (s .pre .stored .reads .at _ (e .inside), s .pre .stored .leaves .at _ (e .inside))))
 
 with-worker-requires : tie.Need-with-worker-requires
 with-worker-requires c κs =

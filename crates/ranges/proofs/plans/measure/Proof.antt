@@ -3,9 +3,8 @@ use native.Mathlib.Omega.{arith}
 use mathlib.Core.Path.{refl}
 use mathlib.Core.Logic.{inl, inr}
 use borrow.Author.Needs.{needs}
-use Rattle.spec.specs.Steps.{shortest}
 use Rattle.ranges.specs.Plans.{backward, full, short}
-use Rattle.ranges.specs.PlanLaws.{walkable}
+use Rattle.ranges.specs.PlanLaws.{walkable, sees, short-told, fits-told}
 use Rattle.ranges.proofs.plans.measure.Statement.{statement}
 use Rattle.ranges.proofs.plans.measure.Tie as tie
 
@@ -63,96 +62,45 @@ writes-between-requires c κs =
     let r = c .before .before .before .before .before .before .before .before in
     (r .before .before .pre .set, r .before .if1 .left)
 
-count-shown-requires : tie.Need-count-shown-requires
-count-shown-requires c κs =
-    let o = c .writes-between .ensures in
-    let r = c .before .before .before .before .before .before .before .before .before in
-    let i = r .records-between .ensures in
-    (walkable (r .before .before .pre) _ _ (i .within) (o .within), record { index = i .ordered; own = o .ordered })
+lesser-requires : tie.Need-lesser-requires
+lesser-requires c κs = tt
+
+lesser-requires-2 : tie.Need-lesser-requires-2
+lesser-requires-2 c κs = tt
+
+exceeds-requires : tie.Need-exceeds-requires
+exceeds-requires c κs =
+    let g = c .before .before .before .before .before .before .before .before .before .before .before .before .before .pre in
+    let o = c .before .before .writes-between .ensures in
+    let i = c .before .before .before .before .before .before .before .before .before .before .before .records-between .ensures in
+    (walkable g _ _ (i .within) (o .within), (sees g _ (i .within), record { index = i .ordered; own = o .ordered }))
 
 returns-4 : tie.Need-returns-4
-unfolding shortest
 returns-4 c =
-    let k = c .before in
-    let o = k .before in
-    let e3 = o .before .before in
-    let e2 = e3 .before .before .before in
-    let l = e2 .before .before .before in
-    let r = l .before in
     short refl _
     (record {
-      forward = r .before .if1 .left;
-      index = r .records-between .ensures;
-      met = l .leaves-meeting .ensures;
-      own = o .writes-between .ensures;
-      reads-fit = e2 .if2 .left;
-      leaves-fit = e3 .if3 .left;
-      count = k .count-shown .ensures;
+      forward = c .before .before .before .before .before .before .before .before .before .before .before .before .before .before .if1 .left;
+      index = c .before .before .before .before .before .before .before .before .before .before .before .before .before .records-between .ensures;
+      met = c .before .before .before .before .before .before .before .before .before .before .before .before .leaves-meeting .ensures;
+      own = c .before .before .before .before .writes-between .ensures;
+      reads-fit = c .before .before .before .before .before .before .before .before .before .if2 .left;
+      leaves-fit = c .before .before .before .before .before .before .if3 .left;
     })
-    (omega (arith, c .if4 .taken))
+    (short-told _ _ _ (c .before .before .before .lesser .ensures) (c .before .before .lesser2 .ensures) (c .before .exceeds .ensures) (c .if4 .taken))
 
 returns-5 : tie.Need-returns-5
-unfolding shortest
 returns-5 c =
-    let k = c .before .before in
-    let o = k .before in
-    let e3 = o .before .before in
-    let e2 = e3 .before .before .before in
-    let l = e2 .before .before .before in
-    let r = l .before in
-    short refl _
-    (record {
-      forward = r .before .if1 .left;
-      index = r .records-between .ensures;
-      met = l .leaves-meeting .ensures;
-      own = o .writes-between .ensures;
-      reads-fit = e2 .if2 .left;
-      leaves-fit = e3 .if3 .left;
-      count = k .count-shown .ensures;
-    })
-    (omega (arith, c .if5 .taken))
-
-returns-6 : tie.Need-returns-6
-unfolding shortest
-returns-6 c =
-    let k = c .before .before .before in
-    let o = k .before in
-    let e3 = o .before .before in
-    let e2 = e3 .before .before .before in
-    let l = e2 .before .before .before in
-    let r = l .before in
-    short refl _
-    (record {
-      forward = r .before .if1 .left;
-      index = r .records-between .ensures;
-      met = l .leaves-meeting .ensures;
-      own = o .writes-between .ensures;
-      reads-fit = e2 .if2 .left;
-      leaves-fit = e3 .if3 .left;
-      count = k .count-shown .ensures;
-    })
-    (omega (arith, c .if6 .taken))
-
-returns-7 : tie.Need-returns-7
-returns-7 c =
-    let k = c .before .before .before in
-    let o = k .before in
-    let e3 = o .before .before in
-    let e2 = e3 .before .before .before in
-    let l = e2 .before .before .before in
-    let r = l .before in
     record {
       measured =
           record {
-            forward = r .before .if1 .left;
-            index = r .records-between .ensures;
-            met = l .leaves-meeting .ensures;
-            own = o .writes-between .ensures;
-            reads-fit = e2 .if2 .left;
-            leaves-fit = e3 .if3 .left;
-            count = k .count-shown .ensures;
+            forward = c .before .before .before .before .before .before .before .before .before .before .before .before .before .before .if1 .left;
+            index = c .before .before .before .before .before .before .before .before .before .before .before .before .before .records-between .ensures;
+            met = c .before .before .before .before .before .before .before .before .before .before .before .before .leaves-meeting .ensures;
+            own = c .before .before .before .before .writes-between .ensures;
+            reads-fit = c .before .before .before .before .before .before .before .before .before .if2 .left;
+            leaves-fit = c .before .before .before .before .before .before .if3 .left;
           };
-      roomy = record { addresses = c .before .before .if4 .left; values = c .before .if5 .left; owners = c .if6 .left };
+      fits = fits-told _ _ _ (c .before .before .before .lesser .ensures) (c .before .before .lesser2 .ensures) (c .before .exceeds .ensures) (c .if4 .left);
     }
 
 pub measure-spec : {M : Type 1} → statement M
@@ -172,8 +120,8 @@ measure-spec =
     returns-3
     cast-writes-between
     writes-between-requires
-    count-shown-requires
+    lesser-requires
+    lesser-requires-2
+    exceeds-requires
     returns-4
-    returns-5
-    returns-6
-    returns-7)
+    returns-5)

@@ -2,55 +2,52 @@
 use Prim.Native.Nat.{_+_, _-_}
 use native.Mathlib.Omega.{arith}
 use Rattle.ranges.specs.Buffers.{buffers}
-use Rattle.ranges.specs.Walks.{ground, Filling}
+use Rattle.ranges.specs.Walks.{ground, logRow, Filling}
 use Rattle.ranges.specs.ShowLaws.{filling-start, filling-fits, filling-on, filling-end}
 use Rattle.ranges.proofs.walks.fill.Statement.{statement}
 use Rattle.ranges.proofs.walks.fill.Tie as tie
 
 abbrev Inv-loop : tie.InvT-loop
-Inv-loop addresses₀ values₀ owners₀ rows slots writes b from start i₀ j₀ at₀ addresses values owners i j at =
-    Filling (ground rows slots writes b) from start (buffers addresses₀ values₀ owners₀) (buffers addresses values owners) i j at
+Inv-loop addresses₀ values₀ owners₀ reads writes first b start i₀ j₀ at₀ addresses values owners i j at =
+    Filling (ground (logRow reads first) writes b) 0 start (buffers addresses₀ values₀ owners₀) (buffers addresses values owners) i j at
 
 abbrev μ-loop : tie.MeasureT-loop
-μ-loop addresses₀ values₀ owners₀ rows slots writes b from start i₀ j₀ at₀ addresses values owners i j at = b .to + b .end - (i + j)
+μ-loop addresses₀ values₀ owners₀ reads writes first b start i₀ j₀ at₀ addresses values owners i j at = b .to + b .end - (i + j)
 
 loop-holds : tie.Need-loop-holds Inv-loop μ-loop
-loop-holds c = let s = c .before .before .before in filling-start _ (s .pre .0) _ _ _ (s .pre .1 .0)
+loop-holds c = filling-start _ (c .before .before .before .pre .0) _ _ _ (c .before .before .before .pre .1 .1 .0)
 
 add-if1 : tie.Need-add-if1 Inv-loop μ-loop
 add-if1 c =
-    let s = c .before .before .before .before in
-    omega (arith, c .loop .inv .inside .index, c .loop .inv .inside .own, s .pre .0 .within, s .pre .0 .rows .held .room, s .pre .0 .writes .room)
+    let n = c .before .before .before .before .pre .0 .nears in
+    let i = c .loop .inv .inside in
+    omega (arith, i .index, i .own, n .few, n .writes .room)
 
 add-if1-2 : tie.Need-add-if1-2 Inv-loop μ-loop
-add-if1-2 c = let s = c .before .before .before .before .before in omega (arith, s .pre .0 .within, s .pre .0 .rows .held .room, s .pre .0 .writes .room)
+add-if1-2 c =
+    let n = c .before .before .before .before .before .pre .0 .nears in
+    omega (arith, n .few, n .writes .room)
+
+logged-requires : tie.Need-logged-requires Inv-loop μ-loop
+logged-requires c κs = c .before .before .before .before .before .before .pre .1 .0
 
 next-requires : tie.Need-next-requires Inv-loop μ-loop
-next-requires c κs =
-    let l = c .before .before in
-    let s = l .before .before .before .before in
-    (s .pre .0, (l .loop .inv .inside, c .if1 .taken))
+next-requires c κs = (c .before .before .before .before .before .before .before .pre .0 .nears, (c .before .before .before .loop .inv .inside, c .before .if1 .taken))
 
 show-requires : tie.Need-show-requires Inv-loop μ-loop
 show-requires c κs =
-    let n = c .before .before .before in
-    let l = n .before .before .before in
-    let s = l .before .before .before .before in
-    filling-fits _ (s .pre .0) _ _ _ _ _ _ _ _ (s .pre .1 .1) (l .loop .inv) (n .next .ensures)
+    let w = c .before .before .before .before .before .before .before .before .before .before .before .pre .0 in
+    filling-fits _ w _ _ _ _ _ _ _ _ (c .before .before .before .before .before .before .before .before .before .before .before .pre .1 .1 .1) (c .before .before .before .before .before .before .before .loop .inv) (c .before .before .before .next .ensures .comes _ w (c .before .before .before .before .logged .ensures))
 
 loop-less : tie.Need-loop-less Inv-loop μ-loop
 loop-less c =
-    let n = c .before .before .before .before .before .before .before .before .before .before in
-    let e = n .next .ensures in
+    let e = c .before .before .before .before .before .before .before .before .before .before .next .ensures .comes _ (c .before .before .before .before .before .before .before .before .before .before .before .before .before .before .before .before .before .before .pre .0) (c .before .before .before .before .before .before .before .before .before .before .before .logged .ensures) in
     omega (arith, e .on, e .inside .index, e .inside .own)
 
 loop-again : tie.Need-loop-again Inv-loop μ-loop
 loop-again c =
-    let w = c .before .before .before .before .before .before in
-    let n = w .before .before .before .before in
-    let l = n .before .before .before in
-    let s = l .before .before .before .before in
-    filling-on _ (s .pre .0) _ _ _ _ _ _ _ _ _ _ (l .loop .inv) (n .next .ensures) (w .show .ensures)
+    let w = c .before .before .before .before .before .before .before .before .before .before .before .before .before .before .before .before .before .before .pre .0 in
+    filling-on _ w _ _ _ _ _ _ _ _ _ _ (c .before .before .before .before .before .before .before .before .before .before .before .before .before .before .loop .inv) (c .before .before .before .before .before .before .before .before .before .before .next .ensures .comes _ w (c .before .before .before .before .before .before .before .before .before .before .before .logged .ensures)) (c .before .before .before .before .before .before .show .ensures)
 
 same-length : tie.Need-same-length Inv-loop μ-loop
 same-length c = c .before .before .loop .inv .beyond .addresses .size
@@ -62,10 +59,7 @@ same-length-3 : tie.Need-same-length-3 Inv-loop μ-loop
 same-length-3 c = c .before .before .loop .inv .beyond .owners .size
 
 returns : tie.Need-returns Inv-loop μ-loop
-returns c =
-    let l = c .before .before in
-    let s = l .before .before .before .before in
-    filling-end _ (s .pre .0) _ _ _ _ _ _ _ (l .loop .inv) (c .if1 .left)
+returns c = filling-end _ (c .before .before .before .before .before .before .pre .0) _ _ _ _ _ _ _ (c .before .before .loop .inv) (c .if1 .left)
 
 pub fill-spec : {M : Type 1} → statement M
 fill-spec =
@@ -76,6 +70,7 @@ fill-spec =
     loop-holds
     add-if1
     add-if1-2
+    logged-requires
     next-requires
     show-requires
     loop-less

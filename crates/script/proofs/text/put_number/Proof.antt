@@ -1,6 +1,6 @@
--- `script::text::put_number` meets its contract: a number is its last digits, as many as it has.
+-- `script::text::put_number` meets its contract: a number of one digit, of at most eight, or longer.
 use borrow.Author.Needs.{needs}
-use Rattle.script.specs.OutputLaws.{wrote-digit, wrote-number}
+use Rattle.script.specs.OutputLaws.{wrote-one}
 use Rattle.script.proofs.text.put_number.Statement.{statement}
 use Rattle.script.proofs.text.put_number.Tie as tie
 
@@ -17,24 +17,25 @@ same-length : tie.Need-same-length
 same-length c = search needs
 
 returns : tie.Need-returns
-returns c = wrote-digit _ (c .before .before .before .before .if1 .taken) (c .before .before .put-byte .ensures)
+returns c = wrote-one _ (c .before .before .before .before .if1 .taken) (c .before .before .put-byte .ensures)
 
-width-requires : tie.Need-width-requires
-width-requires c κs = search needs
-
-spell-requires : tie.Need-spell-requires
-spell-requires c κs = search needs
-
-add-result : tie.Need-add-result
-add-result c = search needs
+put-middle-requires : tie.Need-put-middle-requires
+put-middle-requires c κs = search needs
 
 same-length-2 : tie.Need-same-length-2
 same-length-2 c = search needs
 
 returns-2 : tie.Need-returns-2
-returns-2 c =
-    let w = c .before .before .before .before .width .ensures in
-    wrote-number _ _ (w .0) (w .1) (c .before .before .before .before .before .before .before .pre) (c .before .before .spell .ensures)
+returns-2 c = search needs
+
+put-long-requires : tie.Need-put-long-requires
+put-long-requires c κs = search needs
+
+same-length-3 : tie.Need-same-length-3
+same-length-3 c = search needs
+
+returns-3 : tie.Need-returns-3
+returns-3 c = search needs
 
 pub put-number-spec : {M : Type 1} → statement M
 put-number-spec =
@@ -45,8 +46,9 @@ put-number-spec =
     put-byte-requires
     same-length
     returns
-    width-requires
-    spell-requires
-    add-result
+    put-middle-requires
     same-length-2
-    returns-2)
+    returns-2
+    put-long-requires
+    same-length-3
+    returns-3)

@@ -13,8 +13,8 @@ use Rattle.spec.specs.Records.{Record}
 use Rattle.queries.specs.NextViews.{rowsFrom}
 use Rattle.queries.specs.Contents.{firstFrom}
 use Rattle.queries.specs.ContentsLaws.{all-from, next-row, no-row}
-use Rattle.script.specs.Output.{triple, triples}
-use Rattle.script.specs.OutputLaws.{triple-most}
+use Rattle.answers.specs.Output.{triple, triples}
+use Rattle.answers.specs.OutputLaws.{triple-most}
 
 -- ---- the triples of all records
 

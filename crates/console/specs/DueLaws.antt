@@ -11,7 +11,7 @@ use Rattle.script.specs.declared.Line.{Line}
 use Rattle.script.specs.Grammar.{meaning, guardLine, isGuard}
 use Rattle.script.specs.GrammarLaws.{guard-letter}
 use Rattle.script.specs.Parsing.{Whole, SaysNothing}
-use Rattle.script.specs.Output.{guardedAnswer, malformedLine}
+use Rattle.answers.specs.Output.{guardedAnswer, malformedLine}
 use Rattle.console.specs.Program.{writtenFrom, startsGuarded, output}
 use Rattle.console.specs.ProgramLaws.{told, clear-last, from-clear, from-whole, from-spoiled, step-no-guard, starts-whole, starts-spoiled, output-unguarded, output-guarded}
 use Rattle.console.specs.Sessions.{dueFor}

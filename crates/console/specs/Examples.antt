@@ -1,20 +1,13 @@
--- Document 01's full run, from the bytes of its input to those of its output; and short inputs.
-use Prim.Native.Nat.{ℕ}
-use Prim.Native.Char.{code}
-use Prim.Native.String.{String}
-use Prim.Native.String as text
+-- Document 01's full run, from the bytes of its input to those of its output; short inputs; and the line that is written for
+-- each of the lines of `script`'s examples.
 use mathlib.Core.Path.{_≡_, refl}
-use mathlib.Core.List.{List, [], _∷_}
+use mathlib.Core.List.{[], map}
 use Rattle.lists.specs.Tests.{same, less, atMost, within}
 use Rattle.spec.specs.Computing.{model}
 use Rattle.script.specs.Grammar.{firstWord, moreWords, isDigit, extend, number, numbers, noNumber, oneNumber, twoNumbers, threeNumbers, fourNumbers, lineOf, lettered, meaning}
-use Rattle.script.specs.Output.{digitsWithin, decimal, field, triple, triples, answerText, answerLine, endLine}
-use Rattle.console.specs.Program.{writtenFrom, startsGuarded, output}
-
--- the bytes of a text; every character here is one byte
-abbrev bytes : String → List ℕ
-bytes text.[] = []
-bytes (text._∷_ c s) = code c ∷ bytes s
+use Rattle.script.specs.Examples.{bytes, Case, cases}
+use Rattle.answers.specs.Output.{digitsWithin, decimal, field, triple, triples, answerText, endLine}
+use Rattle.console.specs.Program.{answerLine, writtenFrom, startsGuarded, output}
 
 pub record Answered : Type 0 where
   pub full-run :
@@ -42,6 +35,7 @@ pub record Answered : Type 0 where
   pub malformed : output (bytes "B 0\nB\nB 1\n") ≡ bytes "B 0\n?\n"
   -- a line without its line feed takes no effect
   pub unended : output (bytes "B 0\nB 1") ≡ bytes "B 0\n?\n"
+  pub lines : map (λ (c : Case). answerLine (c .line) (c .answer)) cases ≡ map (λ (c : Case). bytes (c .writes)) cases
 
 pub answered : Answered
 unfolding model same less atMost within firstWord moreWords isDigit extend number numbers noNumber oneNumber twoNumbers threeNumbers fourNumbers lineOf lettered meaning digitsWithin decimal field triple triples answerText answerLine endLine writtenFrom startsGuarded output
@@ -60,4 +54,5 @@ answered =
       guarded-unended = refl;
       malformed = refl;
       unended = refl;
+      lines = refl;
     }

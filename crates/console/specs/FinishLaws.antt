@@ -17,7 +17,7 @@ use Rattle.transactions.specs.Views.{Logs, stateOf}
 use Rattle.transactions.specs.Ready.{Ready}
 use Rattle.transactions.specs.declared.Core.{Core}
 use Rattle.script.specs.Parsing.{filled, After}
-use Rattle.script.specs.Output.{field, endLine, malformedLine}
+use Rattle.answers.specs.Output.{field, endLine, malformedLine}
 use Rattle.console.specs.declared.session.Session.{Session}
 use Rattle.console.specs.Program.{writtenFrom, startsGuarded}
 use Rattle.console.specs.ProgramLaws.{starts-clear}

@@ -15,7 +15,7 @@ use Rattle.engine.specs.declared.steps.Performed.{Performed}
 use Rattle.engine.specs.Performs.{stepIn, placesIn, Performs}
 use Rattle.engine.specs.Listings as listings
 use Rattle.script.specs.declared.Line.{Line}
-use Rattle.script.specs.Output.{stepOf}
+use Rattle.script.specs.Grammar.{stepOf}
 use Rattle.console.specs.Program.{places}
 use Rattle.console.specs.Replies.{Asks}
 

@@ -9,15 +9,19 @@ use lib.ListN.{drop}
 use Rattle.lists.specs.Tests.{pick, both, maybe, same}
 use Rattle.spec.specs.Records.{standard}
 use Rattle.spec.specs.Maps.{contents}
-use Rattle.spec.specs.Steps.{State, fresh, answer, next}
+use Rattle.spec.specs.Steps.{State, Answer, fresh, answer, next}
 use Rattle.script.specs.declared.Line.{Line}
-use Rattle.script.specs.Grammar.{meaning}
+use Rattle.script.specs.Grammar.{meaning, letterOf, stepOf}
 use Rattle.script.specs.Parsing.{filled}
-use Rattle.script.specs.Output.{stepOf, answerLine, endLine, guardedAnswer, malformedLine}
+use Rattle.answers.specs.Output.{answerText, endLine, guardedAnswer, malformedLine}
 
 -- the places of a scan's three buffers
 abbrev pub places : ℕ
 places = 64
+
+-- the line written for a step: the letter of its line, and the answer
+unfoldable pub answerLine : Line → Answer → List ℕ
+answerLine l a = letterOf l ∷ answerText a ++ (10 ∷ [])
 
 -- The bytes written from a state on, when the bytes `line` of the current line are read, and the input's other bytes are
 -- still to come.

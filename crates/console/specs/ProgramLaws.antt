@@ -14,11 +14,11 @@ use Rattle.spec.specs.Records.{standard}
 use Rattle.spec.specs.Steps.{State, fresh, answer, next}
 use Rattle.script.specs.declared.Line.{Line}
 use Rattle.script.specs.declared.Line.the-variants.{Begin}
-use Rattle.script.specs.Grammar.{firstWord, moreWords, isDigit, extend, number, numbers, oneNumber, lineOf, lettered, meaning, isGuard}
+use Rattle.script.specs.Grammar.{firstWord, moreWords, isDigit, extend, number, numbers, oneNumber, lineOf, lettered, meaning, stepOf, isGuard}
 use Rattle.script.specs.GrammarLaws.{guard-letter}
 use Rattle.script.specs.Parsing.{filled, Whole, SaysNothing}
-use Rattle.script.specs.Output.{stepOf, answerLine, guardedAnswer, malformedLine}
-use Rattle.console.specs.Program.{places, writtenFrom, startsGuarded, output}
+use Rattle.answers.specs.Output.{guardedAnswer, malformedLine}
+use Rattle.console.specs.Program.{places, answerLine, writtenFrom, startsGuarded, output}
 
 -- what is written for a line and what follows it
 abbrev pub told : State → Option Line → List ℕ → List ℕ

@@ -14,8 +14,9 @@ use Rattle.spec.specs.Refusals.{numberOf}
 use Rattle.spec.specs.Records.{Payload}
 use Rattle.spec.specs.Steps as model
 use Rattle.script.specs.declared.Line.{Line}
-use Rattle.script.specs.Output.{field, absent, triple, triples, triplesOf, stepOf, answerText}
-use Rattle.script.specs.OutputLaws.{triple-most}
+use Rattle.script.specs.Grammar.{stepOf}
+use Rattle.answers.specs.Output.{field, absent, triple, triples, triplesOf, answerText}
+use Rattle.answers.specs.OutputLaws.{triple-most}
 use Rattle.ranges.specs.Buffers.{Buffers, buffers, rowIn, rowsIn}
 use Rattle.ranges.specs.BufferLaws.{length-rows}
 use Rattle.script.specs.declared.Line.the-variants as line

@@ -28,12 +28,12 @@ use Rattle.script.specs.declared.Parser.the-variants.{Start}
 use Rattle.script.specs.declared.Event.{Event}
 use Rattle.script.specs.declared.Event.the-variants as event
 use Rattle.script.specs.declared.Parsed.{Parsed}
-use Rattle.script.specs.Grammar.{guardLine}
+use Rattle.script.specs.Grammar.{letterOf, stepOf, guardLine}
 use Rattle.script.specs.Parsing.{After, Whole, Says, Parses}
 use Rattle.script.specs.Tokens.{after-fresh}
-use Rattle.script.specs.Output.{letterOf, stepOf, answerText, answerLine, guardedAnswer, malformedLine}
+use Rattle.answers.specs.Output.{answerText, guardedAnswer, malformedLine}
 use Rattle.console.specs.declared.session.Session.{Session}
-use Rattle.console.specs.Program.{places, writtenFrom}
+use Rattle.console.specs.Program.{places, answerLine, writtenFrom}
 use Rattle.console.specs.ProgramLaws.{clear-last}
 use Rattle.console.specs.Replies.{Asks, replyText, Replies}
 use Rattle.transactions.specs.Starts.{guardedCore}

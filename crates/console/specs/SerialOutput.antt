@@ -12,10 +12,10 @@ use Rattle.spec.specs.Records.{Payload, Record}
 use Rattle.spec.specs.Steps.{Places, Step, begin, read, scan, put, remove, lock, validate, install, abort, merge, mergeOldest, Answer, refused, done, found, listed, numbered, counted, Event}
 use Rattle.spec.specs.Claim.{SerialRun}
 use Rattle.script.specs.declared.Line.{Line}
-use Rattle.script.specs.Grammar.{meaning}
+use Rattle.script.specs.Grammar.{meaning, stepOf}
 use Rattle.script.specs.Parsing.{filled}
-use Rattle.script.specs.Output.{stepOf, answerLine, endLine, guardedAnswer}
-use Rattle.console.specs.Program.{places, startsGuarded}
+use Rattle.answers.specs.Output.{endLine, guardedAnswer}
+use Rattle.console.specs.Program.{places, answerLine, startsGuarded}
 
 -- ---- the input
 

@@ -13,10 +13,10 @@ use Rattle.spec.specs.Maps.{contents}
 use Rattle.spec.specs.Steps.{State, Step, begin, read, scan, put, remove, lock, validate, install, abort, merge, mergeOldest, refused, fresh, refusal, granted, answer, next, final, history}
 use Rattle.serial.specs.Theorem.{theorem}
 use Rattle.script.specs.declared.Line.{Line}
-use Rattle.script.specs.Grammar.{meaning}
+use Rattle.script.specs.Grammar.{meaning, stepOf}
 use Rattle.script.specs.Parsing.{filled}
-use Rattle.script.specs.Output.{stepOf, answerLine, endLine, guardedAnswer, malformedLine}
-use Rattle.console.specs.Program.{places, writtenFrom, startsGuarded, output}
+use Rattle.answers.specs.Output.{endLine, guardedAnswer, malformedLine}
+use Rattle.console.specs.Program.{places, answerLine, writtenFrom, startsGuarded, output}
 use Rattle.console.specs.TranscriptLaws.{one-history}
 use Rattle.console.specs.SerialOutput.{linesFrom, linesOf, opening, Answers, not-granted, begun, value, records, written, removed, locked, number, installed, aborted, count, oldest-count, Transcript, end-line, answer-line, SerialOutput}
 

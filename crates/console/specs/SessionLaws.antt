@@ -18,7 +18,7 @@ use Rattle.transactions.specs.declared.Core.{Core}
 use Rattle.transactions.specs.Views.{Logs, stateOf}
 use Rattle.transactions.specs.Ready.{Ready}
 use Rattle.script.specs.declared.Parser.{Parser}
-use Rattle.script.specs.Output.{guardedAnswer}
+use Rattle.answers.specs.Output.{guardedAnswer}
 use Rattle.console.specs.declared.session.Session.{Session}
 
 second-no : (s b d : Bool) → b ≡ false → false ≡ both (not s) (both b d)

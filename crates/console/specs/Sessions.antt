@@ -16,7 +16,7 @@ use Rattle.transactions.specs.Ready.{Ready}
 use Rattle.transactions.specs.Starts.{Fresh, guardedCore}
 use Rattle.script.specs.declared.Parser.{Parser}
 use Rattle.script.specs.Parsing.{After}
-use Rattle.script.specs.Output.{guardedAnswer, malformedLine}
+use Rattle.answers.specs.Output.{guardedAnswer, malformedLine}
 use Rattle.console.specs.declared.session.Session.{Session}
 use Rattle.console.specs.Program.{writtenFrom, longestLine, output}
 

@@ -16,10 +16,10 @@ use Rattle.spec.specs.Refusals.{numberOf}
 use Rattle.spec.specs.Records.{Payload, Record}
 use Rattle.spec.specs.Steps.{Step, begin, read, scan, put, remove, lock, validate, install, abort, merge, mergeOldest, Answer, refused, done, found, listed, numbered, counted, Event}
 use Rattle.script.specs.declared.Line.{Line}
-use Rattle.script.specs.Grammar.{isDigit}
-use Rattle.script.specs.Output.{decimal, field, absent, triple, triples, answerText, answerLine, stepOf}
-use Rattle.script.specs.OutputLaws.{decimal-one, decimal-more}
-use Rattle.console.specs.Program.{places}
+use Rattle.script.specs.Grammar.{isDigit, stepOf}
+use Rattle.answers.specs.Output.{decimal, field, absent, triple, triples, answerText}
+use Rattle.answers.specs.OutputLaws.{decimal-one, decimal-more}
+use Rattle.console.specs.Program.{places, answerLine}
 use Rattle.console.specs.SerialOutput.{Answers, not-granted, begun, value, records, written, removed, locked, number, installed, aborted, count, oldest-count, Transcript, end-line, answer-line}
 
 -- ---- numbers

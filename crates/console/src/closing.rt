@@ -4,7 +4,6 @@ use map::Leaves;
 use map::Records;
 use map::Slots;
 use queries::Next;
-use script::text;
 use sets::LeafSets;
 use sets::ReadSets;
 use sets::WriteSets;
@@ -19,7 +18,7 @@ ghost use Rattle.map.specs.Views.{lent};
 ghost use Rattle.queries.specs.Contents.{allRecords};
 ghost use Rattle.transactions.specs.Views.{logs};
 ghost use Rattle.transactions.specs.Ready.{Ready};
-ghost use Rattle.script.specs.Output.{endLine};
+ghost use Rattle.answers.specs.Output.{endLine};
 ghost use Rattle.console.specs.Closings.{TriplesPut};
 ghost use Rattle.console.specs.Sessions.{Started};
 ghost use Rattle.console.specs.Finishes.{longestEnd, Finishes};
@@ -42,7 +41,7 @@ fn put_records(out: &mut [u8], at: usize, rows: &Records, slots: &Slots, n: usiz
                 commit: _,
             } => {
                 let owner = (payload.owner % OWNERS) as u16;
-                place = text::put_triple(out, place, address as u64, payload.value, owner);
+                place = answers::put_triple(out, place, address as u64, payload.value, owner);
                 from = address as u64 + 1;
             }
             Next::Done => return place,
@@ -59,9 +58,9 @@ fn put_contents(out: &mut [u8], at: usize, rows: &Records, slots: &Slots, n: usi
     ensures { λ r. ⌜ Wrote (now (out .entry)) at (endLine (allRecords (now (rows .entry)) n (now (slots .entry)))) (now (out .exit)) r ⌝ }
 {
     let count = queries::count_records(rows, slots, n);
-    let next = text::put_answer(out, at, b'E', count as u64);
+    let next = answers::put_answer(out, at, b'E', count as u64);
     let last = put_records(out, next, rows, slots, n);
-    text::put_byte(out, last, b'\n')
+    answers::put_byte(out, last, b'\n')
 }
 
 // The last line of the output, when the input has ended. After a malformed line there is none.
@@ -89,5 +88,5 @@ pub fn finish(
         let sizes = core.sizes;
         return put_contents(out, x.at, rows, slots, sizes.records);
     }
-    text::put_malformed(out, x.at)
+    answers::put_malformed(out, x.at)
 }

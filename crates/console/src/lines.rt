@@ -4,7 +4,7 @@ use engine::steps::Ending;
 use engine::steps::Op;
 use script::Line;
 ghost use mathlib.Core.Path.{_≡_};
-ghost use Rattle.script.specs.Output.{letterOf};
+ghost use Rattle.script.specs.Grammar.{letterOf};
 ghost use Rattle.console.specs.Replies.{Asks};
 
 // The operation that a line asks for.

@@ -8,7 +8,6 @@ use map::Records;
 use map::Slots;
 use script::Event;
 use script::Parser;
-use script::text;
 use sets::LeafSets;
 use sets::ReadSets;
 use sets::WriteSets;
@@ -118,7 +117,7 @@ fn end_malformed(out: &mut [u8], x: Session, parser: Parser, next: usize) -> Ses
     ensures { λ r. ⌜ EndsMalformed x parser next (now (out .entry)) (now (out .exit)) r ⌝ }
 {
     let core = x.core;
-    let at = text::put_malformed(out, x.at);
+    let at = answers::put_malformed(out, x.at);
     Session {
         core,
         parser,
@@ -136,7 +135,7 @@ fn run_guard(out: &mut [u8], x: Session, parser: Parser, next: usize) -> Session
 {
     if x.first {
         let core = guarded(x.core);
-        let at = text::put_guarded(out, x.at);
+        let at = answers::put_guarded(out, x.at);
         return Session {
             core,
             parser,

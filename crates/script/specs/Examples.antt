@@ -1,5 +1,6 @@
--- Document 01's full run as text: each line read, what it says, and what is written for its answer. The steps and answers
--- are those of the model's run, which is proved in `spec`. Then lines that are malformed, each for one cause.
+-- Document 01's full run as text: each line read, what it says, and the line written for its answer, which crate `console`
+-- compares. The steps and answers are those of the model's run, which is proved in `spec`. Then lines that are malformed, each
+-- for one cause.
 use Prim.Native.Nat.{ℕ}
 use Prim.Native.Char.{code}
 use Prim.Native.String.{String}
@@ -12,15 +13,14 @@ use Rattle.lists.specs.Tests.{same, less, atMost, within}
 use Rattle.lists.specs.Rows.{row}
 use Rattle.spec.specs.Records.{Payload}
 use Rattle.spec.specs.Steps.{Answer, refused, done, found, listed, numbered, counted, Event}
-use Rattle.spec.specs.Runs.{fullRun, oldestMerged, value, entryOf, event}
+use Rattle.spec.specs.Runs.{fullRun, oldestMerged, value, event}
 use Rattle.spec.specs.declared.Refusal.the-variants.{NoWorker, Phantom}
 use Rattle.script.specs.declared.Line.{Line}
 use Rattle.script.specs.declared.Line.the-variants.{Begin, Read, Scan, Put, Remove, Lock, Validate, Install, Abort, Merge, MergeOldest}
-use Rattle.script.specs.Grammar.{firstWord, moreWords, isDigit, extend, number, numbers, noNumber, oneNumber, twoNumbers, threeNumbers, fourNumbers, lineOf, lettered, meaning, guardLine, isGuard}
-use Rattle.script.specs.Output.{digitsWithin, decimal, field, triple, triples, stepOf, answerText, answerLine, endLine, guardedAnswer}
+use Rattle.script.specs.Grammar.{firstWord, moreWords, isDigit, extend, number, numbers, noNumber, oneNumber, twoNumbers, threeNumbers, fourNumbers, lineOf, lettered, meaning, stepOf, guardLine, isGuard}
 
 -- the bytes of a text; every character here is one byte
-abbrev bytes : String → List ℕ
+abbrev pub bytes : String → List ℕ
 bytes text.[] = []
 bytes (text._∷_ c s) = code c ∷ bytes s
 
@@ -130,36 +130,28 @@ malformed =
 abbrev eventOf : Case → Event
 eventOf c = event (stepOf 64 (c .line)) (c .answer)
 
-pub record Written : Type 0 where
+pub record Understood : Type 0 where
   -- the run is the model's
   pub model : map eventOf run ≡ fullRun
   pub oldest-step : map eventOf oldest ≡ oldestMerged 2 ++ oldestMerged 0
   pub said : map (λ (c : Case). meaning (bytes (c .reads))) cases ≡ map (λ (c : Case). some (c .line)) cases
-  pub wrote : map (λ (c : Case). answerLine (c .line) (c .answer)) cases ≡ map (λ (c : Case). bytes (c .writes)) cases
   pub wrong : map (λ (s : String). meaning (bytes s)) malformed ≡ map (λ (s : String). none) malformed
   -- request 102's line, which is no step, and no malformed line is it
   pub guard : guardLine ≡ bytes "G"
   pub guard-no-step : meaning guardLine ≡ none
   pub guard-is : isGuard guardLine ≡ true
-  pub guarded : guardedAnswer ≡ bytes "G 0\n"
   pub not-guard : map (λ (s : String). isGuard (bytes s)) malformed ≡ map (λ (s : String). false) malformed
-  pub end : endLine (entryOf 4096 32 1 ∷ row 4128 (record { payload = owned 8 7; commit = 2 }) ∷ []) ≡ bytes "E 2 4096 32 0 4128 8 7\n"
-  pub nothing : endLine [] ≡ bytes "E 0\n"
 
-pub written : Written
-unfolding same less atMost within firstWord moreWords isDigit extend number numbers noNumber oneNumber twoNumbers threeNumbers fourNumbers lineOf lettered meaning isGuard digitsWithin decimal field triple triples answerText answerLine endLine
-written =
+pub understood : Understood
+unfolding same less atMost within firstWord moreWords isDigit extend number numbers noNumber oneNumber twoNumbers threeNumbers fourNumbers lineOf lettered meaning isGuard
+understood =
     record {
       model = refl;
       oldest-step = refl;
       said = refl;
-      wrote = refl;
       wrong = refl;
       guard = refl;
       guard-no-step = refl;
       guard-is = refl;
-      guarded = refl;
       not-guard = refl;
-      end = refl;
-      nothing = refl;
     }

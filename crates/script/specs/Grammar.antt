@@ -5,6 +5,7 @@ use mathlib.Core.Bool.{Bool, false}
 use mathlib.Core.List.{List, [], _∷_}
 use mathlib.Core.Option.{Option, none, some}
 use Rattle.lists.specs.Tests.{pick, both, maybe, same, less, within}
+use Rattle.spec.specs.Steps.{places, Step, begin, read, scan, put, remove, lock, validate, install, abort, merge, mergeOldest}
 use Rattle.script.specs.declared.Line.{Line}
 use Rattle.script.specs.declared.Line.the-variants.{Begin, Read, Scan, Put, Remove, Lock, Validate, Install, Abort, Merge, MergeOldest}
 
@@ -88,6 +89,36 @@ lettered (c ∷ d ∷ w) ns = none
 -- what a line says as a step; none if it is malformed
 unfoldable pub meaning : List ℕ → Option Line
 meaning l = maybe (numbers (moreWords l)) none (λ (ns : List ℕ). lettered (firstWord l) ns)
+
+-- ---- the letter of a line, and its step
+
+-- the letter of a line
+abbrev pub letterOf : Line → ℕ
+letterOf (Begin w) = 66
+letterOf (Read w k) = 82
+letterOf (Scan w lo hi) = 83
+letterOf (Put w k v o) = 80
+letterOf (Remove w k) = 68
+letterOf (Lock w) = 76
+letterOf (Validate w) = 86
+letterOf (Install w) = 73
+letterOf (Abort w) = 65
+letterOf (Merge k) = 77
+letterOf MergeOldest = 84
+
+-- the step that a line asks for; a scan's three buffers have n places each
+abbrev pub stepOf : ℕ → Line → Step
+stepOf n (Begin w) = begin w
+stepOf n (Read w k) = read w k
+stepOf n (Scan w lo hi) = scan w lo hi (places n n n)
+stepOf n (Put w k v o) = put w k (record { value = v; owner = o })
+stepOf n (Remove w k) = remove w k
+stepOf n (Lock w) = lock w
+stepOf n (Validate w) = validate w
+stepOf n (Install w) = install w
+stepOf n (Abort w) = abort w
+stepOf n (Merge k) = merge k
+stepOf n MergeOldest = mergeOldest
 
 -- ---- the line of a guarded map
 

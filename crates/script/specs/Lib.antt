@@ -4,7 +4,5 @@ pub mod GrammarLaws
 pub mod Tokens
 pub mod TokenLaws
 pub mod LetterLaws
-pub mod Output
-pub mod OutputLaws
 pub mod Examples
 pub mod LineLaws

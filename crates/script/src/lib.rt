@@ -1,7 +1,5 @@
-// Script lines: the parser, which takes a line byte by byte from slices of any size and keeps no line, and in `text` the
-// lines of answers. What a line says is `meaning`, in specs/Grammar.antt.
-pub mod text;
-
+// Script lines: the parser, which takes a line byte by byte from slices of any size and keeps no line. What a line says is
+// `meaning`, in specs/Grammar.antt.
 use spec::OWNERS;
 use spec::WIDE;
 ghost use mathlib.Core.Path.{_≡_};

@@ -2,7 +2,7 @@
 use borrow.Author.Needs.{needs}
 use native.Mathlib.Omega.{arith}
 use mathlib.Core.List.{[]}
-use Rattle.script.specs.OutputLaws.{field-most}
+use Rattle.answers.specs.OutputLaws.{field-most}
 use Rattle.console.specs.FinishLaws.{end-wrote}
 use Rattle.console.proofs.closing.put_contents.Statement.{statement}
 use Rattle.console.proofs.closing.put_contents.Tie as tie

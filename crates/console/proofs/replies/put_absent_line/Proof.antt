@@ -2,7 +2,7 @@
 use native.Mathlib.Omega.{arith}
 use borrow.Author.Needs.{needs}
 use Rattle.lists.specs.TextLaws.{wrote-join}
-use Rattle.script.specs.OutputLaws.{field-most}
+use Rattle.answers.specs.OutputLaws.{field-most}
 use Rattle.console.proofs.replies.put_absent_line.Statement.{statement}
 use Rattle.console.proofs.replies.put_absent_line.Tie as tie
 

@@ -3,7 +3,7 @@ use native.Mathlib.Omega.{arith}
 use denote.Ref.{now}
 use borrow.Author.Needs.{needs}
 use Rattle.lists.specs.TextLaws.{wrote-join}
-use Rattle.script.specs.OutputLaws.{field-most}
+use Rattle.answers.specs.OutputLaws.{field-most}
 use Rattle.console.specs.Replies.{triples-most}
 use Rattle.console.proofs.replies.put_listed_line.Statement.{statement}
 use Rattle.console.proofs.replies.put_listed_line.Tie as tie

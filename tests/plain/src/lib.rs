@@ -19,3 +19,4 @@ pub mod scenarios;
 pub mod script;
 pub mod slots;
 pub mod step;
+pub mod workloads;

@@ -3,7 +3,8 @@
 use plain::compare::suite::{Programs, Size};
 use plain::compare::{self, Check};
 use plain::engine::Engine;
-use plain::{claim, damage, generate, profiles, script};
+use plain::profiles::Profile;
+use plain::{claim, damage, generate, profiles, script, workloads};
 use std::io::{self, Read, Write};
 use std::path::Path;
 use std::process::ExitCode;
@@ -14,6 +15,9 @@ usage: plain answer                     answers to the script on standard input
        plain claim                      checks the claim on that script's history
        plain script SEED STEPS PROFILE  a random script; PROFILE may be `any`
        plain profiles                   the names of the profiles
+       plain workload NAME              a script of a million steps to be timed
+       plain workloads                  the names of those
+       plain filled RECORDS             another: small jobs on a map of 1 to 1024 records
        plain damaged SEED STEPS         a random script with one malformed line
        plain damage-kinds               the kinds of damage
        plain compare PROGRAM            holds a program to these answers, as the gate does
@@ -42,7 +46,15 @@ fn command(words: &[&str]) -> io::Result<ExitCode> {
             let profile = profiles::find(profile, seed).ok_or_else(usage)?;
             print(&generate::text(seed, number(steps)? as usize, profile))?;
         }
-        ["profiles"] => profiles::PROFILES.iter().for_each(|profile| println!("{}", profile.name)),
+        ["profiles"] => print_names(&profiles::PROFILES),
+        ["workload", name] => {
+            print(&workloads::text(workloads::find(name).ok_or_else(usage)?))?;
+        }
+        ["workloads"] => print_names(&workloads::WORKLOADS),
+        ["filled", records] => {
+            let records = Some(number(records)?).filter(|count| (1..=1024).contains(count));
+            print(&workloads::filled(records.ok_or_else(usage)? as u32))?;
+        }
         ["damaged", seed, steps] => {
             print(&damage::damaged(number(seed)?, number(steps)? as usize).text)?;
         }
@@ -76,6 +88,10 @@ fn input() -> io::Result<Vec<u8>> {
 
 fn print(text: &[u8]) -> io::Result<()> {
     io::stdout().lock().write_all(text)
+}
+
+fn print_names(profiles: &[Profile]) {
+    profiles.iter().for_each(|profile| println!("{}", profile.name));
 }
 
 fn report(checks: &[Check]) -> ExitCode {

@@ -23,7 +23,7 @@ pub struct Profile {
     pub guarded: bool,
 }
 
-const fn profile(name: &'static str, round: fn(&mut Generator)) -> Profile {
+pub const fn profile(name: &'static str, round: fn(&mut Generator)) -> Profile {
     Profile { name, round, least: 0, padded: false, oldest: 4, guarded: false }
 }
 

@@ -23,6 +23,13 @@ pub fn home(address: u32) -> usize {
     usize::from(bytes.fold(0, |so_far, byte| TABLE[usize::from(byte ^ so_far)]))
 }
 
+/// The n-th address with that home slot: of 256 that follow one another each has
+/// another one.
+pub fn sharing(slot: usize, n: u32) -> u32 {
+    let mut some = 256 * n..=256 * n + 255;
+    some.find(|&address| home(address) == slot).expect("the table is a permutation")
+}
+
 /// All slots from the home slot on.
 fn from_home(address: u32) -> impl Iterator<Item = usize> {
     let home = home(address);

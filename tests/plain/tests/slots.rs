@@ -10,12 +10,7 @@ use plain::map::{Map, Payload, INDEXLET_LIMIT};
 use plain::profiles::PROFILES;
 use plain::random::Random;
 use plain::script::answer_without_slots;
-use plain::slots::{home, Slots, SLOTS, TABLE};
-
-/// The n-th of the addresses with that home slot.
-fn sharing(slot: usize, n: u32) -> u32 {
-    (256 * n..).find(|&address| home(address) == slot).expect("there is one")
-}
+use plain::slots::{home, sharing, Slots, SLOTS, TABLE};
 
 #[test]
 fn homes_of_document_01() {

@@ -5,7 +5,7 @@ use crate::engine::{WORKERS, WRITE_LIMIT};
 use crate::generate::Generator;
 use crate::map::INDEXLET_LIMIT;
 use crate::scenarios::any_write;
-use crate::slots::{home, SLOTS};
+use crate::slots::{home, sharing, SLOTS};
 
 /// Entries of one home slot pile up. Merges and aborts take some out, and then
 /// look-ups pass the empty slots.
@@ -27,13 +27,6 @@ pub fn crowd(generator: &mut Generator) {
         generator.merge_some();
     }
     look_up(generator);
-}
-
-/// The n-th address with that home slot: of 256 that follow one another each has
-/// another one.
-fn sharing(slot: usize, n: u32) -> u32 {
-    let mut some = 256 * n..=256 * n + 255;
-    some.find(|&address| home(address) == slot).expect("the table is a permutation")
 }
 
 /// The home slot that all want.

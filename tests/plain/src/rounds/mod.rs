@@ -33,7 +33,7 @@ fn range(generator: &Generator, from: usize, count: usize) -> (u32, u32) {
     (index[from].address, index[from + count - 1].address)
 }
 
-fn random_range(generator: &mut Generator, count: usize) -> (u32, u32) {
+pub fn random_range(generator: &mut Generator, count: usize) -> (u32, u32) {
     let from = generator.random.between(0, generator.map().index().len() - count);
     range(generator, from, count)
 }

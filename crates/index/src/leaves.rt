@@ -1,6 +1,8 @@
 // Rows of words: all that touches the words of leaves, and the search among them.
 use crate::FEW;
+use crate::FEWER;
 use crate::LEAF_WORDS;
+use crate::LEAST;
 use crate::Leaves;
 use spec::Address;
 use spec::MAP_LIMIT;
@@ -122,14 +124,19 @@ fn descend(leaves: &Leaves, m: usize, key: u64, half: usize) -> usize
     base
 }
 
-// The place of the leaf that holds an address. Few leaves take fewer steps; else the last place of all is tried first. For
-// each of the two the steps are always the same.
+// The place of the leaf that holds an address. Few leaves take fewer steps; with many the last place of all is tried first.
 pub fn find_leaf(leaves: &Leaves, m: usize, a: Address) -> usize
     requires { ⌜ Listed (lowsOf (now leaves)) m ⌝ }
     ensures { λ r. ⌜ AtLeaf (lowsOf (now (leaves .entry))) m a r ⌝ }
 {
     leaf_places(leaves);
     let key = a as u64;
+    if m <= LEAST {
+        return descend(leaves, m, key, LEAST / 2);
+    }
+    if m <= FEWER {
+        return descend(leaves, m, key, FEWER / 2);
+    }
     if m <= FEW {
         return descend(leaves, m, key, FEW / 2);
     }

@@ -17,8 +17,15 @@ pub const RECORD_WORDS: usize = 4;
 // The records, a row each.
 pub type Records = [[u64; RECORD_WORDS]; MAP_LIMIT];
 
-// So many records or leaves are few: a search among them takes fewer steps. A full index in runs has no more leaves.
+// So many records or leaves take 3, 5, 7 or 9 steps of a search; more take 11. Each has code of its own, without a loop, so that
+// no branch is guessed within a search: steps that fit the number exactly took longer. A full index in runs has FEW leaves.
+const LEAST: usize = FEW / 16;
+
+const FEWER: usize = FEW / 4;
+
 const FEW: usize = MAP_LIMIT / RUN;
+
+const HALF: usize = MAP_LIMIT / 2;
 
 // How many leaves there is room for: the first, and one for each record.
 pub const LEAVES: usize = MAP_LIMIT + 1;

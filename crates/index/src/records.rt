@@ -1,5 +1,7 @@
 // The records: look-up, put and drop by address.
 use crate::FEW;
+use crate::FEWER;
+use crate::HALF;
 use crate::Records;
 use crate::rows;
 use crate::rows::RecordRow;
@@ -56,15 +58,21 @@ fn descend(rows: &Records, n: usize, key: u64, half: usize) -> usize
     base
 }
 
-// How many records have a smaller address: the place of the address, or where it would go. Few records take fewer steps;
-// else the end of a full index is tried first. For each of the two the steps are always the same.
+// How many records have a smaller address: the place of the address, or where it would go. Few records take fewer steps; with
+// many the end of a full index is tried first.
 pub fn locate(rows: &Records, n: usize, a: Address) -> usize
     requires { ⌜ RecordsSorted (now rows) n ⌝ }
     ensures { λ r. ⌜ AtPlace (now (rows .entry)) n a r ⌝ }
 {
     let key = a as u64;
+    if n < FEWER {
+        return descend(rows, n, key, FEWER / 2);
+    }
     if n < FEW {
         return descend(rows, n, key, FEW / 2);
+    }
+    if n < HALF {
+        return descend(rows, n, key, HALF / 2);
     }
     let end = probe(rows, n, key, 0, MAP_LIMIT);
     if 0 < end {

@@ -1,5 +1,5 @@
 -- What the public functions rest on: what a search found, what was entered, and slots that are all empty.
-use Prim.Native.Nat.{ℕ, _+_, _-_, _^_, _<_, _≤_}
+use Prim.Native.Nat.{ℕ, suc, _+_, _-_, _^_, _<_, _≤_}
 use native.Mathlib.Omega.{arith}
 use mathlib.Core.Path.{_≡_, refl, sym, ap, _∙_, subst}
 use mathlib.Core.Bool.{Bool, true, false}
@@ -10,8 +10,9 @@ use lib.Seq.{ext-getD}
 use Rattle.lists.specs.Tests.{pick, present}
 use Rattle.lists.specs.TestLaws.{clash}
 use Rattle.lists.specs.Rows.{Row, row, look}
-use Rattle.spec.specs.Slots.{slotCount, homeSlot, Content, isIdle, Slot, emptySlot, emptySlots, entries, search, take, release, enter, kept}
-use Rattle.laws.specs.SlotCounts.{Good, absent-count, entries-most}
+use Rattle.spec.specs.Slots.{slotCount, homeSlot, Content, isIdle, Slot, emptySlot, emptySlots, entries, holds, search, take, release, enter, kept}
+use Rattle.laws.specs.Probes.{gap}
+use Rattle.laws.specs.SlotCounts.{Good, Place, holds-entry, absent-count, entries-most}
 use Rattle.laws.specs.SlotChanges.{release-none, distance-absent, rewrite-at}
 use Rattle.laws.specs.SlotLaws.{Room, goes, stands, fits, enter-idle, enter-present, enter-absent, enter-good, count-enter, fresh-good, kept-entry, content-none, content-some}
 use Rattle.laws.specs.Searches.{search-finds}
@@ -21,7 +22,7 @@ use Rattle.indexlet.specs.declared.Sought.{Sought}
 use Rattle.indexlet.specs.Words.{SlotRows, slotWords, pendingIn, holderIn, contentIn, slotIn, rowIn, rowAt, store, slotsOf}
 use Rattle.indexlet.specs.WordLaws.{length-slots, slots-at, slots-store, idle-zero}
 use Rattle.indexlet.specs.Promises.{Sized, SlotsHeld, SlotsBecome, SlotsFresh, IsSlot, lookedIn, Looks, Enters, sought}
-use Rattle.indexlet.specs.SeekLaws.{Ends, search-ends, sought-present, sought-absent, sought-holds}
+use Rattle.indexlet.specs.SeekLaws.{Ends, search-ends, sought-place, sought-present, sought-absent, sought-holds}
 use Rattle.indexlet.specs.WalkLaws.{sized-store}
 
 -- ---- reading
@@ -39,10 +40,10 @@ entry-slot s = refl
 
 -- the search ended at the entry
 pub look-hit : (ws : SlotRows) (a : ℕ) (r : Sought) (s : SlotWords) → SlotsHeld ws → r ≡ sought (slotsOf ws) a → r .at < slotCount → s ≡ rowAt ws (r .at)
-    → Looks ws a (record { content = s .content; examined = r .examined })
+    → Looks ws a (record { content = s .content; examined = r .examined; at = r .at })
 unfolding lookedIn
 look-hit ws a r s z e b g =
-    record { searched = searched; content = content-some (slotsOf ws) a said (sym (search-finds (z .good) a) ∙ found) }
+    record { searched = searched; content = content-some (slotsOf ws) a said (sym (search-finds (z .good) a) ∙ found); ended = e }
   where
     said : Content
     said = contentIn (s .content)
@@ -68,12 +69,23 @@ look-hit ws a r s z e b g =
           examined = ends .examined j;
         }
 
+-- the entry stands in slot j
+pub look-at : (ws : SlotRows) (a j n : ℕ) (s : SlotWords) → SlotsHeld ws → j < slotCount → holds a (getD (slotsOf ws) j emptySlot) ≡ true → s ≡ rowAt ws j → n ≡ suc (gap (homeSlot 4 a) j)
+    → Looks ws a (record { content = s .content; examined = n; at = j })
+look-at ws a j n s z b h g e =
+    look-hit ws a (record { at = j; examined = n }) s z (ap (λ (x : ℕ). record { at = j; examined = x }) e ∙ sought-place (z .good) p) b g
+  where
+    p : Place (slotsOf ws) a
+    p =
+        let r = holds-entry a (getD (slotsOf ws) j emptySlot) h in
+        record { at = j; inside = (let q : length (slotsOf ws) ≡ slotCount = z .good .size in omega arith); content = r .0; here = r .1; own = r .2 }
+
 -- it ended with nothing
 pub look-miss : (ws : SlotRows) (a : ℕ) (r : Sought) → SlotsHeld ws → r ≡ sought (slotsOf ws) a → slotCount ≤ r .at
-    → Looks ws a (record { content = record { kind = 0; payload = record { value = 0; owner = 0 }; commit = 0; since = 0; lock = 0; forput = 0 }; examined = r .examined })
+    → Looks ws a (record { content = record { kind = 0; payload = record { value = 0; owner = 0 }; commit = 0; since = 0; lock = 0; forput = 0 }; examined = r .examined; at = r .at })
 unfolding lookedIn contentIn pendingIn holderIn
 look-miss ws a r z e b =
-    record { searched = searched; content = content-none (slotsOf ws) a (sought-absent a (z .good) e b) }
+    record { searched = searched; content = content-none (slotsOf ws) a (sought-absent a (z .good) e b); ended = e }
   where
     ends : Ends (slotsOf ws) a r (search 4 (slotsOf ws) a)
     ends = subst (λ (x : Sought). Ends (slotsOf ws) a x (search 4 (slotsOf ws) a)) (sym e) (search-ends (slotsOf ws) a)

@@ -38,25 +38,6 @@ pub record IsSlot (ws : SlotRows) (i : ℕ) (r : SlotWords) : Type 0 where
   pub slot : slotIn r ≡ getD (slotsOf ws) i emptySlot
   pub narrow : r .key < 2 ^ 32
 
--- what a search found: nothing where nothing is said
-unfoldable pub lookedIn : Looked → Searched
-lookedIn r =
-    record {
-      found = pick (isIdle (contentIn (r .content))) none (some (contentIn (r .content)));
-      examined = r .examined;
-    }
-
--- a search by the search rule, which finds what the indexlet says of the address
-pub record Looks (ws : SlotRows) (a : ℕ) (r : Looked) : Type 0 where
-  pub searched : search 4 (slotsOf ws) a ≡ lookedIn r
-  pub content : contentOf (slotsOf ws) a ≡ contentIn (r .content)
-
--- the words after c was said of a, and the number of entries
-pub record Enters (ws : SlotRows) (a : ℕ) (c : ContentWords) (us : SlotRows) (n : ℕ) : Type 0 where
-  pub held : SlotsHeld us
-  pub view : slotsOf us ≡ enter 4 (slotsOf ws) a (contentIn c)
-  pub number : n ≡ length (entries (slotsOf us))
-
 -- ---- where a search ends
 
 -- what a search that examines a slot does, as `searchAt` does it
@@ -74,6 +55,26 @@ soughtFrom ss k h (suc n) d =
 -- where the search for k ends
 unfoldable pub sought : List Slot → ℕ → Sought
 sought ss k = soughtFrom ss k (homeSlot 4 k) slotCount 0
+
+-- what a search found: nothing where nothing is said
+unfoldable pub lookedIn : Looked → Searched
+lookedIn r =
+    record {
+      found = pick (isIdle (contentIn (r .content))) none (some (contentIn (r .content)));
+      examined = r .examined;
+    }
+
+-- a search by the search rule, which finds what the indexlet says of the address
+pub record Looks (ws : SlotRows) (a : ℕ) (r : Looked) : Type 0 where
+  pub searched : search 4 (slotsOf ws) a ≡ lookedIn r
+  pub content : contentOf (slotsOf ws) a ≡ contentIn (r .content)
+  pub ended : record { at = r .at; examined = r .examined } ≡ sought (slotsOf ws) a
+
+-- the words after c was said of a, and the number of entries
+pub record Enters (ws : SlotRows) (a : ℕ) (c : ContentWords) (us : SlotRows) (n : ℕ) : Type 0 where
+  pub held : SlotsHeld us
+  pub view : slotsOf us ≡ enter 4 (slotsOf ws) a (contentIn c)
+  pub number : n ≡ length (entries (slotsOf us))
 
 -- the entry of k stands d slots after its home slot
 pub record Stands (ss : List Slot) (k d : ℕ) : Type 0 where

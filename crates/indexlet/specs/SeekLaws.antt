@@ -8,12 +8,12 @@ use mathlib.Core.Bool.{Bool, true, false}
 use mathlib.Core.List.{List}
 use mathlib.Core.Option.{none, some}
 use lib.ListN.{length, getD}
-use Rattle.lists.specs.Tests.{pick, present, same}
-use Rattle.lists.specs.TestLaws.{cases, same-true, same-false, same-yes, same-no}
+use Rattle.lists.specs.Tests.{pick, present, same, less}
+use Rattle.lists.specs.TestLaws.{cases, clash, same-true, same-false, same-yes, same-no, less-true, less-false}
 use Rattle.lists.specs.Rows.{Row, look}
 use Rattle.spec.specs.Slots.{slotCount, homeSlot, Content, Slot, emptySlot, entries, slotAt, holds, Searched, searchFrom, search}
 use Rattle.laws.specs.Probes.{gap}
-use Rattle.laws.specs.SlotCounts.{Good, Place, entryAt, holds-entry, holds-yes}
+use Rattle.laws.specs.SlotCounts.{Good, Place, entryAt, holds-entry, holds-yes, only-here}
 use Rattle.laws.specs.Searches.{search-here, search-stops, search-on, search-place, search-finds}
 use Rattle.indexlet.specs.declared.Slot.{Slot as SlotWords}
 use Rattle.indexlet.specs.declared.Sought.{Sought}
@@ -167,6 +167,36 @@ sought-stands {ss} {k} {r} good e b =
     p =
         let h = ends .hit b in
         record { at = r .at; inside = let z : length ss ≡ slotCount = good .size in omega arith; content = h .0; here = h .1; own = h .2 }
+
+-- a search for an entry that stands there ends there
+pub sought-place : {ss : List Slot} {k : ℕ} → Good 4 ss → (p : Place ss k) → record { at = p .at; examined = suc (gap (homeSlot 4 k) (p .at)) } ≡ sought ss k
+sought-place {ss} {k} good p =
+    λ i. record { at = at i; examined = (sym (ap (λ (q : Searched). q .examined) (search-place 4 ss k good p)) ∙ ends .examined) i }
+  where
+    ends : Ends ss k (sought ss k) (search 4 ss k)
+    ends = search-ends ss k
+
+    long : length ss ≡ slotCount
+    long = good .size
+
+    inside : sought ss k .at < slotCount
+    inside =
+        ⊎-elim
+        (λ t. less-true (sought ss k .at) slotCount t)
+        (λ f. clash (ap (λ (q : Searched). present (q .found)) (search-place 4 ss k good p)) (ap present (ends .miss (less-false (sought ss k .at) slotCount f))))
+        (cases (less (sought ss k .at) slotCount))
+
+    at : p .at ≡ sought ss k .at
+    at =
+        ⊎-elim
+        (λ t. same-true (p .at) (sought ss k .at) t)
+        (λ f.
+        let h = ends .hit inside in
+        clash
+        (holds-yes k (getD ss (sought ss k .at) emptySlot) (h .0) (h .1) (h .2))
+        (only-here ss k (p .at) (sought ss k .at) (good .once k) (p .inside) (let b : sought ss k .at < slotCount = inside in let z : length ss ≡ slotCount = long in omega arith)
+        (holds-yes k (getD ss (p .at) emptySlot) (p .content) (p .here) (p .own)) (same-false (p .at) (sought ss k .at) f)))
+        (cases (same (p .at) (sought ss k .at)))
 
 -- it has examined a slot at least
 pub sought-some : {ss : List Slot} (k : ℕ) {r : Sought} → Good 4 ss → r ≡ sought ss k → r .at < slotCount → 1 ≤ r .examined

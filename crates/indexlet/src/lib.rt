@@ -3,10 +3,10 @@
 use spec::Address;
 use spec::PayloadWords;
 ghost use mathlib.Core.Path.{_≡_};
-ghost use mathlib.Core.Bool.{false};
+ghost use mathlib.Core.Bool.{true, false};
 ghost use Prim.Native.Nat.{_<_};
-ghost use lib.ListN.{length};
-ghost use Rattle.spec.specs.Slots.{slotCount, tableEntry, homeSlot, isIdle, holds, entries};
+ghost use lib.ListN.{length, getD};
+ghost use Rattle.spec.specs.Slots.{slotCount, tableEntry, homeSlot, isIdle, holds, emptySlot, entries};
 ghost use Rattle.spec.specs.Slots as model;
 ghost use Rattle.laws.specs.SlotLaws.{Room};
 ghost use Rattle.indexlet.specs.Words.{contentIn, slotIn, rowAt, store, slotsOf};
@@ -38,10 +38,12 @@ pub struct Slot {
     pub overflow: u64,
 }
 
-// What a search finds: what is said of the address, and how many slots the search examined.
+// What a search finds: what is said of the address, how many slots the search examined, and where it ended: at the slot with
+// the entry, or at 256.
 pub struct Looked {
     pub content: Content,
     pub examined: usize,
+    pub at: usize,
 }
 
 // Where a search ends: at the slot with the entry, or at 256; and how many slots it examined.
@@ -198,6 +200,7 @@ pub fn look_up(t: &Slots, a: Address) -> Looked
         return Looked {
             content,
             examined: f.examined,
+            at,
         };
     }
     let payload = PayloadWords { value: 0, owner: 0 };
@@ -212,6 +215,23 @@ pub fn look_up(t: &Slots, a: Address) -> Looked
     Looked {
         content,
         examined: f.examined,
+        at,
+    }
+}
+
+// The same of an address whose entry stands in slot j: nothing is searched.
+pub fn found_at(t: &Slots, a: Address, j: usize) -> Looked
+    requires { ⌜ SlotsHeld (now t) ⌝ }
+    requires { ⌜ (j < slotCount) × (holds a (getD (slotsOf (now t)) j emptySlot) ≡ true) ⌝ }
+    ensures { λ r. ⌜ Looks (now (t .entry)) a r ⌝ }
+{
+    let h = home(a);
+    let s = get(t, j);
+    let content = s.content;
+    Looked {
+        content,
+        examined: (j + (SLOTS - h)) % SLOTS + 1,
+        at: j,
     }
 }
 
@@ -287,16 +307,16 @@ fn release(t: &mut Slots, a: Address, h: usize, passed: usize)
     put(t, i, none);
 }
 
-// `c` is said of the address: its entry is written, taken or taken out. `n` is the number of entries; the new number is
-// returned.
-pub fn enter(t: &mut Slots, n: usize, a: Address, c: Content) -> usize
+// `c` is said of the address, which was looked up: its entry is written, taken or taken out. `n` is the number of entries; the
+// new number is returned.
+pub fn enter(t: &mut Slots, n: usize, a: Address, f: Looked, c: Content) -> usize
     requires { ⌜ SlotsHeld (now t) ⌝ }
     requires { ⌜ n ≡ length (entries (slotsOf (now t))) ⌝ }
     requires { ⌜ Room (slotsOf (now t)) a (contentIn c) ⌝ }
+    requires { ⌜ Looks (now t) a f ⌝ }
     ensures { λ r. ⌜ Enters (now (t .entry)) a c (now (t .exit)) r ⌝ }
 {
     let h = home(a);
-    let f = seek(t, a, h);
     let at = f.at;
     if idle(c) {
         if at < SLOTS {

@@ -5,12 +5,12 @@ use native.Mathlib.Omega.{arith}
 use mathlib.Core.Path.{_≡_, refl, ap, _∙_}
 
 -- 2 to the e
-pub width : ℕ → ℕ
+unfoldable pub width : ℕ → ℕ
 width zero = 1
 width (suc e) = width e + width e
 
 -- the step with e steps left, this one included
-pub stepOf : ℕ → ℕ
+unfoldable pub stepOf : ℕ → ℕ
 stepOf zero = 0
 stepOf (suc e) = width e
 
@@ -26,10 +26,9 @@ pub narrow-start : (p : ℕ) → p < 2048 → Narrowing p 0 1024
 unfolding width stepOf
 narrow-start p h = record { left = 11; size = refl; small = le-refl 1024; from = zero-le; to = h }
 
--- one of the first 128 places
-pub narrow-few : (p : ℕ) → p < 128 → Narrowing p 0 64
-unfolding width stepOf
-narrow-few p h = record { left = 7; size = refl; small = omega arith; from = zero-le; to = h }
+-- one of the first 2^e places
+pub narrow-first : (e p : ℕ) → stepOf e ≤ 1024 → p < width e → Narrowing p 0 (stepOf e)
+narrow-first e p s h = record { left = e; size = refl; small = s; from = zero-le; to = omega arith }
 
 half : (e : ℕ) → width e / 2 ≡ stepOf e
 unfolding width stepOf

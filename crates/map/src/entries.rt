@@ -9,10 +9,11 @@ use index::leaves::Leaf;
 use phantomlet::recount;
 use spec::Address;
 ghost use mathlib.Core.Path.{_≡_};
-ghost use Rattle.spec.specs.Slots.{contentOf, enter};
+ghost use Rattle.spec.specs.Slots.{enter};
 ghost use Rattle.spec.specs.Maps.{freshMap};
 ghost use Rattle.laws.specs.SlotLaws.{Room};
 ghost use Rattle.indexlet.specs.Words.{contentIn, slotsOf};
+ghost use Rattle.indexlet.specs.Promises as indexlet;
 ghost use Rattle.index.specs.Views as index;
 ghost use Rattle.index.specs.LeafPlaces.{Listed};
 ghost use Rattle.index.specs.LeafColumns.{lowsOf, hiddenOf, pendingOf};
@@ -145,8 +146,7 @@ fn terms(
     }
 }
 
-// `c` is said of the address, where `old` was said; the phantomlet's two numbers of its leaf change with it. Answers the
-// sizes.
+// `c` is said of the address, where `found` was; the phantomlet's two numbers of its leaf change with it. Answers the sizes.
 pub fn set_content(
     leaves: &mut Leaves,
     slots: &mut Slots,
@@ -154,17 +154,18 @@ pub fn set_content(
     z: Sizes,
     k: Counters,
     a: Address,
-    old: indexlet::Content,
+    found: indexlet::Looked,
     c: indexlet::Content,
 ) -> Sizes
     requires { ⌜ Tables (lent (now rows) (now leaves) (now slots)) z (k .version) ⌝ }
-    requires { ⌜ contentOf (slotsOf (now slots)) a ≡ contentIn old ⌝ }
+    requires { ⌜ indexlet.Looks (now slots) a found ⌝ }
     requires { ⌜ Room (slotsOf (now slots)) a (contentIn c) ⌝ }
     ensures { λ r. ⌜ ContentSet (lent (now (rows .entry)) (now (leaves .entry)) (now (slots .entry))) (lent (now (rows .entry)) (now (leaves .exit)) (now (slots .exit))) z r (k .version) (enter 4 (slotsOf (now (slots .entry))) a (contentIn c)) ⌝ }
 {
+    let old = found.content;
     let t = terms(rows, leaves, z, a, old, c);
     adjust(leaves, t);
-    let entries = indexlet::enter(slots, z.entries, a, c);
+    let entries = indexlet::enter(slots, z.entries, a, found, c);
     Sizes {
         records: z.records,
         leaves: z.leaves,

@@ -120,7 +120,7 @@ fn lock_one(
     let found = indexlet::look_up(slots, a);
     let old = found.content;
     let c = with_lock(old, w + 1, row.kind);
-    entries::set_content(leaves, slots, rows, z, k, a, old, c)
+    entries::set_content(leaves, slots, rows, z, k, a, found, c)
 }
 
 // Worker w's lock on the address in row i goes, if w has it.
@@ -145,7 +145,7 @@ fn unlock_one(
     let old = found.content;
     if by_own(old, w) {
         let c = with_lock(old, 0, 0);
-        return entries::set_content(leaves, slots, rows, z, k, a, old, c);
+        return entries::set_content(leaves, slots, rows, z, k, a, found, c);
     }
     z
 }
@@ -209,7 +209,7 @@ fn install_one(
     let found = indexlet::look_up(slots, a);
     let old = found.content;
     let c = installed(row, number, t, old);
-    entries::set_content(leaves, slots, rows, z, k, a, old, c)
+    entries::set_content(leaves, slots, rows, z, k, a, found, c)
 }
 
 // Worker w locks the addresses of the write set, by rising address. The tests of refusals 9 to 11 come before.

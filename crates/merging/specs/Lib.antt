@@ -1,4 +1,5 @@
 pub mod MergeWalks
+pub mod MergeShortcuts
 pub mod MergeSettles
 pub mod MergeKeeps
 pub mod MergeKeys

@@ -38,7 +38,7 @@ use Rattle.index.specs.ViewLaws.{length-records}
 use Rattle.merging.specs.declared.merge.Walk.{Walk}
 use Rattle.phantomlet.specs.Phantoms.{weigh, howMany, many-change, weigh-kept}
 use Rattle.phantomlet.specs.LeafTests.{takes}
-use Rattle.phantomlet.specs.LeafCounts.{lacking}
+use Rattle.phantomlet.specs.LeafCounts.{lacking, hidingAt, waiting}
 use Rattle.phantomlet.specs.MergeCounts.{pick-most}
 use Rattle.map.specs.Views.{SlotRows, RecordRows}
 use Rattle.map.specs.EntryLaws.{many-most}
@@ -113,6 +113,14 @@ module _ (p : ℕ → Bool) (ss : List Slot) (j : ℕ) (h : j < length ss) where
       (λ t. left-some (row k c) (e ∙ ap (λ (b : Bool). pick b none (some (row k c))) t)
       ∙ ap (λ (b : Bool). pick b (row k c ∷ left p ss (suc j)) (left p ss (suc j))) f)
       (cases (isIdle c))
+
+  -- the same, of whatever entry there is
+  left-over : ((x : Row Content) → entryAt ss j ≡ some x → takes p x ≡ false) → left p ss j ≡ left p ss (suc j)
+  left-over f = go (entryAt ss j) refl
+    where
+      go : (o : Option (Row Content)) → entryAt ss j ≡ o → left p ss j ≡ left p ss (suc j)
+      go none e = left-none e
+      go (some x) e = left-some x e ∙ ap (λ (b : Bool). pick b (x ∷ left p ss (suc j)) (left p ss (suc j))) (f x e)
 
 left-start : (p : ℕ → Bool) (ss : List Slot) → left p ss 0 ≡ filter (takes p) (entries ss)
 unfolding left
@@ -204,8 +212,10 @@ pub record Walking (p : ℕ → Bool) (rs : List (Row Record)) (ss : List Slot) 
   pub counted : w .count + length (left p ss j) ≡ length (filter (takes p) (entries ss))
   -- so many entries lie outside of the index now
   pub outside-is : w .outside ≡ howMany (lacking (recordsOf rows (w .records))) (slotsOf slots)
-  -- with no lock counted, the slots so far have no entry at an address that passes
-  pub cleared : w .left ≡ 0 → (i : ℕ) → i < j → (e : Row Content) → entryAt (slotsOf slots) i ≡ some e → p (e .key) ≡ false
+
+-- With no lock counted, `f` being their number, the slots before j have no entry at an address that passes.
+pub record Clear (p : ℕ → Bool) (slots : SlotRows) (f j : ℕ) : Type 0 where
+  pub cleared : f ≡ 0 → (i : ℕ) → i < j → (e : Row Content) → entryAt (slotsOf slots) i ≡ some e → p (e .key) ≡ false
 
 -- what a walk begins with: as many addresses as the index has room for
 pub record Starting (rows : RecordRows) (slots : SlotRows) (n e o : ℕ) : Type 0 where
@@ -222,9 +232,14 @@ pub record Underway (p : ℕ → Bool) (rows : RecordRows) (slots : SlotRows) (w
   pub walking : Walking p records begun rows slots w j
   pub bound : distinct (keys records ++ keys (entries begun)) ≤ recordPlaces
 
--- one slot on, wherever the walk began
+-- one slot on, wherever the walk began; no other slot's entry changes, and no record but at the entry's address
 pub record WalksSlot (p : ℕ → Bool) (rows : RecordRows) (slots : SlotRows) (w : Walk) (j : ℕ) (rows' : RecordRows) (slots' : SlotRows) (w' : Walk) : Type 0 where
   pub on : {rs : List (Row Record)} {ss : List Slot} → Walking p rs ss rows slots w j → Walking p rs ss rows' slots' w' (j + 1)
+  pub least : w .left ≤ w' .left
+  pub here : w' .left ≡ 0 → (e : Row Content) → entryAt (slotsOf slots') j ≡ some e → p (e .key) ≡ false
+  pub others : (i : ℕ) → i < slotCount → (i ≡ j → ⊥) → entryAt (slotsOf slots') i ≡ entryAt (slotsOf slots) i
+  pub records : (x : Row Content) → entryAt (slotsOf slots) j ≡ some x → (k : ℕ) → (k ≡ x .key → ⊥)
+      → look (recordsOf rows' (w' .records)) k ≡ look (recordsOf rows (w .records)) k
 
 -- what a walk leaves
 pub record Took (p : ℕ → Bool) (rows : RecordRows) (slots : SlotRows) (n : ℕ) (rows' : RecordRows) (slots' : SlotRows) (w : Walk) : Type 0 where
@@ -239,7 +254,9 @@ pub record Took (p : ℕ → Bool) (rows : RecordRows) (slots : SlotRows) (n : �
       ≡ each (mergeEntry 4) (parts (recordsOf rows n) ls (slotsOf slots)) (filter (takes p) (entries (slotsOf slots)))
   pub count : w .count ≡ length (filter (takes p) (entries (slotsOf slots)))
   pub outside-is : w .outside ≡ howMany (lacking (recordsOf rows' (w .records))) (slotsOf slots')
-  pub cleared : w .left ≡ 0 → (i : ℕ) → i < slotCount → (e : Row Content) → entryAt (slotsOf slots') i ≡ some e → p (e .key) ≡ false
+  -- with no lock counted, an entry that is left at an address that passes counts for nothing
+  pub cleared : w .left ≡ 0 → (i : ℕ) → i < slotCount → (e : Row Content) → entryAt (slotsOf slots') i ≡ some e → p (e .key) ≡ true
+      → (hidingAt (recordsOf rows' (w .records)) e ≡ false) × (waiting e ≡ false)
 
 -- What the next promise asks: no difference is below 0.
 pub record OutsideFits (out before after kind lock : ℕ) : Type 0 where
@@ -282,13 +299,34 @@ walk-start {rows} {slots} {n} {e} {o} p s =
       rest = λ ls. ap (each (mergeEntry 4) (parts (recordsOf rows n) ls (slotsOf slots))) (left-start p (slotsOf slots));
       counted = (let z : length (left p (slotsOf slots) 0) ≡ length (filter (takes p) (entries (slotsOf slots))) = ap length (left-start p (slotsOf slots)) in omega arith);
       outside-is = s .outside-is;
-      cleared = λ z i l. absurd (not-suc-le-zero l);
     }
 
-pub walk-end : {p : ℕ → Bool} {rows : RecordRows} {slots : SlotRows} {n : ℕ} {rows' : RecordRows} {slots' : SlotRows} {w : Walk} {j : ℕ} → Walking p (recordsOf rows n) (slotsOf slots) rows' slots' w j → slotCount ≤ j
+pub clear-start : {p : ℕ → Bool} {slots : SlotRows} {f : ℕ} → Clear p slots f 0
+clear-start = record { cleared = λ z i l. absurd (not-suc-le-zero l) }
+
+pub clear-on : {p : ℕ → Bool} {rows : RecordRows} {slots : SlotRows} {w : Walk} {j : ℕ} {rows' : RecordRows} {slots' : SlotRows} {w' : Walk}
+    → WalksSlot p rows slots w j rows' slots' w' → j < slotCount → Clear p slots (w .left) j → Clear p slots' (w' .left) (j + 1)
+clear-on {p} {rows} {slots} {w} {j} {rows'} {slots'} {w'} s h c =
+    let least : w .left ≤ w' .left = s .least in
+    record {
+      cleared =
+          λ z i l e q.
+          ⊎-elim
+          (λ b. s .here z e (ap (entryAt (slotsOf slots')) (sym (same-true i j b)) ∙ q))
+          (λ b. let n : i ≡ j → ⊥ = same-false i j b in c .cleared (omega arith) i (omega arith) e (sym (s .others i (omega arith) n) ∙ q))
+          (cases (same i j));
+    }
+
+-- so nothing is left that counts
+clear-end : {p : ℕ → Bool} {slots : SlotRows} {f j : ℕ} (rs : List (Row Record)) → Clear p slots f j → slotCount ≤ j
+    → f ≡ 0 → (i : ℕ) → i < slotCount → (e : Row Content) → entryAt (slotsOf slots) i ≡ some e → p (e .key) ≡ true → (hidingAt rs e ≡ false) × (waiting e ≡ false)
+clear-end rs c h z i l e q t = clash t (c .cleared z i (omega arith) e q)
+
+pub walk-took : {p : ℕ → Bool} {rows : RecordRows} {slots : SlotRows} {n : ℕ} {rows' : RecordRows} {slots' : SlotRows} {w : Walk} {j : ℕ} → Walking p (recordsOf rows n) (slotsOf slots) rows' slots' w j → slotCount ≤ j
+    → (w .left ≡ 0 → (i : ℕ) → i < slotCount → (e : Row Content) → entryAt (slotsOf slots') i ≡ some e → p (e .key) ≡ true → (hidingAt (recordsOf rows' (w .records)) e ≡ false) × (waiting e ≡ false))
     → Took p rows slots n rows' slots' w
 unfolding each
-walk-end {p} {rows} {slots} {n} {rows'} {slots'} {w} {j} r h =
+walk-took {p} {rows} {slots} {n} {rows'} {slots'} {w} {j} r h cleared =
     let f : length (slotsOf slots) ≡ slotCount = r .full in
     let e : left p (slotsOf slots) j ≡ [] = left-end p (slotsOf slots) j (omega arith) in
     record {
@@ -301,8 +339,12 @@ walk-end {p} {rows} {slots} {n} {rows'} {slots'} {w} {j} r h =
       after = λ ls. sym (ap (each (mergeEntry 4) (parts (recordsOf rows' (w .records)) ls (slotsOf slots'))) e) ∙ r .rest ls;
       count = (let z : length (left p (slotsOf slots) j) ≡ 0 = ap length e in let y : w .count + length (left p (slotsOf slots) j) ≡ length (filter (takes p) (entries (slotsOf slots))) = r .counted in omega arith);
       outside-is = r .outside-is;
-      cleared = λ z i l. r .cleared z i (omega arith);
+      cleared = cleared;
     }
+
+pub walk-end : {p : ℕ → Bool} {rows : RecordRows} {slots : SlotRows} {n : ℕ} {rows' : RecordRows} {slots' : SlotRows} {w : Walk} {j : ℕ} → Walking p (recordsOf rows n) (slotsOf slots) rows' slots' w j
+    → Clear p slots' (w .left) j → slotCount ≤ j → Took p rows slots n rows' slots' w
+walk-end {rows' = rows'} {w = w} r c h = walk-took r h (clear-end (recordsOf rows' (w .records)) c h)
 
 -- ---- one slot
 
@@ -336,20 +378,55 @@ walk-past {p} {rows} {slots} {w} {j} r f reads h t least most gone =
             rest = λ ls. ap (each (mergeEntry 4) (parts (recordsOf rows (w .records)) ls (slotsOf slots))) d ∙ g .rest ls;
             counted = (let y : w .count + length (left p ss j) ≡ length (filter (takes p) (entries ss)) = g .counted in let x : length (left p ss (j + 1)) ≡ length (left p ss j) = ap length d in omega arith);
             outside-is = g .outside-is;
-            cleared =
-                λ z i l e q.
-                ⊎-elim
-                (λ c. gone z e (ap (entryAt (slotsOf slots)) (sym (same-true i j c)) ∙ q))
-                (λ c. let n : i ≡ j → ⊥ = same-false i j c in g .cleared (omega arith) i (omega arith) e q)
-                (cases (same i j));
           };
+      least = least;
+      here = gone;
+      others = λ i l n. refl;
+      records = λ x e k n. refl;
     }
+
+-- the same without a look at the slot, where the walk counts no lock
+walk-skip : {p : ℕ → Bool} {rs : List (Row Record)} {ss : List Slot} {rows : RecordRows} {slots : SlotRows} {w : Walk} {j : ℕ} → Walking p rs ss rows slots w j → j < slotCount
+    → ((x : Row Content) → entryAt ss j ≡ some x → takes p x ≡ false) → Walking p rs ss rows slots w (suc j)
+walk-skip {p} {rs} {ss} {rows} {slots} {w} {j} g h f =
+    let z : length ss ≡ slotCount = g .full in
+    let e : left p ss j ≡ left p ss (suc j) = left-over p ss j (omega arith) f in
+    record {
+      rows-held = g .rows-held;
+      words = g .words;
+      number = g .number;
+      full = g .full;
+      there = omega arith;
+      few = (let y : w .count ≤ j = g .few in omega arith);
+      few-left = (let y : w .left ≤ j = g .few-left in omega arith);
+      untouched = λ i a b. g .untouched i (omega arith) b;
+      inside = g .inside;
+      apart = g .apart;
+      elsewhere = g .elsewhere;
+      rest = λ ls. ap (each (mergeEntry 4) (parts (recordsOf rows (w .records)) ls (slotsOf slots))) (sym e) ∙ g .rest ls;
+      counted = (let y : w .count + length (left p ss j) ≡ length (filter (takes p) (entries ss)) = g .counted in let x : length (left p ss j) ≡ length (left p ss (suc j)) = ap length e in omega arith);
+      outside-is = g .outside-is;
+    }
+
+-- past k slots of which none has an entry that is taken
+walk-by : {p : ℕ → Bool} {rs : List (Row Record)} {ss : List Slot} {rows : RecordRows} {slots : SlotRows} {w : Walk} {j : ℕ} (k : ℕ) → Walking p rs ss rows slots w j → j + k ≤ slotCount
+    → ((i : ℕ) → j ≤ i → i < j + k → (x : Row Content) → entryAt ss i ≡ some x → takes p x ≡ false) → Walking p rs ss rows slots w (j + k)
+walk-by {p} {rs} {ss} {rows} {slots} {w} {j} zero g h f = subst (Walking p rs ss rows slots w) (let e : j ≡ j + 0 = omega arith in e) g
+walk-by {p} {rs} {ss} {rows} {slots} {w} {j} (suc k) g h f =
+    subst (Walking p rs ss rows slots w) (let e : suc (j + k) ≡ j + suc k = omega arith in e)
+    (walk-skip (walk-by k g (omega arith) (λ i a b. f i a (omega arith))) (omega arith) (f (j + k) (omega arith) (omega arith)))
+
+pub walk-over : {p : ℕ → Bool} {rs : List (Row Record)} {ss : List Slot} {rows : RecordRows} {slots : SlotRows} {w : Walk} {j : ℕ} (i : ℕ) → Walking p rs ss rows slots w j → j ≤ i → i ≤ slotCount
+    → ((n : ℕ) → j ≤ n → n < i → (x : Row Content) → entryAt ss n ≡ some x → takes p x ≡ false) → Walking p rs ss rows slots w i
+walk-over {p} {rs} {ss} {rows} {slots} {w} {j} i g a b f =
+    let e : j + (i - j) ≡ i = omega arith in
+    subst (Walking p rs ss rows slots w) e (walk-by (i - j) g (omega arith) (λ n c d. f n c (omega arith)))
 
 takes-none : (p : ℕ → Bool) (k : ℕ) (c : ContentWords) → c .kind ≡ 0 → takes p (row k (contentIn c)) ≡ false
 unfolding takes contentIn pendingIn
 takes-none p k c e = ap (λ (n : ℕ). both (present (pendingIn n (c .payload) (c .commit) (c .since))) (p k)) e
 
-both-false : (b : Bool) → both b false ≡ false
+pub both-false : (b : Bool) → both b false ≡ false
 both-false true = refl
 both-false false = refl
 
@@ -413,7 +490,7 @@ module _ {slots : SlotRows} {j : ℕ} (r : SlotWords) (held : indexlet.SlotsHeld
   unfolding isIdle
   busy = ap (λ (o : Option Pending). both (not (present o)) (not (present (contentIn (r .content) .holder)))) pending-is
 
-  entry-is : entryAt (slotsOf slots) j ≡ some (row (r .key) (contentIn (r .content)))
+  pub entry-is : entryAt (slotsOf slots) j ≡ some (row (r .key) (contentIn (r .content)))
   entry-is = entry-in slots j r (reads .slot) ∙ ap (λ (b : Bool). pick b none (some (row (r .key) (contentIn (r .content))))) busy
 
   content-is : contentOf (slotsOf slots) (r .key) ≡ contentIn (r .content)
@@ -439,7 +516,7 @@ module _ {slots : SlotRows} {j : ℕ} (r : SlotWords) (held : indexlet.SlotsHeld
         slots = (f ∙ ap (λ (c : Content). enter 4 (slotsOf slots) (r .key) (takenIn c)) (sym content-is)) i;
       }
 
-  taken-yes : (p : ℕ → Bool) → p (r .key) ≡ true → takes p (row (r .key) (contentIn (r .content))) ≡ true
+  pub taken-yes : (p : ℕ → Bool) → p (r .key) ≡ true → takes p (row (r .key) (contentIn (r .content))) ≡ true
   unfolding takes
   taken-yes p t = ap (λ (o : Option Pending). both (present o) (p (r .key))) pending-is ∙ t
 
@@ -651,22 +728,28 @@ module _ {slots : SlotRows} {j : ℕ} (r : SlotWords) (held : indexlet.SlotsHeld
                   let q : length (left p ss j) ≡ suc (length (left p ss (j + 1))) = ap length d ∙ ap (λ (k : ℕ). suc (length (left p ss k))) s in
                   omega arith);
               outside-is = outside-now (g .outside-is) (g .rows-held);
-              cleared =
-                  λ y i l o q.
-                  ⊎-elim
-                  (λ b.
-                  let here : entryAt (slotsOf slots') j ≡ kept (r .key) (contentIn c)
-                  = ap (λ (ts : List Slot). entryAt ts j) (ent .view) ∙ enter-here j (contentIn c) (held .good) (omega arith) entry-is (slot-room (contentIn c)) in
-                  clash
-                  (ap isIdle ce ∙ unlocked (takenIn (contentIn (r .content))) lock refl locks (omega arith))
-                  (kept-entry (r .key) (contentIn c) o (sym here ∙ ap (entryAt (slotsOf slots')) (sym (same-true i j b)) ∙ q) .0))
-                  (λ b.
-                  let m : i ≡ j → ⊥ = same-false i j b in
-                  g .cleared (omega arith) i (omega arith) o
-                  (sym (ap (λ (ts : List Slot). entryAt ts i) (ent .view)
-                  ∙ enter-others j (contentIn c) (held .good) (omega arith) entry-is (slot-room (contentIn c)) i (omega arith) m) ∙ q))
-                  (cases (same i j));
             };
+        least = omega arith;
+        here =
+            λ y o q.
+            let zz : length (slotsOf slots) ≡ slotCount = held .good .size in
+            let here : entryAt (slotsOf slots') j ≡ kept (r .key) (contentIn c)
+            = ap (λ (ts : List Slot). entryAt ts j) (ent .view) ∙ enter-here j (contentIn c) (held .good) (omega arith) entry-is (slot-room (contentIn c)) in
+            clash
+            (ap isIdle ce ∙ unlocked (takenIn (contentIn (r .content))) lock refl locks (omega arith))
+            (kept-entry (r .key) (contentIn c) o (sym here ∙ q) .0);
+        others =
+            λ i l m.
+            let zz : length (slotsOf slots) ≡ slotCount = held .good .size in
+            ap (λ (ts : List Slot). entryAt ts i) (ent .view)
+            ∙ enter-others j (contentIn c) (held .good) (omega arith) entry-is (slot-room (contentIn c)) i (omega arith) m;
+        records =
+            λ x q k m.
+            let own : r .key ≡ x .key = ap (λ (y : Row Content). y .key) (kept-entry (r .key) (contentIn (r .content)) x (sym (entry-in slots j r (reads .slot)) ∙ q) .1) in
+            ap (λ (ks : List (Row Record)). look ks k) (hold .same)
+            ∙ look-assign (r .key) (leaving (r .content .kind) (r .content .payload) (r .content .commit)) (recordsOf rows (w .records)) k
+            ∙ ap (λ (b : Bool). pick b (leaving (r .content .kind) (r .content .payload) (r .content .commit)) (look (recordsOf rows (w .records)) k))
+            (same-no {m = r .key} {n = k} (λ e. m (sym e ∙ own)));
       }
     where
       outside-now : w .outside ≡ howMany (lacking (recordsOf rows (w .records))) (slotsOf slots) → index.RecordsSorted rows (w .records)

@@ -26,6 +26,7 @@ use Rattle.laws.specs.SettleLaws.{InLeaf, records-in-leaf, settle-keeps}
 use Rattle.laws.specs.LeafCuts.{standard-cut}
 use Rattle.laws.specs.VersionBounds.{versionsPerMerge, taken-per}
 use Rattle.laws.specs.MergeLaws.{merges}
+use Rattle.laws.specs.SlotCounts.{entryAt}
 use Rattle.laws.specs.MapBounds.{Bounded, standard-leaves, merge-bounded}
 use Rattle.indexlet.specs.Words.{slotsOf}
 use Rattle.index.specs.Views.{leafPlaces, recordPlaces, recordsOf, leavesOf}
@@ -45,7 +46,8 @@ use Rattle.phantomlet.specs.Phantoms.{howMany, outsideAny, hidesSome, hidingIn,
 use Rattle.map.specs.Views.{SlotRows, LeafRows, RecordRows, Lent, byColumns, lent, mapOf}
 use Rattle.map.specs.MapHeld.{Tables, MapHeld}
 use Rattle.phantomlet.specs.LeafTests.{none-left, placed, takes, filter-same, many-same, pending-merging, lows-are, leaves-count, live-at, placed-version, at-version, placed-own}
-use Rattle.merging.specs.MergeWalks.{parts, Starting, Took}
+use Rattle.merging.specs.MergeWalks.{parts, Starting, Took, both-false}
+use Rattle.merging.specs.MergeShortcuts.{passing, hiders, Numbered}
 use Rattle.phantomlet.specs.MergeCounts.{Recounting, Numbers, Numbering}
 use Rattle.phantomlet.specs.LeafCounts.{Ranging, Keeping, Bare, lacking, hidingAt, waiting, inLeaf, many-zero}
 use Rattle.phantomlet.specs.LeafRows.{low-inside}
@@ -182,6 +184,37 @@ module _ {l : Lent} {z : Sizes} (k : Counters) (h : MapHeld l z (k .version)) (a
         bound = h .bounded .addresses;
         outside-is = h .tables .outside-are;
       }
+
+  -- the phantomlet's numbers of the leaf count its pending writes and its entries that hide their address
+  pub numbered : (ls : LeafRows) → lowsOf ls ≡ l .lows → pendingOf ls ≡ l .pending → hiddenOf ls ≡ l .hidden → Numbered ls (l .rows) (l .slots) (z .leaves) (z .records) i
+  unfolding hiders passing hidingIn hidingAt outsideAny lacking pendingIn takes
+  numbered ls lows-are pending-are hidden-are =
+      let b : i < z .leaves = at .inside in
+      let r : z .leaves ≤ leafPlaces = h .tables .lows .room in
+      record {
+        inside = omega arith;
+        pending-is =
+            ap (λ (x : List ℕ). getD x i 0) pending-are
+            ∙ h .tables .phantoms .pending-is i (rw many-leaves b)
+            ∙ many-same (pendingIn (mapOf l z) (versionOf (mapOf l z) i)) (takes (placed (lowsOf ls) (z .leaves) i)) (slotsOf (l .slots))
+            (λ x. both-turn (same (versionAt (mapOf l z .leaves) (x .key)) (versionOf (mapOf l z) i)) (present (x .item .pending))
+            ∙ ap (both (present (x .item .pending)))
+            (placed-version (l .lows) (l .versions) (z .leaves) (h .tables .lows-size) (h .tables .versions-size) (h .tables .lows .room) good i (x .key) b
+            ∙ ap (λ (y : List ℕ). placed y (z .leaves) i (x .key)) (sym lows-are)));
+        hidden-is =
+            ap (λ (x : List ℕ). getD x i 0) hidden-are
+            ∙ h .tables .phantoms .hidden-is i (rw many-leaves b)
+            ∙ many-same (hidingIn (mapOf l z) (versionOf (mapOf l z) i)) (passing (placed (lowsOf ls) (z .leaves) i) (hidingAt (recordsOf (l .rows) (z .records)))) (slotsOf (l .slots))
+            (λ x. ap (λ (t : Bool). both t (both (not (present (look (recordsOf (l .rows) (z .records)) (x .key)))) (hidesSome (x .item))))
+            (placed-version (l .lows) (l .versions) (z .leaves) (h .tables .lows-size) (h .tables .versions-size) (h .tables .lows .room) good i (x .key) b
+            ∙ ap (λ (y : List ℕ). placed y (z .leaves) i (x .key)) (sym lows-are)));
+      }
+    where
+      both-turn : (b c : Bool) → both b c ≡ both c b
+      both-turn true true = refl
+      both-turn true false = refl
+      both-turn false true = refl
+      both-turn false false = refl
 
   -- what finding the leaf's addresses asks
   pub ranging : Ranging (l .lows) (z .leaves) i (i + 1)
@@ -471,25 +504,29 @@ module _ {l : Lent} {z : Sizes} (k : Counters) (h : MapHeld l z (k .version)) (a
             (cases (same (place x) i)))
             (cases (less (place x) i))
 
-        none-made : (t : Row Content → Bool) (j : ℕ) → i ≤ j → j < i + 1 + m - z .leaves → howMany (inLeaf lows m t j) (slotsOf slots) ≡ 0
+        -- no entry of the leaf that is left counts
+        none-made : (t : Row Content → Bool) → ((y : ℕ) → y < slotCount → (e : Row Content) → entryAt (slotsOf slots) y ≡ some e → placed (l .lows) (z .leaves) i (e .key) ≡ true → t e ≡ false)
+            → (j : ℕ) → i ≤ j → j < i + 1 + m - z .leaves → howMany (inLeaf lows m t j) (slotsOf slots) ≡ 0
         unfolding inLeaf
-        none-made t j a b =
+        none-made t quiet j a b =
             many-zero (inLeaf lows m t j) (slotsOf slots)
             (λ y g e q.
-            ap (λ (c : Bool). both c (t e))
-            (elsewhere (e .key) (took .cleared unlocked y (let s : length (slotsOf slots) ≡ slotCount = took .words .good .size in omega arith) e q) j a b))
+            ⊎-elim
+            (λ c. ap (both (placed lows m j (e .key))) (quiet y (let s : length (slotsOf slots) ≡ slotCount = took .words .good .size in omega arith) e q c) ∙ both-false (placed lows m j (e .key)))
+            (λ c. ap (λ (d : Bool). both d (t e)) (elsewhere (e .key) c j a b))
+            (cases (placed (l .lows) (z .leaves) i (e .key))))
 
         hidden-bare : Bare lows m (hidingAt (recordsOf rows (w .records))) (slotsOf slots) (hiddenOf ls) (i + 1 + m - z .leaves)
         hidden-bare =
             let b : i < z .leaves = at .inside in
             made-numbers lows m (hidingAt (recordsOf rows (w .records))) (slotsOf slots) hidden-shifts (λ j g. hidden-kept j j (omega arith) (omega arith) (λ x. let y : ⊥ = omega arith in y) (unmoved j g))
-            (none-made (hidingAt (recordsOf rows (w .records))))
+            (none-made (hidingAt (recordsOf rows (w .records))) (λ y g e q c. took .cleared unlocked y g e q c .0))
 
         pending-bare : Bare lows m waiting (slotsOf slots) (pendingOf ls) (i + 1 + m - z .leaves)
         pending-bare =
             let b : i < z .leaves = at .inside in
             made-numbers lows m waiting (slotsOf slots) pending-shifts (λ j g. pending-kept j j (omega arith) (omega arith) (λ x. let y : ⊥ = omega arith in y) (unmoved j g))
-            (none-made waiting)
+            (none-made waiting (λ y g e q c. took .cleared unlocked y g e q c .1))
 
       pub recounting : Recounting rows ls slots (w .records) m i (z .leaves) (w .left)
       recounting =

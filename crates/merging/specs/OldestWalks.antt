@@ -1,11 +1,13 @@
 -- A walk over the slots for the pending write that has waited longest.
 use Prim.Native.Nat.{ℕ, zero, suc, _+_, _^_, _<_, _≤_}
+use native.Mathlib.Nat.{le-refl}
 use native.Mathlib.Omega.{arith}
 use mathlib.Core.Path.{_≡_, refl, sym, ap, _∙_, subst}
 use mathlib.Core.Bool.{Bool, true, false, not}
 use mathlib.Core.List.{List, [], _∷_}
 use mathlib.Core.Option.{Option, none, some}
-use lib.Dec.{ltb}
+use lib.Dec.{ltb, eqb}
+use borrow.Author.Tests.{eqb-true, eqb-false}
 use lib.ListN.{length, getD, drop, drop-of-length-le}
 use lib.Seq.{drop-cons}
 use Rattle.lists.specs.Tests.{pick, either, both, maybe, same, less}
@@ -13,6 +15,7 @@ use Rattle.lists.specs.TestLaws.{clash, same-yes, same-no, less-no}
 use Rattle.lists.specs.Rows.{Row, row}
 use Rattle.spec.specs.Slots.{slotCount, Pending, Content, isIdle, Slot, emptySlot, entries}
 use Rattle.spec.specs.Maps.{ages, older, oldestOf, oldestKey}
+use Rattle.indexlet.specs.declared.Content.{Content as ContentWords}
 use Rattle.indexlet.specs.declared.Slot.{Slot as SlotWords}
 use Rattle.indexlet.specs.Words.{pendingIn, contentIn, slotIn, slotsOf}
 use Rattle.indexlet.specs.WordLaws.{length-slots, idle-waiting}
@@ -41,6 +44,16 @@ pub record Elder (ss : List Slot) (j : ℕ) (o r : Oldest) : Type 0 where
   pub same-oldest : oldestAfter (oldestSo r) (agesFrom ss (j + 1)) ≡ oldestAfter (oldestSo o) (agesFrom ss j)
   pub narrow : r .key < 2 ^ 32
   pub nothing : (o .there ≡ false → o .key ≡ 0) → r .there ≡ false → r .key ≡ 0
+
+-- the install since which a write waits, the largest number where none does
+abbrev pub ageIn : ContentWords → ℕ
+ageIn c = pick (eqb (c .kind) 0) 18446744073709551615 (c .since)
+
+-- The slots from `from` up to, not including, j have no write older than o.
+pub record Passes (ss : List Slot) (o : Oldest) (from j : ℕ) : Type 0 where
+  pub forth : from ≤ j
+  pub there : j ≤ slotCount
+  pub same-oldest : oldestAfter (oldestSo o) (agesFrom ss j) ≡ oldestAfter (oldestSo o) (agesFrom ss from)
 
 -- How far the walk is.
 pub record Walking (ss : List Slot) (j : ℕ) (o : Oldest) : Type 0 where
@@ -171,6 +184,33 @@ module _ (o : Oldest) (key since : ℕ) where
       go : (b : Bool) → either b false ≡ b
       go true = refl
       go false = refl
+
+-- ---- slots that are passed
+
+pub passes-none : (ss : List Slot) (o : Oldest) (from : ℕ) → from ≤ slotCount → Passes ss o from from
+passes-none ss o from h = record { forth = le-refl from; there = h; same-oldest = refl }
+
+pub passes-on : (slots : List (List ℕ)) (j : ℕ) (o : Oldest) (s : SlotWords) {from : ℕ} → indexlet.IsSlot slots j s → j < slotCount → o .key < 2 ^ 32 → not (o .there) ≡ false
+    → o .since < ageIn (s .content) → Passes (slotsOf slots) o from j → Passes (slotsOf slots) o from (j + 1)
+unfolding less
+passes-on slots j o s {from} reads inside narrow t l p =
+    let a : from ≤ j = p .forth in
+    record { forth = omega arith; there = omega arith; same-oldest = go (eqb (s .content .kind) 0) refl .same-oldest ∙ p .same-oldest }
+  where
+    younger : (s .content .kind ≡ 0 → ⊥) → o .since < s .content .since → elder o (s .key) (s .content .since) ≡ false
+    younger n h =
+        sym (elder-time o (s .key) (s .content .since) t (λ e. let q : ⊥ = omega arith in q))
+        ∙ less-no {m = s .content .since} {n = o .since} (omega arith)
+
+    go : (b : Bool) → eqb (s .content .kind) 0 ≡ b → Elder (slotsOf slots) j o o
+    go true e = elder-past slots j o s reads inside narrow (eqb-true (s .content .kind) 0 e)
+    go false e =
+        let n : s .content .kind ≡ 0 → ⊥ = eqb-false (s .content .kind) 0 e in
+        elder-stays slots j o s reads inside narrow n
+        (younger n (subst (λ (x : ℕ). o .since < x) (ap (λ (b : Bool). pick b 18446744073709551615 (s .content .since)) e) l))
+
+pub passes-walk : {ss : List Slot} {from j : ℕ} {o : Oldest} → Walking ss from o → Passes ss o from j → Walking ss j o
+passes-walk w p = record { oldest-is = p .same-oldest ∙ w .oldest-is; narrow = w .narrow; nothing = w .nothing; inside = p .there }
 
 -- ---- the walk
 

@@ -1,8 +1,8 @@
 // The merge (document 01: fold): a leaf's pending writes enter the index, and the leaf settles around its records.
 //
-// `take_all` walks the slots, takes the leaf's pending writes in and counts the entries that stay for their lock;
-// `resettle` settles the leaf; `recount` brings the phantomlet up to date. Nearly always no lock stays, and then `recount`
-// needs no walk of its own.
+// `take_leaf` takes the leaf's pending writes in and counts the entries that stay for their lock: by a walk over the slots, or,
+// if the leaf has one pending write and that is the one at the address asked for, by one search. `resettle` settles the leaf;
+// `recount` brings the phantomlet up to date. Nearly always no lock stays, and then `recount` needs no walk of its own.
 use counters::Counters;
 use index::leaves;
 use index::settles;
@@ -17,15 +17,18 @@ use phantomlet::recount::Reach;
 use spec::Address;
 use spec::PayloadWords;
 ghost use mathlib.Core.Path.{_≡_};
+ghost use mathlib.Core.Bool.{true};
 ghost use mathlib.Core.Option.{some};
-ghost use Prim.Native.Nat.{_+_, _^_, _<_, _≤_};
+ghost use Prim.Native.Nat.{_+_, _-_, _^_, _<_, _≤_};
 ghost use lib.ListN.{length};
 ghost use Rattle.lists.specs.Tests.{pick, present};
 ghost use Rattle.lists.specs.Rows.{assign};
 ghost use Rattle.spec.specs.Records.{standard};
 ghost use Rattle.spec.specs.Slots.{slotCount};
 ghost use Rattle.laws.specs.VersionBounds.{versionsPerMerge};
-ghost use Rattle.indexlet.specs.Words.{contentIn};
+ghost use Rattle.laws.specs.SlotCounts.{entryAt};
+ghost use Rattle.indexlet.specs.Words.{contentIn, slotsOf};
+ghost use Rattle.indexlet.specs.Promises as indexlet-promises;
 ghost use Rattle.index.specs.Views as index-views;
 ghost use Rattle.index.specs.LeafColumns.{lowsOf};
 ghost use Rattle.index.specs.SettleRows.{SettledRows};
@@ -37,6 +40,7 @@ ghost use Rattle.map.specs.MapHeld.{MapHeld};
 ghost use Rattle.merging.specs.MergeSettles.{Resettling, leafKeys};
 ghost use Rattle.merging.specs.Merges.{Merges};
 ghost use Rattle.merging.specs.MergeWalks.{leaving, OutsideFits, OutsideNow, Underway, WalksSlot, Starting, Took};
+ghost use Rattle.merging.specs.MergeShortcuts.{Skips, hiders, Alone, Numbered};
 
 // How far a walk over the slots has come: records of the index, entries of the indexlet, pending writes taken in, entries of
 // the leaf that stay, for their lock, and entries outside of the index.
@@ -148,7 +152,8 @@ fn take_slot(
         lock: c.lock,
         forput: c.forput,
     };
-    let e = indexlet::enter(slots, w.entries, a, rest);
+    let found = indexlet::found_at(slots, a, j);
+    let e = indexlet::enter(slots, w.entries, a, found, rest);
     let outside = outside_now(w.outside, w.records, n, c.kind, lock);
     Walk {
         records: n,
@@ -157,6 +162,56 @@ fn take_slot(
         left,
         outside,
     }
+}
+
+// The next slot, from this one on, whose key is among the addresses r; 256 if there is none. Most slots are passed here.
+fn next_reached(slots: &Slots, r: Reach, from: usize) -> usize
+    requires { ⌜ indexlet-promises.SlotsHeld (now slots) ⌝ }
+    requires { ⌜ (from ≤ slotCount) × (r .span ≡ r .high - r .low) ⌝ }
+    ensures { λ j. ⌜ Skips (now (slots .entry)) r from j ⌝ }
+{
+    let mut next = from;
+    while next < SLOTS {
+        let s = indexlet::slot_at(slots, next);
+        if recount::reaches(r, s.key) {
+            return next;
+        }
+        next += 1;
+    }
+    next
+}
+
+// Slot j has an entry.
+fn stands(slots: &Slots, j: usize) -> bool
+    requires { ⌜ indexlet-promises.SlotsHeld (now slots) ⌝ }
+    requires { ⌜ j < slotCount ⌝ }
+    ensures { λ b. ⌜ b ≡ present (entryAt (slotsOf (now (slots .entry))) j) ⌝ }
+{
+    let s = indexlet::slot_at(slots, j);
+    let c = s.content;
+    !indexlet::idle(c)
+}
+
+// The same, but a slot without an entry is passed at once: an empty one has key 0, which the first leaf holds.
+fn take_standing(
+    rows: &mut Records,
+    slots: &mut Slots,
+    leaves: &Leaves,
+    w: Walk,
+    r: Reach,
+    m: usize,
+    i: usize,
+    j: usize,
+) -> Walk
+    requires { ⌜ Underway (placed (lowsOf (now leaves)) m i) (now rows) (now slots) w j ⌝ }
+    requires { ⌜ OneLeaf (lowsOf (now leaves)) m i r ⌝ }
+    requires { ⌜ j < slotCount ⌝ }
+    ensures { λ r. ⌜ WalksSlot (placed (lowsOf (now (leaves .entry))) m i) (now (rows .entry)) (now (slots .entry)) w j (now (rows .exit)) (now (slots .exit)) r ⌝ }
+{
+    if stands(slots, j) {
+        return take_slot(rows, slots, leaves, w, r, m, i, j);
+    }
+    w
 }
 
 // All pending writes of the leaf at place i enter the index. The walk goes on behind the last of them, since any slot can
@@ -185,10 +240,87 @@ fn take_all(
     };
     let mut j = 0;
     while j < SLOTS {
-        w = take_slot(rows, slots, leaves, w, r, m, i, j);
-        j += 1;
+        j = next_reached(slots, r, j);
+        if j < SLOTS {
+            w = take_standing(rows, slots, leaves, w, r, m, i, j);
+            j += 1;
+        }
     }
     w
+}
+
+// Slot j has a pending write of the leaf at place i, whose addresses are r, and no other entry of the leaf hides its address;
+// `hidden` is the leaf's number of those that do. A no says nothing: the walk is right for any leaf.
+fn hides_alone(
+    rows: &Records,
+    slots: &Slots,
+    leaves: &Leaves,
+    n: usize,
+    m: usize,
+    i: usize,
+    r: Reach,
+    j: usize,
+    hidden: u64,
+) -> bool
+    requires { ⌜ (index-views.RecordsSorted (now rows) n) × (indexlet-promises.SlotsHeld (now slots)) ⌝ }
+    requires { ⌜ OneLeaf (lowsOf (now leaves)) m i r ⌝ }
+    requires { ⌜ (j < slotCount) × (hidden ≡ hiders (placed (lowsOf (now leaves)) m i) (now rows) n (now slots)) ⌝ }
+    ensures { λ b. ⌜ (b ≡ true → Alone (placed (lowsOf (now (leaves .entry))) m i) (now (rows .entry)) n (now (slots .entry)) j) ⌝ }
+{
+    let s = indexlet::slot_at(slots, j);
+    let key = s.key;
+    if !recount::reaches(r, key) {
+        return false;
+    }
+    let c = s.content;
+    let kind = c.kind;
+    if kind == 0 {
+        return false;
+    }
+    if hidden == 0 {
+        return true;
+    }
+    recount::hides_at(rows, n, key as Address, c) == hidden
+}
+
+// The pending writes of the leaf at place i, which holds the address, enter the index. Most merges come right after the
+// install that made them due, at its address: with one pending write in the leaf, that one is tried first, and if nothing else
+// of the leaf matters no slot is walked over.
+fn take_leaf(
+    rows: &mut Records,
+    slots: &mut Slots,
+    leaves: &Leaves,
+    z: Sizes,
+    i: usize,
+    r: Reach,
+    a: Address,
+) -> Walk
+    requires { ⌜ Starting (now rows) (now slots) (z .records) (z .entries) (z .outside) ⌝ }
+    requires { ⌜ OneLeaf (lowsOf (now leaves)) (z .leaves) i r ⌝ }
+    requires { ⌜ Numbered (now leaves) (now rows) (now slots) (z .leaves) (z .records) i ⌝ }
+    ensures { λ w. ⌜ Took (placed (lowsOf (now (leaves .entry))) (z .leaves) i) (now (rows .entry)) (now (slots .entry)) (z .records) (now (rows .exit)) (now (slots .exit)) w ⌝ }
+{
+    leaves::leaf_places(leaves);
+    let m = z.leaves;
+    let n = z.records;
+    let own = leaves::leaf_at(leaves, i);
+    if own.pending == 1 {
+        let found = indexlet::look_up(slots, a);
+        let j = found.at;
+        if j < SLOTS {
+            if hides_alone(rows, slots, leaves, n, m, i, r, j, own.hidden) {
+                let w = Walk {
+                    records: n,
+                    entries: z.entries,
+                    count: 0,
+                    left: 0,
+                    outside: z.outside,
+                };
+                return take_slot(rows, slots, leaves, w, r, m, i, j);
+            }
+        }
+    }
+    take_all(rows, slots, leaves, n, z.entries, z.outside, m, i, r)
 }
 
 // The rows of the leaf at place i.
@@ -244,17 +376,7 @@ pub fn merge(
         };
     }
     let r = recount::addresses_of(leaves, m, i, i + 1);
-    let w = take_all(
-        rows,
-        slots,
-        leaves,
-        z.records,
-        z.entries,
-        z.outside,
-        m,
-        i,
-        r,
-    );
+    let w = take_leaf(rows, slots, leaves, z, i, r, a);
     let s = resettle(leaves, rows, w.records, m, i, k.version);
     leaves::leaf_places(leaves);
     recount::recount(leaves, rows, slots, w.records, s.leaves, i, m, w.left);

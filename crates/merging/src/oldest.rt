@@ -3,12 +3,12 @@ use indexlet::SLOTS;
 use map::Slots;
 use spec::Address;
 ghost use mathlib.Core.Path.{_≡_};
-ghost use Prim.Native.Nat.{_^_, _<_};
+ghost use Prim.Native.Nat.{_^_, _<_, _≤_};
 ghost use Rattle.spec.specs.Slots.{slotCount, entries};
 ghost use Rattle.spec.specs.Maps.{oldestKey, ages};
 ghost use Rattle.indexlet.specs.Words.{slotsOf};
 ghost use Rattle.indexlet.specs.Promises as indexlet;
-ghost use Rattle.merging.specs.OldestWalks.{elder, Elder};
+ghost use Rattle.merging.specs.OldestWalks.{elder, Elder, ageIn, Passes};
 
 // The oldest pending write of the slots walked over so far, if there is one: its address, and the install since which it
 // waits.
@@ -52,6 +52,38 @@ fn with_slot(slots: &Slots, j: usize, o: Oldest) -> Oldest
     o
 }
 
+// The install since which a write waits; the largest number where none does, so that one comparison passes both.
+fn age(c: indexlet::Content) -> u64
+    ensures { λ r. ⌜ r ≡ ageIn c ⌝ }
+{
+    if c.kind == 0 {
+        return u64::MAX;
+    }
+    c.since
+}
+
+// The next slot, from this one on, that may have a write older than the oldest so far; 256 if there is none. Whether a slot has
+// a write is hard to guess, whether it has an older one is not.
+fn next_older(slots: &Slots, o: Oldest, from: usize) -> usize
+    requires { ⌜ indexlet.SlotsHeld (now slots) ⌝ }
+    requires { ⌜ (from ≤ slotCount) × (o .key < 2 ^ 32) ⌝ }
+    ensures { λ j. ⌜ Passes (slotsOf (now (slots .entry))) o from j ⌝ }
+{
+    let mut j = from;
+    if !o.there {
+        return j;
+    }
+    while j < SLOTS {
+        let s = indexlet::slot_at(slots, j);
+        let c = s.content;
+        if age(c) <= o.since {
+            return j;
+        }
+        j += 1;
+    }
+    j
+}
+
 // The address of the pending write that has waited longest; 0 where nothing is pending.
 pub fn oldest_waiting(slots: &Slots) -> Address
     requires { ⌜ indexlet.SlotsHeld (now slots) ⌝ }
@@ -64,8 +96,11 @@ pub fn oldest_waiting(slots: &Slots) -> Address
     };
     let mut j = 0;
     while j < SLOTS {
-        o = with_slot(slots, j, o);
-        j += 1;
+        j = next_older(slots, o, j);
+        if j < SLOTS {
+            o = with_slot(slots, j, o);
+            j += 1;
+        }
     }
     o.key as Address
 }

@@ -147,7 +147,7 @@ pub fn hides_some(c: indexlet::Content) -> bool
 }
 
 // 1 if what is said of the address hides it from somebody, and the index lacks it.
-fn hides_at(rows: &Records, n: usize, a: Address, c: indexlet::Content) -> u64
+pub fn hides_at(rows: &Records, n: usize, a: Address, c: indexlet::Content) -> u64
     requires { ⌜ RecordsSorted (now rows) n ⌝ }
     ensures { λ r. ⌜ r ≡ pick (both (not (present (look (recordsOf (now (rows .entry)) n) a))) (hidesSome (contentIn c))) 1 0 ⌝ }
 {

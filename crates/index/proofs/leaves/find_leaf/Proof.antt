@@ -4,7 +4,7 @@ use lib.ListN.{length, take}
 use lib.Seq.{length-take-le}
 use native.Mathlib.Omega.{arith}
 use borrow.Author.Needs.{needs}
-use Rattle.index.specs.Nearing.{few, Took, first-taken, near-start, near-few}
+use Rattle.index.specs.Nearing.{least, fewer, few, Took, first-taken, near-start, near-least, near-fewer, near-few}
 use Rattle.index.specs.LeafPlaces.{lowPlace, place-inside, low-took}
 use Rattle.index.specs.Views.{recordPlaces}
 use Rattle.index.specs.LeafColumns.{lowsOf}
@@ -16,42 +16,75 @@ leaf-places-requires : tie.Need-leaf-places-requires
 leaf-places-requires c κs = search needs
 
 descend-requires : tie.Need-descend-requires
-descend-requires c κs = let s = c .before .before in
-    let ls = take (s .args .m) (lowsOf (s .args .leaves .now)) in
-    let e : length ls ≡ s .args .m = length-take-le (s .args .m) (lowsOf (s .args .leaves .now)) (rw (column-places 0 (s .args .leaves .now) (c .before .leaf-places .ensures)) (s .pre .room)) in
-    let p : lowPlace (s .args .a) ls < length ls = place-inside (s .args .a) ls (rw e (s .pre .some)) in
-    let h : s .args .m ≤ few = c .if1 .taken in
-    (s .pre, near-few (omega arith))
+descend-requires c κs =
+    let ls = take (c .before .before .args .m) (lowsOf (c .before .before .args .leaves .now)) in
+    let e : length ls ≡ c .before .before .args .m = length-take-le (c .before .before .args .m) (lowsOf (c .before .before .args .leaves .now)) (rw (column-places 0 (c .before .before .args .leaves .now) (c .before .leaf-places .ensures)) (c .before .before .pre .room)) in
+    let p : lowPlace (c .before .before .args .a) ls < length ls = place-inside (c .before .before .args .a) ls (rw e (c .before .before .pre .some)) in
+    let h : c .before .before .args .m ≤ least = c .if1 .taken in
+    (c .before .before .pre, near-least (omega arith))
 
 returns : tie.Need-returns
 returns c = search needs
 
-probe-requires : tie.Need-probe-requires
-probe-requires c κs = search needs
+descend-requires-2 : tie.Need-descend-requires-2
+descend-requires-2 c κs =
+    let ls = take (c .before .before .before .args .m) (lowsOf (c .before .before .before .args .leaves .now)) in
+    let e : length ls ≡ c .before .before .before .args .m = length-take-le (c .before .before .before .args .m) (lowsOf (c .before .before .before .args .leaves .now)) (rw (column-places 0 (c .before .before .before .args .leaves .now) (c .before .before .leaf-places .ensures)) (c .before .before .before .pre .room)) in
+    let p : lowPlace (c .before .before .before .args .a) ls < length ls = place-inside (c .before .before .before .args .a) ls (rw e (c .before .before .before .pre .some)) in
+    let h : c .before .before .before .args .m ≤ fewer = c .if2 .taken in
+    (c .before .before .before .pre, near-fewer (omega arith))
 
 returns-2 : tie.Need-returns-2
-returns-2 c = let s = c .before .before .before .before in
-    let g = c .before .probe in
-    let ls = take (s .args .m) (lowsOf (s .args .leaves .now)) in
-    let e : length ls ≡ s .args .m = length-take-le (s .args .m) (lowsOf (s .args .leaves .now)) (rw (column-places 0 (s .args .leaves .now) (c .before .before .before .leaf-places .ensures)) (s .pre .room)) in
-    let p : lowPlace (s .args .a) ls < length ls = place-inside (s .args .a) ls (rw e (s .pre .some)) in
-    let r = s .pre .room in
-    let t : Took (lowPlace (s .args .a) ls) 0 recordPlaces (g .result) = rw (g .ensures) (low-took 0 ls (s .args .a) 0 recordPlaces (rw e (s .pre .some)) (s .pre .rising) (omega arith)) in
-    let q : g .result ≡ lowPlace (s .args .a) ls = first-taken (omega arith) t (c .if2 .taken) in
-    record { is = q; inside = omega arith }
+returns-2 c = search needs
 
-descend-requires-2 : tie.Need-descend-requires-2
-descend-requires-2 c κs = let s = c .before .before .before .before in
-    let g = c .before .probe in
-    let ls = take (s .args .m) (lowsOf (s .args .leaves .now)) in
-    let e : length ls ≡ s .args .m = length-take-le (s .args .m) (lowsOf (s .args .leaves .now)) (rw (column-places 0 (s .args .leaves .now) (c .before .before .before .leaf-places .ensures)) (s .pre .room)) in
-    let t : Took (lowPlace (s .args .a) ls) 0 recordPlaces (g .result) = rw (g .ensures) (low-took 0 ls (s .args .a) 0 recordPlaces (rw e (s .pre .some)) (s .pre .rising) (omega arith)) in
-    (s .pre, near-start t (c .if2 .left))
+descend-requires-3 : tie.Need-descend-requires-3
+descend-requires-3 c κs =
+    let ls = take (c .before .before .before .before .args .m) (lowsOf (c .before .before .before .before .args .leaves .now)) in
+    let e : length ls ≡ c .before .before .before .before .args .m = length-take-le (c .before .before .before .before .args .m) (lowsOf (c .before .before .before .before .args .leaves .now)) (rw (column-places 0 (c .before .before .before .before .args .leaves .now) (c .before .before .before .leaf-places .ensures)) (c .before .before .before .before .pre .room)) in
+    let p : lowPlace (c .before .before .before .before .args .a) ls < length ls = place-inside (c .before .before .before .before .args .a) ls (rw e (c .before .before .before .before .pre .some)) in
+    let h : c .before .before .before .before .args .m ≤ few = c .if3 .taken in
+    (c .before .before .before .before .pre, near-few (omega arith))
 
 returns-3 : tie.Need-returns-3
 returns-3 c = search needs
 
+probe-requires : tie.Need-probe-requires
+probe-requires c κs = search needs
+
+returns-4 : tie.Need-returns-4
+returns-4 c =
+    let g = c .before .probe in
+    let ls = take (c .before .before .before .before .before .before .args .m) (lowsOf (c .before .before .before .before .before .before .args .leaves .now)) in
+    let e : length ls ≡ c .before .before .before .before .before .before .args .m = length-take-le (c .before .before .before .before .before .before .args .m) (lowsOf (c .before .before .before .before .before .before .args .leaves .now)) (rw (column-places 0 (c .before .before .before .before .before .before .args .leaves .now) (c .before .before .before .before .before .leaf-places .ensures)) (c .before .before .before .before .before .before .pre .room)) in
+    let p : lowPlace (c .before .before .before .before .before .before .args .a) ls < length ls = place-inside (c .before .before .before .before .before .before .args .a) ls (rw e (c .before .before .before .before .before .before .pre .some)) in
+    let r = c .before .before .before .before .before .before .pre .room in
+    let t : Took (lowPlace (c .before .before .before .before .before .before .args .a) ls) 0 recordPlaces (g .result) = rw (g .ensures) (low-took 0 ls (c .before .before .before .before .before .before .args .a) 0 recordPlaces (rw e (c .before .before .before .before .before .before .pre .some)) (c .before .before .before .before .before .before .pre .rising) (omega arith)) in
+    let q : g .result ≡ lowPlace (c .before .before .before .before .before .before .args .a) ls = first-taken (omega arith) t (c .if4 .taken) in
+    record { is = q; inside = omega arith }
+
+descend-requires-4 : tie.Need-descend-requires-4
+descend-requires-4 c κs =
+    let g = c .before .probe in
+    let ls = take (c .before .before .before .before .before .before .args .m) (lowsOf (c .before .before .before .before .before .before .args .leaves .now)) in
+    let e : length ls ≡ c .before .before .before .before .before .before .args .m = length-take-le (c .before .before .before .before .before .before .args .m) (lowsOf (c .before .before .before .before .before .before .args .leaves .now)) (rw (column-places 0 (c .before .before .before .before .before .before .args .leaves .now) (c .before .before .before .before .before .leaf-places .ensures)) (c .before .before .before .before .before .before .pre .room)) in
+    let t : Took (lowPlace (c .before .before .before .before .before .before .args .a) ls) 0 recordPlaces (g .result) = rw (g .ensures) (low-took 0 ls (c .before .before .before .before .before .before .args .a) 0 recordPlaces (rw e (c .before .before .before .before .before .before .pre .some)) (c .before .before .before .before .before .before .pre .rising) (omega arith)) in
+    (c .before .before .before .before .before .before .pre, near-start t (c .if4 .left))
+
+returns-5 : tie.Need-returns-5
+returns-5 c = search needs
+
 pub find-leaf-spec : {M : Type 1} → statement M
 find-leaf-spec =
     tie.close
-    (tie.spec leaf-places-requires descend-requires returns probe-requires returns-2 descend-requires-2 returns-3)
+    (tie.spec
+    leaf-places-requires
+    descend-requires
+    returns
+    descend-requires-2
+    returns-2
+    descend-requires-3
+    returns-3
+    probe-requires
+    returns-4
+    descend-requires-4
+    returns-5)

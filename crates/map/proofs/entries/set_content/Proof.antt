@@ -12,29 +12,25 @@ terms-requires c κs = search needs
 
 adjust-requires : tie.Need-adjust-requires
 adjust-requires c κs =
-    let s = c .before .before .before in
-    let t = terms-of (s .pre .1 .0) (c .before .terms .ensures) in
-    (pending-adjusts _ (s .args .z) _ (s .pre .0) _ _ (s .pre .1 .1) _ t, hidden-adjusts _ (s .args .z) _ (s .pre .0) _ _ (s .pre .1 .1) _ t)
+    let t = terms-of (c .before .before .before .before .pre .1 .0 .content) (c .before .terms .ensures) in
+    (pending-adjusts _ (c .before .before .before .before .args .z) _ (c .before .before .before .before .pre .0) _ _ (c .before .before .before .before .pre .1 .1) _ t, hidden-adjusts _ (c .before .before .before .before .args .z) _ (c .before .before .before .before .pre .0) _ _ (c .before .before .before .before .pre .1 .1) _ t)
 
 enter-requires : tie.Need-enter-requires
-enter-requires c κs = search needs
+enter-requires c κs = (c .before .before .before .before .before .before .pre .0 .words, (c .before .before .before .before .before .before .pre .0 .entries-are, (c .before .before .before .before .before .before .pre .1 .1, c .before .before .before .before .before .before .pre .1 .0)))
 
-add-t16 : tie.Need-add-t16
-add-t16 c =
-    let s = c .before .before .before .before .before .before .before in record { fits = outside-moves _ (s .args .z) _ (s .pre .0) _ _ (s .pre .1 .1) _ (terms-of (s .pre .1 .0) (c .before .before .before .before .before .terms .ensures)) .0 }
+add-t17 : tie.Need-add-t17
+add-t17 c = record { fits = outside-moves _ (c .before .before .before .before .before .before .before .before .args .z) _ (c .before .before .before .before .before .before .before .before .pre .0) _ _ (c .before .before .before .before .before .before .before .before .pre .1 .1) _ (terms-of (c .before .before .before .before .before .before .before .before .pre .1 .0 .content) (c .before .before .before .before .before .terms .ensures)) .0 }
 
-sub-t18 : tie.Need-sub-t18
-sub-t18 c =
-    let s = c .before .before .before .before .before .before .before in outside-moves _ (s .args .z) _ (s .pre .0) _ _ (s .pre .1 .1) _ (terms-of (s .pre .1 .0) (c .before .before .before .before .before .terms .ensures)) .1
+sub-t19 : tie.Need-sub-t19
+sub-t19 c = outside-moves _ (c .before .before .before .before .before .before .before .before .args .z) _ (c .before .before .before .before .before .before .before .before .pre .0) _ _ (c .before .before .before .before .before .before .before .before .pre .1 .1) _ (terms-of (c .before .before .before .before .before .before .before .before .pre .1 .0 .content) (c .before .before .before .before .before .terms .ensures)) .1
 
 returns : tie.Need-returns
 returns c =
-    let s = c .before .before .before .before .before .before .before in
     let e = c .before .enter .ensures in
     let a = c .before .before .before .adjust .ensures in
     said-rows (a .same)
-    (content-set _ (s .args .z) _ (s .pre .0) _ _ (s .pre .1 .1) _ (terms-of (s .pre .1 .0) (c .before .before .before .before .before .terms .ensures)) _ _ _ _ (a .hidden) (a .pending) (e .held) (e .view) (e .number))
+    (content-set _ (c .before .before .before .before .before .before .before .before .args .z) _ (c .before .before .before .before .before .before .before .before .pre .0) _ _ (c .before .before .before .before .before .before .before .before .pre .1 .1) _ (terms-of (c .before .before .before .before .before .before .before .before .pre .1 .0 .content) (c .before .before .before .before .before .terms .ensures)) _ _ _ _ (a .hidden) (a .pending) (e .held) (e .view) (e .number))
 
 pub set-content-spec : {M : Type 1} → statement M
 set-content-spec =
-    tie.close (tie.spec terms-requires adjust-requires enter-requires add-t16 sub-t18 returns)
+    tie.close (tie.spec terms-requires adjust-requires enter-requires add-t17 sub-t19 returns)

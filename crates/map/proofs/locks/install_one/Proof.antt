@@ -21,7 +21,7 @@ set-content-requires : tie.Need-set-content-requires
 set-content-requires c κs = let s = c .before .before .before .before .before .before .before in (
   s .pre .0,
   (
-    c .before .before .before .before .look-up .ensures .content,
+    c .before .before .before .before .look-up .ensures,
     install-room _ _ _ _ (s .pre .0 .words .good) (given (c .before .before .before .before .before .before .write-at .ensures) (s .pre .1 .1 .0)) (s .pre .1 .1 .1),
   ),
 )

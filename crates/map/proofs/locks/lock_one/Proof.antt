@@ -21,7 +21,7 @@ with-lock-requires : tie.Need-with-lock-requires
 with-lock-requires c κs = search needs
 
 set-content-requires : tie.Need-set-content-requires
-set-content-requires c κs = let s = c .before .before .before .before .before .before .before in (s .pre .0, (c .before .before .before .before .look-up .ensures .content, fits (s .pre .1 .1 .2)))
+set-content-requires c κs = let s = c .before .before .before .before .before .before .before in (s .pre .0, (c .before .before .before .before .look-up .ensures, fits (s .pre .1 .1 .2)))
 
 returns : tie.Need-returns
 returns c =

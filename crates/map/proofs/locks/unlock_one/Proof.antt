@@ -19,7 +19,7 @@ with-lock-requires : tie.Need-with-lock-requires
 with-lock-requires c κs = search needs
 
 set-content-requires : tie.Need-set-content-requires
-set-content-requires c κs = let s = c .before .before .before .before .before .before .before .before .before in (s .pre .0, (c .before .before .before .before .before .before .look-up .ensures .content, unlock-room _ _ _ _ _ (c .before .before .before .before .before .before .before .before .key-at .ensures) (c .before .before .before .before .before .before .look-up .ensures .content) (s .pre .0 .words .good) (c .before .before .with-lock .ensures)))
+set-content-requires c κs = let s = c .before .before .before .before .before .before .before .before .before in (s .pre .0, (c .before .before .before .before .before .before .look-up .ensures, unlock-room _ _ _ _ _ (c .before .before .before .before .before .before .before .before .key-at .ensures) (c .before .before .before .before .before .before .look-up .ensures .content) (s .pre .0 .words .good) (c .before .before .with-lock .ensures)))
 
 returns : tie.Need-returns
 returns c = let s = c .before .before .before .before .before .before .before .before .before .before in said-as (c .set-content .ensures) (unlock-said _ _ _ _ _ (c .before .before .before .before .before .before .before .before .before .key-at .ensures) (c .before .before .before .before .before .before .before .look-up .ensures .content) (s .args .w) (sym (c .before .before .before .before .if1 .taken) ∙ c .before .before .before .before .before .by-own .ensures) (c .before .before .before .with-lock .ensures))

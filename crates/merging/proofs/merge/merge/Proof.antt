@@ -1,6 +1,6 @@
 -- `map::merge::merge` meets its contract: nothing is pending, or the walk, the settling and the count come together.
-use mathlib.Core.Path.{_∙_}
-use Rattle.merging.specs.Merges.{merges-nothing, starting, ranging, resettling, recounting, merges-some}
+use mathlib.Core.Path.{_∙_, refl}
+use Rattle.merging.specs.Merges.{merges-nothing, starting, numbered, ranging, resettling, recounting, merges-some}
 use Rattle.merging.specs.MergeSettles.{pending-of, pending-some}
 use borrow.Author.Needs.{needs}
 use Rattle.merging.proofs.merge.merge.Statement.{statement}
@@ -10,7 +10,7 @@ use Rattle.index.proofs.leaves.find_leaf.Reads as find-leaf-reads
 use Rattle.index.proofs.leaves.leaf_at.Reads as leaf-at-reads
 use Rattle.index.proofs.leaves.leaf_places.Reads as leaf-places-reads
 use Rattle.merging.proofs.merge.resettle.Reads as resettle-reads
-use Rattle.merging.proofs.merge.take_all.Reads as take-all-reads
+use Rattle.merging.proofs.merge.take_leaf.Reads as take-leaf-reads
 use Rattle.phantomlet.proofs.recount.addresses_of.Reads as addresses-of-reads
 use Rattle.phantomlet.proofs.recount.recount.Reads as recount-reads
 
@@ -33,18 +33,18 @@ addresses-of-requires : tie.Need-addresses-of-requires
 addresses-of-requires c κs =
     let s = c .before .before .before .before .before .before .before in let i = c .before .before .before .before .before .find-leaf in ranging (s .args .k) (s .pre .0) (s .args .a) (i .result) (i .ensures)
 
-take-all-requires : tie.Need-take-all-requires
-take-all-requires c κs =
+take-leaf-requires : tie.Need-take-leaf-requires
+take-leaf-requires c κs =
     let s = c .before .before .before .before .before .before .before .before .before .before .before in
     let i = c .before .before .before .before .before .before .before .before .before .find-leaf in
     let r = c .before .before .before .addresses-of .ensures in
-    (starting (s .args .k) (s .pre .0) (s .args .a) (i .result) (i .ensures), record { range = r .0; from = r .1; to = r .2 })
+    (starting (s .args .k) (s .pre .0) (s .args .a) (i .result) (i .ensures), (record { range = r .0; from = r .1; to = r .2 }, numbered (s .args .k) (s .pre .0) (s .args .a) (i .result) (i .ensures) (s .args .leaves .now) refl refl refl))
 
 resettle-requires : tie.Need-resettle-requires
 resettle-requires c κs =
     let s = c .before .before .before .before .before .before .before .before .before .before .before .before .before .before in
     let i = c .before .before .before .before .before .before .before .before .before .before .before .before .find-leaf in
-    let w = c .before .before .take-all in
+    let w = c .before .before .take-leaf in
     resettling (s .args .k) (s .pre .0) (s .args .a) (i .result) (i .ensures) (pending-some _ _ (c .before .before .before .before .before .before .before .before .before .before .leaf-at .ensures) (c .before .before .before .before .before .before .before .before .if1 .left)) (w .last .0) (w .last .1 .0) (w .result) (w .ensures) (s .pre .1)
 
 leaf-places-requires : tie.Need-leaf-places-requires
@@ -54,7 +54,7 @@ recount-requires : tie.Need-recount-requires
 recount-requires c κs =
     let s = c .before .before .before .before .before .before .before .before .before .before .before .before .before .before .before .before .before .before .before .before in
     let i = c .before .before .before .before .before .before .before .before .before .before .before .before .before .before .before .before .before .before .find-leaf in
-    let w = c .before .before .before .before .before .before .before .before .take-all in
+    let w = c .before .before .before .before .before .before .before .before .take-leaf in
     let r = c .before .before .before .before .before .resettle in
     recounting (s .args .k) (s .pre .0) (s .args .a) (i .result) (i .ensures) (pending-some _ _ (c .before .before .before .before .before .before .before .before .before .before .before .before .before .before .before .before .leaf-at .ensures) (c .before .before .before .before .before .before .before .before .before .before .before .before .before .before .if1 .left)) (w .last .0) (w .last .1 .0) (w .result) (w .ensures)
     (r .last .0) (r .result .leaves) (r .result .version) (c .before .before .before .leaf-places .ensures) (r .ensures .settled) (r .ensures .hidden) (r .ensures .pending)
@@ -69,7 +69,7 @@ returns-2 : tie.Need-returns-2
 returns-2 c =
     let s = c .before .before .before .before .before .before .before .before .before .before .before .before .before .before .before .before .before .before .before .before .before .before .before .before .before in
     let i = c .before .before .before .before .before .before .before .before .before .before .before .before .before .before .before .before .before .before .before .before .before .before .before .find-leaf in
-    let w = c .before .before .before .before .before .before .before .before .before .before .before .before .before .take-all in
+    let w = c .before .before .before .before .before .before .before .before .before .before .before .before .before .take-leaf in
     let r = c .before .before .before .before .before .before .before .before .before .before .resettle in
     let n = c .before .before .before .before .recount in
     merges-some (s .args .k) (s .pre .0) (s .args .a) (i .result) (i .ensures) (pending-some _ _ (c .before .before .before .before .before .before .before .before .before .before .before .before .before .before .before .before .before .before .before .before .before .leaf-at .ensures) (c .before .before .before .before .before .before .before .before .before .before .before .before .before .before .before .before .before .before .before .if1 .left)) (w .last .0) (w .last .1 .0) (w .result) (w .ensures)
@@ -85,7 +85,7 @@ merge-spec =
     returns
     add-addresses-of
     addresses-of-requires
-    take-all-requires
+    take-leaf-requires
     resettle-requires
     leaf-places-requires
     recount-requires

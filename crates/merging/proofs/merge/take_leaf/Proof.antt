@@ -1,0 +1,51 @@
+-- `merging::merge::take_leaf` meets its contract: one slot is all that matters, or all are walked over.
+use mathlib.Core.Path.{sym, _∙_}
+use Rattle.merging.specs.MergeSettles.{pending-of}
+use Rattle.merging.specs.MergeShortcuts.{hidden-of, alone-walk, alone-took}
+use borrow.Author.Needs.{needs}
+use Rattle.merging.proofs.merge.take_leaf.Statement.{statement}
+use Rattle.merging.proofs.merge.take_leaf.Tie as tie
+
+leaf-places-requires : tie.Need-leaf-places-requires
+leaf-places-requires c κs = search needs
+
+leaf-at-requires : tie.Need-leaf-at-requires
+leaf-at-requires c κs = c .before .pre .1 .1 .inside
+
+look-up-requires : tie.Need-look-up-requires
+look-up-requires c κs = c .before .before .before .before .before .pre .0 .words
+
+hides-alone-requires : tie.Need-hides-alone-requires
+hides-alone-requires c κs = (
+  (c .before .before .before .before .before .before .before .before .before .pre .0 .rows-held, c .before .before .before .before .before .before .before .before .before .pre .0 .words),
+  (c .before .before .before .before .before .before .before .before .before .pre .1 .0, (c .before .before .if2 .taken, sym (hidden-of _ _ (c .before .before .before .before .before .before .before .leaf-at .ensures)) ∙ c .before .before .before .before .before .before .before .before .before .pre .1 .1 .hidden-is)),
+)
+
+take-slot-requires : tie.Need-take-slot-requires
+take-slot-requires c κs = (
+  alone-walk (c .before .before .before .before .before .before .before .before .before .before .before .before .before .pre .0) (c .before .before .before .hides-alone .ensures (c .before .before .if3 .taken)) (sym (c .before .before .before .before .before .before .before .before .before .before .before .before .before .pre .1 .1 .pending-is) ∙ pending-of _ _ (c .before .before .before .before .before .before .before .before .before .before .before .leaf-at .ensures) ∙ c .before .before .before .before .before .before .before .before .before .if1 .taken) (c .before .before .before .before .before .before .if2 .taken),
+  (c .before .before .before .before .before .before .before .before .before .before .before .before .before .pre .1 .0, c .before .before .before .before .before .before .if2 .taken),
+)
+
+returns : tie.Need-returns
+returns c =
+    alone-took (c .before .before .before .before .before .before .before .before .before .before .before .before .before .before .pre .0) (c .before .before .before .before .hides-alone .ensures (c .before .before .before .if3 .taken)) (sym (c .before .before .before .before .before .before .before .before .before .before .before .before .before .before .pre .1 .1 .pending-is) ∙ pending-of _ _ (c .before .before .before .before .before .before .before .before .before .before .before .before .leaf-at .ensures) ∙ c .before .before .before .before .before .before .before .before .before .before .if1 .taken) (c .before .before .before .before .before .before .before .if2 .taken) (c .take-slot .ensures)
+
+take-all-requires : tie.Need-take-all-requires
+take-all-requires c κs = (c .before .before .before .before .before .before .pre .0, c .before .before .before .before .before .before .pre .1 .0)
+
+returns-2 : tie.Need-returns-2
+returns-2 c = c .take-all .ensures
+
+pub take-leaf-spec : {M : Type 1} → statement M
+take-leaf-spec =
+    tie.close
+    (tie.spec
+    leaf-places-requires
+    leaf-at-requires
+    look-up-requires
+    hides-alone-requires
+    take-slot-requires
+    returns
+    take-all-requires
+    returns-2)

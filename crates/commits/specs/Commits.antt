@@ -23,7 +23,7 @@ use Rattle.map.specs.Parts.{installCounted}
 use Rattle.map.specs.Entries.{MapBecomes}
 use Rattle.map.specs.WriteWalks.{Writing}
 use Rattle.transactions.specs.declared.Core.{Core}
-use Rattle.transactions.specs.Views.{Logs, logs, modelWorker, workersFrom, stateOf, withBoth}
+use Rattle.transactions.specs.Views.{Logs, logs, modelWorker, workersFrom, guardedIn, stateOf, withBoth}
 use Rattle.transactions.specs.ViewLaws.{worker-at, same-logs, state-with}
 use Rattle.transactions.specs.Ready.{workerAt, Within, Stored}
 use Rattle.transactions.specs.CoreLaws.{LeavesKept, stored-put, lows-kept}
@@ -47,7 +47,7 @@ new-map l l' g c z m e =
     (λ (x : MapState).
     record {
       settings = standard;
-      guarded = c .guarded;
+      guarded = guardedIn (c .guarded);
       counters = record { number = c .counters .number; version = c .counters .version; installs = c .counters .installs };
       map = x;
       workers = workersFrom g (c .workers) 0;
@@ -142,7 +142,7 @@ counted-state l g c =
     (λ (n : ℕ).
     record {
       settings = standard;
-      guarded = c .guarded;
+      guarded = guardedIn (c .guarded);
       counters = record { number = c .counters .number; version = c .counters .version; installs = n };
       map = mapOf l (c .sizes);
       workers = workersFrom g (c .workers) 0;

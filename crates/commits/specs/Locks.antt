@@ -44,7 +44,7 @@ use Rattle.transactions.specs.declared.begins.Plain.{Plain}
 use Rattle.transactions.specs.declared.begins.Plain.the-variants.{Granted, Refused}
 use Rattle.transactions.specs.Answering.{front, front-first, cause-holds, cause-fails, yields-granted, yields-refused}
 use Rattle.transactions.specs.Admits.{Turned, Entered}
-use Rattle.transactions.specs.Views.{Logs, logs, stateOf, withBoth}
+use Rattle.transactions.specs.Views.{Logs, logs, guardedIn, stateOf, withBoth}
 use Rattle.transactions.specs.ViewLaws.{worker-at}
 use Rattle.transactions.specs.Ready.{workerAt, Stored, Ready, Refines}
 use Rattle.transactions.specs.ReadyLaws.{refines, refines-refused}
@@ -221,7 +221,7 @@ three-first a b c cs = go (a .holds) (b .holds) (c .holds)
 lock-first : (l : Lent) (g : Logs) (c : Core) (w : ℕ)
     → refusal (stateOf l g c) (lock w)
     ≡ maybe (front isOpen (stateOf l g c) w)
-    (maybe (guardedBy (c .guarded) (workerOf (stateOf l g c) w)) (lockTests (mapOf l (c .sizes)) (writeKeys (stateOf l g c) w) w) some) some
+    (maybe (guardedBy (guardedIn (c .guarded)) (workerOf (stateOf l g c) w)) (lockTests (mapOf l (c .sizes)) (writeKeys (stateOf l g c) w) w) some) some
 unfolding refusal causes lockTests lockedByOther stateOf guardedBy unfitPut uncoveredPut overlappedPut guard
 lock-first l g c w =
     front-first isOpen (stateOf l g c) w _
@@ -237,7 +237,7 @@ module _ {l : Lent} {rs : List ReadRows} {ls : List LeafSetRows} {ws : List Writ
   lock-tests = lockTests (mapOf l (c .sizes)) (writeKeys (stateOf l (logs rs ls ws) c) w) w
 
   rest-tests : Option Refusal
-  rest-tests = maybe (guardedBy (c .guarded) (workerOf (stateOf l (logs rs ls ws) c) w)) lock-tests some
+  rest-tests = maybe (guardedBy (guardedIn (c .guarded)) (workerOf (stateOf l (logs rs ls ws) c) w)) lock-tests some
 
   refuses : (r : Refusal) → refusal (stateOf l (logs rs ls ws) c) (lock w) ≡ some r
       → Refines l (logs rs ls ws) c (lock w) l (logs rs ls ws) c (plainIn (Refused r))
@@ -264,13 +264,13 @@ module _ {l : Lent} {rs : List ReadRows} {ls : List LeafSetRows} {ws : List Writ
 
     -- what the guard says of them
     told : Option Refusal
-    told = guardTests (c .guarded) (readsIn rs w (x .reads)) (scansIn ls w (x .leaves)) (writesIn ws w (x .writes))
+    told = guardTests (guardedIn (c .guarded)) (readsIn rs w (x .reads)) (scansIn ls w (x .leaves)) (writesIn ws w (x .writes))
 
-    guard-is : guardedBy (c .guarded) (workerOf (stateOf l (logs rs ls ws) c) w) ≡ told
+    guard-is : guardedBy (guardedIn (c .guarded)) (workerOf (stateOf l (logs rs ls ws) c) w) ≡ told
     unfolding told workerIn
     guard-is =
-        guarded-tests (c .guarded) (workerOf (stateOf l (logs rs ls ws) c) w)
-        ∙ ap (λ (y : model.Worker). guardTests (c .guarded) (y .reads) (y .scans) (y .writes)) (worker-is isOpen l (logs rs ls ws) c w x k t)
+        guarded-tests (guardedIn (c .guarded)) (workerOf (stateOf l (logs rs ls ws) c) w)
+        ∙ ap (λ (y : model.Worker). guardTests (guardedIn (c .guarded)) (y .reads) (y .scans) (y .writes)) (worker-is isOpen l (logs rs ls ws) c w x k t)
 
     first-is : refusal (stateOf l (logs rs ls ws) c) (lock w) ≡ maybe told lock-tests some
     unfolding rest-tests lock-tests
@@ -281,7 +281,7 @@ module _ {l : Lent} {rs : List ReadRows} {ls : List LeafSetRows} {ws : List Writ
 
     -- the guard refuses
     pub lock-barred : (r : Refusal) (o : Judged) → o ≡ guarded.Refused r
-        → judgedIn o ≡ guardTests (c .guarded) (readsIn rs w (x .reads)) (scansIn ls w (x .leaves)) (writesIn ws w (x .writes))
+        → judgedIn o ≡ guardTests (guardedIn (c .guarded)) (readsIn rs w (x .reads)) (scansIn ls w (x .leaves)) (writesIn ws w (x .writes))
         → Refines l (logs rs ls ws) c (lock w) l (logs rs ls ws) c (plainIn (Refused r))
     unfolding told
     lock-barred r o e q = refuses r (first-is ∙ ap (λ (o : Option Refusal). maybe o lock-tests some) (sym q ∙ ap judgedIn e))
@@ -309,7 +309,7 @@ module _ {l : Lent} {rs : List ReadRows} {ls : List LeafSetRows} {ws : List Writ
         (q .reaches .state rs ls (k .stored)) (q .reaches .stored rs ls (k .stored))
 
     pub lock-refines : {l' : Lent} {c' : Core} (o : Judged) → o ≡ Passed
-        → judgedIn o ≡ guardTests (c .guarded) (readsIn rs w (x .reads)) (scansIn ls w (x .leaves)) (writesIn ws w (x .writes))
+        → judgedIn o ≡ guardTests (guardedIn (c .guarded)) (readsIn rs w (x .reads)) (scansIn ls w (x .leaves)) (writesIn ws w (x .writes))
         → (a : Plain) → LocksOpen l ws c w l' c' a → Refines l (logs rs ls ws) c (lock w) l' (logs rs ls ws) c' (plainIn a)
     unfolding told
     lock-refines o e q a h = passes (sym q ∙ ap judgedIn e) a h

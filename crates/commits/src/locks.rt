@@ -157,7 +157,7 @@ pub fn lock(
         },
         Admit::Allowed(x) => {
             let v = w as usize;
-            match guard(reads, leafsets, writes, c.guarded, v, x) {
+            match guard(reads, leafsets, writes, c.guarded == 1, v, x) {
                 Judged::Refused(r) => Done {
                     core: c,
                     answer: Plain::Refused(r),

@@ -107,7 +107,7 @@ fn guarded(c: Core) -> Core
         workers,
         sizes,
         counters,
-        guarded: true,
+        guarded: 1,
     }
 }
 

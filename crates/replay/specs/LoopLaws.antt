@@ -23,7 +23,7 @@ use Rattle.ranges.specs.Buffers.{placesOf}
 use Rattle.exports.specs.declared.Export.{Export}
 use Rattle.exports.specs.Exporting.{ExportedRows, exportIn, ExportHeld, Space}
 use Rattle.transactions.specs.declared.Core.{Core}
-use Rattle.transactions.specs.Views.{Logs, stateOf}
+use Rattle.transactions.specs.Views.{Logs, guardedIn, stateOf}
 use Rattle.transactions.specs.Starts.{Fresh}
 use Rattle.codes.specs.declared.Code.{Code}
 use Rattle.replay.specs.declared.stops.Stop.{Stop}
@@ -225,15 +225,15 @@ replaying-start {l} {g} {c} {xs} {e} x words s out f o =
     }
 
 -- a fresh start tells whether the map is guarded
-core-guarded : {l : Lent} {g : Logs} {b : Bool} {c : Core} → Fresh l g b c → c .guarded ≡ b
+core-guarded : {l : Lent} {g : Logs} {b : Bool} {c : Core} → Fresh l g b c → guardedIn (c .guarded) ≡ b
 unfolding stateOf
 core-guarded f = ap (λ (σ : State). σ .guarded) (f .state)
 
-pub fresh-as : {l : Lent} {g : Logs} {b : Bool} {c : Core} → Fresh l g b c → Fresh l g (c .guarded) c
+pub fresh-as : {l : Lent} {g : Logs} {b : Bool} {c : Core} → Fresh l g b c → Fresh l g (guardedIn (c .guarded)) c
 fresh-as {l} {g} {c = c} f = subst (λ (x : Bool). Fresh l g x c) (sym (core-guarded f)) f
 
 pub replays-as : {l l' : Lent} {g g' : Logs} {xs : ExportedRows} {x : Bool} {c : Core} {words : List ℕ} {s s' : Space} {out out' : List ℕ} {r : Replayed} → Fresh l g x c
-    → Replays (c .guarded) words s out l' g' xs s' out' r → Replays x words s out l' g' xs s' out' r
+    → Replays (guardedIn (c .guarded)) words s out l' g' xs s' out' r → Replays x words s out l' g' xs s' out' r
 replays-as {l' = l'} {g' = g'} {xs = xs} {words = words} {s} {s'} {out} {out'} {r} f =
     subst (λ (y : Bool). Replays y words s out l' g' xs s' out' r) (core-guarded f)
 

@@ -20,7 +20,7 @@ ghost use mathlib.Core.Option.{none};
 ghost use Prim.Native.Nat.{_+_, _*_, _%_, _^_, _<_, _≤_};
 ghost use lib.ListN.{length};
 ghost use Rattle.map.specs.Views.{lent};
-ghost use Rattle.transactions.specs.Views.{logs};
+ghost use Rattle.transactions.specs.Views.{logs, guardedIn};
 ghost use Rattle.transactions.specs.Ready.{Ready};
 ghost use Rattle.transactions.specs.Starts.{Fresh};
 ghost use Rattle.ranges.specs.Buffers.{buffers};
@@ -170,9 +170,9 @@ fn take_all(
     start: Core,
     first: Export,
 ) -> Replayed
-    requires { ⌜ Fresh (lent (now rows) (now leaves) (now slots)) (logs (now reads) (now leafsets) (now writes)) (start .guarded) start ⌝ }
+    requires { ⌜ Fresh (lent (now rows) (now leaves) (now slots)) (logs (now reads) (now leafsets) (now writes)) (guardedIn (start .guarded)) start ⌝ }
     requires { ⌜ (exportIn (now exported) first ≡ none) × ExportHeld first ⌝ }
-    ensures { λ r. ⌜ Replays (start .guarded) (now (steps .entry))
+    ensures { λ r. ⌜ Replays (guardedIn (start .guarded)) (now (steps .entry))
         (space (buffers (now (addresses .entry)) (now (values .entry)) (now (owners .entry))) (now (bytes .entry))) (now (out .entry))
         (lent (now (rows .exit)) (now (leaves .exit)) (now (slots .exit))) (logs (now (reads .exit)) (now (leafsets .exit)) (now (writes .exit))) (now (exported .exit))
         (space (buffers (now (addresses .exit)) (now (values .exit)) (now (owners .exit))) (now (bytes .exit))) (now (out .exit)) r ⌝ }

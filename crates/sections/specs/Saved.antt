@@ -48,16 +48,13 @@ savedSizes r = record { records = getD r 0 0; leaves = getD r 1 0; entries = get
 abbrev pub savedCounters : List ℕ → Counters
 savedCounters r = record { number = getD r 0 0; version = getD r 1 0; installs = getD r 2 0 }
 
-abbrev pub savedGuarded : List ℕ → Bool
-savedGuarded r = eqb (getD r 3 0) 1
-
 unfoldable pub savedCore : List (List ℕ) → Core
 savedCore rs =
     record {
       workers = savedWorkers rs;
       sizes = savedSizes (getD rs (standard .workers) []);
       counters = savedCounters (getD rs (standard .workers + 1) []);
-      guarded = savedGuarded (getD rs (standard .workers + 1) []);
+      guarded = getD (getD rs (standard .workers + 1) []) 3 0;
     }
 
 -- rows of a core that hold these seats

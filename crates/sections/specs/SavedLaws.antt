@@ -22,7 +22,7 @@ use Rattle.sets.specs.SetLaws.{length-rows, row-at}
 use Rattle.map.specs.declared.Sizes.{Sizes}
 use Rattle.exports.specs.declared.Export.{Export}
 use Rattle.transactions.specs.declared.Core.{Core}
-use Rattle.sections.specs.Saved.{stageOf, stageNumber, savedWorker, savedWorkers, savedSizes, savedCounters, savedGuarded, savedCore, Seated, savedExport}
+use Rattle.sections.specs.Saved.{stageOf, stageNumber, savedWorker, savedWorkers, savedSizes, savedCounters, savedCore, Seated, savedExport}
 
 -- ---- a seat
 
@@ -109,16 +109,16 @@ rows-same f rs us n h =
     (λ j k. row-at f rs n j (f []) (omega arith) ∙ ap f (h j (omega arith)) ∙ sym (row-at f us n j (f []) (omega arith)))
 
 pub core-read : (rs : List (List ℕ)) {xs : List Worker} {z : Sizes} → xs ≡ savedWorkers rs → z ≡ savedSizes (getD rs (standard .workers) [])
-    → record { workers = xs; sizes = z; counters = savedCounters (getD rs (standard .workers + 1) []); guarded = savedGuarded (getD rs (standard .workers + 1) []) } ≡ savedCore rs
+    → record { workers = xs; sizes = z; counters = savedCounters (getD rs (standard .workers + 1) []); guarded = getD (getD rs (standard .workers + 1) []) 3 0 } ≡ savedCore rs
 unfolding savedCore
-core-read rs e f = λ i. record { workers = e i; sizes = f i; counters = savedCounters (getD rs (standard .workers + 1) []); guarded = savedGuarded (getD rs (standard .workers + 1) []) }
+core-read rs e f = λ i. record { workers = e i; sizes = f i; counters = savedCounters (getD rs (standard .workers + 1) []); guarded = getD (getD rs (standard .workers + 1) []) 3 0 }
 
 -- the rows of the sizes, and of the counters and the guard
 abbrev sizesRow : Sizes → List ℕ
 sizesRow z = z .records ∷ z .leaves ∷ z .entries ∷ z .outside ∷ 0 ∷ []
 
 abbrev countersRow : Core → List ℕ
-countersRow c = c .counters .number ∷ c .counters .version ∷ c .counters .installs ∷ boolByte (c .guarded) ∷ 0 ∷ []
+countersRow c = c .counters .number ∷ c .counters .version ∷ c .counters .installs ∷ c .guarded ∷ 0 ∷ []
 
 module _ (core : Core) (rs : List (List ℕ)) where
   abbrev withSizes : List (List ℕ)
@@ -147,7 +147,7 @@ module _ (core : Core) (rs : List (List ℕ)) where
             ((getD-set-other withSizes (standard .workers + 1) (standard .workers) (countersRow core) [] (λ q. let z : ⊥ = omega arith in z)
             ∙ getD-set-same rs (standard .workers) (sizesRow (core .sizes)) [] (omega arith)) i);
         counters = savedCounters (getD-set-same withSizes (standard .workers + 1) (countersRow core) [] (omega arith) i);
-        guarded = (ap savedGuarded (getD-set-same withSizes (standard .workers + 1) (countersRow core) [] (omega arith)) ∙ flag-back (core .guarded)) i;
+        guarded = getD (getD-set-same withSizes (standard .workers + 1) (countersRow core) [] (omega arith) i) 3 0;
       }
 
 -- ---- an export

@@ -137,7 +137,7 @@ pub fn load(words: &Saved) -> Core
         workers,
         sizes,
         counters,
-        guarded: row[3] == 1,
+        guarded: row[3],
     }
 }
 
@@ -188,7 +188,7 @@ pub fn store(words: &mut Saved, core: Core)
         0,
     ];
     rows[WORKERS] = sizes;
-    let counters = [k.number, k.version, k.installs, core.guarded as u64, 0];
+    let counters = [k.number, k.version, k.installs, core.guarded, 0];
     rows[WORKERS + 1] = counters;
     *words = rows;
 }

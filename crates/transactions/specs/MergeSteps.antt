@@ -27,7 +27,7 @@ use Rattle.merging.specs.declared.merge.Merged.{Merged}
 use Rattle.merging.specs.Merges.{Merges}
 use Rattle.transactions.specs.declared.Core.{Core}
 use Rattle.transactions.specs.Answering.{yields-granted}
-use Rattle.transactions.specs.Views.{Logs, stateOf}
+use Rattle.transactions.specs.Views.{Logs, guardedIn, stateOf}
 use Rattle.transactions.specs.ViewLaws.{worker-at}
 use Rattle.transactions.specs.Ready.{workerAt, Stored, Ready, Refines}
 use Rattle.transactions.specs.ReadyLaws.{refines}
@@ -82,7 +82,7 @@ module _ {l l' : Lent} {g : Logs} {c : Core} {a : ℕ} {r : Merged} (h : Ready l
   merged-state =
       λ i. record {
         settings = standard;
-        guarded = c .guarded;
+        guarded = guardedIn (c .guarded);
         counters = record { number = m .number i; version = m .version i; installs = m .installs i };
         map = m .map i;
         workers = Rattle.transactions.specs.Views.workersFrom g (c .workers) 0;

@@ -13,7 +13,7 @@ use Rattle.limits.specs.Invariant.{Kept, fresh-kept}
 use Rattle.limits.specs.LoggedVersions.{LoggedOld, fresh-logged}
 use Rattle.sets.specs.declared.workers.Worker.{Worker}
 use Rattle.sets.specs.Workers.{freed}
-use Rattle.sets.specs.ReadLaws.{reads-zero}
+use Rattle.sets.specs.ReadLaws.{reads-zero, flag-back}
 use Rattle.sets.specs.LeafLaws.{leaves-zero}
 use Rattle.sets.specs.WriteLaws.{writes-zero}
 use Rattle.sets.specs.WorkerLaws.{free-in}
@@ -44,7 +44,7 @@ module _ (l : Lent) (z : Sizes) (guarded : Bool) (b : MapBecomes l z 0 freshMap)
   fresh-state =
       λ i. record {
         settings = standard;
-        guarded = guarded;
+        guarded = flag-back guarded i;
         counters = record { number = 0; version = 0; installs = 0 };
         map = b .map i;
         workers = free-workers noLogs (standard .workers) 0 i;

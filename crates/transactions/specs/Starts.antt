@@ -1,9 +1,10 @@
 -- The arrays of a fresh map, with every worker free.
 use Prim.Native.Nat.{ℕ}
 use mathlib.Core.Path.{_≡_}
-use mathlib.Core.Bool.{Bool, true}
+use mathlib.Core.Bool.{Bool}
 use mathlib.Core.List.{List}
 use lib.ListN.{replicate}
+use mir.Val.{boolByte}
 use Rattle.spec.specs.Records.{standard}
 use Rattle.spec.specs.Steps.{fresh}
 use Rattle.sets.specs.Workers.{freed}
@@ -28,8 +29,8 @@ abbrev pub noLogs : Logs
 noLogs = logs (zeros (standard .readLimit) readWords) (zeros (standard .leafSetLimit) leafSetWords) (zeros (standard .writeLimit) writeWords)
 
 abbrev pub startCore : Sizes → Bool → Core
-startCore z guarded = record { workers = replicate (standard .workers) freed; sizes = z; counters = record { number = 0; version = 0; installs = 0 }; guarded = guarded }
+startCore z guarded = record { workers = replicate (standard .workers) freed; sizes = z; counters = record { number = 0; version = 0; installs = 0 }; guarded = boolByte guarded }
 
 -- the core of a guarded map, with all else as it is
 abbrev pub guardedCore : Core → Core
-guardedCore c = record { workers = c .workers; sizes = c .sizes; counters = c .counters; guarded = true }
+guardedCore c = record { workers = c .workers; sizes = c .sizes; counters = c .counters; guarded = 1 }

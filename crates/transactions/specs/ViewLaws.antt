@@ -12,7 +12,7 @@ use Rattle.sets.specs.declared.workers.Worker.{Worker}
 use Rattle.sets.specs.Workers.{workerIn, freed}
 use Rattle.map.specs.Views.{Lent, mapOf}
 use Rattle.transactions.specs.declared.Core.{Core}
-use Rattle.transactions.specs.Views.{Logs, OthersSame, coreWith, modelWorker, stateOf, workersFrom}
+use Rattle.transactions.specs.Views.{Logs, OthersSame, coreWith, modelWorker, guardedIn, stateOf, workersFrom}
 
 -- ---- workers
 
@@ -80,7 +80,7 @@ state-with l g g' c w x o =
     (λ (ws : List model.Worker).
     record {
       settings = standard;
-      guarded = c .guarded;
+      guarded = guardedIn (c .guarded);
       counters = record { number = c .counters .number; version = c .counters .version; installs = c .counters .installs };
       map = mapOf l (c .sizes);
       workers = ws;

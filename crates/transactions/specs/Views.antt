@@ -1,7 +1,9 @@
 -- How the lent arrays and the core are read: they are the model's state.
 use Prim.Native.Nat.{ℕ, suc}
 use mathlib.Core.Path.{_≡_}
+use mathlib.Core.Bool.{Bool}
 use mathlib.Core.List.{List, [], _∷_}
+use lib.Dec.{eqb}
 use lib.ListN.{set}
 use Rattle.spec.specs.Records.{standard}
 use Rattle.spec.specs.Steps as model
@@ -33,12 +35,16 @@ unfoldable pub workersFrom : Logs → List Worker → ℕ → List model.Worker
 workersFrom g [] w = []
 workersFrom g (x ∷ xs) w = modelWorker g x w ∷ workersFrom g xs (suc w)
 
+-- whether a map is guarded, by the word of its core
+abbrev pub guardedIn : ℕ → Bool
+guardedIn n = eqb n 1
+
 -- the model's state
 unfoldable pub stateOf : Lent → Logs → Core → State
 stateOf l g c =
     record {
       settings = standard;
-      guarded = c .guarded;
+      guarded = guardedIn (c .guarded);
       counters = record { number = c .counters .number; version = c .counters .version; installs = c .counters .installs };
       map = mapOf l (c .sizes);
       workers = workersFrom g (c .workers) 0;

@@ -60,6 +60,6 @@ pub fn fresh_state(
         workers,
         sizes,
         counters,
-        guarded,
+        guarded: guarded as u64,
     }
 }

@@ -19,8 +19,8 @@ enum-known-x c = search needs
 
 guard-requires : tie.Need-guard-requires
 guard-requires c κs =
-    let e = subst (Admitted isOpen _ _) (c .before .x .given .1) (c .before .before .before .open .ensures) in
-    (e .inside, guardable _ (c .before .before .before .before .before .pre) _ e)
+    let e = subst (Admitted isOpen _ _) (c .before .before .x .given .1) (c .before .before .before .before .open .ensures) in
+    (e .inside, guardable _ (c .before .before .before .before .before .before .pre) _ e)
 
 enum-known-r-2 : tie.Need-enum-known-r-2
 enum-known-r-2 c = search needs
@@ -30,8 +30,8 @@ enum-told c = search needs
 
 lock-open-requires : tie.Need-lock-open-requires
 lock-open-requires c κs =
-    let k = c .before .before .before .before .before .before .before .before .before .before .pre in
-    let e = subst (Admitted isOpen _ _) (c .before .before .before .before .before .before .x .given .1) (c .before .before .before .before .before .before .before .before .open .ensures) in
+    let k = c .before .before .before .before .before .before .before .before .before .before .before .pre in
+    let e = subst (Admitted isOpen _ _) (c .before .before .before .before .before .before .before .x .given .1) (c .before .before .before .before .before .before .before .before .before .open .ensures) in
     (k .stored .map, (e .inside, ready-writable k .set _ (e .inside)))
 
 returns : tie.Need-returns
@@ -40,13 +40,13 @@ returns c =
 
 returns-2 : tie.Need-returns-2
 returns-2 c =
-    let e = subst (Admitted isOpen _ _) (c .before .before .before .before .before .x .given .1) (c .before .before .before .before .before .before .before .open .ensures) in
-    lock-barred _ (c .before .before .before .before .before .before .before .before .before .pre) _ e _ _ (c .before .r2 .given .1) (c .before .before .before .guard .ensures)
+    let e = subst (Admitted isOpen _ _) (c .before .before .before .before .before .before .x .given .1) (c .before .before .before .before .before .before .before .before .open .ensures) in
+    lock-barred _ (c .before .before .before .before .before .before .before .before .before .before .pre) _ e _ _ (c .before .r2 .given .1) (c .before .before .before .guard .ensures)
 
 returns-3 : tie.Need-returns-3
 returns-3 c =
-    let e = subst (Admitted isOpen _ _) (c .before .before .before .before .before .before .before .x .given .1) (c .before .before .before .before .before .before .before .before .before .open .ensures) in
-    lock-refines _ (c .before .before .before .before .before .before .before .before .before .before .before .pre) _ e _ (c .before .before .before .enum-told .given .1) (c .before .before .before .before .before .guard .ensures) _ (c .lock-open .ensures)
+    let e = subst (Admitted isOpen _ _) (c .before .before .before .before .before .before .before .before .x .given .1) (c .before .before .before .before .before .before .before .before .before .before .open .ensures) in
+    lock-refines _ (c .before .before .before .before .before .before .before .before .before .before .before .before .pre) _ e _ (c .before .before .before .enum-told .given .1) (c .before .before .before .before .before .guard .ensures) _ (c .lock-open .ensures)
 
 pub lock-spec : {M : Type 1} → statement M
 lock-spec =

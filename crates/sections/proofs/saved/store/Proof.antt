@@ -10,9 +10,6 @@ worker-rows-requires c κs = search needs
 array-set-from-rows : tie.Need-array-set-from-rows
 array-set-from-rows c = search needs
 
-cast-t10 : tie.Need-cast-t10
-cast-t10 c = search needs
-
 add-rows : tie.Need-add-rows
 add-rows c = search needs
 
@@ -23,7 +20,7 @@ array-set-from-rows-2 : tie.Need-array-set-from-rows-2
 array-set-from-rows-2 c = search needs
 
 returns : tie.Need-returns
-returns c = core-put _ _ (c .before .worker-rows .ensures)
+returns c = core-put _ _ (c .worker-rows .ensures)
 
 pub store-spec : {M : Type 1} → statement M
 store-spec =
@@ -31,7 +28,6 @@ store-spec =
     (tie.spec
     worker-rows-requires
     array-set-from-rows
-    cast-t10
     add-rows
     mul-rows
     array-set-from-rows-2

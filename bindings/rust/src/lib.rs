@@ -96,7 +96,7 @@ impl fmt::Display for SerialNumber {
     }
 }
 
-/// One map with its eight seats and its export, 148 KB. A clone goes on by itself.
+/// One map with its eight seats and its export, 166 KB. A clone goes on by itself.
 #[derive(Clone)]
 pub struct Sections {
     map: Box<Map>,

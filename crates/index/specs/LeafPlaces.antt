@@ -2,16 +2,17 @@
 use Prim.Native.Nat.{ℕ, zero, suc, _+_, _<_, _≤_, zero-le, suc-le-suc}
 use native.Mathlib.Nat.{le-refl, not-suc-le-zero}
 use native.Mathlib.Omega.{arith}
-use mathlib.Core.Path.{_≡_, sym}
-use mathlib.Core.Logic.{inl, inr, ⊎-elim}
+use mathlib.Core.Path.{_≡_, refl, sym}
+use mathlib.Core.Logic.{_⊎_, inl, inr, ⊎-elim}
+use mathlib.Core.Bool.{Bool, true, false}
 use mathlib.Core.List.{List, [], _∷_}
 use lib.ListN.{length, take, getD}
 use lib.Seq.{length-take-le, getD-take}
 use Rattle.lists.specs.Tests.{pick, both, less, atMost}
-use Rattle.lists.specs.TestLaws.{cases, less-true, less-false, less-yes, less-no, atMost-true, atMost-false, atMost-yes, atMost-no}
+use Rattle.lists.specs.TestLaws.{cases, clash, less-true, less-false, less-yes, less-no, atMost-true, atMost-false, atMost-yes, atMost-no}
 use Rattle.lists.specs.Ascending.{Ascends, ascends-at}
 use Rattle.index.specs.Views.{leafPlaces}
-use Rattle.index.specs.Nearing.{Took}
+use Rattle.index.specs.Nearing.{Took, picked}
 
 -- how many of the lows, from the first one on, are not above a
 unfoldable pub upTo : ℕ → List ℕ → ℕ
@@ -33,6 +34,10 @@ pub record Listed (lows : List ℕ) (m : ℕ) : Type 0 where
 pub record AtLeaf (lows : List ℕ) (m a p : ℕ) : Type 0 where
   pub is : p ≡ lowPlace a (take m lows)
   pub inside : p < m
+
+-- If r says so, p is the place of the leaf of a.
+pub record Tells (lows : List ℕ) (m a p : ℕ) (r : Bool) : Type 0 where
+  pub yes-at : r ≡ true → AtLeaf lows m a p
 
 up-most : (a : ℕ) (ls : List ℕ) → upTo a ls ≤ length ls
 unfolding upTo
@@ -84,6 +89,11 @@ leaf-above a (l ∷ ls) (suc i) p h e = suc-le-suc (up-above a ls i (omega arith
 unfoldable pub probedLow : List ℕ → ℕ → ℕ → ℕ → ℕ
 probedLow ls a base step = pick (both (less (base + step) (length ls)) (atMost (getD ls (base + step) 0) a)) (base + step) base
 
+-- it leads on by its length, or nowhere
+pub low-led : (ls : List ℕ) (a base step : ℕ) → (probedLow ls a base step ≡ base + step) ⊎ (probedLow ls a base step ≡ base)
+unfolding probedLow
+low-led ls a base step = picked (both (less (base + step) (length ls)) (atMost (getD ls (base + step) 0) a)) (base + step) base
+
 low-taken : (ls : List ℕ) (a base step : ℕ) → base + step < length ls → getD ls (base + step) 0 ≤ a → probedLow ls a base step ≡ base + step
 unfolding probedLow
 low-taken ls a base step h l = rw (less-yes {m = base + step} {n = length ls} h, atMost-yes {m = getD ls (base + step) 0} {n = a} l)
@@ -133,3 +143,28 @@ module _ (lows : List ℕ) (m a base step : ℕ) (fits : m ≤ length lows) wher
       here h =
           let e : getD (take m lows) (base + step) 0 ≡ getD lows (base + step) 0 = getD-take m lows (base + step) 0 h in
           sym (low-passed (take m lows) a base step (rw few h) (omega arith))
+
+-- ---- one place tried
+
+pub tells-no : {lows : List ℕ} {m a p : ℕ} → Tells lows m a p false
+tells-no = record { yes-at = λ e. clash e refl }
+
+module _ (lows : List ℕ) (m a p : ℕ) (h : Listed lows m) (fits : m ≤ length lows) (low : getD lows p 0 ≤ a) where
+  -- the last leaf has no upper end
+  pub tells-last : p + 1 ≡ m → Tells lows m a p true
+  tells-last e =
+      let n : length (take m lows) ≡ m = length-take-le m lows fits in
+      let g : getD (take m lows) p 0 ≡ getD lows p 0 = getD-take m lows p 0 (omega arith) in
+      let b : p ≤ lowPlace a (take m lows) = leaf-below a 0 (take m lows) p (h .rising) (omega arith) (omega arith) in
+      let u : lowPlace a (take m lows) < length (take m lows) = place-inside a (take m lows) (omega arith) in
+      record { yes-at = λ t. record { is = omega arith; inside = omega arith } }
+
+  -- any other ends where the next one starts
+  pub tells-between : p + 1 < m → a < getD lows (p + 1) 0 → Tells lows m a p true
+  tells-between l v =
+      let n : length (take m lows) ≡ m = length-take-le m lows fits in
+      let g : getD (take m lows) p 0 ≡ getD lows p 0 = getD-take m lows p 0 (omega arith) in
+      let k : getD (take m lows) (p + 1) 0 ≡ getD lows (p + 1) 0 = getD-take m lows (p + 1) 0 l in
+      let b : p ≤ lowPlace a (take m lows) = leaf-below a 0 (take m lows) p (h .rising) (omega arith) (omega arith) in
+      let u : lowPlace a (take m lows) < p + 1 = leaf-above a (take m lows) (p + 1) (omega arith) (omega arith) (omega arith) in
+      record { yes-at = λ t. record { is = omega arith; inside = omega arith } }

@@ -2,8 +2,10 @@
 use Prim.Native.Nat.{ℕ, _+_, _/_, _<_, _≤_}
 use native.Mathlib.Nat.{le-refl}
 use native.Mathlib.Omega.{arith}
-use mathlib.Core.Path.{_≡_, sym, subst}
-use mathlib.Core.Logic.{_⊎_, ⊎-elim}
+use mathlib.Core.Path.{_≡_, refl, sym, ap, _∙_, subst}
+use mathlib.Core.Logic.{_⊎_, inl, inr, ⊎-elim}
+use mathlib.Core.Bool.{Bool, true, false}
+use Rattle.lists.specs.Tests.{pick}
 use Rattle.lists.specs.Halving.{width, stepOf, Narrowing, narrow-start, narrow-first, narrow-on, narrow-stay, narrow-end}
 use Rattle.index.specs.Views.{recordPlaces}
 
@@ -62,6 +64,24 @@ near-on {p} {base} {step} {r} h n t =
     (λ (b : (r ≡ base + step) × (base + step ≤ p)). subst (λ (x : ℕ). Nearing p x (step / 2)) (sym (b .0)) (record { near = narrow-on h (n .near) (b .1); inside = omega arith }))
     (λ (b : (r ≡ base) × (p < base + step)). subst (λ (x : ℕ). Nearing p x (step / 2)) (sym (b .0)) (record { near = narrow-stay h (n .near) (b .1); inside = omega arith }))
     (t .led)
+
+-- one of two numbers
+pub picked : (t : Bool) (x y : ℕ) → (pick t x y ≡ x) ⊎ (pick t x y ≡ y)
+picked true x y = inl refl
+picked false x y = inr refl
+
+-- two steps, the second half as long
+pub near-two : {p base step r q : ℕ} → 1 < step → Nearing p base step → Took p base step r → Took p r (step / 2) q → Nearing p q (step / 4)
+near-two {p} {base} {step} {r} {q} h n t u =
+    let a : Nearing p r (step / 2) = near-on (omega arith) n t in
+    subst (Nearing p q) (let e : step / 2 / 2 ≡ step / 4 = omega arith in e) (near-on (omega arith) a u)
+
+-- a step leads on by its length, or nowhere: what is tried from both is what is tried from where it leads
+pub two-high : (base step r : ℕ) {high : ℕ} (f : ℕ → ℕ) → (r ≡ base + step) ⊎ (r ≡ base) → base < r → high ≡ f (base + step) → high ≡ f r
+two-high base step r {high} f d l e = ⊎-elim (λ q. e ∙ ap f (sym q)) (λ q. absurd (omega arith)) d
+
+pub two-low : (base step r : ℕ) {low : ℕ} (f : ℕ → ℕ) → 0 < step → (r ≡ base + step) ⊎ (r ≡ base) → r ≤ base → low ≡ f base → low ≡ f r
+two-low base step r {low} f s d l e = ⊎-elim (λ q. absurd (omega arith)) (λ q. e ∙ ap f (sym q)) d
 
 pub near-end : {p base step : ℕ} → Nearing p base step → step ≤ 0 → base ≡ p
 near-end n h = narrow-end (n .near) h

@@ -2,13 +2,13 @@
 use Prim.Native.Nat.{ℕ, suc, _+_, _-_, _<_, _≤_}
 use native.Mathlib.Omega.{arith}
 use mathlib.Core.Path.{_≡_, sym, ap, _∙_, subst}
-use mathlib.Core.List.{List, _∷_, _++_}
+use mathlib.Core.List.{List, _∷_, _++_, append-assoc}
 use mathlib.Core.Option.{Option, none, some}
 use lib.ListN.{length, take, drop, getD, set, length-append, length-take, length-drop}
-use lib.Seq.{take-set-lt}
+use lib.Seq.{take-set-lt, drop-set-lt, drop-at, drop-drop, length-take-le}
 use Rattle.lists.specs.Rows.{Row, row, look, assign, Rising}
 use Rattle.lists.specs.RowLaws.{rising-assign}
-use Rattle.lists.specs.Shifts.{moved, length-moved, put-in, taken-out}
+use Rattle.lists.specs.Shifts.{over, moved, length-moved, put-in, taken-out}
 use Rattle.lists.specs.Places.{place, place-most, Present, Absent, look-present, look-absent, insert-present, insert-absent, delete-present, delete-absent}
 use Rattle.spec.specs.Records.{Record}
 use Rattle.index.specs.declared.rows.RecordRow.{RecordRow}
@@ -65,6 +65,39 @@ module _ (rows rows' : RecordRows) (all : length rows ≡ recordPlaces) (n p : �
       let m : length (rowsOf rows) ≡ recordPlaces = length-rows rows in
       ap (take (n - 1)) (ap rowsOf e ∙ rows-moved rows all (p + 1) p (n - p - 1) (omega arith) (omega arith))
       ∙ taken-out (rowsOf rows) n p h (omega arith)
+
+-- ---- the rows behind stay
+
+-- behind the elements that were moved
+drop-moved : {A : Type 0} (xs : List A) (from to n k : ℕ) → from + n ≤ length xs → to + n ≤ length xs → to + n ≤ k → drop k (moved xs from to n) ≡ drop k xs
+unfolding moved over
+drop-moved xs from to n k h g l =
+    let d : length (drop from xs) ≡ length xs - from = length-drop from xs in
+    let e : length (take n (drop from xs)) ≡ n = length-take-le n (drop from xs) (omega arith) in
+    let f : length (take to xs) ≡ to = length-take-le to xs (omega arith) in
+    let t : length (take to xs ++ take n (drop from xs)) ≡ length (take to xs) + length (take n (drop from xs)) = length-append (take to xs) (take n (drop from xs)) in
+    let s : to + length (take n (drop from xs)) + (k - (to + length (take n (drop from xs)))) ≡ k = omega arith in
+    let at : drop (to + length (take n (drop from xs))) (moved xs from to n) ≡ drop (to + length (take n (drop from xs))) xs
+    = ap (drop (to + length (take n (drop from xs)))) (sym (append-assoc (take to xs) (take n (drop from xs)) (drop (to + length (take n (drop from xs))) xs)))
+    ∙ drop-at (take to xs ++ take n (drop from xs)) (drop (to + length (take n (drop from xs))) xs) (to + length (take n (drop from xs))) (omega arith) in
+    ap (λ (i : ℕ). drop i (moved xs from to n)) (sym s)
+    ∙ sym (drop-drop (k - (to + length (take n (drop from xs)))) (to + length (take n (drop from xs))) (moved xs from to n))
+    ∙ ap (drop (k - (to + length (take n (drop from xs))))) at
+    ∙ drop-drop (k - (to + length (take n (drop from xs)))) (to + length (take n (drop from xs))) xs
+    ∙ ap (λ (i : ℕ). drop i xs) s
+
+module _ (rows rows' : RecordRows) (all : length rows ≡ recordPlaces) (n p : ℕ) where
+  pub behind-written : (r : RecordRow) → p < n → rows' ≡ stored rows p r → drop n rows' ≡ drop n rows
+  behind-written r h e = ap (drop n) e ∙ drop-set-lt n rows p _ h
+
+  pub behind-inserted : (between : RecordRows) (r : RecordRow) → p ≤ n → n < recordPlaces → between ≡ moved rows p (p + 1) (n - p) → rows' ≡ stored between p r
+      → drop (n + 1) rows' ≡ drop (n + 1) rows
+  behind-inserted between r h l e f =
+      ap (drop (n + 1)) f ∙ drop-set-lt (n + 1) between p _ (omega arith)
+      ∙ ap (drop (n + 1)) e ∙ drop-moved rows p (p + 1) (n - p) (n + 1) (omega arith) (omega arith) (omega arith)
+
+  pub behind-removed : p < n → n ≤ recordPlaces → rows' ≡ moved rows (p + 1) p (n - p - 1) → drop (n - 1) rows' ≡ drop (n - 1) rows
+  behind-removed h l e = ap (drop (n - 1)) e ∙ drop-moved rows (p + 1) p (n - p - 1) (n - 1) (omega arith) (omega arith) (omega arith)
 
 -- ---- what they are to the model
 

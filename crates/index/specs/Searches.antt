@@ -2,7 +2,7 @@
 use Prim.Native.Nat.{ℕ, _+_, _-_, _<_, _≤_}
 use native.Mathlib.Omega.{arith}
 use mathlib.Core.Path.{_≡_, sym, ap, _∙_}
-use mathlib.Core.Logic.{inl, inr, ⊎-elim}
+use mathlib.Core.Logic.{_⊎_, inl, inr, ⊎-elim}
 use mathlib.Core.List.{List}
 use lib.ListN.{length, getD}
 use Rattle.lists.specs.Tests.{pick, both, less, atMost}
@@ -12,12 +12,17 @@ use Rattle.lists.specs.Places.{place, place-most, place-below, place-above}
 use Rattle.spec.specs.Records.{Record}
 use Rattle.index.specs.Views.{recordPlaces, RecordRows, noRow, rowAt, recordsOf}
 use Rattle.index.specs.ViewLaws.{length-records, record-at}
-use Rattle.index.specs.Nearing.{Took}
+use Rattle.index.specs.Nearing.{Took, picked}
 
 -- a step over records with smaller keys is taken
 unfoldable pub probed : List (Row Record) → ℕ → ℕ → ℕ → ℕ
 probed rs k base step =
     pick (both (atMost (base + step) (length rs)) (less (getD rs (base + step - 1) noRow .key) k)) (base + step) base
+
+-- it leads on by its length, or nowhere
+pub probed-led : (rs : List (Row Record)) (k base step : ℕ) → (probed rs k base step ≡ base + step) ⊎ (probed rs k base step ≡ base)
+unfolding probed
+probed-led rs k base step = picked (both (atMost (base + step) (length rs)) (less (getD rs (base + step - 1) noRow .key) k)) (base + step) base
 
 probe-taken : (rs : List (Row Record)) (k base step : ℕ) → base + step ≤ length rs → getD rs (base + step - 1) noRow .key < k
     → probed rs k base step ≡ base + step

@@ -41,6 +41,19 @@ module _ (rows : RecordRows) (all : length rows ≡ recordPlaces) where
       rows-mapped (moved rows from to n) (length-moved rows from to n (omega arith) (omega arith) ∙ all) ∙ mapped-moved rowIn rows from to n
       ∙ ap (λ (rs : List (Row Record)). moved rs from to n) (sym (rows-mapped rows all))
 
+-- words that are alike from row b on say the same there
+pub rows-behind : (rows rows' : RecordRows) (b : ℕ) → drop b rows ≡ drop b rows' → drop b (rowsOf rows) ≡ drop b (rowsOf rows')
+rows-behind rows rows' b e =
+    let l : length (rowsOf rows) ≡ recordPlaces = length-rows rows in
+    let l' : length (rowsOf rows') ≡ recordPlaces = length-rows rows' in
+    let d : length (drop b (rowsOf rows)) ≡ length (rowsOf rows) - b = length-drop b (rowsOf rows) in
+    let d' : length (drop b (rowsOf rows')) ≡ length (rowsOf rows') - b = length-drop b (rowsOf rows') in
+    ext-getD noRow (drop b (rowsOf rows)) (drop b (rowsOf rows')) (omega arith)
+    (λ i h.
+    getD-drop b (rowsOf rows) i noRow ∙ row-read rows (b + i) (omega arith)
+    ∙ ap rowIn (sym (getD-drop b rows i []) ∙ ap (λ (ws : RecordRows). getD ws i []) e ∙ getD-drop b rows' i [])
+    ∙ sym (getD-drop b (rowsOf rows') i noRow ∙ row-read rows' (b + i) (omega arith)))
+
 -- ---- the first rows
 
 pub length-records : (rows : RecordRows) (n : ℕ) → n ≤ recordPlaces → length (recordsOf rows n) ≡ n

@@ -7,12 +7,12 @@ use crate::Leaves;
 use spec::Address;
 use spec::MAP_LIMIT;
 ghost use mathlib.Core.Path.{_≡_};
-ghost use Prim.Native.Nat.{_+_, _<_, _≤_};
+ghost use Prim.Native.Nat.{_+_, _/_, _<_, _≤_};
 ghost use lib.ListN.{length, take};
 ghost use Rattle.lists.specs.Shifts.{moved};
 ghost use Rattle.index.specs.Views.{recordPlaces, leafPlaces};
 ghost use Rattle.index.specs.Nearing.{Nearing};
-ghost use Rattle.index.specs.LeafPlaces.{Listed, AtLeaf, lowPlace, probedLow};
+ghost use Rattle.index.specs.LeafPlaces.{Listed, AtLeaf, Tells, lowPlace, probedLow};
 ghost use Rattle.index.specs.LeafColumns.{lowsOf, leafAt, leafPut};
 
 // A leaf in words: its low and its version (document 01: mark), and the phantomlet's numbers of the keys that it hides from somebody
@@ -108,6 +108,23 @@ fn probe(leaves: &Leaves, m: usize, key: u64, base: usize, step: usize) -> usize
     base
 }
 
+// Two steps at once: the second is tried from both ends of the first, so that three rows are read at a time, and not one after the
+// other.
+fn probe_two(leaves: &Leaves, m: usize, key: u64, base: usize, step: usize) -> usize
+    requires { ⌜ m ≤ leafPlaces ⌝ }
+    requires { ⌜ (1 < step) × (base + step + step ≤ recordPlaces) ⌝ }
+    ensures { λ r. ⌜ r ≡ probedLow (take m (lowsOf (now (leaves .entry)))) key (probedLow (take m (lowsOf (now (leaves .entry)))) key base step) (step / 2) ⌝ }
+{
+    let half = step / 2;
+    let low = probe(leaves, m, key, base, half);
+    let high = probe(leaves, m, key, base + step, half);
+    let middle = probe(leaves, m, key, base, step);
+    if base < middle {
+        return high;
+    }
+    low
+}
+
 // The place of the leaf that holds an address, by steps from half of the places on which it can be.
 fn descend(leaves: &Leaves, m: usize, key: u64, half: usize) -> usize
     requires { ⌜ Listed (lowsOf (now leaves)) m ⌝ }
@@ -117,9 +134,12 @@ fn descend(leaves: &Leaves, m: usize, key: u64, half: usize) -> usize
     leaf_places(leaves);
     let mut base = 0;
     let mut step = half;
-    while 0 < step {
-        base = probe(leaves, m, key, base, step);
-        step = step / 2;
+    while 1 < step {
+        base = probe_two(leaves, m, key, base, step);
+        step = step / 4;
+    }
+    if step == 1 {
+        return probe(leaves, m, key, base, step);
     }
     base
 }
@@ -145,4 +165,41 @@ pub fn find_leaf(leaves: &Leaves, m: usize, a: Address) -> usize
         return last;
     }
     descend(leaves, m, key, MAP_LIMIT / 2)
+}
+
+// Whether an address lies in the leaf at a place, which may be any.
+fn lies_at(leaves: &Leaves, m: usize, key: u64, at: usize) -> bool
+    requires { ⌜ Listed (lowsOf (now leaves)) m ⌝ }
+    ensures { λ r. ⌜ Tells (lowsOf (now (leaves .entry))) m key at r ⌝ }
+{
+    leaf_places(leaves);
+    if m <= at {
+        return false;
+    }
+    let l = leaf_at(leaves, at);
+    if key < l.low {
+        return false;
+    }
+    let next = at + 1;
+    if next == m {
+        return true;
+    }
+    let upper = leaf_at(leaves, next);
+    if key < upper.low {
+        return true;
+    }
+    false
+}
+
+// The place of the leaf that holds an address. The place `near`, whatever it is, is tried first: neighbours mostly lie in
+// one leaf.
+pub fn find_near(leaves: &Leaves, m: usize, a: Address, near: usize) -> usize
+    requires { ⌜ Listed (lowsOf (now leaves)) m ⌝ }
+    ensures { λ r. ⌜ AtLeaf (lowsOf (now (leaves .entry))) m a r ⌝ }
+{
+    let key = a as u64;
+    if lies_at(leaves, m, key, near) {
+        return near;
+    }
+    find_leaf(leaves, m, a)
 }

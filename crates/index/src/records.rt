@@ -10,7 +10,7 @@ use spec::MAP_LIMIT;
 use spec::PayloadWords;
 ghost use mathlib.Core.Path.{_≡_};
 ghost use mathlib.Core.Option.{none, some};
-ghost use Prim.Native.Nat.{_+_, _<_, _≤_};
+ghost use Prim.Native.Nat.{_+_, _/_, _<_, _≤_};
 ghost use mathlib.Core.List.{_∷_, _++_};
 ghost use lib.ListN.{length, take, drop};
 ghost use Rattle.lists.specs.Rows.{look, assign};
@@ -43,6 +43,23 @@ fn probe(rows: &Records, n: usize, key: u64, base: usize, step: usize) -> usize
     base
 }
 
+// Two steps at once: the second is tried from both ends of the first, so that three rows are read at a time, and not one after the
+// other.
+fn probe_two(rows: &Records, n: usize, key: u64, base: usize, step: usize) -> usize
+    requires { ⌜ n ≤ recordPlaces ⌝ }
+    requires { ⌜ (1 < step) × (base + step + step ≤ recordPlaces) ⌝ }
+    ensures { λ r. ⌜ r ≡ probed (recordsOf (now (rows .entry)) n) key (probed (recordsOf (now (rows .entry)) n) key base step) (step / 2) ⌝ }
+{
+    let half = step / 2;
+    let low = probe(rows, n, key, base, half);
+    let high = probe(rows, n, key, base + step, half);
+    let middle = probe(rows, n, key, base, step);
+    if base < middle {
+        return high;
+    }
+    low
+}
+
 // How many records have a smaller address, by steps from half of the places on which the address can be.
 fn descend(rows: &Records, n: usize, key: u64, half: usize) -> usize
     requires { ⌜ RecordsSorted (now rows) n ⌝ }
@@ -51,9 +68,12 @@ fn descend(rows: &Records, n: usize, key: u64, half: usize) -> usize
 {
     let mut base = 0;
     let mut step = half;
-    while 0 < step {
-        base = probe(rows, n, key, base, step);
-        step = step / 2;
+    while 1 < step {
+        base = probe_two(rows, n, key, base, step);
+        step = step / 4;
+    }
+    if step == 1 {
+        return probe(rows, n, key, base, step);
     }
     base
 }
@@ -105,6 +125,7 @@ pub fn find(rows: &Records, n: usize, a: Address) -> Found
 fn insert(rows: &mut Records, n: usize, p: usize, r: RecordRow) -> usize
     requires { ⌜ (p ≤ n) × (n < recordPlaces) ⌝ }
     ensures { λ m. ⌜ (m ≡ n + 1) × (recordsOf (now (rows .exit)) (n + 1) ≡ take p (recordsOf (now (rows .entry)) n) ++ (rowOf r ∷ drop p (recordsOf (now (rows .entry)) n))) ⌝ }
+    ensures { λ m. ⌜ drop m (now (rows .exit)) ≡ drop m (now (rows .entry)) ⌝ }
 {
     rows::record_places(rows);
     rows::raise(rows, p, p + 1, n - p);
@@ -112,11 +133,13 @@ fn insert(rows: &mut Records, n: usize, p: usize, r: RecordRow) -> usize
     n + 1
 }
 
-// Puts a record at an address, in place of one that stands there. Answers how many records there are now.
+// Puts a record at an address, in place of one that stands there. Answers how many records there are now; the rows behind
+// them stay.
 pub fn put(rows: &mut Records, n: usize, a: Address, payload: PayloadWords, commit: u64) -> usize
     requires { ⌜ RecordsSorted (now rows) n ⌝ }
     requires { ⌜ length (assign a (some (recordFrom payload commit)) (recordsOf (now rows) n)) ≤ recordPlaces ⌝ }
     ensures { λ r. ⌜ RecordsAre (now (rows .exit)) r (assign a (some (recordFrom payload commit)) (recordsOf (now (rows .entry)) n)) ⌝ }
+    ensures { λ r. ⌜ drop r (now (rows .exit)) ≡ drop r (now (rows .entry)) ⌝ }
 {
     rows::record_places(rows);
     let p = locate(rows, n, a);
@@ -136,10 +159,11 @@ pub fn put(rows: &mut Records, n: usize, a: Address, payload: PayloadWords, comm
     insert(rows, n, p, row)
 }
 
-// Drops the record at an address, if there is one. Answers how many records there are now.
+// Drops the record at an address, if there is one. Answers how many records there are now; the rows behind them stay.
 pub fn drop(rows: &mut Records, n: usize, a: Address) -> usize
     requires { ⌜ RecordsSorted (now rows) n ⌝ }
     ensures { λ r. ⌜ RecordsAre (now (rows .exit)) r (assign a none (recordsOf (now (rows .entry)) n)) ⌝ }
+    ensures { λ r. ⌜ drop r (now (rows .exit)) ≡ drop r (now (rows .entry)) ⌝ }
 {
     rows::record_places(rows);
     let p = locate(rows, n, a);

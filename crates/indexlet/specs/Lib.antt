@@ -1,6 +1,8 @@
 pub mod Homes
 pub mod Words
 pub mod WordLaws
+pub mod Filters
+pub mod FilterLaws
 pub mod Promises
 pub mod SeekLaws
 pub mod WalkLaws

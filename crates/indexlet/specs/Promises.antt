@@ -1,33 +1,43 @@
 -- What the indexlet's functions promise: of the words they are lent, of what they return.
-use Prim.Native.Nat.{ℕ, zero, suc, _+_, _%_, _^_, _<_}
+use Prim.Native.Nat.{ℕ, zero, suc, _+_, _-_, _*_, _/_, _%_, _^_, _<_, _≤_}
 use mathlib.Core.Path.{_≡_}
+use mathlib.Core.Bool.{true, false}
 use mathlib.Core.List.{List}
 use mathlib.Core.Option.{none, some}
 use lib.ListN.{length, getD}
-use Rattle.lists.specs.Tests.{pick, same}
-use Rattle.spec.specs.Slots.{slotCount, homeSlot, isIdle, Slot, emptySlot, emptySlots, entries, contentOf, slotAt, holds, Searched, search, enter}
+use Rattle.lists.specs.Tests.{pick, same, less}
+use Rattle.lists.specs.Rows.{look}
+use Rattle.spec.specs.Slots.{slotCount, homeSlot, isIdle, Slot, emptySlot, emptySlots, entries, contentOf, slotAt, holds, Searched, search, Content, take, release, enter}
 use Rattle.laws.specs.Probes.{gap}
 use Rattle.laws.specs.SlotCounts.{Good, Place}
 use Rattle.indexlet.specs.declared.Content.{Content as ContentWords}
 use Rattle.indexlet.specs.declared.Slot.{Slot as SlotWords}
 use Rattle.indexlet.specs.declared.Looked.{Looked}
+use Rattle.indexlet.specs.declared.Found.{Found}
 use Rattle.indexlet.specs.declared.Sought.{Sought}
 use Rattle.indexlet.specs.Words.{SlotRows, contentIn, slotIn, rowAt, slotsOf}
+use Rattle.indexlet.specs.Filters.{slotRows, bucketOf, cellAt, cellPut, Filtered, FilterStays}
 
--- as many rows as there are slots, whose keys are addresses
+-- the key of an entry is an address; of a slot without one it is anything
+abbrev pub Narrow : SlotWords → Type 0
+Narrow s = isIdle (contentIn (s .content)) ≡ false → s .key < 2 ^ 32
+
+-- as many rows as there are slots, with the filter's behind them; the keys of entries are addresses
 pub record Sized (ws : SlotRows) : Type 0 where
-  pub size : length ws ≡ slotCount
-  pub narrow : (i : ℕ) → i < slotCount → rowAt ws i .key < 2 ^ 32
+  pub size : length ws ≡ slotRows
+  pub narrow : (i : ℕ) → i < slotCount → Narrow (rowAt ws i)
 
 -- The invariant of the lent words: every public function asks it, `fresh_slots` and `enter` leave it.
 pub record SlotsHeld (ws : SlotRows) : Type 0 where
   pub sized : Sized ws
   pub good : Good 4 (slotsOf ws)
+  pub filtered : Filtered ws (slotsOf ws)
 
--- the words hold these slots
-pub record SlotsBecome (ws : SlotRows) (ss : List Slot) : Type 0 where
-  pub sized : Sized ws
-  pub view : slotsOf ws ≡ ss
+-- the words `us`, which were `ws`, hold these slots, and the filter's rows stay
+pub record SlotsBecome (ws us : SlotRows) (ss : List Slot) : Type 0 where
+  pub sized : Sized us
+  pub view : slotsOf us ≡ ss
+  pub stays : FilterStays ws us
 
 pub record SlotsFresh (ws : SlotRows) : Type 0 where
   pub held : SlotsHeld ws
@@ -36,7 +46,11 @@ pub record SlotsFresh (ws : SlotRows) : Type 0 where
 -- the row of slot i
 pub record IsSlot (ws : SlotRows) (i : ℕ) (r : SlotWords) : Type 0 where
   pub slot : slotIn r ≡ getD (slotsOf ws) i emptySlot
-  pub narrow : r .key < 2 ^ 32
+  pub narrow : Narrow r
+
+-- nothing is said
+abbrev pub unsaid : ContentWords
+unsaid = record { kind = 0; payload = record { value = 0; owner = 0 }; commit = 0; since = 0; lock = 0; forput = 0 }
 
 -- ---- where a search ends
 
@@ -68,7 +82,30 @@ lookedIn r =
 pub record Looks (ws : SlotRows) (a : ℕ) (r : Looked) : Type 0 where
   pub searched : search 4 (slotsOf ws) a ≡ lookedIn r
   pub content : contentOf (slotsOf ws) a ≡ contentIn (r .content)
-  pub ended : record { at = r .at; examined = r .examined } ≡ sought (slotsOf ws) a
+
+-- what the indexlet says of the address, and the slot of its entry; from 256 on there is none
+pub record Finds (ws : SlotRows) (a : ℕ) (r : Found) : Type 0 where
+  pub content : contentOf (slotsOf ws) a ≡ contentIn (r .content)
+  pub hit : r .at < slotCount → holds a (getD (slotsOf ws) (r .at) emptySlot) ≡ true
+  pub miss : slotCount ≤ r .at → look (entries (slotsOf ws)) a ≡ none
+
+-- the entry in a slot; from 256 on there is none
+unfoldable pub foundAt : SlotRows → ℕ → Found
+foundAt ws i = pick (less i slotCount) (record { content = rowAt ws i .content; at = i }) (record { content = unsaid; at = i })
+
+-- the entry of a was taken out: what `release` leaves, and one less in its bucket
+pub record TakenOut (ws : SlotRows) (a : ℕ) (vs : SlotRows) : Type 0 where
+  pub middle : SlotRows
+  pub released : SlotsBecome ws middle (release 4 (slotsOf ws) a)
+  pub counted : vs ≡ cellPut middle (bucketOf a) (cellAt middle (bucketOf a) - 256)
+
+-- a has a new entry: what `take` leaves, and one more in its bucket
+pub record TakenIn (ws : SlotRows) (a : ℕ) (c : Content) (vs : SlotRows) : Type 0 where
+  pub middle : SlotRows
+  pub taken : SlotsBecome ws middle (take 4 (slotsOf ws) a c)
+  pub slot : ℕ
+  pub inside : slot < slotCount
+  pub counted : vs ≡ cellPut middle (bucketOf a) ((cellAt middle (bucketOf a) / 256 + 1) * 256 + slot)
 
 -- the words after c was said of a, and the number of entries
 pub record Enters (ws : SlotRows) (a : ℕ) (c : ContentWords) (us : SlotRows) (n : ℕ) : Type 0 where

@@ -19,7 +19,7 @@ use Rattle.indexlet.specs.declared.Slot.{Slot as SlotWords}
 use Rattle.indexlet.specs.declared.Sought.{Sought}
 use Rattle.indexlet.specs.Words.{SlotRows, slotIn, rowAt, slotsOf}
 use Rattle.indexlet.specs.WordLaws.{slot-there}
-use Rattle.indexlet.specs.Promises.{soughtAt, soughtFrom, sought, Stands}
+use Rattle.indexlet.specs.Promises.{soughtAt, soughtFrom, sought}
 
 -- ---- the loop
 
@@ -149,25 +149,6 @@ pub search-ends : (ss : List Slot) (k : ℕ) → Ends ss k (sought ss k) (search
 unfolding sought search
 search-ends ss k = sought-ends ss k (homeSlot 4 k) slotCount 0
 
--- the place of the entry, where the search ends at a slot
-pub sought-stands : {ss : List Slot} {k : ℕ} {r : Sought} → Good 4 ss → r ≡ sought ss k → r .at < slotCount → Stands ss k (r .examined - 1)
-sought-stands {ss} {k} {r} good e b =
-    record {
-      place = p;
-      far =
-          let x : r .examined ≡ suc (gap (homeSlot 4 k) (r .at)) = sym (ends .examined) ∙ ap (λ (q : Searched). q .examined)
-          (search-place 4 ss k good p) in
-          omega arith;
-    }
-  where
-    ends : Ends ss k r (search 4 ss k)
-    ends = subst (λ (x : Sought). Ends ss k x (search 4 ss k)) (sym e) (search-ends ss k)
-
-    p : Place ss k
-    p =
-        let h = ends .hit b in
-        record { at = r .at; inside = let z : length ss ≡ slotCount = good .size in omega arith; content = h .0; here = h .1; own = h .2 }
-
 -- a search for an entry that stands there ends there
 pub sought-place : {ss : List Slot} {k : ℕ} → Good 4 ss → (p : Place ss k) → record { at = p .at; examined = suc (gap (homeSlot 4 k) (p .at)) } ≡ sought ss k
 sought-place {ss} {k} good p =
@@ -197,14 +178,6 @@ sought-place {ss} {k} good p =
         (only-here ss k (p .at) (sought ss k .at) (good .once k) (p .inside) (let b : sought ss k .at < slotCount = inside in let z : length ss ≡ slotCount = long in omega arith)
         (holds-yes k (getD ss (p .at) emptySlot) (p .content) (p .here) (p .own)) (same-false (p .at) (sought ss k .at) f)))
         (cases (same (p .at) (sought ss k .at)))
-
--- it has examined a slot at least
-pub sought-some : {ss : List Slot} (k : ℕ) {r : Sought} → Good 4 ss → r ≡ sought ss k → r .at < slotCount → 1 ≤ r .examined
-sought-some {ss} k {r} good e b =
-    let p : Place ss k = sought-stands good e b .place in
-    let ends : Ends ss k r (search 4 ss k) = subst (λ (x : Sought). Ends ss k x (search 4 ss k)) (sym e) (search-ends ss k) in
-    let x : r .examined ≡ suc (gap (homeSlot 4 k) (p .at)) = sym (ends .examined) ∙ ap (λ (q : Searched). q .examined) (search-place 4 ss k good p) in
-    omega arith
 
 pub sought-present : {ss : List Slot} (k : ℕ) {r : Sought} → Good 4 ss → r ≡ sought ss k → r .at < slotCount → present (look (entries ss) k) ≡ true
 sought-present {ss} k {r} good e b =

@@ -21,17 +21,19 @@ use Rattle.indexlet.specs.declared.Content.{Content as ContentWords}
 use Rattle.indexlet.specs.declared.Slot.{Slot as SlotWords}
 use Rattle.indexlet.specs.Words.{SlotRows, contentIn, slotIn, rowAt, store, slotsOf}
 use Rattle.indexlet.specs.WordLaws.{length-store, row-store-same, row-store-other, length-slots, slots-store, vacant-idle}
-use Rattle.indexlet.specs.Promises.{Sized, SlotsHeld, SlotsBecome, Stands}
+use Rattle.indexlet.specs.Filters.{FilterStays}
+use Rattle.indexlet.specs.FilterLaws.{store-stays, stays-on}
+use Rattle.indexlet.specs.Promises.{Narrow, Sized, SlotsHeld, SlotsBecome, Stands}
 use Rattle.indexlet.specs.SeekLaws.{examined-slot}
 
--- a stored row whose key is an address
-pub sized-store : (ws : SlotRows) (i : ℕ) (s : SlotWords) → Sized ws → i < slotCount → s .key < 2 ^ 32 → Sized (store ws i s)
+-- a stored row whose key is an address, if it has an entry
+pub sized-store : (ws : SlotRows) (i : ℕ) (s : SlotWords) → Sized ws → i < slotCount → Narrow s → Sized (store ws i s)
 sized-store ws i s z h n =
     record {
       size = length-store ws i s ∙ z .size;
       narrow = λ j q. ⊎-elim
-          (λ t. subst (λ (x : SlotWords). x .key < 2 ^ 32) (sym (ap (rowAt (store ws i s)) (same-true j i t) ∙ row-store-same ws i s (z .size) h)) n)
-          (λ t. subst (λ (x : SlotWords). x .key < 2 ^ 32) (sym (row-store-other ws i j s (same-false j i t))) (z .narrow j q))
+          (λ t. subst (λ (x : SlotWords). Narrow x) (sym (ap (rowAt (store ws i s)) (same-true j i t) ∙ row-store-same ws i s (z .size) h)) n)
+          (λ t. subst (λ (x : SlotWords). Narrow x) (sym (row-store-other ws i j s (same-false j i t))) (z .narrow j q))
           (cases (same j i));
     }
 
@@ -41,10 +43,11 @@ sized-store ws i s z h n =
 pub record Going (f : ℕ → ℕ) (old : SlotRows) (h : ℕ) (ws : SlotRows) (d : ℕ) : Type 0 where
   pub sized : Sized ws
   pub view : slotsOf ws ≡ countPassed f (slotsOf old) h d
+  pub stays : FilterStays old ws
 
 going-start : (f : ℕ → ℕ) (ws : SlotRows) (h : ℕ) → Sized ws → Going f ws h ws 0
 unfolding countPassed
-going-start f ws h z = record { sized = z; view = refl }
+going-start f ws h z = record { sized = z; view = refl; stays = record { rows = λ j b. refl } }
 
 module _ (f : ℕ → ℕ) (old : SlotRows) (h : ℕ) (ws : SlotRows) (d : ℕ) (g : Going f old h ws d) (hb : h < slotCount) (s : SlotWords) (e : s ≡ rowAt ws ((h + d) % slotCount)) where
   -- the row that is read is that of the slots at the start
@@ -54,8 +57,8 @@ module _ (f : ℕ → ℕ) (old : SlotRows) (h : ℕ) (ws : SlotRows) (d : ℕ) 
       ∙ ap (λ (l : List Slot). slotAt l (h + d)) (g .view)
       ∙ countPassed-ahead f (slotsOf old) h d (length-slots old) hb db
 
-  own-key : s .key < 2 ^ 32
-  own-key = subst (λ (x : SlotWords). x .key < 2 ^ 32) (sym e) (g .sized .narrow ((h + d) % slotCount) (omega arith))
+  own-key : Narrow s
+  own-key = subst (λ (x : SlotWords). Narrow x) (sym e) (g .sized .narrow ((h + d) % slotCount) (omega arith))
 
   -- one slot more has its count changed
   pub going-on : d < slotCount → (n : ℕ) → n ≡ f (s .overflow) → (us : SlotRows)
@@ -72,6 +75,7 @@ module _ (f : ℕ → ℕ) (old : SlotRows) (h : ℕ) (ws : SlotRows) (d : ℕ) 
             ∙ ap (λ (l : List Slot). set l i (counted f (slotAt l (h + d)))) (g .view)
             ∙ sym (countPassed-next f (slotsOf old) h d (length-slots old) hb db)
             ∙ ap (countPassed f (slotsOf old) h) (sym (add-one d));
+        stays = stays-on (g .stays) (subst (FilterStays ws) (sym u) (store-stays ws i new ib));
       }
     where
       i : ℕ
@@ -84,9 +88,9 @@ module _ (f : ℕ → ℕ) (old : SlotRows) (h : ℕ) (ws : SlotRows) (d : ℕ) 
       new = record { key = s .key; content = s .content; overflow = n }
 
   -- the slot that is reached says something else
-  going-ends : (k : ℕ) (c : ContentWords) → k < 2 ^ 32 → (us : SlotRows)
+  going-ends : (k : ℕ) (c : ContentWords) → (isIdle (contentIn c) ≡ false → k < 2 ^ 32) → (us : SlotRows)
       → us ≡ store ws ((h + d) % slotCount) (record { key = k; content = c; overflow = s .overflow })
-      → SlotsBecome us (withEntry (countPassed f (slotsOf old) h d) (h + d) (kept k (contentIn c)))
+      → SlotsBecome old us (withEntry (countPassed f (slotsOf old) h d) (h + d) (kept k (contentIn c)))
   unfolding withEntry setSlot slotIn
   going-ends k c kb us u =
       record {
@@ -96,6 +100,7 @@ module _ (f : ℕ → ℕ) (old : SlotRows) (h : ℕ) (ws : SlotRows) (d : ℕ) 
             ∙ slots-store ws i new (g .sized .size) ib
             ∙ ap (λ (x : Slot). set (slotsOf ws) i (record { entry = kept k (contentIn c); overflow = x .overflow })) (examined-slot ws (h + d) s e)
             ∙ ap (λ (l : List Slot). set l i (record { entry = kept k (contentIn c); overflow = slotAt l (h + d) .overflow })) (g .view);
+        stays = stays-on (g .stays) (subst (FilterStays ws) (sym u) (store-stays ws i new ib));
       }
     where
       i : ℕ
@@ -136,16 +141,16 @@ module _ (old : SlotRows) (a h : ℕ) (ws : SlotRows) (d : ℕ) (g : Taking old 
   -- the slot is empty
   pub take-ends : (c : ContentWords) → isIdle (contentIn (s .content)) ≡ true → isIdle (contentIn c) ≡ false → a < 2 ^ 32 → (us : SlotRows)
       → us ≡ store ws ((h + d) % slotCount) (record { key = a; content = c; overflow = s .overflow })
-      → SlotsBecome us (take 4 (slotsOf old) a (contentIn c))
+      → SlotsBecome old us (take 4 (slotsOf old) a (contentIn c))
   take-ends c t busy ab us u =
-      subst (SlotsBecome us)
+      subst (SlotsBecome old us)
       (ap (λ (o : Option (Row Content)). withEntry (countPassed suc (slotsOf old) h d) (h + d) o)
       (ap (λ (t : Bool). pick t none (some (row a (contentIn c)))) busy)
       ∙ ap (λ (n : ℕ). withEntry (countPassed suc (slotsOf old) n d) (n + d) (some (row a (contentIn c)))) (g .home)
       ∙ sym (take-at 4 (slotsOf old) a (contentIn c) d
       (ap (λ (n : ℕ). distance vacant (slotsOf old) n slotCount 0) (sym (g .home))
       ∙ distance-first vacant (slotsOf old) h slotCount 0 d first (let z : d < slotCount = db in omega arith))))
-      (going-ends suc old h ws d (g .going) home-small s e a c ab us u)
+      (going-ends suc old h ws d (g .going) home-small s e a c (λ t. ab) us u)
     where
       first : First vacant (slotsOf old) h 0 d
       first =
@@ -222,17 +227,17 @@ module _ (old : SlotRows) (a m h : ℕ) (ws : SlotRows) (d : ℕ) (z : SlotsHeld
       }
 
   -- all were passed, and the entry goes
-  pub release-ends : d ≡ m → (c : ContentWords) → isIdle (contentIn c) ≡ true → (us : SlotRows)
-      → us ≡ store ws ((h + d) % slotCount) (record { key = 0; content = c; overflow = s .overflow })
-      → SlotsBecome us (release 4 (slotsOf old) a)
-  release-ends q c t us u =
-      subst (SlotsBecome us)
+  pub release-ends : d ≡ m → (k : ℕ) (c : ContentWords) → isIdle (contentIn c) ≡ true → (us : SlotRows)
+      → us ≡ store ws ((h + d) % slotCount) (record { key = k; content = c; overflow = s .overflow })
+      → SlotsBecome old us (release 4 (slotsOf old) a)
+  release-ends q k c t us u =
+      subst (SlotsBecome old us)
       (ap (λ (o : Option (Row Content)). withEntry (countPassed pred (slotsOf old) h d) (h + d) o)
-      (ap (λ (t : Bool). pick t none (some (row 0 (contentIn c)))) t)
+      (ap (λ (t : Bool). pick t none (some (row k (contentIn c)))) t)
       ∙ ap (λ (n : ℕ). withEntry (countPassed pred (slotsOf old) n d) (n + d) none) (g .home)
       ∙ sym (release-at 4 (slotsOf old) a d
       (distance-first (holds a) (slotsOf old) (homeSlot 4 a) slotCount 0 d
       (subst (First (holds a) (slotsOf old) (homeSlot 4 a) 0) (r .far ∙ sym q)
       (distance-place (slotsOf old) a (homeSlot 4 a) (length-slots old) (home-less 4 a) (z .good .once a) (r .place)))
       (let y : d < slotCount = low in omega arith))))
-      (going-ends pred old h ws d (g .going) home-low s e 0 c (omega arith) us u)
+      (going-ends pred old h ws d (g .going) home-low s e k c (λ f. clash t f) us u)

@@ -18,6 +18,7 @@ use Rattle.spec.specs.Slots.{slotCount, Content, isIdle, emptySlot, slotAt, vac
 use Rattle.indexlet.specs.declared.Content.{Content as ContentWords}
 use Rattle.indexlet.specs.declared.Slot.{Slot as SlotWords}
 use Rattle.indexlet.specs.Words.{SlotRows, pendingIn, holderIn, contentIn, slotIn, rowIn, rowAt, wordsOf, store, slotsOf}
+use Rattle.indexlet.specs.Filters.{slotRows}
 
 -- ---- rows
 
@@ -25,7 +26,7 @@ pub length-store : (ts : SlotRows) (i : ℕ) (s : SlotWords) → length (store t
 length-store ts i s = length-set ts i (wordsOf s)
 
 -- the row that was stored
-pub row-store-same : (ts : SlotRows) (i : ℕ) (s : SlotWords) → length ts ≡ slotCount → i < slotCount → rowAt (store ts i s) i ≡ s
+pub row-store-same : (ts : SlotRows) (i : ℕ) (s : SlotWords) → length ts ≡ slotRows → i < slotCount → rowAt (store ts i s) i ≡ s
 row-store-same ts i s l h = ap rowIn (getD-set-same ts i (wordsOf s) [] (omega arith))
 
 -- and every other
@@ -48,7 +49,7 @@ unfolding slotAt
 slot-there ws i = slots-at ws (i % slotCount) (omega arith)
 
 -- a store of a row changes one slot
-pub slots-store : (ws : SlotRows) (i : ℕ) (s : SlotWords) → length ws ≡ slotCount → i < slotCount
+pub slots-store : (ws : SlotRows) (i : ℕ) (s : SlotWords) → length ws ≡ slotRows → i < slotCount
     → slotsOf (store ws i s) ≡ set (slotsOf ws) i (slotIn s)
 slots-store ws i s l h =
     ext-getD emptySlot (slotsOf (store ws i s)) (set (slotsOf ws) i (slotIn s))

@@ -1,5 +1,5 @@
--- How the indexlet's slots stand in rows of words: its key, the kind of the pending write, its value, its owner,
--- its commit number, the install since which it waits, the lock, whether that is for a put, the overflow count.
+-- How the indexlet's slots stand in rows of words: its key, the overflow count, the kind of the pending write, the lock, whether
+-- that is for a put, the write's value, its owner, its commit number, the install since which it waits.
 use Prim.Native.Nat.{ℕ, zero, suc}
 use mathlib.Core.List.{List, [], _∷_}
 use mathlib.Core.Option.{Option, none, some}
@@ -52,14 +52,14 @@ rowIn ws =
       key = getD ws 0 0;
       content =
           record {
-            kind = getD ws 1 0;
-            payload = record { value = getD ws 2 0; owner = getD ws 3 0 };
-            commit = getD ws 4 0;
-            since = getD ws 5 0;
-            lock = getD ws 6 0;
-            forput = getD ws 7 0;
+            kind = getD ws 2 0;
+            payload = record { value = getD ws 5 0; owner = getD ws 6 0 };
+            commit = getD ws 7 0;
+            since = getD ws 8 0;
+            lock = getD ws 3 0;
+            forput = getD ws 4 0;
           };
-      overflow = getD ws 8 0;
+      overflow = getD ws 1 0;
     }
 
 -- the row of slot i
@@ -69,8 +69,8 @@ rowAt ts i = rowIn (getD ts i [])
 -- the words of a row
 abbrev pub wordsOf : SlotWords → List ℕ
 wordsOf s =
-    s .key ∷ s .content .kind ∷ s .content .payload .value ∷ s .content .payload .owner ∷ s .content .commit ∷ s .content .since ∷ s .content .lock ∷ s .content .forput
-    ∷ s .overflow ∷ []
+    s .key ∷ s .overflow ∷ s .content .kind ∷ s .content .lock ∷ s .content .forput ∷ s .content .payload .value ∷ s .content .payload .owner ∷ s .content .commit
+    ∷ s .content .since ∷ []
 
 -- the rows with another one at slot i
 abbrev pub store : SlotRows → ℕ → SlotWords → SlotRows

@@ -1,24 +1,35 @@
-// The indexlet: 256 slots in lent rows. A row of words is a slot: its key, what is said of the key, its overflow count.
+// The indexlet: 256 slots in lent rows. A row of words is a slot: its key, its overflow count, what is said of the key. Behind the
+// slots is a filter, which tells at once of most addresses that they have no entry, and of others where it is.
 // The promises speak of the model's slots (`slotsOf`, which reads the words) and of what the model does to them.
+use spec::ADDRESSES;
 use spec::Address;
 use spec::PayloadWords;
 ghost use mathlib.Core.Path.{_≡_};
 ghost use mathlib.Core.Bool.{true, false};
-ghost use Prim.Native.Nat.{_<_};
+ghost use Prim.Native.Nat.{_+_, _-_, _*_, _/_, _<_, _≤_};
 ghost use lib.ListN.{length, getD};
 ghost use Rattle.spec.specs.Slots.{slotCount, tableEntry, homeSlot, isIdle, holds, emptySlot, entries};
 ghost use Rattle.spec.specs.Slots as model;
+ghost use Rattle.laws.specs.Probes.{gap};
 ghost use Rattle.laws.specs.SlotLaws.{Room};
 ghost use Rattle.indexlet.specs.Words.{contentIn, slotIn, rowAt, store, slotsOf};
-ghost use Rattle.indexlet.specs.Promises.{SlotsHeld, SlotsBecome, SlotsFresh, IsSlot, Looks, Enters, Stands, sought};
+ghost use Rattle.indexlet.specs.Filters.{bucketCount, bucketOf, cellAt, cellPut};
+ghost use Rattle.indexlet.specs.Promises.{SlotsHeld, SlotsBecome, SlotsFresh, IsSlot, Looks, foundAt, Finds, TakenOut, TakenIn, Enters, Stands, sought};
 
 // How many slots there are, and how many words a slot has.
 pub const SLOTS: usize = 256;
 
 pub const SLOT_WORDS: usize = 9;
 
-// The slots, a row each.
-pub type Slots = [[u64; SLOT_WORDS]; SLOTS];
+// How many buckets the filter has, and how many of their cells stand in a row.
+const BUCKETS: usize = 2048;
+
+const ROW_CELLS: usize = 8;
+
+// The slots, a row each, and the rows of the filter behind them.
+pub const SLOT_ROWS: usize = SLOTS + BUCKETS / ROW_CELLS;
+
+pub type Slots = [[u64; SLOT_WORDS]; SLOT_ROWS];
 
 // What is said of a key: a pending write (kind 0: none, 1: a put, else a deletion), what it gives and its commit number, the
 // install since which the key waits, the lock (0: free, else its holder and one more), and whether the lock is for a put (1) or not.
@@ -38,11 +49,15 @@ pub struct Slot {
     pub overflow: u64,
 }
 
-// What a search finds: what is said of the address, how many slots the search examined, and where it ended: at the slot with
-// the entry, or at 256.
+// What a search finds: what is said of the address, and how many slots the search examined.
 pub struct Looked {
     pub content: Content,
     pub examined: usize,
+}
+
+// What is said of an address, and the slot of its entry, or 256.
+pub struct Found {
+    pub content: Content,
     pub at: usize,
 }
 
@@ -94,27 +109,27 @@ fn holds_key(s: Slot, a: Address) -> bool
     !idle(c)
 }
 
-// The row of slot i. Only this function and the next touch words.
+// The row of slot i. Only this function, the next, and the two of cells touch words.
 fn get(t: &Slots, i: usize) -> Slot
     requires { ⌜ i < slotCount ⌝ }
     ensures { λ r. ⌜ r ≡ rowAt (now (t .entry)) i ⌝ }
 {
     let payload = PayloadWords {
-        value: t[i][2],
-        owner: t[i][3],
+        value: t[i][5],
+        owner: t[i][6],
     };
     let content = Content {
-        kind: t[i][1],
+        kind: t[i][2],
         payload,
-        commit: t[i][4],
-        since: t[i][5],
-        lock: t[i][6],
-        forput: t[i][7],
+        commit: t[i][7],
+        since: t[i][8],
+        lock: t[i][3],
+        forput: t[i][4],
     };
     Slot {
         key: t[i][0],
         content,
-        overflow: t[i][8],
+        overflow: t[i][1],
     }
 }
 
@@ -127,25 +142,69 @@ fn put(t: &mut Slots, i: usize, s: Slot)
     let v = c.payload;
     let row = [
         s.key,
+        s.overflow,
         c.kind,
+        c.lock,
+        c.forput,
         v.value,
         v.owner,
         c.commit,
         c.since,
-        c.lock,
-        c.forput,
-        s.overflow,
     ];
     t[i] = row;
 }
 
-// All slots are empty.
+// All slots are empty. The key of an empty one is no address, so that a walk over the slots passes it by its key alone; in the
+// filter's rows that word is not used.
 pub fn fresh_slots(t: &mut Slots)
     ensures { λ _. ⌜ SlotsFresh (now (t .exit)) ⌝ }
 {
-    let empty = [0; SLOT_WORDS];
-    let slots = [empty; SLOTS];
+    let empty = [ADDRESSES, 0, 0, 0, 0, 0, 0, 0, 0];
+    let slots = [empty; SLOT_ROWS];
     *t = slots;
+}
+
+// The bucket of an address.
+fn bucket(a: Address) -> usize
+    ensures { λ r. ⌜ r ≡ bucketOf a ⌝ }
+{
+    (a as u64 * 2654435769 / 2097152 % 2048) as usize
+}
+
+// The cell of a bucket: 256 for each of its entries, and the slot that the newest of them took.
+fn cell(t: &Slots, b: usize) -> u64
+    requires { ⌜ b < bucketCount ⌝ }
+    ensures { λ r. ⌜ r ≡ cellAt (now (t .entry)) b ⌝ }
+{
+    t[SLOTS + b / ROW_CELLS][b % ROW_CELLS + 1]
+}
+
+// Another cell.
+fn put_cell(t: &mut Slots, b: usize, w: u64)
+    requires { ⌜ b < bucketCount ⌝ }
+    ensures { λ _. ⌜ now (t .exit) ≡ cellPut (now (t .entry)) b w ⌝ }
+{
+    t[SLOTS + b / ROW_CELLS][b % ROW_CELLS + 1] = w;
+}
+
+// The bucket of an address has one entry more, in slot i.
+fn count_in(t: &mut Slots, a: Address, i: usize)
+    requires { ⌜ (i < slotCount) × (cellAt (now t) (bucketOf a) / 256 ≤ slotCount) ⌝ }
+    ensures { λ _. ⌜ now (t .exit) ≡ cellPut (now (t .entry)) (bucketOf a) ((cellAt (now (t .entry)) (bucketOf a) / 256 + 1) * 256 + i) ⌝ }
+{
+    let b = bucket(a);
+    let w = cell(t, b);
+    put_cell(t, b, (w / 256 + 1) * 256 + i as u64);
+}
+
+// It has one less.
+fn count_out(t: &mut Slots, a: Address)
+    requires { ⌜ 256 ≤ cellAt (now t) (bucketOf a) ⌝ }
+    ensures { λ _. ⌜ now (t .exit) ≡ cellPut (now (t .entry)) (bucketOf a) (cellAt (now (t .entry)) (bucketOf a) - 256) ⌝ }
+{
+    let b = bucket(a);
+    let w = cell(t, b);
+    put_cell(t, b, w - 256);
 }
 
 // The row of slot i, for a walk over the slots.
@@ -186,22 +245,14 @@ fn seek(t: &Slots, a: Address, h: usize) -> Sought
     }
 }
 
-// What is said of an address, and how many slots the search for it examined.
-pub fn look_up(t: &Slots, a: Address) -> Looked
-    requires { ⌜ SlotsHeld (now t) ⌝ }
-    ensures { λ r. ⌜ Looks (now (t .entry)) a r ⌝ }
+// The entry in a slot, or that there is none.
+fn found_in(t: &Slots, at: usize) -> Found
+    ensures { λ r. ⌜ r ≡ foundAt (now (t .entry)) at ⌝ }
 {
-    let h = home(a);
-    let f = seek(t, a, h);
-    let at = f.at;
     if at < SLOTS {
         let s = get(t, at);
         let content = s.content;
-        return Looked {
-            content,
-            examined: f.examined,
-            at,
-        };
+        return Found { content, at };
     }
     let payload = PayloadWords { value: 0, owner: 0 };
     let content = Content {
@@ -212,36 +263,76 @@ pub fn look_up(t: &Slots, a: Address) -> Looked
         lock: 0,
         forput: 0,
     };
-    Looked {
-        content,
-        examined: f.examined,
-        at,
+    Found { content, at }
+}
+
+// What is said of an address. The filter tells of most addresses without an entry that they have none, and of most entries
+// where they are; else the slots are searched.
+pub fn find(t: &Slots, a: Address) -> Found
+    requires { ⌜ SlotsHeld (now t) ⌝ }
+    ensures { λ r. ⌜ Finds (now (t .entry)) a r ⌝ }
+{
+    let b = bucket(a);
+    let w = cell(t, b);
+    if w < 256 {
+        return found_in(t, SLOTS);
     }
+    let j = (w % 256) as usize;
+    let s = get(t, j);
+    if holds_key(s, a) {
+        return found_in(t, j);
+    }
+    let h = home(a);
+    let f = seek(t, a, h);
+    found_in(t, f.at)
 }
 
 // The same of an address whose entry stands in slot j: nothing is searched.
-pub fn found_at(t: &Slots, a: Address, j: usize) -> Looked
+pub fn found_at(t: &Slots, a: Address, j: usize) -> Found
     requires { ⌜ SlotsHeld (now t) ⌝ }
     requires { ⌜ (j < slotCount) × (holds a (getD (slotsOf (now t)) j emptySlot) ≡ true) ⌝ }
+    ensures { λ r. ⌜ Finds (now (t .entry)) a r ⌝ }
+{
+    found_in(t, j)
+}
+
+// How many slots lie between the home slot h and slot j.
+fn passed(h: usize, j: usize) -> usize
+    requires { ⌜ (h < slotCount) × (j < slotCount) ⌝ }
+    ensures { λ r. ⌜ r ≡ gap h j ⌝ }
+{
+    (j + (SLOTS - h)) % SLOTS
+}
+
+// What is said of an address, and how many slots a search for it examines.
+pub fn look_up(t: &Slots, a: Address) -> Looked
+    requires { ⌜ SlotsHeld (now t) ⌝ }
     ensures { λ r. ⌜ Looks (now (t .entry)) a r ⌝ }
 {
+    let f = find(t, a);
+    let content = f.content;
+    let at = f.at;
     let h = home(a);
-    let s = get(t, j);
-    let content = s.content;
+    if at < SLOTS {
+        return Looked {
+            content,
+            examined: passed(h, at) + 1,
+        };
+    }
+    let r = seek(t, a, h);
     Looked {
         content,
-        examined: (j + (SLOTS - h)) % SLOTS + 1,
-        at: j,
+        examined: r.examined,
     }
 }
 
-// A new entry takes the first empty slot from the home slot h, and each slot passed adds one.
-fn take(t: &mut Slots, a: Address, h: usize, c: Content)
+// A new entry takes the first empty slot from the home slot h, and each slot passed adds one. Answers the slot.
+fn take(t: &mut Slots, a: Address, h: usize, c: Content) -> usize
     requires { ⌜ SlotsHeld (now t) ⌝ }
     requires { ⌜ h ≡ homeSlot 4 a ⌝ }
     requires { ⌜ length (entries (slotsOf (now t))) < slotCount ⌝ }
     requires { ⌜ isIdle (contentIn c) ≡ false ⌝ }
-    ensures { λ _. ⌜ SlotsBecome (now (t .exit)) (model.take 4 (slotsOf (now (t .entry))) a (contentIn c)) ⌝ }
+    ensures { λ r. ⌜ (SlotsBecome (now (t .entry)) (now (t .exit)) (model.take 4 (slotsOf (now (t .entry))) a (contentIn c))) × (r < slotCount) ⌝ }
 {
     let mut d = 0;
     while d < SLOTS {
@@ -255,7 +346,7 @@ fn take(t: &mut Slots, a: Address, h: usize, c: Content)
                 overflow: s.overflow,
             };
             put(t, i, own);
-            return;
+            return i;
         }
         let more = Slot {
             key: s.key,
@@ -265,15 +356,16 @@ fn take(t: &mut Slots, a: Address, h: usize, c: Content)
         put(t, i, more);
         d += 1;
     }
+    0
 }
 
 // The entry of an address, which stands `passed` slots after the home slot h, is taken out, and each slot passed subtracts
-// one. Its key goes too, so that a later search for it is not led to look further here.
+// one. Its key goes too, so that a search for it or a walk is not led to look further here.
 fn release(t: &mut Slots, a: Address, h: usize, passed: usize)
     requires { ⌜ SlotsHeld (now t) ⌝ }
     requires { ⌜ h ≡ homeSlot 4 a ⌝ }
     requires { ⌜ Stands (slotsOf (now t)) a passed ⌝ }
-    ensures { λ _. ⌜ SlotsBecome (now (t .exit)) (model.release 4 (slotsOf (now (t .entry))) a) ⌝ }
+    ensures { λ _. ⌜ SlotsBecome (now (t .entry)) (now (t .exit)) (model.release 4 (slotsOf (now (t .entry))) a) ⌝ }
 {
     let mut d = 0;
     while d < passed {
@@ -300,27 +392,49 @@ fn release(t: &mut Slots, a: Address, h: usize, passed: usize)
         forput: 0,
     };
     let none = Slot {
-        key: 0,
+        key: ADDRESSES,
         content: nothing,
         overflow: s.overflow,
     };
     put(t, i, none);
 }
 
-// `c` is said of the address, which was looked up: its entry is written, taken or taken out. `n` is the number of entries; the
+// The entry of the address, in slot `at`, is taken out, and its bucket has one less.
+fn take_out(t: &mut Slots, a: Address, at: usize)
+    requires { ⌜ SlotsHeld (now t) ⌝ }
+    requires { ⌜ (at < slotCount) × (holds a (getD (slotsOf (now t)) at emptySlot) ≡ true) ⌝ }
+    ensures { λ _. ⌜ TakenOut (now (t .entry)) a (now (t .exit)) ⌝ }
+{
+    let h = home(a);
+    let n = passed(h, at);
+    release(t, a, h, n);
+    count_out(t, a);
+}
+
+// The address, which has no entry, gets one, and its bucket has one more.
+fn take_in(t: &mut Slots, a: Address, c: Content)
+    requires { ⌜ SlotsHeld (now t) ⌝ }
+    requires { ⌜ (length (entries (slotsOf (now t))) < slotCount) × (isIdle (contentIn c) ≡ false) ⌝ }
+    ensures { λ _. ⌜ TakenIn (now (t .entry)) a (contentIn c) (now (t .exit)) ⌝ }
+{
+    let h = home(a);
+    let i = take(t, a, h, c);
+    count_in(t, a, i);
+}
+
+// `c` is said of the address, of which `f` was found: its entry is written, taken or taken out. `n` is the number of entries; the
 // new number is returned.
-pub fn enter(t: &mut Slots, n: usize, a: Address, f: Looked, c: Content) -> usize
+pub fn enter(t: &mut Slots, n: usize, a: Address, f: Found, c: Content) -> usize
     requires { ⌜ SlotsHeld (now t) ⌝ }
     requires { ⌜ n ≡ length (entries (slotsOf (now t))) ⌝ }
     requires { ⌜ Room (slotsOf (now t)) a (contentIn c) ⌝ }
-    requires { ⌜ Looks (now t) a f ⌝ }
+    requires { ⌜ Finds (now t) a f ⌝ }
     ensures { λ r. ⌜ Enters (now (t .entry)) a c (now (t .exit)) r ⌝ }
 {
-    let h = home(a);
     let at = f.at;
     if idle(c) {
         if at < SLOTS {
-            release(t, a, h, f.examined - 1);
+            take_out(t, a, at);
             return n - 1;
         }
         return n;
@@ -335,6 +449,6 @@ pub fn enter(t: &mut Slots, n: usize, a: Address, f: Looked, c: Content) -> usiz
         put(t, at, own);
         return n;
     }
-    take(t, a, h, c);
+    take_in(t, a, c);
     n + 1
 }

@@ -275,7 +275,7 @@ sum-entries f (s ∷ ss) =
     (options (s .entry))
 
 -- a sum over the entries changes by what the entry of k counted for and counts for now
-sum-enter : {bytes : ℕ} {ss : List Slot} {k : ℕ} {c : Content} → Good bytes ss → Room ss k c → (f : Row Content → ℕ)
+pub sum-enter : {bytes : ℕ} {ss : List Slot} {k : ℕ} {c : Content} → Good bytes ss → Room ss k c → (f : Row Content → ℕ)
     → total (λ (i : ℕ). f) (entries (enter bytes ss k c)) + weigh f k (contentOf ss k) ≡ total (λ (i : ℕ). f) (entries ss) + weigh f k c
 unfolding Entering
 sum-enter {bytes} {ss} {k} {c} good room f = ⊎-elim changed unchanged (entering good room)

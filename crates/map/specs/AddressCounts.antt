@@ -1,6 +1,6 @@
 -- How many different addresses the index, the indexlet and a write set have together: the records, the entries that lie
 -- outside of the index, and the addresses of the write set that are new.
-use Prim.Native.Nat.{ℕ, zero, suc, _+_, _^_, _<_, _≤_, zero-le, suc-le-suc}
+use Prim.Native.Nat.{ℕ, _+_, _^_, _<_, _≤_, zero-le, suc-le-suc}
 use native.Mathlib.Nat.{le-trans, le-step, le-antisymm, le-of-eq}
 use native.Mathlib.Omega.{arith}
 use mathlib.Core.Path.{_≡_, refl, sym, ap, _∙_}
@@ -77,7 +77,7 @@ module _ (xs ys : List ℕ) (p : ℕ → Bool) (dx : Different xs) (dy : Differe
       different-append xs (filter p ys) dx (different-filter p ys dy)
       (λ k t. not-true (λ u. clash (filter-has p k ys u .1) (lacks k ∙ ap not t)))
 
-  joined-count : distinct (xs ++ ys) ≡ length xs + length (filter p ys)
+  pub joined-count : distinct (xs ++ ys) ≡ length xs + length (filter p ys)
   joined-count =
       same-distinct (xs ++ ys) (xs ++ filter p ys) inside outside
       ∙ different-count (xs ++ filter p ys) fresh-parts
@@ -192,7 +192,7 @@ unfolding keys
 keys-first e es = refl
 
 -- the addresses with an entry that the index lacks, counted
-outside-length : (m : MapState) (ss : List Slot) → length (filter (lacking (m .records)) (keys (entries ss))) ≡ howMany (outsideAny m) ss
+pub outside-length : (m : MapState) (ss : List Slot) → length (filter (lacking (m .records)) (keys (entries ss))) ≡ howMany (outsideAny m) ss
 outside-length m [] = unfold howMany tally total entries keys filter in refl
 outside-length m (s ∷ ss) = ⊎-elim (idle (outside-length m ss)) (busy (outside-length m ss)) (options (s .entry))
   where

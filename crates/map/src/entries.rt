@@ -107,7 +107,7 @@ fn adjust(leaves: &mut Leaves, t: Change)
     leaves::put_leaf(leaves, at, changed);
 }
 
-// Where nothing of the entry changes that counts, the index is not searched.
+// Where nothing of the entry changes that counts, the index is not searched. The leaf at place `near` is tried first.
 fn terms(
     rows: &Records,
     leaves: &Leaves,
@@ -115,12 +115,13 @@ fn terms(
     a: Address,
     old: indexlet::Content,
     c: indexlet::Content,
+    near: usize,
 ) -> Change
     requires { ⌜ index.RecordsSorted (now rows) (z .records) ⌝ }
     requires { ⌜ Listed (lowsOf (now leaves)) (z .leaves) ⌝ }
     ensures { λ r. ⌜ Terms (contentIn old) (now (rows .entry)) (lowsOf (now (leaves .entry))) z a (contentIn c) r ⌝ }
 {
-    let at = leaves::find_leaf(leaves, z.leaves, a);
+    let at = leaves::find_near(leaves, z.leaves, a, near);
     let pend = recount::waits(c);
     let unpend = recount::waits(old);
     if still(old, c) {
@@ -146,7 +147,14 @@ fn terms(
     }
 }
 
-// `c` is said of the address, where `found` was; the phantomlet's two numbers of its leaf change with it. Answers the sizes.
+// The sizes after a change, and the place of the leaf that was changed: where to look first for the next address.
+pub struct Placed {
+    pub sizes: Sizes,
+    pub at: usize,
+}
+
+// `c` is said of the address, where `found` was; the phantomlet's two numbers of its leaf, which is looked for at place
+// `near` first, change with it.
 pub fn set_content(
     leaves: &mut Leaves,
     slots: &mut Slots,
@@ -154,22 +162,24 @@ pub fn set_content(
     z: Sizes,
     k: Counters,
     a: Address,
-    found: indexlet::Looked,
+    found: indexlet::Found,
     c: indexlet::Content,
-) -> Sizes
+    near: usize,
+) -> Placed
     requires { ⌜ Tables (lent (now rows) (now leaves) (now slots)) z (k .version) ⌝ }
-    requires { ⌜ indexlet.Looks (now slots) a found ⌝ }
+    requires { ⌜ indexlet.Finds (now slots) a found ⌝ }
     requires { ⌜ Room (slotsOf (now slots)) a (contentIn c) ⌝ }
-    ensures { λ r. ⌜ ContentSet (lent (now (rows .entry)) (now (leaves .entry)) (now (slots .entry))) (lent (now (rows .entry)) (now (leaves .exit)) (now (slots .exit))) z r (k .version) (enter 4 (slotsOf (now (slots .entry))) a (contentIn c)) ⌝ }
+    ensures { λ r. ⌜ ContentSet (lent (now (rows .entry)) (now (leaves .entry)) (now (slots .entry))) (lent (now (rows .entry)) (now (leaves .exit)) (now (slots .exit))) z (r .sizes) (k .version) (enter 4 (slotsOf (now (slots .entry))) a (contentIn c)) ⌝ }
 {
     let old = found.content;
-    let t = terms(rows, leaves, z, a, old, c);
+    let t = terms(rows, leaves, z, a, old, c, near);
     adjust(leaves, t);
     let entries = indexlet::enter(slots, z.entries, a, found, c);
-    Sizes {
+    let sizes = Sizes {
         records: z.records,
         leaves: z.leaves,
         entries,
         outside: z.outside + t.join as usize - t.leave as usize,
-    }
+    };
+    Placed { sizes, at: t.at }
 }

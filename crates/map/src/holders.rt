@@ -23,7 +23,7 @@ pub fn locked_by_other(slots: &Slots, a: Address, w: u64) -> bool
     requires { ⌜ indexlet.SlotsHeld (now slots) ⌝ }
     ensures { λ r. ⌜ r ≡ heldByOther w (contentOf (slotsOf (now (slots .entry))) a) ⌝ }
 {
-    let found = indexlet::look_up(slots, a);
+    let found = indexlet::find(slots, a);
     let c = found.content;
     by_other(c, w)
 }

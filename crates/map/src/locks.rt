@@ -4,6 +4,7 @@ use crate::Records;
 use crate::Sizes;
 use crate::Slots;
 use crate::entries;
+use crate::entries::Placed;
 use crate::holders;
 use counters::Counters;
 use phantomlet::recount;
@@ -109,18 +110,19 @@ fn lock_one(
     n: usize,
     i: usize,
     w: u64,
-) -> Sizes
+    near: usize,
+) -> Placed
     requires { ⌜ Tables (lent (now rows) (now leaves) (now slots)) z (k .version) ⌝ }
     requires { ⌜ Writing (now ws) n ⌝ }
     requires { ⌜ (i < n) × (w + 1 < 2 ^ 64) × (length (entries (slotsOf (now slots))) < slotCount) ⌝ }
-    ensures { λ r. ⌜ ContentSet (lent (now (rows .entry)) (now (leaves .entry)) (now (slots .entry))) (lent (now (rows .entry)) (now (leaves .exit)) (now (slots .exit))) z r (k .version) (lockRow 4 w (slotsOf (now (slots .entry))) (writeAt (now (ws .entry)) i)) ⌝ }
+    ensures { λ r. ⌜ ContentSet (lent (now (rows .entry)) (now (leaves .entry)) (now (slots .entry))) (lent (now (rows .entry)) (now (leaves .exit)) (now (slots .exit))) z (r .sizes) (k .version) (lockRow 4 w (slotsOf (now (slots .entry))) (writeAt (now (ws .entry)) i)) ⌝ }
 {
     let row = writes::write_at(ws, i);
     let a = row.address;
-    let found = indexlet::look_up(slots, a);
+    let found = indexlet::find(slots, a);
     let old = found.content;
     let c = with_lock(old, w + 1, row.kind);
-    entries::set_content(leaves, slots, rows, z, k, a, found, c)
+    entries::set_content(leaves, slots, rows, z, k, a, found, c, near)
 }
 
 // Worker w's lock on the address in row i goes, if w has it.
@@ -134,20 +136,21 @@ fn unlock_one(
     n: usize,
     i: usize,
     w: u64,
-) -> Sizes
+    near: usize,
+) -> Placed
     requires { ⌜ Tables (lent (now rows) (now leaves) (now slots)) z (k .version) ⌝ }
     requires { ⌜ Writing (now ws) n ⌝ }
     requires { ⌜ i < n ⌝ }
-    ensures { λ r. ⌜ ContentSet (lent (now (rows .entry)) (now (leaves .entry)) (now (slots .entry))) (lent (now (rows .entry)) (now (leaves .exit)) (now (slots .exit))) z r (k .version) (unlockKey 4 w (slotsOf (now (slots .entry))) (writeAt (now (ws .entry)) i .key)) ⌝ }
+    ensures { λ r. ⌜ ContentSet (lent (now (rows .entry)) (now (leaves .entry)) (now (slots .entry))) (lent (now (rows .entry)) (now (leaves .exit)) (now (slots .exit))) z (r .sizes) (k .version) (unlockKey 4 w (slotsOf (now (slots .entry))) (writeAt (now (ws .entry)) i .key)) ⌝ }
 {
     let a = key_at(ws, n, i);
-    let found = indexlet::look_up(slots, a);
+    let found = indexlet::find(slots, a);
     let old = found.content;
     if by_own(old, w) {
         let c = with_lock(old, 0, 0);
-        return entries::set_content(leaves, slots, rows, z, k, a, found, c);
+        return entries::set_content(leaves, slots, rows, z, k, a, found, c, near);
     }
-    z
+    Placed { sizes: z, at: near }
 }
 
 // The kind of a pending write: a put or a deletion.
@@ -198,18 +201,19 @@ fn install_one(
     i: usize,
     number: u64,
     t: u64,
-) -> Sizes
+    near: usize,
+) -> Placed
     requires { ⌜ Tables (lent (now rows) (now leaves) (now slots)) z (k .version) ⌝ }
     requires { ⌜ Writing (now ws) n ⌝ }
     requires { ⌜ (i < n) × (isIdle (contentOf (slotsOf (now slots)) (writeAt (now ws) i .key)) ≡ false) ⌝ }
-    ensures { λ r. ⌜ ContentSet (lent (now (rows .entry)) (now (leaves .entry)) (now (slots .entry))) (lent (now (rows .entry)) (now (leaves .exit)) (now (slots .exit))) z r (k .version) (installRow 4 number t (slotsOf (now (slots .entry))) (writeAt (now (ws .entry)) i)) ⌝ }
+    ensures { λ r. ⌜ ContentSet (lent (now (rows .entry)) (now (leaves .entry)) (now (slots .entry))) (lent (now (rows .entry)) (now (leaves .exit)) (now (slots .exit))) z (r .sizes) (k .version) (installRow 4 number t (slotsOf (now (slots .entry))) (writeAt (now (ws .entry)) i)) ⌝ }
 {
     let row = writes::write_at(ws, i);
     let a = row.address;
-    let found = indexlet::look_up(slots, a);
+    let found = indexlet::find(slots, a);
     let old = found.content;
     let c = installed(row, number, t, old);
-    entries::set_content(leaves, slots, rows, z, k, a, found, c)
+    entries::set_content(leaves, slots, rows, z, k, a, found, c, near)
 }
 
 // Worker w locks the addresses of the write set, by rising address. The tests of refusals 9 to 11 come before.
@@ -230,9 +234,13 @@ pub fn lock_all(
     ensures { λ r. ⌜ MapBecomes (lent (now (rows .entry)) (now (leaves .exit)) (now (slots .exit))) r (k .version) (lockAll standard w (mapOf (lent (now (rows .entry)) (now (leaves .entry)) (now (slots .entry))) z) (writesOf (now (ws .entry)) n)) ⌝ }
 {
     let mut sizes = z;
+    let mut near = 0;
     let mut i = 0;
     while i < n {
-        sizes = lock_one(leaves, slots, rows, ws, sizes, k, n, i, w);
+        let placed = lock_one(leaves, slots, rows, ws, sizes, k, n, i, w, near);
+        let changed = placed.sizes;
+        sizes = changed;
+        near = placed.at;
         i += 1;
     }
     sizes
@@ -254,9 +262,13 @@ pub fn unlock_all(
     ensures { λ r. ⌜ MapBecomes (lent (now (rows .entry)) (now (leaves .exit)) (now (slots .exit))) r (k .version) (unlockAll standard w (mapOf (lent (now (rows .entry)) (now (leaves .entry)) (now (slots .entry))) z) (keys (writesOf (now (ws .entry)) n))) ⌝ }
 {
     let mut sizes = z;
+    let mut near = 0;
     let mut i = 0;
     while i < n {
-        sizes = unlock_one(leaves, slots, rows, ws, sizes, k, n, i, w);
+        let placed = unlock_one(leaves, slots, rows, ws, sizes, k, n, i, w, near);
+        let changed = placed.sizes;
+        sizes = changed;
+        near = placed.at;
         i += 1;
     }
     sizes
@@ -280,9 +292,13 @@ pub fn install_all(
     ensures { λ r. ⌜ MapBecomes (lent (now (rows .entry)) (now (leaves .exit)) (now (slots .exit))) r (k .version) (installAll standard number t (mapOf (lent (now (rows .entry)) (now (leaves .entry)) (now (slots .entry))) z) (writesOf (now (ws .entry)) n)) ⌝ }
 {
     let mut sizes = z;
+    let mut near = 0;
     let mut i = 0;
     while i < n {
-        sizes = install_one(leaves, slots, rows, ws, sizes, k, n, i, number, t);
+        let placed = install_one(leaves, slots, rows, ws, sizes, k, n, i, number, t, near);
+        let changed = placed.sizes;
+        sizes = changed;
+        near = placed.at;
         i += 1;
     }
     sizes
@@ -296,7 +312,7 @@ fn entryless_at(slots: &Slots, ws: &WriteSet, n: usize, i: usize) -> usize
     ensures { λ r. ⌜ r ≡ pick (entryless (now (slots .entry)) (writeAt (now (ws .entry)) i .key)) 1 0 ⌝ }
 {
     let a = key_at(ws, n, i);
-    let found = indexlet::look_up(slots, a);
+    let found = indexlet::find(slots, a);
     let c = found.content;
     if indexlet::idle(c) {
         return 1;

@@ -5,8 +5,8 @@ use console::session::Session;
 use index::LEAF_WORDS;
 use index::LEAVES;
 use index::RECORD_WORDS;
+use indexlet::SLOT_ROWS;
 use indexlet::SLOT_WORDS;
-use indexlet::SLOTS;
 use libc::STDIN_FILENO;
 use libc::STDOUT_FILENO;
 use map::Leaves;
@@ -164,7 +164,7 @@ fn main() {
     let mut out = io::large_buffer();
     let mut rows = [[0u64; RECORD_WORDS]; MAP_LIMIT];
     let mut leaves = [[0u64; LEAF_WORDS]; LEAVES];
-    let mut slots = [[0u64; SLOT_WORDS]; SLOTS];
+    let mut slots = [[0u64; SLOT_WORDS]; SLOT_ROWS];
     let mut reads = [[[0u64; READ_WORDS]; READ_LIMIT]; WORKERS];
     let mut leafsets = [[[0u64; LEAF_SET_WORDS]; LEAF_SET_LIMIT]; WORKERS];
     let mut writes = [[[0u64; WRITE_WORDS]; WRITE_LIMIT]; WORKERS];

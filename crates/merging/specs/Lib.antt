@@ -1,4 +1,5 @@
 pub mod MergeWalks
+pub mod MergeSpans
 pub mod MergeShortcuts
 pub mod MergeSettles
 pub mod MergeKeeps

@@ -7,7 +7,7 @@ use mathlib.Core.List.{List, [], _∷_, map, List·Memᴰ, List·Memᴰ·head, L
 use mathlib.Core.Option.{some}
 use lib.ListN.{length, take, getD}
 use lib.Seq.{length-take-le, getD-take}
-use Rattle.lists.specs.Rows.{Row, row, keys, has}
+use Rattle.lists.specs.Rows.{Row, keys, has}
 use Rattle.lists.specs.Ascending.{mem-getD, mem-keys, keys-mem}
 use Rattle.lists.specs.Memberships.{member-has, has-member}
 use Rattle.lists.specs.Shifts.{getD-tab}
@@ -24,7 +24,6 @@ use Rattle.index.specs.Views.{leafPlaces, noRow, recordsOf, leavesOf}
 use Rattle.index.specs.Views as index
 use Rattle.index.specs.ViewLaws.{length-records, record-at}
 use Rattle.index.specs.LeafViews.{paired-getD}
-use Rattle.map.specs.MapHeld.{MapHeld}
 use Rattle.phantomlet.specs.LeafTests.{lows-are}
 use Rattle.map.specs.Views.{SlotRows, RecordRows}
 
@@ -47,8 +46,8 @@ entry-narrow ws h k e =
     let b : r .0 < slotCount = (let g : r .0 < length (slotsOf ws) = r .1 in omega arith) in
     let s : kept (rowAt ws (r .0) .key) (contentIn (rowAt ws (r .0) .content)) ≡ some (q .0)
     = sym (ap (λ (s : Slot). s .entry) (getD-tab (λ (i : ℕ). slotIn (rowAt ws i)) slotCount (r .0) emptySlot b)) ∙ r .2 in
-    let t : row (rowAt ws (r .0) .key) (contentIn (rowAt ws (r .0) .content)) ≡ q .0 = kept-entry (rowAt ws (r .0) .key) (contentIn (rowAt ws (r .0) .content)) (q .0) s .1 in
-    subst (λ (x : ℕ). x < 2 ^ 32) (ap (λ (x : Row Content). x .key) t ∙ q .2) (h .sized .narrow (r .0) b)
+    let t = kept-entry (rowAt ws (r .0) .key) (contentIn (rowAt ws (r .0) .content)) (q .0) s in
+    subst (λ (x : ℕ). x < 2 ^ 32) (ap (λ (x : Row Content). x .key) (t .1) ∙ q .2) (h .sized .narrow (r .0) b (t .0))
 
 pub record-narrow : (ws : RecordRows) (n : ℕ) → index.RecordsSorted ws n → ((i : ℕ) → i < n → index.rowAt ws i .key < 2 ^ 32)
     → (k : ℕ) → has k (keys (recordsOf ws n)) ≡ true → k < 2 ^ 32

@@ -1,12 +1,12 @@
 -- What a merge need not walk over: slots whose keys lie elsewhere, and, where one pending write is all of a leaf that matters,
 -- all slots but its own.
-use Prim.Native.Nat.{ℕ, zero, suc, _+_, _-_, _^_, _<_, _≤_, zero-le}
-use native.Mathlib.Nat.{le-refl, not-suc-le-zero}
+use Prim.Native.Nat.{ℕ, _+_, _-_, _^_, _<_, _≤_, zero-le}
+use native.Mathlib.Nat.{le-refl}
 use native.Mathlib.Omega.{arith}
 use mathlib.Core.Path.{_≡_, refl, sym, ap, _∙_, subst}
 use mathlib.Core.Logic.{⊎-elim}
 use mathlib.Core.Bool.{Bool, true, false, not}
-use mathlib.Core.List.{List}
+use mathlib.Core.List.{List, []}
 use mathlib.Core.Option.{Option, none, some}
 use lib.ListN.{length, getD}
 use Rattle.lists.specs.Tests.{pick, both, present, same, less}
@@ -30,21 +30,13 @@ use Rattle.phantomlet.specs.Phantoms.{weigh, howMany, hidesSome}
 use Rattle.phantomlet.specs.LeafTests.{placed, takes}
 use Rattle.phantomlet.specs.LeafCounts.{lacking, hidingAt, waiting, reached, OneLeaf, leaf-outside, leaf-inside}
 use Rattle.map.specs.Views.{SlotRows, LeafRows, RecordRows}
-use Rattle.merging.specs.MergeWalks.{Walking, Clear, Underway, WalksSlot, Starting, Took, walk, walk-start, walk-over, walk-took, both-false, entry-is, taken-yes}
+use Rattle.merging.specs.MergeWalks.{passing, hiders, Walking, Clear, Underway, WalksSlot, Starting, Took, stays-same, behind-none, starting-first, walk, walk-start, walk-outside, walk-over, walk-took, both-false, entry-is, taken-yes}
 
 -- The slots from `from` up to, not including, j have no entry among the addresses r.
 pub record Skips (slots : SlotRows) (r : Reach) (from j : ℕ) : Type 0 where
   pub forth : from ≤ j
   pub there : j ≤ slotCount
   pub passed : (i : ℕ) → from ≤ i → i < j → (e : Row Content) → entryAt (slotsOf slots) i ≡ some e → (e .key < 2 ^ 32) × (reached r (e .key) ≡ false)
-
--- an entry at an address that passes the first test passes the second
-unfoldable pub passing : (ℕ → Bool) → (Row Content → Bool) → Row Content → Bool
-passing p t e = both (p (e .key)) (t e)
-
--- how many entries at addresses that pass hide their address from somebody
-unfoldable pub hiders : (ℕ → Bool) → RecordRows → ℕ → SlotRows → ℕ
-hiders p rows n slots = howMany (passing p (hidingAt (recordsOf rows n))) (slotsOf slots)
 
 -- Slot j has a pending write at an address that passes, and no other entry at such an address hides it.
 pub record Alone (p : ℕ → Bool) (rows : RecordRows) (n : ℕ) (slots : SlotRows) (j : ℕ) : Type 0 where
@@ -83,13 +75,14 @@ skips-on {slots} {r} {from} {j} s k h reads f =
           λ i b l e q.
           ⊎-elim
           (λ t.
-          let own : s .key ≡ e .key = kept-key (s .key) (contentIn (s .content)) e (sym (entry-of slots j s reads) ∙ ap (entryAt (slotsOf slots)) (sym (same-true i j t)) ∙ q) in
-          (subst (λ (x : ℕ). x < 2 ^ 32) own (reads .narrow), ap (reached r) (sym own) ∙ f))
+          let there : kept (s .key) (contentIn (s .content)) ≡ some e = sym (entry-of slots j s reads) ∙ ap (entryAt (slotsOf slots)) (sym (same-true i j t)) ∙ q in
+          let own : s .key ≡ e .key = kept-key (s .key) (contentIn (s .content)) e there in
+          (subst (λ (x : ℕ). x < 2 ^ 32) own (reads .narrow (kept-entry (s .key) (contentIn (s .content)) e there .0)), ap (reached r) (sym own) ∙ f))
           (λ t. let n : i ≡ j → ⊥ = same-false i j t in k .passed i b (omega arith) e q)
           (cases (same i j));
     }
 
-pub stands-is : {slots : SlotRows} {j : ℕ} (s : SlotWords) (b : Bool) → indexlet.IsSlot slots j s → b ≡ isIdle (contentIn (s .content)) → not b ≡ present (entryAt (slotsOf slots) j)
+stands-is : {slots : SlotRows} {j : ℕ} (s : SlotWords) (b : Bool) → indexlet.IsSlot slots j s → b ≡ isIdle (contentIn (s .content)) → not b ≡ present (entryAt (slotsOf slots) j)
 stands-is {slots} {j} s b reads e = ap not e ∙ go (isIdle (contentIn (s .content))) ∙ ap present (sym (entry-of slots j s reads))
   where
     go : (d : Bool) → not d ≡ present (pick d none (some (row (s .key) (contentIn (s .content)))))
@@ -104,7 +97,7 @@ module _ {lows : List ℕ} {m i : ℕ} {r : Reach} (leaf : OneLeaf lows m i r) {
   passed-by : (n : ℕ) → from ≤ n → n < j → (e : Row Content) → entryAt (slotsOf slots) n ≡ some e → placed lows m i (e .key) ≡ false
   passed-by n a b e q = let x = k .passed n a b e q in leaf-outside leaf (e .key) (x .0) (x .1)
 
-  pub skips-walk : {rs : List (Row Record)} {ss : List Slot} {rows : RecordRows} {w : Walk} → Walking (placed lows m i) rs ss rows slots w from → Walking (placed lows m i) rs ss rows slots w j
+  pub skips-walk : {o : ℕ} {rs : List (Row Record)} {ss : List Slot} {rows : RecordRows} {w : Walk} → Walking (placed lows m i) o rs ss rows slots w from → Walking (placed lows m i) o rs ss rows slots w j
   skips-walk g =
       let t : j ≤ slotCount = k .there in
       walk-over j g (k .forth) (k .there) (λ n a b x q. takes-false (placed lows m i) x (passed-by n a b x (g .untouched n a (omega arith) ∙ q)))
@@ -125,19 +118,26 @@ absent-none : (o : Option (Row Content)) (e : Row Content) → false ≡ present
 absent-none none e a q = clash (ap present q) refl
 absent-none (some x) e a q = clash refl (sym a)
 
-pub pass-slot : {p : ℕ → Bool} {rows : RecordRows} {slots : SlotRows} {w : Walk} {j : ℕ} → j < slotCount → false ≡ present (entryAt (slotsOf slots) j) → WalksSlot p rows slots w j rows slots w
+pass-slot : {p : ℕ → Bool} {rows : RecordRows} {slots : SlotRows} {w : Walk} {j : ℕ} → j < slotCount → false ≡ present (entryAt (slotsOf slots) j) → WalksSlot p rows slots w j rows slots w
 pass-slot {slots = slots} {w = w} {j = j} h a =
     record {
-      on = λ {rs} {ss} g.
+      on = λ {o} {rs} {ss} g.
           walk-over (j + 1) g (omega arith) (omega arith)
           (λ n b c x q.
           let e : n ≡ j = omega arith in
           absurd (absent-none (entryAt (slotsOf slots) j) x a (ap (entryAt (slotsOf slots)) (sym e) ∙ g .untouched n b (omega arith) ∙ q)));
+      space = stays-same;
       least = le-refl (w .left);
       here = λ z e q. absurd (absent-none (entryAt (slotsOf slots) j) e a q);
       others = λ i l n. refl;
       records = λ x q k n. refl;
     }
+
+-- a slot that is not reached: it has no entry, or one in another leaf
+pub walk-unreached : {p : ℕ → Bool} {rows : RecordRows} {slots : SlotRows} {w : Walk} {j : ℕ} (r : SlotWords) → indexlet.IsSlot slots j r → j < slotCount
+    → (isIdle (contentIn (r .content)) ≡ false → p (r .key) ≡ false) → WalksSlot p rows slots w j rows slots w
+walk-unreached r reads h f =
+    ⊎-elim (λ t. pass-slot h (stands-is r true reads (sym t))) (λ t. walk-outside r reads h (f t)) (cases (isIdle (contentIn (r .content))))
 
 -- ---- one pending write
 
@@ -181,11 +181,11 @@ module _ {p : ℕ → Bool} {rows : RecordRows} {slots : SlotRows} {n e o j : �
       (ap (weigh (passing p (hidingAt (recordsOf rows n)))) (sym q) ∙ lone (passing p (hidingAt (recordsOf rows n))) (slotsOf slots) i j (omega arith) (omega arith) m (alone .hider))
 
   -- so the walk stands before slot j
-  at-slot : Walking p (recordsOf rows n) (slotsOf slots) rows slots (walk n e 0 0 o) j
-  at-slot = walk-over j (walk-start p start) zero-le (omega arith) (λ i a b. not-taken i (omega arith) (λ q. let x : ⊥ = omega arith in x))
+  at-slot : Walking p o (recordsOf rows n) (slotsOf slots) rows slots (walk n e 0 0 o) j
+  at-slot = walk-over j (walk-start (starting-first p start)) zero-le (omega arith) (λ i a b. not-taken i (omega arith) (λ q. let x : ⊥ = omega arith in x))
 
   pub alone-walk : Underway p rows slots (walk n e 0 0 o) j
-  alone-walk = record { records = recordsOf rows n; begun = slotsOf slots; walking = at-slot; bound = start .bound }
+  alone-walk = record { records = recordsOf rows n; begun = slotsOf slots; first = o; walking = at-slot; behind = []; outer = behind-none p start; bound = start .bound }
 
   -- what is left of other entries counts for nothing
   spared : {rows' : RecordRows} {slots' : SlotRows} {w : Walk} → WalksSlot p rows slots (walk n e 0 0 o) j rows' slots' w
@@ -211,7 +211,7 @@ module _ {p : ℕ → Bool} {rows : RecordRows} {slots : SlotRows} {n e o j : �
 
   pub alone-took : {rows' : RecordRows} {slots' : SlotRows} {w : Walk} → WalksSlot p rows slots (walk n e 0 0 o) j rows' slots' w → Took p rows slots n rows' slots' w
   alone-took {rows'} {slots'} {w} s =
-      walk-took
+      walk-took start
       (walk-over slotCount (s .on at-slot) (omega arith) (le-refl slotCount) (λ i a b. not-taken i b (λ q. let x : ⊥ = omega arith in x)))
       (le-refl slotCount)
       (λ z i l x q t.

@@ -1,29 +1,30 @@
 -- The first part of a merge: a walk over the slots that takes the pending writes of a leaf into the index. What is left
 -- to take in is always what the slots had to begin with, from the walk's place on; and if no lock was counted, the slots
--- behind the walk have no entry of the leaf.
+-- behind the walk have no entry of the leaf. The walk sees the index up to the leaf's end or all of it: records behind, at
+-- other addresses, matter only to the number of entries outside of the index.
 use Prim.Native.Nat.{ℕ, zero, suc, _+_, _-_, _^_, _<_, _≤_, zero-le}
 use native.Mathlib.Nat.{not-suc-le-zero, le-trans, le-of-eq, le-refl}
 use native.Mathlib.Omega.{arith}
 use mathlib.Core.Path.{_≡_, refl, sym, ap, _∙_, subst}
 use mathlib.Core.Logic.{⊎-elim}
 use mathlib.Core.Bool.{Bool, true, false, not}
-use mathlib.Core.List.{List, [], _∷_, _++_}
+use mathlib.Core.List.{List, [], _∷_, _++_, append-nil}
 use mathlib.Core.Option.{Option, none, some}
 use lib.ListN.{length, drop, drop-of-length-le, getD}
-use lib.Seq.{drop-cons}
-use Rattle.lists.specs.Tests.{pick, both, maybe, present, same}
+use lib.Seq.{drop-cons, drop-drop}
+use Rattle.lists.specs.Tests.{pick, both, either, maybe, present, same}
 use Rattle.lists.specs.TestLaws.{cases, clash, same-true, same-false, same-no, same-refl}
 use Rattle.lists.specs.Rows.{Row, row, look, assign, keys, has, filter, distinct, Rising}
-use Rattle.lists.specs.RowLaws.{has-keys, length-keys, look-assign, rising-assign, length-assign, rising-different}
+use Rattle.lists.specs.RowLaws.{look-nil, has-keys, length-keys, look-assign, rising-assign, length-assign, rising-different}
 use Rattle.lists.specs.Ascending.{keys-mem}
 use Rattle.lists.specs.Counting.{Within, different-within}
 use Rattle.lists.specs.Memberships.{member-has, has-left, has-right}
 use Rattle.lists.specs.Sums.{total-at, total-except}
 use Rattle.spec.specs.declared.PayloadWords.{PayloadWords}
-use Rattle.spec.specs.Records.{Record, outcome}
+use Rattle.spec.specs.Records.{Record, isPut, outcome}
 use Rattle.spec.specs.Leaves.{Leaf}
 use Rattle.spec.specs.Slots.{slotCount, Pending, Content, isIdle, Slot, emptySlot, entries, contentOf, holds, enter, kept}
-use Rattle.spec.specs.Maps.{MapState, outcomeOf, current, each, takenIn, mergeEntry}
+use Rattle.spec.specs.Maps.{MapState, outcomeOf, current, putPending, each, takenIn, mergeEntry}
 use Rattle.laws.specs.SlotCounts.{Good, entryAt, tally, count, keyed, keyed-here, keyed-holds, holds-yes, only-here, entries-some, entries-none, slot-member}
 use Rattle.laws.specs.Entering.{Entering, entering, kept-entry}
 use Rattle.laws.specs.SlotLaws.{Room, stands, member-content}
@@ -36,12 +37,20 @@ use Rattle.index.specs.Views as index
 use Rattle.index.specs.Views.{recordPlaces, recordFrom, recordsOf}
 use Rattle.index.specs.ViewLaws.{length-records}
 use Rattle.merging.specs.declared.merge.Walk.{Walk}
-use Rattle.phantomlet.specs.Phantoms.{weigh, howMany, many-change, weigh-kept}
+use Rattle.phantomlet.specs.Phantoms.{weigh, howMany, hidesSome, many-change, weigh-kept}
 use Rattle.phantomlet.specs.LeafTests.{takes}
 use Rattle.phantomlet.specs.LeafCounts.{lacking, hidingAt, waiting}
 use Rattle.phantomlet.specs.MergeCounts.{pick-most}
 use Rattle.map.specs.Views.{SlotRows, RecordRows}
 use Rattle.map.specs.EntryLaws.{many-most}
+
+-- an entry at an address that passes the first test passes the second
+unfoldable pub passing : (ℕ → Bool) → (Row Content → Bool) → Row Content → Bool
+passing p t e = both (p (e .key)) (t e)
+
+-- how many entries at addresses that pass hide their address from somebody
+unfoldable pub hiders : (ℕ → Bool) → RecordRows → ℕ → SlotRows → ℕ
+hiders p rows n slots = howMany (passing p (hidingAt (recordsOf rows n))) (slotsOf slots)
 
 -- a map of its three parts
 abbrev pub parts : List (Row Record) → List Leaf → List Slot → MapState
@@ -85,6 +94,24 @@ lock-some c n = go (c .lock) n
     go : (k : ℕ) → (k ≡ 0 → ⊥) → _≡_ {A = ℕ} 1 (pick (present (holderIn k)) 1 0)
     go zero n = absurd (n refl)
     go (suc k) n = refl
+
+-- ---- records behind others
+
+look-append : {A : Type 0} (xs ys : List (Row A)) (k : ℕ) → look (xs ++ ys) k ≡ maybe (look xs k) (look ys k) some
+unfolding look
+look-append [] ys k = refl
+look-append (x ∷ xs) ys k = ⊎-elim (λ t. rw t) (λ t. rw t (look-append xs ys k)) (cases (same (x .key) k))
+
+-- a key that they lack
+pub look-front : {A : Type 0} (xs ys : List (Row A)) (k : ℕ) → look ys k ≡ none → look (xs ++ ys) k ≡ look xs k
+look-front xs ys k e = look-append xs ys k ∙ ap (λ (o : Option _). maybe (look xs k) o some) e ∙ go (look xs k)
+  where
+    go : {A : Type 0} (o : Option A) → maybe o none some ≡ o
+    go none = refl
+    go (some a) = refl
+
+pub look-alike : {A : Type 0} (xs xs' ys : List (Row A)) (k : ℕ) → look xs k ≡ look xs' k → look (xs ++ ys) k ≡ look (xs' ++ ys) k
+look-alike xs xs' ys k e = look-append xs ys k ∙ ap (λ (o : Option _). maybe o (look ys k) some) e ∙ sym (look-append xs' ys k)
 
 -- ---- what is left
 
@@ -189,8 +216,14 @@ entry-inside rs ss j e q = has-right (e .key) (keys rs) (keys (entries ss)) (mem
 
 -- ---- the walk
 
--- The walk stands before slot j. It began with the records rs and the slots ss.
-pub record Walking (p : ℕ → Bool) (rs : List (Row Record)) (ss : List Slot) (rows : RecordRows) (slots : SlotRows) (w : Walk) (j : ℕ) : Type 0 where
+-- The addresses that pass the test have no record among these, which stand behind the rows that the walk sees.
+pub record Behind (p : ℕ → Bool) (rs : List (Row Record)) (ss : List Slot) (o : ℕ) (behind : List (Row Record)) : Type 0 where
+  pub absent : (k : ℕ) → p k ≡ true → look behind k ≡ none
+  -- so many entries lay outside of all records to begin with
+  pub outside : o ≡ howMany (lacking (rs ++ behind)) ss
+
+-- The walk stands before slot j. It began with the records rs, the slots ss, and o entries outside of the index.
+pub record Walking (p : ℕ → Bool) (o : ℕ) (rs : List (Row Record)) (ss : List Slot) (rows : RecordRows) (slots : SlotRows) (w : Walk) (j : ℕ) : Type 0 where
   pub rows-held : index.RecordsSorted rows (w .records)
   pub words : indexlet.SlotsHeld slots
   pub number : w .entries ≡ length (entries (slotsOf slots))
@@ -210,8 +243,8 @@ pub record Walking (p : ℕ → Bool) (rs : List (Row Record)) (ss : List Slot) 
       (ls : List Leaf) → each (mergeEntry 4) (parts (recordsOf rows (w .records)) ls (slotsOf slots)) (left p ss j)
       ≡ each (mergeEntry 4) (parts rs ls ss) (filter (takes p) (entries ss))
   pub counted : w .count + length (left p ss j) ≡ length (filter (takes p) (entries ss))
-  -- so many entries lie outside of the index now
-  pub outside-is : w .outside ≡ howMany (lacking (recordsOf rows (w .records))) (slotsOf slots)
+  -- so many entries lie outside of the index now, whatever stands behind
+  pub outside-is : (behind : List (Row Record)) → Behind p rs ss o behind → w .outside ≡ howMany (lacking (recordsOf rows (w .records) ++ behind)) (slotsOf slots)
 
 -- With no lock counted, `f` being their number, the slots before j have no entry at an address that passes.
 pub record Clear (p : ℕ → Bool) (slots : SlotRows) (f j : ℕ) : Type 0 where
@@ -225,21 +258,52 @@ pub record Starting (rows : RecordRows) (slots : SlotRows) (n e o : ℕ) : Type 
   pub bound : distinct (keys (recordsOf rows n) ++ keys (entries (slotsOf slots))) ≤ recordPlaces
   pub outside-is : o ≡ howMany (lacking (recordsOf rows n)) (slotsOf slots)
 
+-- the same of the first n rows alone: what stands behind them has no address that passes
+pub record StartingFirst (p : ℕ → Bool) (rows : RecordRows) (slots : SlotRows) (n e o : ℕ) : Type 0 where
+  pub rows-held : index.RecordsSorted rows n
+  pub words : indexlet.SlotsHeld slots
+  pub number : e ≡ length (entries (slotsOf slots))
+  pub bound : distinct (keys (recordsOf rows n) ++ keys (entries (slotsOf slots))) ≤ recordPlaces
+  pub behind : List (Row Record)
+  pub outer : Behind p (recordsOf rows n) (slotsOf slots) o behind
+
 -- a walk that began with as many addresses as the index has room for
 pub record Underway (p : ℕ → Bool) (rows : RecordRows) (slots : SlotRows) (w : Walk) (j : ℕ) : Type 0 where
   pub records : List (Row Record)
   pub begun : List Slot
-  pub walking : Walking p records begun rows slots w j
+  pub first : ℕ
+  pub walking : Walking p first records begun rows slots w j
+  pub behind : List (Row Record)
+  pub outer : Behind p records begun first behind
   pub bound : distinct (keys records ++ keys (entries begun)) ≤ recordPlaces
+
+-- Records and entries that hide their address are together no more than they were, and no row behind so many changes.
+pub record Stays (p : ℕ → Bool) (rows : RecordRows) (slots : SlotRows) (n : ℕ) (rows' : RecordRows) (slots' : SlotRows) (n' : ℕ) : Type 0 where
+  pub fewer : n' + hiders p rows' n' slots' ≤ n + hiders p rows n slots
+  pub stay : (b : ℕ) → n + hiders p rows n slots ≤ b → drop b rows' ≡ drop b rows
+
+pub stays-same : {p : ℕ → Bool} {rows : RecordRows} {slots : SlotRows} {n : ℕ} → Stays p rows slots n rows slots n
+stays-same = record { fewer = le-refl _; stay = λ b h. refl }
+
+pub stays-on : {p : ℕ → Bool} {rows rows₁ rows₂ : RecordRows} {slots slots₁ slots₂ : SlotRows} {n n₁ n₂ : ℕ}
+    → Stays p rows slots n rows₁ slots₁ n₁ → Stays p rows₁ slots₁ n₁ rows₂ slots₂ n₂ → Stays p rows slots n rows₂ slots₂ n₂
+stays-on a b = record { fewer = le-trans (b .fewer) (a .fewer); stay = λ k h. b .stay k (le-trans (a .fewer) h) ∙ a .stay k h }
 
 -- one slot on, wherever the walk began; no other slot's entry changes, and no record but at the entry's address
 pub record WalksSlot (p : ℕ → Bool) (rows : RecordRows) (slots : SlotRows) (w : Walk) (j : ℕ) (rows' : RecordRows) (slots' : SlotRows) (w' : Walk) : Type 0 where
-  pub on : {rs : List (Row Record)} {ss : List Slot} → Walking p rs ss rows slots w j → Walking p rs ss rows' slots' w' (j + 1)
+  pub on : {o : ℕ} {rs : List (Row Record)} {ss : List Slot} → Walking p o rs ss rows slots w j → Walking p o rs ss rows' slots' w' (j + 1)
+  pub space : Stays p rows slots (w .records) rows' slots' (w' .records)
   pub least : w .left ≤ w' .left
   pub here : w' .left ≡ 0 → (e : Row Content) → entryAt (slotsOf slots') j ≡ some e → p (e .key) ≡ false
   pub others : (i : ℕ) → i < slotCount → (i ≡ j → ⊥) → entryAt (slotsOf slots') i ≡ entryAt (slotsOf slots) i
   pub records : (x : Row Content) → entryAt (slotsOf slots) j ≡ some x → (k : ℕ) → (k ≡ x .key → ⊥)
       → look (recordsOf rows' (w' .records)) k ≡ look (recordsOf rows (w .records)) k
+
+-- what a walk over the first n rows leaves
+pub record TookFirst (p : ℕ → Bool) (rows : RecordRows) (slots : SlotRows) (n o : ℕ) (rows' : RecordRows) (slots' : SlotRows) (w : Walk) : Type 0 where
+  pub walking : Walking p o (recordsOf rows n) (slotsOf slots) rows' slots' w slotCount
+  pub clear : Clear p slots' (w .left) slotCount
+  pub space : Stays p rows slots n rows' slots' (w .records)
 
 -- what a walk leaves
 pub record Took (p : ℕ → Bool) (rows : RecordRows) (slots : SlotRows) (n : ℕ) (rows' : RecordRows) (slots' : SlotRows) (w : Walk) : Type 0 where
@@ -282,8 +346,20 @@ outside-by-drop {out} {before} {after} {lock} kind f k =
 abbrev pub walk : ℕ → ℕ → ℕ → ℕ → ℕ → Walk
 walk n e c f o = record { records = n; entries = e; count = c; left = f; outside = o }
 
-pub walk-start : {rows : RecordRows} {slots : SlotRows} {n e o : ℕ} (p : ℕ → Bool) → Starting rows slots n e o → Walking p (recordsOf rows n) (slotsOf slots) rows slots (walk n e 0 0 o) 0
-walk-start {rows} {slots} {n} {e} {o} p s =
+-- where nothing stands behind
+pub behind-none : {rows : RecordRows} {slots : SlotRows} {n e o : ℕ} (p : ℕ → Bool) → Starting rows slots n e o → Behind p (recordsOf rows n) (slotsOf slots) o []
+behind-none {rows} {slots} {n} p s =
+    record {
+      absent = λ k t. look-nil k;
+      outside = s .outside-is ∙ ap (λ (rs : List (Row Record)). howMany (lacking rs) (slotsOf slots)) (sym (append-nil (recordsOf rows n)));
+    }
+
+pub starting-first : {rows : RecordRows} {slots : SlotRows} {n e o : ℕ} (p : ℕ → Bool) → Starting rows slots n e o → StartingFirst p rows slots n e o
+starting-first p s =
+    record { rows-held = s .rows-held; words = s .words; number = s .number; bound = s .bound; behind = []; outer = behind-none p s }
+
+pub walk-start : {p : ℕ → Bool} {rows : RecordRows} {slots : SlotRows} {n e o : ℕ} → StartingFirst p rows slots n e o → Walking p o (recordsOf rows n) (slotsOf slots) rows slots (walk n e 0 0 o) 0
+walk-start {p} {rows} {slots} {n} {e} {o} s =
     record {
       rows-held = s .rows-held;
       words = s .words;
@@ -298,7 +374,7 @@ walk-start {rows} {slots} {n} {e} {o} p s =
       elsewhere = λ q h. refl;
       rest = λ ls. ap (each (mergeEntry 4) (parts (recordsOf rows n) ls (slotsOf slots))) (left-start p (slotsOf slots));
       counted = (let z : length (left p (slotsOf slots) 0) ≡ length (filter (takes p) (entries (slotsOf slots))) = ap length (left-start p (slotsOf slots)) in omega arith);
-      outside-is = s .outside-is;
+      outside-is = λ b x. x .outside;
     }
 
 pub clear-start : {p : ℕ → Bool} {slots : SlotRows} {f : ℕ} → Clear p slots f 0
@@ -318,17 +394,30 @@ clear-on {p} {rows} {slots} {w} {j} {rows'} {slots'} {w'} s h c =
     }
 
 -- so nothing is left that counts
-clear-end : {p : ℕ → Bool} {slots : SlotRows} {f j : ℕ} (rs : List (Row Record)) → Clear p slots f j → slotCount ≤ j
+pub clear-end : {p : ℕ → Bool} {slots : SlotRows} {f j : ℕ} (rs : List (Row Record)) → Clear p slots f j → slotCount ≤ j
     → f ≡ 0 → (i : ℕ) → i < slotCount → (e : Row Content) → entryAt (slotsOf slots) i ≡ some e → p (e .key) ≡ true → (hidingAt rs e ≡ false) × (waiting e ≡ false)
 clear-end rs c h z i l e q t = clash t (c .cleared z i (omega arith) e q)
 
-pub walk-took : {p : ℕ → Bool} {rows : RecordRows} {slots : SlotRows} {n : ℕ} {rows' : RecordRows} {slots' : SlotRows} {w : Walk} {j : ℕ} → Walking p (recordsOf rows n) (slotsOf slots) rows' slots' w j → slotCount ≤ j
+-- at the end all is taken in
+module _ {p : ℕ → Bool} {o : ℕ} {rs : List (Row Record)} {ss : List Slot} {rows : RecordRows} {slots : SlotRows} {w : Walk} {j : ℕ} (r : Walking p o rs ss rows slots w j) (h : slotCount ≤ j) where
+  none-after : left p ss j ≡ []
+  none-after = let f : length ss ≡ slotCount = r .full in left-end p ss j (omega arith)
+
+  pub walk-after : (ls : List Leaf) → parts (recordsOf rows (w .records)) ls (slotsOf slots) ≡ each (mergeEntry 4) (parts rs ls ss) (filter (takes p) (entries ss))
+  unfolding each
+  walk-after ls = sym (ap (each (mergeEntry 4) (parts (recordsOf rows (w .records)) ls (slotsOf slots))) none-after) ∙ r .rest ls
+
+  pub walk-count : w .count ≡ length (filter (takes p) (entries ss))
+  walk-count =
+      let z : length (left p ss j) ≡ 0 = ap length none-after in
+      let y : w .count + length (left p ss j) ≡ length (filter (takes p) (entries ss)) = r .counted in
+      omega arith
+
+pub walk-took : {p : ℕ → Bool} {rows : RecordRows} {slots : SlotRows} {n e o : ℕ} {rows' : RecordRows} {slots' : SlotRows} {w : Walk} {j : ℕ} → Starting rows slots n e o
+    → Walking p o (recordsOf rows n) (slotsOf slots) rows' slots' w j → slotCount ≤ j
     → (w .left ≡ 0 → (i : ℕ) → i < slotCount → (e : Row Content) → entryAt (slotsOf slots') i ≡ some e → p (e .key) ≡ true → (hidingAt (recordsOf rows' (w .records)) e ≡ false) × (waiting e ≡ false))
     → Took p rows slots n rows' slots' w
-unfolding each
-walk-took {p} {rows} {slots} {n} {rows'} {slots'} {w} {j} r h cleared =
-    let f : length (slotsOf slots) ≡ slotCount = r .full in
-    let e : left p (slotsOf slots) j ≡ [] = left-end p (slotsOf slots) j (omega arith) in
+walk-took {p} {rows} {slots} {n} {e} {o} {rows'} {slots'} {w} {j} start r h cleared =
     record {
       rows-held = r .rows-held;
       words = r .words;
@@ -336,15 +425,22 @@ walk-took {p} {rows} {slots} {n} {rows'} {slots'} {w} {j} r h cleared =
       inside = r .inside;
       apart = r .apart;
       elsewhere = r .elsewhere;
-      after = λ ls. sym (ap (each (mergeEntry 4) (parts (recordsOf rows' (w .records)) ls (slotsOf slots'))) e) ∙ r .rest ls;
-      count = (let z : length (left p (slotsOf slots) j) ≡ 0 = ap length e in let y : w .count + length (left p (slotsOf slots) j) ≡ length (filter (takes p) (entries (slotsOf slots))) = r .counted in omega arith);
-      outside-is = r .outside-is;
+      after = walk-after r h;
+      count = walk-count r h;
+      outside-is = r .outside-is [] (behind-none p start) ∙ ap (λ (rs : List (Row Record)). howMany (lacking rs) (slotsOf slots')) (append-nil (recordsOf rows' (w .records)));
       cleared = cleared;
     }
 
-pub walk-end : {p : ℕ → Bool} {rows : RecordRows} {slots : SlotRows} {n : ℕ} {rows' : RecordRows} {slots' : SlotRows} {w : Walk} {j : ℕ} → Walking p (recordsOf rows n) (slotsOf slots) rows' slots' w j
-    → Clear p slots' (w .left) j → slotCount ≤ j → Took p rows slots n rows' slots' w
-walk-end {rows' = rows'} {w = w} r c h = walk-took r h (clear-end (recordsOf rows' (w .records)) c h)
+pub walk-end : {p : ℕ → Bool} {rows : RecordRows} {slots : SlotRows} {n o : ℕ} {rows' : RecordRows} {slots' : SlotRows} {w : Walk} {j : ℕ} → Walking p o (recordsOf rows n) (slotsOf slots) rows' slots' w j
+    → Clear p slots' (w .left) j → Stays p rows slots n rows' slots' (w .records) → slotCount ≤ j → TookFirst p rows slots n o rows' slots' w
+walk-end {p} {rows} {slots} {n} {o} {rows'} {slots'} {w} {j} r c s h =
+    let t : j ≤ slotCount = r .there in
+    let e : j ≡ slotCount = omega arith in
+    record {
+      walking = subst (Walking p o (recordsOf rows n) (slotsOf slots) rows' slots' w) e r;
+      clear = subst (Clear p slots' (w .left)) e c;
+      space = s;
+    }
 
 -- ---- one slot
 
@@ -358,7 +454,7 @@ walk-past : {p : ℕ → Bool} {rows : RecordRows} {slots : SlotRows} {w : Walk}
     → (f ≡ 0 → (e : Row Content) → entryAt (slotsOf slots) j ≡ some e → p (e .key) ≡ false) → WalksSlot p rows slots w j rows slots (walk (w .records) (w .entries) (w .count) f (w .outside))
 walk-past {p} {rows} {slots} {w} {j} r f reads h t least most gone =
     record {
-      on = λ {rs} {ss} g.
+      on = λ {o} {rs} {ss} g.
           let z : length ss ≡ slotCount = g .full in
           let e : left p ss j ≡ left p ss (suc j) = left-past p ss j (omega arith) (r .key) (contentIn (r .content)) (sym (g .untouched j (le-refl j) h) ∙ entry-in slots j r (reads .slot)) t in
           let s : suc j ≡ j + 1 = omega arith in
@@ -379,6 +475,7 @@ walk-past {p} {rows} {slots} {w} {j} r f reads h t least most gone =
             counted = (let y : w .count + length (left p ss j) ≡ length (filter (takes p) (entries ss)) = g .counted in let x : length (left p ss (j + 1)) ≡ length (left p ss j) = ap length d in omega arith);
             outside-is = g .outside-is;
           };
+      space = stays-same;
       least = least;
       here = gone;
       others = λ i l n. refl;
@@ -386,9 +483,9 @@ walk-past {p} {rows} {slots} {w} {j} r f reads h t least most gone =
     }
 
 -- the same without a look at the slot, where the walk counts no lock
-walk-skip : {p : ℕ → Bool} {rs : List (Row Record)} {ss : List Slot} {rows : RecordRows} {slots : SlotRows} {w : Walk} {j : ℕ} → Walking p rs ss rows slots w j → j < slotCount
-    → ((x : Row Content) → entryAt ss j ≡ some x → takes p x ≡ false) → Walking p rs ss rows slots w (suc j)
-walk-skip {p} {rs} {ss} {rows} {slots} {w} {j} g h f =
+walk-skip : {p : ℕ → Bool} {o : ℕ} {rs : List (Row Record)} {ss : List Slot} {rows : RecordRows} {slots : SlotRows} {w : Walk} {j : ℕ} → Walking p o rs ss rows slots w j → j < slotCount
+    → ((x : Row Content) → entryAt ss j ≡ some x → takes p x ≡ false) → Walking p o rs ss rows slots w (suc j)
+walk-skip {p} {o} {rs} {ss} {rows} {slots} {w} {j} g h f =
     let z : length ss ≡ slotCount = g .full in
     let e : left p ss j ≡ left p ss (suc j) = left-over p ss j (omega arith) f in
     record {
@@ -409,18 +506,18 @@ walk-skip {p} {rs} {ss} {rows} {slots} {w} {j} g h f =
     }
 
 -- past k slots of which none has an entry that is taken
-walk-by : {p : ℕ → Bool} {rs : List (Row Record)} {ss : List Slot} {rows : RecordRows} {slots : SlotRows} {w : Walk} {j : ℕ} (k : ℕ) → Walking p rs ss rows slots w j → j + k ≤ slotCount
-    → ((i : ℕ) → j ≤ i → i < j + k → (x : Row Content) → entryAt ss i ≡ some x → takes p x ≡ false) → Walking p rs ss rows slots w (j + k)
-walk-by {p} {rs} {ss} {rows} {slots} {w} {j} zero g h f = subst (Walking p rs ss rows slots w) (let e : j ≡ j + 0 = omega arith in e) g
-walk-by {p} {rs} {ss} {rows} {slots} {w} {j} (suc k) g h f =
-    subst (Walking p rs ss rows slots w) (let e : suc (j + k) ≡ j + suc k = omega arith in e)
+walk-by : {p : ℕ → Bool} {o : ℕ} {rs : List (Row Record)} {ss : List Slot} {rows : RecordRows} {slots : SlotRows} {w : Walk} {j : ℕ} (k : ℕ) → Walking p o rs ss rows slots w j → j + k ≤ slotCount
+    → ((i : ℕ) → j ≤ i → i < j + k → (x : Row Content) → entryAt ss i ≡ some x → takes p x ≡ false) → Walking p o rs ss rows slots w (j + k)
+walk-by {p} {o} {rs} {ss} {rows} {slots} {w} {j} zero g h f = subst (Walking p o rs ss rows slots w) (let e : j ≡ j + 0 = omega arith in e) g
+walk-by {p} {o} {rs} {ss} {rows} {slots} {w} {j} (suc k) g h f =
+    subst (Walking p o rs ss rows slots w) (let e : suc (j + k) ≡ j + suc k = omega arith in e)
     (walk-skip (walk-by k g (omega arith) (λ i a b. f i a (omega arith))) (omega arith) (f (j + k) (omega arith) (omega arith)))
 
-pub walk-over : {p : ℕ → Bool} {rs : List (Row Record)} {ss : List Slot} {rows : RecordRows} {slots : SlotRows} {w : Walk} {j : ℕ} (i : ℕ) → Walking p rs ss rows slots w j → j ≤ i → i ≤ slotCount
-    → ((n : ℕ) → j ≤ n → n < i → (x : Row Content) → entryAt ss n ≡ some x → takes p x ≡ false) → Walking p rs ss rows slots w i
-walk-over {p} {rs} {ss} {rows} {slots} {w} {j} i g a b f =
+pub walk-over : {p : ℕ → Bool} {o : ℕ} {rs : List (Row Record)} {ss : List Slot} {rows : RecordRows} {slots : SlotRows} {w : Walk} {j : ℕ} (i : ℕ) → Walking p o rs ss rows slots w j → j ≤ i → i ≤ slotCount
+    → ((n : ℕ) → j ≤ n → n < i → (x : Row Content) → entryAt ss n ≡ some x → takes p x ≡ false) → Walking p o rs ss rows slots w i
+walk-over {p} {o} {rs} {ss} {rows} {slots} {w} {j} i g a b f =
     let e : j + (i - j) ≡ i = omega arith in
-    subst (Walking p rs ss rows slots w) e (walk-by (i - j) g (omega arith) (λ n c d. f n c (omega arith)))
+    subst (Walking p o rs ss rows slots w) e (walk-by (i - j) g (omega arith) (λ n c d. f n c (omega arith)))
 
 takes-none : (p : ℕ → Bool) (k : ℕ) (c : ContentWords) → c .kind ≡ 0 → takes p (row k (contentIn c)) ≡ false
 unfolding takes contentIn pendingIn
@@ -455,7 +552,7 @@ unlocked c x a b z =
     (cases (present (c .holder)))
 
 -- one lock more fits
-pub left-fits : {p : ℕ → Bool} {rs : List (Row Record)} {ss : List Slot} {rows : RecordRows} {slots : SlotRows} {w : Walk} {j : ℕ} → Walking p rs ss rows slots w j → j < slotCount
+pub left-fits : {p : ℕ → Bool} {o : ℕ} {rs : List (Row Record)} {ss : List Slot} {rows : RecordRows} {slots : SlotRows} {w : Walk} {j : ℕ} → Walking p o rs ss rows slots w j → j < slotCount
     → (c : Content) (x : ℕ) → x ≡ pick (present (c .holder)) 1 0 → w .left + x < 2 ^ 64
 left-fits {w = w} {j} g h c x b =
     let y : w .left ≤ j = g .few-left in
@@ -562,26 +659,40 @@ module _ {slots : SlotRows} {j : ℕ} (r : SlotWords) (held : indexlet.SlotsHeld
       look-assign (r .key) (leaving (r .content .kind) (r .content .payload) (r .content .commit)) rs (r .key)
       ∙ ap (λ (b : Bool). pick b (leaving (r .content .kind) (r .content .payload) (r .content .commit)) (look rs (r .key))) (same-refl (r .key))
 
-  -- what the entry counts before, and what is left of it after
-  outside-moved : j < slotCount → (rs : List (Row Record))
-      → howMany (lacking (assigned rs)) (enter 4 (slotsOf slots) (r .key) (takenIn (contentIn (r .content)))) + pick (not (present (look rs (r .key)))) 1 0
-      ≡ howMany (lacking rs) (slotsOf slots)
-      + pick (not (present (contentIn (r .content) .holder))) 0 (pick (not (present (leaving (r .content .kind) (r .content .payload) (r .content .commit)))) 1 0)
-  unfolding lacking weigh
-  outside-moved inside rs =
+  assigned-elsewhere : (rs : List (Row Record)) (k : ℕ) → (k ≡ r .key → ⊥) → look (assigned rs) k ≡ look rs k
+  assigned-elsewhere rs k n =
+      look-assign (r .key) (leaving (r .content .kind) (r .content .payload) (r .content .commit)) rs k
+      ∙ ap (λ (b : Bool). pick b (leaving (r .content .kind) (r .content .payload) (r .content .commit)) (look rs k)) (same-no {m = r .key} {n = k} (λ y. n (sym y)))
+
+  -- a count before and after the entry is taken in, by a test that changes at its address alone
+  counts-moved : j < slotCount → (q q' : Row Content → Bool) → ((e : Row Content) → (e .key ≡ r .key → ⊥) → q' e ≡ q e)
+      → howMany q' (enter 4 (slotsOf slots) (r .key) (takenIn (contentIn (r .content)))) + weigh q (some (row (r .key) (contentIn (r .content))))
+      ≡ howMany q (slotsOf slots) + weigh q' (kept (r .key) (takenIn (contentIn (r .content))))
+  counts-moved inside q q' f =
       let c : Content = contentIn (r .content) in
-      let q' : Row Content → Bool = lacking (assigned rs) in
       let change : howMany q' (enter 4 (slotsOf slots) (r .key) (takenIn c)) + weigh q' (kept (r .key) (contentOf (slotsOf slots) (r .key))) ≡ howMany q' (slotsOf slots) + weigh q' (kept (r .key) (takenIn c))
       = many-change (held .good) (slot-room (takenIn c)) q' in
       let was : weigh q' (kept (r .key) (contentOf (slotsOf slots) (r .key))) ≡ weigh q' (some (row (r .key) c))
       = ap (λ (x : Content). weigh q' (kept (r .key) x)) content-is ∙ ap (λ (b : Bool). weigh q' (pick b none (some (row (r .key) c)))) busy in
-      let test : howMany q' (slotsOf slots) + weigh (lacking rs) (some (row (r .key) c)) ≡ howMany (lacking rs) (slotsOf slots) + weigh q' (some (row (r .key) c))
-      = test-moved inside (lacking rs) q' (λ e n. ap (λ (o : Option Record). not (present o))
-      (look-assign (r .key) (leaving (r .content .kind) (r .content .payload) (r .content .commit)) rs (e .key)
-      ∙ ap (λ (b : Bool). pick b (leaving (r .content .kind) (r .content .payload) (r .content .commit)) (look rs (e .key))) (same-no {m = r .key} {n = e .key} (λ y. n (sym y))))) in
+      let test : howMany q' (slotsOf slots) + weigh q (some (row (r .key) c)) ≡ howMany q (slotsOf slots) + weigh q' (some (row (r .key) c)) = test-moved inside q q' f in
+      omega arith
+
+  -- what the entry counts before, and what is left of it after
+  outside-moved : j < slotCount → (behind : List (Row Record)) → look behind (r .key) ≡ none → (rs : List (Row Record))
+      → howMany (lacking (assigned rs ++ behind)) (enter 4 (slotsOf slots) (r .key) (takenIn (contentIn (r .content)))) + pick (not (present (look rs (r .key)))) 1 0
+      ≡ howMany (lacking (rs ++ behind)) (slotsOf slots)
+      + pick (not (present (contentIn (r .content) .holder))) 0 (pick (not (present (leaving (r .content .kind) (r .content .payload) (r .content .commit)))) 1 0)
+  unfolding lacking weigh
+  outside-moved inside behind away rs =
+      let c : Content = contentIn (r .content) in
+      let q' : Row Content → Bool = lacking (assigned rs ++ behind) in
+      let both-counts : howMany q' (enter 4 (slotsOf slots) (r .key) (takenIn c)) + weigh (lacking (rs ++ behind)) (some (row (r .key) c)) ≡ howMany (lacking (rs ++ behind)) (slotsOf slots) + weigh q' (kept (r .key) (takenIn c))
+      = counts-moved inside (lacking (rs ++ behind)) q' (λ e n. ap (λ (o : Option Record). not (present o)) (look-alike (assigned rs) rs behind (e .key) (assigned-elsewhere rs (e .key) n))) in
       let stays : weigh q' (kept (r .key) (takenIn c)) ≡ pick (not (present (c .holder))) 0 (pick (not (present (leaving (r .content .kind) (r .content .payload) (r .content .commit)))) 1 0)
-      = weigh-kept q' (r .key) (takenIn c) ∙ (unfold isIdle in ap (λ (o : Option Record). pick (not (present (c .holder))) 0 (pick (not (present o)) 1 0)) (look-assigned rs)) in
-      let own : weigh (lacking rs) (some (row (r .key) c)) ≡ pick (not (present (look rs (r .key)))) 1 0 = refl in
+      = weigh-kept q' (r .key) (takenIn c)
+      ∙ (unfold isIdle in ap (λ (o : Option Record). pick (not (present (c .holder))) 0 (pick (not (present o)) 1 0)) (look-front (assigned rs) behind (r .key) away ∙ look-assigned rs)) in
+      let own : weigh (lacking (rs ++ behind)) (some (row (r .key) c)) ≡ pick (not (present (look rs (r .key)))) 1 0
+      = ap (λ (o : Option Record). pick (not (present o)) 1 0) (look-front rs behind (r .key) away) in
       omega arith
 
   one-of : (b : Bool) → pick b 1 0 + pick (not b) 1 0 ≡ 1
@@ -589,14 +700,14 @@ module _ {slots : SlotRows} {j : ℕ} (r : SlotWords) (held : indexlet.SlotsHeld
   one-of false = refl
 
   -- by the number of records: a put brings its address into the index
-  outside-put : j < slotCount → (rs rs' : List (Row Record)) (ss' : List Slot) → Rising rs → rs' ≡ assigned rs → ss' ≡ enter 4 (slotsOf slots) (r .key) (takenIn (contentIn (r .content)))
-      → r .content .kind ≡ 1 → howMany (lacking rs') ss' + length rs' ≡ howMany (lacking rs) (slotsOf slots) + length rs
-  outside-put inside rs rs' ss' f e v k =
+  outside-put : j < slotCount → (behind : List (Row Record)) → look behind (r .key) ≡ none → (rs rs' : List (Row Record)) (ss' : List Slot) → Rising rs → rs' ≡ assigned rs → ss' ≡ enter 4 (slotsOf slots) (r .key) (takenIn (contentIn (r .content)))
+      → r .content .kind ≡ 1 → howMany (lacking (rs' ++ behind)) ss' + length rs' ≡ howMany (lacking (rs ++ behind)) (slotsOf slots) + length rs
+  outside-put inside behind away rs rs' ss' f e v k =
       let here : present (leaving (r .content .kind) (r .content .payload) (r .content .commit)) ≡ true = ap present (sym (leaving-put (r .content .kind) (r .content .payload) (r .content .commit) k)) in
-      let moved : howMany (lacking rs') ss' + pick (not (present (look rs (r .key)))) 1 0
-      ≡ howMany (lacking rs) (slotsOf slots)
+      let moved : howMany (lacking (rs' ++ behind)) ss' + pick (not (present (look rs (r .key)))) 1 0
+      ≡ howMany (lacking (rs ++ behind)) (slotsOf slots)
       + pick (not (present (contentIn (r .content) .holder))) 0 (pick (not (present (leaving (r .content .kind) (r .content .payload) (r .content .commit)))) 1 0)
-      = (λ i. howMany (lacking (e i)) (v i) + pick (not (present (look rs (r .key)))) 1 0) ∙ outside-moved inside rs in
+      = (λ i. howMany (lacking (e i ++ behind)) (v i) + pick (not (present (look rs (r .key)))) 1 0) ∙ outside-moved inside behind away rs in
       let none-left : _≡_ {A = ℕ} (pick (not (present (contentIn (r .content) .holder))) 0 (pick (not (present (leaving (r .content .kind) (r .content .payload) (r .content .commit)))) 1 0)) 0
       = ap (λ (b : Bool). pick (not (present (contentIn (r .content) .holder))) 0 (pick (not b) 1 0)) here ∙ zeros (not (present (contentIn (r .content) .holder))) in
       let long : length rs' + pick (present (look rs (r .key))) 1 0 ≡ length rs + 1
@@ -611,14 +722,14 @@ module _ {slots : SlotRows} {j : ℕ} (r : SlotWords) (held : indexlet.SlotsHeld
       zeros false = refl
 
   -- a deletion takes it out, and leaves an entry there for a lock alone
-  outside-drop : j < slotCount → (rs rs' : List (Row Record)) (ss' : List Slot) → Rising rs → rs' ≡ assigned rs → ss' ≡ enter 4 (slotsOf slots) (r .key) (takenIn (contentIn (r .content)))
-      → (r .content .kind ≡ 1 → ⊥) → howMany (lacking rs') ss' + length rs' + 1 ≡ howMany (lacking rs) (slotsOf slots) + pick (present (contentIn (r .content) .holder)) 1 0 + length rs
-  outside-drop inside rs rs' ss' f e v k =
+  outside-drop : j < slotCount → (behind : List (Row Record)) → look behind (r .key) ≡ none → (rs rs' : List (Row Record)) (ss' : List Slot) → Rising rs → rs' ≡ assigned rs → ss' ≡ enter 4 (slotsOf slots) (r .key) (takenIn (contentIn (r .content)))
+      → (r .content .kind ≡ 1 → ⊥) → howMany (lacking (rs' ++ behind)) ss' + length rs' + 1 ≡ howMany (lacking (rs ++ behind)) (slotsOf slots) + pick (present (contentIn (r .content) .holder)) 1 0 + length rs
+  outside-drop inside behind away rs rs' ss' f e v k =
       let gone : present (leaving (r .content .kind) (r .content .payload) (r .content .commit)) ≡ false = ap present (sym (leaving-drop (r .content .kind) (r .content .payload) (r .content .commit) k)) in
-      let moved : howMany (lacking rs') ss' + pick (not (present (look rs (r .key)))) 1 0
-      ≡ howMany (lacking rs) (slotsOf slots)
+      let moved : howMany (lacking (rs' ++ behind)) ss' + pick (not (present (look rs (r .key)))) 1 0
+      ≡ howMany (lacking (rs ++ behind)) (slotsOf slots)
       + pick (not (present (contentIn (r .content) .holder))) 0 (pick (not (present (leaving (r .content .kind) (r .content .payload) (r .content .commit)))) 1 0)
-      = (λ i. howMany (lacking (e i)) (v i) + pick (not (present (look rs (r .key)))) 1 0) ∙ outside-moved inside rs in
+      = (λ i. howMany (lacking (e i ++ behind)) (v i) + pick (not (present (look rs (r .key)))) 1 0) ∙ outside-moved inside behind away rs in
       let stays : _≡_ {A = ℕ} (pick (not (present (contentIn (r .content) .holder))) 0 (pick (not (present (leaving (r .content .kind) (r .content .payload) (r .content .commit)))) 1 0)) (pick (present (contentIn (r .content) .holder)) 1 0)
       = ap (λ (b : Bool). pick (not (present (contentIn (r .content) .holder))) 0 (pick (not b) 1 0)) gone ∙ turned (present (contentIn (r .content) .holder)) in
       let long : length rs' + pick (present (look rs (r .key))) 1 0 ≡ length rs + 0
@@ -632,28 +743,92 @@ module _ {slots : SlotRows} {j : ℕ} (r : SlotWords) (held : indexlet.SlotsHeld
       turned true = refl
       turned false = refl
 
-  pub outside-fits : {p : ℕ → Bool} {rs : List (Row Record)} {ss : List Slot} {rows rows' : RecordRows} {w : Walk} (n x : ℕ) → j < slotCount → Walking p rs ss rows slots w j
+  -- a put that is pending hides its address, and what stays of an entry hides no more than the entry
+  puts-hide : r .content .kind ≡ 1 → hidesSome (contentIn (r .content)) ≡ true
+  unfolding hidesSome putPending contentIn pendingIn isPut
+  puts-hide k = ap (λ (n : ℕ). either (maybe (pendingIn n (r .content .payload) (r .content .commit) (r .content .since)) false (λ (x : Pending). isPut (x .write)))
+      (both (contentIn (r .content) .forPut) (present (contentIn (r .content) .holder)))) k
+
+  hides-less : (c : Content) → pick (hidesSome (takenIn c)) 1 0 ≤ pick (hidesSome c) 1 0
+  unfolding hidesSome putPending
+  hides-less c = go (putPending c) (both (c .forPut) (present (c .holder)))
+    where
+      go : (a b : Bool) → _≤_ (pick (either false b) 1 0) (pick (either a b) 1 0)
+      go true true = le-refl 1
+      go true false = zero-le
+      go false b = le-refl _
+
+  -- records and entries of the leaf that hide their address, together
+  hiders-fewer : j < slotCount → (p : ℕ → Bool) → p (r .key) ≡ true → (rs : List (Row Record)) → Rising rs
+      → length (assigned rs) + howMany (passing p (hidingAt (assigned rs))) (enter 4 (slotsOf slots) (r .key) (takenIn (contentIn (r .content))))
+      ≤ length rs + howMany (passing p (hidingAt rs)) (slotsOf slots)
+  unfolding passing hidingAt lacking weigh
+  hiders-fewer inside p t rs f =
+      let c : Content = contentIn (r .content) in
+      let o : Option Record = leaving (r .content .kind) (r .content .payload) (r .content .commit) in
+      let counts : howMany (passing p (hidingAt (assigned rs))) (enter 4 (slotsOf slots) (r .key) (takenIn c)) + weigh (passing p (hidingAt rs)) (some (row (r .key) c))
+      ≡ howMany (passing p (hidingAt rs)) (slotsOf slots) + weigh (passing p (hidingAt (assigned rs))) (kept (r .key) (takenIn c))
+      = counts-moved inside (passing p (hidingAt rs)) (passing p (hidingAt (assigned rs)))
+      (λ e n. ap (λ (x : Option Record). both (p (e .key)) (both (not (present x)) (hidesSome (e .item)))) (assigned-elsewhere rs (e .key) n)) in
+      let own : weigh (passing p (hidingAt rs)) (some (row (r .key) c)) ≡ pick (both (not (present (look rs (r .key)))) (hidesSome c)) 1 0
+      = ap (λ (b : Bool). pick (both b (both (not (present (look rs (r .key)))) (hidesSome c))) 1 0) t in
+      let stays : weigh (passing p (hidingAt (assigned rs))) (kept (r .key) (takenIn c)) ≡ pick (isIdle (takenIn c)) 0 (pick (both (not (present o)) (hidesSome (takenIn c))) 1 0)
+      = weigh-kept (passing p (hidingAt (assigned rs))) (r .key) (takenIn c)
+      ∙ ap (λ (b : Bool). pick (isIdle (takenIn c)) 0 (pick (both b (both (not (present (look (assigned rs) (r .key)))) (hidesSome (takenIn c)))) 1 0)) t
+      ∙ ap (λ (x : Option Record). pick (isIdle (takenIn c)) 0 (pick (both (not (present x)) (hidesSome (takenIn c))) 1 0)) (look-assigned rs) in
+      let long : length (assigned rs) + pick (present (look rs (r .key))) 1 0 ≡ length rs + pick (present o) 1 0
+      = length-assign (r .key) o rs f in
+      let less : pick (present o) 1 0 + pick (isIdle (takenIn c)) 0 (pick (both (not (present o)) (hidesSome (takenIn c))) 1 0)
+      ≤ pick (both (not (present (look rs (r .key)))) (hidesSome c)) 1 0 + pick (present (look rs (r .key))) 1 0
+      = go (present o) (present (look rs (r .key))) (isIdle (takenIn c)) (hidesSome (takenIn c)) (hidesSome c) put-hides (hides-less c) in
+      omega arith
+    where
+      put-hides : present (leaving (r .content .kind) (r .content .payload) (r .content .commit)) ≡ true → hidesSome (contentIn (r .content)) ≡ true
+      put-hides y =
+          ⊎-elim
+          (λ k. puts-hide (same-true (r .content .kind) 1 k))
+          (λ k. clash y (ap present (sym (leaving-drop (r .content .kind) (r .content .payload) (r .content .commit) (same-false (r .content .kind) 1 k)))))
+          (cases (same (r .content .kind) 1))
+
+      go : (a b i h' h : Bool) → (a ≡ true → h ≡ true) → pick h' 1 0 ≤ pick h 1 0
+          → pick a 1 0 + pick i 0 (pick (both (not a) h') 1 0) ≤ pick (both (not b) h) 1 0 + pick b 1 0
+      go true true true h' h x y = le-refl 1
+      go true true false h' h x y = le-refl 1
+      go true false true h' true x y = le-refl 1
+      go true false true h' false x y = clash (x refl) refl
+      go true false false h' true x y = le-refl 1
+      go true false false h' false x y = clash (x refl) refl
+      go false b true h' h x y = zero-le
+      go false true false true h x y = le-refl 1
+      go false true false false h x y = zero-le
+      go false false false true true x y = le-refl 1
+      go false false false true false x y = y
+      go false false false false h x y = zero-le
+
+  pub outside-fits : {p : ℕ → Bool} {rows rows' : RecordRows} {w : Walk} (n x : ℕ) → j < slotCount → p (r .key) ≡ true → Underway p rows slots w j
       → x ≡ pick (present (contentIn (r .content) .holder)) 1 0
       → index.RecordsAre rows' n (assign (r .key) (leaving (r .content .kind) (r .content .payload) (r .content .commit)) (recordsOf rows (w .records)))
       → OutsideFits (w .outside) (w .records) n (r .content .kind) x
-  outside-fits {rows = rows} {rows' = rows'} {w = w} n x inside g locks hold =
-      let o : w .outside ≡ howMany (lacking (recordsOf rows (w .records))) (slotsOf slots) = g .outside-is in
+  outside-fits {rows = rows} {rows' = rows'} {w = w} n x inside t u locks hold =
+      let g = u .walking in
+      let away : look (u .behind) (r .key) ≡ none = u .outer .absent (r .key) t in
+      let o : w .outside ≡ howMany (lacking (recordsOf rows (w .records) ++ u .behind)) (slotsOf slots) = g .outside-is (u .behind) (u .outer) in
       let a : length (recordsOf rows (w .records)) ≡ w .records = length-records rows (w .records) (g .rows-held .room) in
       let b : length (recordsOf rows' n) ≡ n = length-records rows' n (hold .held .room) in
       let room : w .records ≤ recordPlaces = g .rows-held .room in
-      let few : howMany (lacking (recordsOf rows (w .records))) (slotsOf slots) ≤ slotCount = many-most (held .good) (lacking (recordsOf rows (w .records))) in
+      let few : howMany (lacking (recordsOf rows (w .records) ++ u .behind)) (slotsOf slots) ≤ slotCount = many-most (held .good) (lacking (recordsOf rows (w .records) ++ u .behind)) in
       let one : pick (present (contentIn (r .content) .holder)) 1 0 ≤ 1 = pick-most (present (contentIn (r .content) .holder)) in
       record {
         small = omega arith;
         put = λ k.
-            let z : howMany (lacking (recordsOf rows' n)) (enter 4 (slotsOf slots) (r .key) (takenIn (contentIn (r .content)))) + length (recordsOf rows' n)
-            ≡ howMany (lacking (recordsOf rows (w .records))) (slotsOf slots) + length (recordsOf rows (w .records))
-            = outside-put inside (recordsOf rows (w .records)) (recordsOf rows' n) _ (g .rows-held .rising) (hold .same) refl k in
+            let z : howMany (lacking (recordsOf rows' n ++ u .behind)) (enter 4 (slotsOf slots) (r .key) (takenIn (contentIn (r .content)))) + length (recordsOf rows' n)
+            ≡ howMany (lacking (recordsOf rows (w .records) ++ u .behind)) (slotsOf slots) + length (recordsOf rows (w .records))
+            = outside-put inside (u .behind) away (recordsOf rows (w .records)) (recordsOf rows' n) _ (g .rows-held .rising) (hold .same) refl k in
             omega arith;
         drop = λ k.
-            let z : howMany (lacking (recordsOf rows' n)) (enter 4 (slotsOf slots) (r .key) (takenIn (contentIn (r .content)))) + length (recordsOf rows' n) + 1
-            ≡ howMany (lacking (recordsOf rows (w .records))) (slotsOf slots) + pick (present (contentIn (r .content) .holder)) 1 0 + length (recordsOf rows (w .records))
-            = outside-drop inside (recordsOf rows (w .records)) (recordsOf rows' n) _ (g .rows-held .rising) (hold .same) refl k in
+            let z : howMany (lacking (recordsOf rows' n ++ u .behind)) (enter 4 (slotsOf slots) (r .key) (takenIn (contentIn (r .content)))) + length (recordsOf rows' n) + 1
+            ≡ howMany (lacking (recordsOf rows (w .records) ++ u .behind)) (slotsOf slots) + pick (present (contentIn (r .content) .holder)) 1 0 + length (recordsOf rows (w .records))
+            = outside-drop inside (u .behind) away (recordsOf rows (w .records)) (recordsOf rows' n) _ (g .rows-held .rising) (hold .same) refl k in
             omega arith;
       }
 
@@ -674,14 +849,16 @@ module _ {slots : SlotRows} {j : ℕ} (r : SlotWords) (held : indexlet.SlotsHeld
 
   pub walk-on : {p : ℕ → Bool} {rows : RecordRows} {w : Walk} (rows' : RecordRows) (slots' : SlotRows) (n e x o : ℕ) (c : ContentWords) → j < slotCount → p (r .key) ≡ true
       → x ≡ pick (present (contentIn (r .content) .holder)) 1 0
+      → index.RecordsSorted rows (w .records)
       → index.RecordsAre rows' n (assign (r .key) (leaving (r .content .kind) (r .content .payload) (r .content .commit)) (recordsOf rows (w .records)))
+      → drop n rows' ≡ drop n rows
       → contentIn c ≡ takenIn (contentIn (r .content)) → indexlet.Enters slots (r .key) c slots' e
       → OutsideNow (w .outside) (w .records) n (r .content .kind) x o
       → WalksSlot p rows slots w j rows' slots' (walk n e (w .count + 1) (w .left + x) o)
   unfolding each
-  walk-on {p} {rows} {w} rows' slots' n e lock out c h t locks hold ce ent now =
+  walk-on {p} {rows} {w} rows' slots' n e lock out c h t locks sorted hold behind-stays ce ent now =
       record {
-        on = λ {rs} {ss} g.
+        on = λ {o} {rs} {ss} g.
             let z : length ss ≡ slotCount = g .full in
             let zz : length (slotsOf slots) ≡ slotCount = held .good .size in
             let x : Row Content = row (r .key) (contentIn (r .content)) in
@@ -727,8 +904,9 @@ module _ {slots : SlotRows} {j : ℕ} (r : SlotWords) (held : indexlet.SlotsHeld
                   (let y : w .count + length (left p ss j) ≡ length (filter (takes p) (entries ss)) = g .counted in
                   let q : length (left p ss j) ≡ suc (length (left p ss (j + 1))) = ap length d ∙ ap (λ (k : ℕ). suc (length (left p ss k))) s in
                   omega arith);
-              outside-is = outside-now (g .outside-is) (g .rows-held);
+              outside-is = λ b x. outside-now b (x .absent (r .key) t) (g .outside-is b x);
             };
+        space = record { fewer = fewer; stay = stay };
         least = omega arith;
         here =
             λ y o q.
@@ -752,22 +930,41 @@ module _ {slots : SlotRows} {j : ℕ} (r : SlotWords) (held : indexlet.SlotsHeld
             (same-no {m = r .key} {n = k} (λ e. m (sym e ∙ own)));
       }
     where
-      outside-now : w .outside ≡ howMany (lacking (recordsOf rows (w .records))) (slotsOf slots) → index.RecordsSorted rows (w .records)
-          → out ≡ howMany (lacking (recordsOf rows' n)) (slotsOf slots')
-      outside-now were sorted =
-          let view : slotsOf slots' ≡ enter 4 (slotsOf slots) (r .key) (takenIn (contentIn (r .content))) = ent .view ∙ ap (enter 4 (slotsOf slots) (r .key)) ce in
+      view : slotsOf slots' ≡ enter 4 (slotsOf slots) (r .key) (takenIn (contentIn (r .content)))
+      view = ent .view ∙ ap (enter 4 (slotsOf slots) (r .key)) ce
+
+      fewer : n + hiders p rows' n slots' ≤ w .records + hiders p rows (w .records) slots
+      fewer =
+          unfold hiders in
+          let a : length (recordsOf rows (w .records)) ≡ w .records = length-records rows (w .records) (sorted .room) in
+          let b : length (recordsOf rows' n) ≡ n = length-records rows' n (hold .held .room) in
+          let z : length (recordsOf rows' n) + howMany (passing p (hidingAt (recordsOf rows' n))) (slotsOf slots')
+          ≤ length (recordsOf rows (w .records)) + howMany (passing p (hidingAt (recordsOf rows (w .records)))) (slotsOf slots)
+          = le-trans (le-of-eq (λ i. length (hold .same i) + howMany (passing p (hidingAt (hold .same i))) (view i)))
+          (hiders-fewer h p t (recordsOf rows (w .records)) (sorted .rising)) in
+          omega arith
+
+      stay : (b : ℕ) → w .records + hiders p rows (w .records) slots ≤ b → drop b rows' ≡ drop b rows
+      stay b l =
+          let f : n + hiders p rows' n slots' ≤ w .records + hiders p rows (w .records) slots = fewer in
+          let e : n + (b - n) ≡ b = omega arith in
+          ap (λ (k : ℕ). drop k rows') (sym e) ∙ sym (drop-drop (b - n) n rows') ∙ ap (drop (b - n)) behind-stays ∙ drop-drop (b - n) n rows ∙ ap (λ (k : ℕ). drop k rows) e
+
+      outside-now : (behind : List (Row Record)) → look behind (r .key) ≡ none → w .outside ≡ howMany (lacking (recordsOf rows (w .records) ++ behind)) (slotsOf slots)
+          → out ≡ howMany (lacking (recordsOf rows' n ++ behind)) (slotsOf slots')
+      outside-now behind away were =
           let a : length (recordsOf rows (w .records)) ≡ w .records = length-records rows (w .records) (sorted .room) in
           let b : length (recordsOf rows' n) ≡ n = length-records rows' n (hold .held .room) in
           ⊎-elim
           (λ k.
           let y : out + n ≡ w .outside + w .records = now .put (same-true (r .content .kind) 1 k) in
-          let z : howMany (lacking (recordsOf rows' n)) (slotsOf slots') + length (recordsOf rows' n) ≡ howMany (lacking (recordsOf rows (w .records))) (slotsOf slots) + length (recordsOf rows (w .records))
-          = outside-put h (recordsOf rows (w .records)) (recordsOf rows' n) (slotsOf slots') (sorted .rising) (hold .same) view (same-true (r .content .kind) 1 k) in
+          let z : howMany (lacking (recordsOf rows' n ++ behind)) (slotsOf slots') + length (recordsOf rows' n) ≡ howMany (lacking (recordsOf rows (w .records) ++ behind)) (slotsOf slots) + length (recordsOf rows (w .records))
+          = outside-put h behind away (recordsOf rows (w .records)) (recordsOf rows' n) (slotsOf slots') (sorted .rising) (hold .same) view (same-true (r .content .kind) 1 k) in
           omega arith)
           (λ k.
           let y : out + n + 1 ≡ w .outside + lock + w .records = now .drop (same-false (r .content .kind) 1 k) in
-          let z : howMany (lacking (recordsOf rows' n)) (slotsOf slots') + length (recordsOf rows' n) + 1 ≡ howMany (lacking (recordsOf rows (w .records))) (slotsOf slots) + pick (present (contentIn (r .content) .holder)) 1 0 + length (recordsOf rows (w .records))
-          = outside-drop h (recordsOf rows (w .records)) (recordsOf rows' n) (slotsOf slots') (sorted .rising) (hold .same) view (same-false (r .content .kind) 1 k) in
+          let z : howMany (lacking (recordsOf rows' n ++ behind)) (slotsOf slots') + length (recordsOf rows' n) + 1 ≡ howMany (lacking (recordsOf rows (w .records) ++ behind)) (slotsOf slots) + pick (present (contentIn (r .content) .holder)) 1 0 + length (recordsOf rows (w .records))
+          = outside-drop h behind away (recordsOf rows (w .records)) (recordsOf rows' n) (slotsOf slots') (sorted .rising) (hold .same) view (same-false (r .content .kind) 1 k) in
           omega arith)
           (cases (same (r .content .kind) 1))
 

@@ -46,11 +46,11 @@ use Rattle.phantomlet.specs.Phantoms.{howMany, outsideAny, hidesSome, hidingIn,
 use Rattle.map.specs.Views.{SlotRows, LeafRows, RecordRows, Lent, byColumns, lent, mapOf}
 use Rattle.map.specs.MapHeld.{Tables, MapHeld}
 use Rattle.phantomlet.specs.LeafTests.{none-left, placed, takes, filter-same, many-same, pending-merging, lows-are, leaves-count, live-at, placed-version, at-version, placed-own}
-use Rattle.merging.specs.MergeWalks.{parts, Starting, Took, both-false}
-use Rattle.merging.specs.MergeShortcuts.{passing, hiders, Numbered}
+use Rattle.merging.specs.MergeWalks.{parts, passing, hiders, Starting, Took, both-false}
+use Rattle.merging.specs.MergeShortcuts.{Numbered}
 use Rattle.phantomlet.specs.MergeCounts.{Recounting, Numbers, Numbering}
 use Rattle.phantomlet.specs.LeafCounts.{Ranging, Keeping, Bare, lacking, hidingAt, waiting, inLeaf, many-zero}
-use Rattle.phantomlet.specs.LeafRows.{low-inside}
+use Rattle.phantomlet.specs.LeafRows.{Lows, low-inside}
 use Rattle.merging.specs.MergeKeys.{entry-narrow, record-narrow, rows-narrow, low-at, first-low}
 use Rattle.merging.specs.MergeKeeps.{Shape, settle-shape, shape-length, shape-early, shape-unjoined, shape-after, kept-test}
 use Rattle.merging.specs.MergeSettles.{leafKeys, Resettling, settle-room, Narrow, settle-narrow, narrow-leaves, narrow-at, keys-narrow, lows-ascend}
@@ -216,6 +216,15 @@ module _ {l : Lent} {z : Sizes} (k : Counters) (h : MapHeld l z (k .version)) (a
       both-turn false true = refl
       both-turn false false = refl
 
+  -- what finding the leaf's rows asks
+  pub lows-held : Lows (l .lows) (z .leaves)
+  lows-held =
+      record {
+        listed = h .tables .lows;
+        first = first-low (l .lows) (l .versions) (z .leaves) (h .tables .lows-size) (h .tables .versions-size) (h .tables .lows .some) (h .tables .lows .room) good;
+        narrow = h .tables .lows-narrow;
+      }
+
   -- what finding the leaf's addresses asks
   pub ranging : Ranging (l .lows) (z .leaves) i (i + 1)
   ranging =
@@ -284,7 +293,7 @@ module _ {l : Lent} {z : Sizes} (k : Counters) (h : MapHeld l z (k .version)) (a
         let f : versionsTaken standard ks ≤ versionsPerMerge standard = taken-per standard-cut ks ks-short in
         record {
           rows-held = took .rows-held;
-          lows-are = record { listed = h .tables .lows; first = first-low (l .lows) (l .versions) (z .leaves) (h .tables .lows-size) (h .tables .versions-size) (h .tables .lows .some) (h .tables .lows .room) good; narrow = h .tables .lows-narrow };
+          lows-are = lows-held;
           leaf-in = at .inside;
           room = subst (λ (n : ℕ). n + versionsTaken standard ks ≤ leafPlaces + 1) c e;
           next = omega arith;

@@ -8,7 +8,7 @@ use mathlib.Core.List.{List, [], _∷_}
 use mathlib.Core.Option.{Option, none, some}
 use lib.Dec.{ltb, eqb}
 use borrow.Author.Tests.{eqb-true, eqb-false}
-use lib.ListN.{length, getD, drop, drop-of-length-le}
+use lib.ListN.{length, drop, drop-of-length-le}
 use lib.Seq.{drop-cons}
 use Rattle.lists.specs.Tests.{pick, either, both, maybe, same, less}
 use Rattle.lists.specs.TestLaws.{clash, same-yes, same-no, less-no}
@@ -127,7 +127,7 @@ module _ (slots : List (List ℕ)) (j : ℕ) (o : Oldest) (s : SlotWords) (reads
   elder-here n e =
       record {
         same-oldest = go (oldestSo o) e ∙ sym (ap (oldestAfter (oldestSo o)) (from-mine n));
-        narrow = reads .narrow;
+        narrow = reads .narrow (idle-waiting (s .content) n);
         nothing = λ f q. clash refl q;
       }
     where

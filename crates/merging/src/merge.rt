@@ -1,12 +1,11 @@
 // The merge (document 01: fold): a leaf's pending writes enter the index, and the leaf settles around its records.
 //
 // `take_leaf` takes the leaf's pending writes in and counts the entries that stay for their lock: by a walk over the slots, or,
-// if the leaf has one pending write and that is the one at the address asked for, by one search. `resettle` settles the leaf;
+// if the leaf has one pending write and that is the one at the address asked for, by one search. `settle` settles the leaf;
 // `recount` brings the phantomlet up to date. Nearly always no lock stays, and then `recount` needs no walk of its own.
 use counters::Counters;
 use index::leaves;
 use index::settles;
-use index::settles::Settled;
 use indexlet::SLOTS;
 use map::Leaves;
 use map::Records;
@@ -20,27 +19,25 @@ ghost use mathlib.Core.Path.{_≡_};
 ghost use mathlib.Core.Bool.{true};
 ghost use mathlib.Core.Option.{some};
 ghost use Prim.Native.Nat.{_+_, _-_, _^_, _<_, _≤_};
-ghost use lib.ListN.{length};
+ghost use lib.ListN.{length, drop};
 ghost use Rattle.lists.specs.Tests.{pick, present};
 ghost use Rattle.lists.specs.Rows.{assign};
 ghost use Rattle.spec.specs.Records.{standard};
 ghost use Rattle.spec.specs.Slots.{slotCount};
 ghost use Rattle.laws.specs.VersionBounds.{versionsPerMerge};
-ghost use Rattle.laws.specs.SlotCounts.{entryAt};
-ghost use Rattle.indexlet.specs.Words.{contentIn, slotsOf};
+ghost use Rattle.indexlet.specs.Words.{contentIn};
 ghost use Rattle.indexlet.specs.Promises as indexlet-promises;
 ghost use Rattle.index.specs.Views as index-views;
 ghost use Rattle.index.specs.LeafColumns.{lowsOf};
-ghost use Rattle.index.specs.SettleRows.{SettledRows};
 ghost use Rattle.phantomlet.specs.LeafTests.{placed};
 ghost use Rattle.phantomlet.specs.LeafCounts.{OneLeaf};
-ghost use Rattle.phantomlet.specs.LeafRows.{Lows, Spans};
+ghost use Rattle.phantomlet.specs.LeafRows.{Lows};
 ghost use Rattle.map.specs.Views.{lent};
 ghost use Rattle.map.specs.MapHeld.{MapHeld};
-ghost use Rattle.merging.specs.MergeSettles.{Resettling, leafKeys};
 ghost use Rattle.merging.specs.Merges.{Merges};
-ghost use Rattle.merging.specs.MergeWalks.{leaving, OutsideFits, OutsideNow, Underway, WalksSlot, Starting, Took};
-ghost use Rattle.merging.specs.MergeShortcuts.{Skips, hiders, Alone, Numbered};
+ghost use Rattle.merging.specs.MergeWalks.{leaving, hiders, OutsideFits, OutsideNow, Underway, WalksSlot, Starting, StartingFirst, Took, TookFirst};
+ghost use Rattle.merging.specs.MergeSpans.{LeafSpan, Raised, Lowered};
+ghost use Rattle.merging.specs.MergeShortcuts.{Skips, Alone, Numbered};
 
 // How far a walk over the slots has come: records of the index, entries of the indexlet, pending writes taken in, entries of
 // the leaf that stay, for their lock, and entries outside of the index.
@@ -77,6 +74,7 @@ fn take_write(
     requires { ⌜ index-views.RecordsSorted (now rows) n ⌝ }
     requires { ⌜ length (assign a (some (index-views.recordFrom payload commit)) (index-views.recordsOf (now rows) n)) ≤ index-views.recordPlaces ⌝ }
     ensures { λ r. ⌜ index-views.RecordsAre (now (rows .exit)) r (assign a (leaving kind payload commit) (index-views.recordsOf (now (rows .entry)) n)) ⌝ }
+    ensures { λ r. ⌜ drop r (now (rows .exit)) ≡ drop r (now (rows .entry)) ⌝ }
 {
     if kind == 1 {
         return index::records::put(rows, n, a, payload, commit);
@@ -164,7 +162,8 @@ fn take_slot(
     }
 }
 
-// The next slot, from this one on, whose key is among the addresses r; 256 if there is none. Most slots are passed here.
+// The next slot, from this one on, whose key is among the addresses r; 256 if there is none. Most slots are passed here, those
+// without an entry too: their key is no address.
 fn next_reached(slots: &Slots, r: Reach, from: usize) -> usize
     requires { ⌜ indexlet-promises.SlotsHeld (now slots) ⌝ }
     requires { ⌜ (from ≤ slotCount) × (r .span ≡ r .high - r .low) ⌝ }
@@ -181,41 +180,8 @@ fn next_reached(slots: &Slots, r: Reach, from: usize) -> usize
     next
 }
 
-// Slot j has an entry.
-fn stands(slots: &Slots, j: usize) -> bool
-    requires { ⌜ indexlet-promises.SlotsHeld (now slots) ⌝ }
-    requires { ⌜ j < slotCount ⌝ }
-    ensures { λ b. ⌜ b ≡ present (entryAt (slotsOf (now (slots .entry))) j) ⌝ }
-{
-    let s = indexlet::slot_at(slots, j);
-    let c = s.content;
-    !indexlet::idle(c)
-}
-
-// The same, but a slot without an entry is passed at once: an empty one has key 0, which the first leaf holds.
-fn take_standing(
-    rows: &mut Records,
-    slots: &mut Slots,
-    leaves: &Leaves,
-    w: Walk,
-    r: Reach,
-    m: usize,
-    i: usize,
-    j: usize,
-) -> Walk
-    requires { ⌜ Underway (placed (lowsOf (now leaves)) m i) (now rows) (now slots) w j ⌝ }
-    requires { ⌜ OneLeaf (lowsOf (now leaves)) m i r ⌝ }
-    requires { ⌜ j < slotCount ⌝ }
-    ensures { λ r. ⌜ WalksSlot (placed (lowsOf (now (leaves .entry))) m i) (now (rows .entry)) (now (slots .entry)) w j (now (rows .exit)) (now (slots .exit)) r ⌝ }
-{
-    if stands(slots, j) {
-        return take_slot(rows, slots, leaves, w, r, m, i, j);
-    }
-    w
-}
-
-// All pending writes of the leaf at place i enter the index. The walk goes on behind the last of them, since any slot can
-// have a lock that stays.
+// All pending writes of the leaf at place i enter the first n rows of the index; no record behind these lies in the leaf. The
+// walk goes on behind the last write, since any slot can have a lock that stays.
 fn take_all(
     rows: &mut Records,
     slots: &mut Slots,
@@ -227,9 +193,9 @@ fn take_all(
     i: usize,
     r: Reach,
 ) -> Walk
-    requires { ⌜ Starting (now rows) (now slots) n e out ⌝ }
+    requires { ⌜ StartingFirst (placed (lowsOf (now leaves)) m i) (now rows) (now slots) n e out ⌝ }
     requires { ⌜ OneLeaf (lowsOf (now leaves)) m i r ⌝ }
-    ensures { λ r. ⌜ Took (placed (lowsOf (now (leaves .entry))) m i) (now (rows .entry)) (now (slots .entry)) n (now (rows .exit)) (now (slots .exit)) r ⌝ }
+    ensures { λ r. ⌜ TookFirst (placed (lowsOf (now (leaves .entry))) m i) (now (rows .entry)) (now (slots .entry)) n out (now (rows .exit)) (now (slots .exit)) r ⌝ }
 {
     let mut w = Walk {
         records: n,
@@ -242,7 +208,7 @@ fn take_all(
     while j < SLOTS {
         j = next_reached(slots, r, j);
         if j < SLOTS {
-            w = take_standing(rows, slots, leaves, w, r, m, i, j);
+            w = take_slot(rows, slots, leaves, w, r, m, i, j);
             j += 1;
         }
     }
@@ -283,52 +249,12 @@ fn hides_alone(
     recount::hides_at(rows, n, key as Address, c) == hidden
 }
 
-// The pending writes of the leaf at place i, which holds the address, enter the index. Most merges come right after the
-// install that made them due, at its address: with one pending write in the leaf, that one is tried first, and if nothing else
-// of the leaf matters no slot is walked over.
-fn take_leaf(
-    rows: &mut Records,
-    slots: &mut Slots,
-    leaves: &Leaves,
-    z: Sizes,
-    i: usize,
-    r: Reach,
-    a: Address,
-) -> Walk
-    requires { ⌜ Starting (now rows) (now slots) (z .records) (z .entries) (z .outside) ⌝ }
-    requires { ⌜ OneLeaf (lowsOf (now leaves)) (z .leaves) i r ⌝ }
-    requires { ⌜ Numbered (now leaves) (now rows) (now slots) (z .leaves) (z .records) i ⌝ }
-    ensures { λ w. ⌜ Took (placed (lowsOf (now (leaves .entry))) (z .leaves) i) (now (rows .entry)) (now (slots .entry)) (z .records) (now (rows .exit)) (now (slots .exit)) w ⌝ }
-{
-    leaves::leaf_places(leaves);
-    let m = z.leaves;
-    let n = z.records;
-    let own = leaves::leaf_at(leaves, i);
-    if own.pending == 1 {
-        let found = indexlet::look_up(slots, a);
-        let j = found.at;
-        if j < SLOTS {
-            if hides_alone(rows, slots, leaves, n, m, i, r, j, own.hidden) {
-                let w = Walk {
-                    records: n,
-                    entries: z.entries,
-                    count: 0,
-                    left: 0,
-                    outside: z.outside,
-                };
-                return take_slot(rows, slots, leaves, w, r, m, i, j);
-            }
-        }
-    }
-    take_all(rows, slots, leaves, n, z.entries, z.outside, m, i, r)
-}
-
 // The rows of the leaf at place i.
 fn leaf_rows(rows: &Records, leaves: &Leaves, n: usize, m: usize, i: usize) -> Span
     requires { ⌜ index-views.RecordsSorted (now rows) n ⌝ }
     requires { ⌜ Lows (lowsOf (now leaves)) m ⌝ }
     requires { ⌜ i < m ⌝ }
-    ensures { λ r. ⌜ Spans (placed (lowsOf (now (leaves .entry))) m i) (now (rows .entry)) n (r .from) (r .to) ⌝ }
+    ensures { λ r. ⌜ LeafSpan (lowsOf (now (leaves .entry))) (now (rows .entry)) n m i (r .from) (r .to) ⌝ }
 {
     leaves::leaf_places(leaves);
     let own = leaves::leaf_at(leaves, i);
@@ -343,13 +269,115 @@ fn leaf_rows(rows: &Records, leaves: &Leaves, n: usize, m: usize, i: usize) -> S
     Span { from, to: n }
 }
 
-// The leaf at place i settles around the records that it has now; v is the last version given.
-fn resettle(leaves: &mut Leaves, rows: &Records, n: usize, m: usize, i: usize, v: u64) -> Settled
-    requires { ⌜ Resettling (lowsOf (now leaves)) (now rows) n m i v ⌝ }
-    ensures { λ r. ⌜ SettledRows (now (leaves .entry)) m i v (leafKeys (lowsOf (now (leaves .entry))) (now (rows .entry)) n m i) (now (leaves .exit)) (r .leaves) (r .version) ⌝ }
+// Moves n rows, from row `from` on, up to row `to`.
+fn move_up(rows: &mut Records, from: usize, to: usize, n: usize)
+    requires { ⌜ from ≤ to ⌝ }
+    requires { ⌜ to + n ≤ index-views.recordPlaces ⌝ }
+    ensures { λ _. ⌜ Raised (now (rows .entry)) (now (rows .exit)) from to n ⌝ }
 {
-    let s = leaf_rows(rows, leaves, n, m, i);
-    settles::settle(leaves, rows, m, i, s.from, s.to, v)
+    index::rows::record_places(rows);
+    if from < to {
+        index::rows::raise(rows, from, to, n);
+    }
+}
+
+// Moves n rows, from row `from` on, down to row `to`.
+fn move_down(rows: &mut Records, from: usize, to: usize, n: usize)
+    requires { ⌜ to ≤ from ⌝ }
+    requires { ⌜ from + n ≤ index-views.recordPlaces ⌝ }
+    ensures { λ _. ⌜ Lowered (now (rows .entry)) (now (rows .exit)) from to n ⌝ }
+{
+    index::rows::record_places(rows);
+    if to < from {
+        index::rows::lower(rows, from, to, n);
+    }
+}
+
+// All pending writes of the leaf at place i, which holds the rows s, enter the index. The records behind the leaf move out of
+// the way before and back after, not with each write. `hidden` is the leaf's number of entries that hide their address: no more
+// puts than that bring a record.
+fn take_many(
+    rows: &mut Records,
+    slots: &mut Slots,
+    leaves: &Leaves,
+    z: Sizes,
+    i: usize,
+    r: Reach,
+    s: Span,
+    hidden: u64,
+) -> Walk
+    requires { ⌜ Starting (now rows) (now slots) (z .records) (z .entries) (z .outside) ⌝ }
+    requires { ⌜ OneLeaf (lowsOf (now leaves)) (z .leaves) i r ⌝ }
+    requires { ⌜ LeafSpan (lowsOf (now leaves)) (now rows) (z .records) (z .leaves) i (s .from) (s .to) ⌝ }
+    requires { ⌜ hidden ≡ hiders (placed (lowsOf (now leaves)) (z .leaves) i) (now rows) (z .records) (now slots) ⌝ }
+    ensures { λ w. ⌜ Took (placed (lowsOf (now (leaves .entry))) (z .leaves) i) (now (rows .entry)) (now (slots .entry)) (z .records) (now (rows .exit)) (now (slots .exit)) w ⌝ }
+{
+    let to = s.to;
+    let behind = z.records - to;
+    let top = to + (hidden as usize);
+    move_up(rows, to, top, behind);
+    let w = take_all(
+        rows,
+        slots,
+        leaves,
+        to,
+        z.entries,
+        z.outside,
+        z.leaves,
+        i,
+        r,
+    );
+    let n = w.records;
+    move_down(rows, top, n, behind);
+    Walk {
+        records: n + behind,
+        entries: w.entries,
+        count: w.count,
+        left: w.left,
+        outside: w.outside,
+    }
+}
+
+// The pending writes of the leaf at place i, which holds the address and the rows s, enter the index. Most merges come right
+// after the install that made them due, at its address: with one pending write in the leaf, that one is tried first, and if
+// nothing else of the leaf matters no slot is walked over.
+fn take_leaf(
+    rows: &mut Records,
+    slots: &mut Slots,
+    leaves: &Leaves,
+    z: Sizes,
+    i: usize,
+    r: Reach,
+    s: Span,
+    a: Address,
+) -> Walk
+    requires { ⌜ Starting (now rows) (now slots) (z .records) (z .entries) (z .outside) ⌝ }
+    requires { ⌜ OneLeaf (lowsOf (now leaves)) (z .leaves) i r ⌝ }
+    requires { ⌜ LeafSpan (lowsOf (now leaves)) (now rows) (z .records) (z .leaves) i (s .from) (s .to) ⌝ }
+    requires { ⌜ Numbered (now leaves) (now rows) (now slots) (z .leaves) (z .records) i ⌝ }
+    ensures { λ w. ⌜ Took (placed (lowsOf (now (leaves .entry))) (z .leaves) i) (now (rows .entry)) (now (slots .entry)) (z .records) (now (rows .exit)) (now (slots .exit)) w ⌝ }
+{
+    leaves::leaf_places(leaves);
+    let m = z.leaves;
+    let n = z.records;
+    let own = leaves::leaf_at(leaves, i);
+    if own.pending == 1 {
+        let found = indexlet::find(slots, a);
+        let j = found.at;
+        if j < SLOTS {
+            if hides_alone(rows, slots, leaves, n, m, i, r, j, own.hidden) {
+                let w = Walk {
+                    records: n,
+                    entries: z.entries,
+                    count: 0,
+                    left: 0,
+                    outside: z.outside,
+                };
+                return take_slot(rows, slots, leaves, w, r, m, i, j);
+            }
+        }
+    }
+    take_many(rows, slots, leaves, z, i, r, s, own.hidden)
 }
 
 // A merge at an address: all pending writes of the leaf that holds it enter the index. With none, nothing changes.
@@ -376,8 +404,10 @@ pub fn merge(
         };
     }
     let r = recount::addresses_of(leaves, m, i, i + 1);
-    let w = take_leaf(rows, slots, leaves, z, i, r, a);
-    let s = resettle(leaves, rows, w.records, m, i, k.version);
+    let span = leaf_rows(rows, leaves, z.records, m, i);
+    let w = take_leaf(rows, slots, leaves, z, i, r, span, a);
+    let to = span.to + w.records - z.records;
+    let s = settles::settle(leaves, rows, m, i, span.from, to, k.version);
     leaves::leaf_places(leaves);
     recount::recount(leaves, rows, slots, w.records, s.leaves, i, m, w.left);
     let sizes = Sizes {

@@ -167,7 +167,7 @@ module _ {rows : RecordRows} {lows : List ℕ} {slots : SlotRows} {n m : ℕ} {z
     tally-below t l = let w : lowPlace (r .key) (take m lows) < z .from = g .range .below (r .key) l in out-of (λ i a b e. let q : ⊥ = omega arith in q) t
 
     tally-above : isIdle (contentIn (r .content)) ≡ false → z .high ≤ r .key → Tallying rows lows slots n m z hidden pending (j + 1)
-    tally-above t l = let w : z .to ≤ lowPlace (r .key) (take m lows) = g .range .above (r .key) l (reads .narrow) in out-of (λ i a b e. let q : ⊥ = omega arith in q) t
+    tally-above t l = let w : z .to ≤ lowPlace (r .key) (take m lows) = g .range .above (r .key) l (reads .narrow t) in out-of (λ i a b e. let q : ⊥ = omega arith in q) t
 
     -- an address in none of these leaves, with an entry or without
     pub tally-outside : reached z (r .key) ≡ false → Tallying rows lows slots n m z hidden pending (j + 1)

@@ -34,7 +34,6 @@ use Rattle.index.specs.ViewLaws.{length-records, record-at}
 use Rattle.spec.specs.declared.Current.{Current}
 use Rattle.queries.specs.declared.Next.{Next}
 use Rattle.queries.specs.declared.Next.the-variants.{At, Done}
-use Rattle.sets.specs.Reads.{recordIn}
 use Rattle.queries.specs.QueryViews.{mapWith, Sees}
 use Rattle.queries.specs.NextViews.{end, rowsFrom, nextIn, Follows, Numbers, IndexFrom, SlotFrom, Nearer, Walked, Passed, Counted}
 use Rattle.queries.specs.Contents.{firstFrom}
@@ -229,7 +228,7 @@ module _ (rows : RecordRows) (n : ℕ) (slots : SlotRows) where
             let i : p .at < slotCount = omega arith in
             let r = of-row (words.rowAt slots (p .at)) 0 0 (p .content) (sym (ap (λ (y : Slot). y .entry) (slots-at slots (p .at) i)) ∙ p .here) in
             let o : p .content .key ≡ k = p .own in
-            let b : words.rowAt slots (p .at) .key < end = sound .sized .narrow (p .at) i in
+            let b : words.rowAt slots (p .at) .key < end = sound .sized .narrow (p .at) i (r .0) in
             let c : words.rowAt slots (p .at) .key ≡ p .content .key = r .1 in
             omega arith
 

@@ -6,11 +6,12 @@ use mathlib.Core.Option.{Option}
 use lib.ListN.{length, take, drop, getD}
 use Rattle.lists.specs.Rows.{Row, row, between}
 use Rattle.spec.specs.Records.{standard, Record}
-use Rattle.spec.specs.Slots.{search}
+use Rattle.spec.specs.Slots.{contentOf, search}
 use Rattle.spec.specs.Leaves.{Leaf, firstLeaf, leafOf, meeting}
 use Rattle.spec.specs.Maps.{MapState, current, indexedBetween}
 use Rattle.laws.specs.LeafVersions.{GoodLeaves}
-use Rattle.indexlet.specs.Words.{slotsOf}
+use Rattle.indexlet.specs.declared.Content.{Content as ContentWords}
+use Rattle.indexlet.specs.Words.{contentIn, slotsOf}
 use Rattle.index.specs.Views.{noRow, recordsOf}
 use Rattle.sets.specs.Reads.{recordIn, observedIn}
 use Rattle.spec.specs.declared.Current.{Current}
@@ -28,6 +29,10 @@ mapWith rows n slots ls = record { records = recordsOf rows n; leaves = ls; slot
 -- r is the current record of a
 pub record Sees (rows : RecordRows) (n : ℕ) (slots : SlotRows) (a : ℕ) (r : Current) : Type 0 where
   pub record-is : (ls : List Leaf) → recordIn r ≡ current (mapWith rows n slots ls) a
+
+-- r is the current record of a, whatever slots say c of it
+pub record SeesUnder (rows : RecordRows) (n a : ℕ) (c : ContentWords) (r : Current) : Type 0 where
+  pub sees : (slots : SlotRows) → contentOf (slotsIn slots) a ≡ contentIn c → Sees rows n slots a r
 
 -- and so many slots are examined to find it
 pub record Examines (rows : RecordRows) (n : ℕ) (slots : SlotRows) (a : ℕ) (r : Seen) : Type 0 where

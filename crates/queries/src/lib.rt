@@ -27,7 +27,7 @@ ghost use Rattle.map.specs.Views.{lowsOf, versionsOf, lent, mapOf};
 ghost use Rattle.map.specs.Parts.{RecordsHeld, SlotsHeld, LeavesListed, LeafListed};
 ghost use Rattle.sets.specs.Writes.{entryIn};
 ghost use Rattle.map.specs.WriteWalks.{Writing};
-ghost use Rattle.queries.specs.QueryViews.{Sees, Examines, Spans, SeenAt, Meets, LeafAt, LoggedAt};
+ghost use Rattle.queries.specs.QueryViews.{Sees, SeesUnder, Examines, Spans, SeenAt, Meets, LeafAt, LoggedAt};
 ghost use Rattle.queries.specs.NextViews.{IndexFrom, Nearer, SlotFrom, Follows, Numbers};
 ghost use Rattle.queries.specs.PhantomViews.{Holding, phantomAt, Owns, Logged, ownPut, lockOnlyCount};
 
@@ -53,8 +53,40 @@ pub enum Next {
     Done,
 }
 
-// The current record of an address: what a pending write leaves there, else what the index has; and how many slots were
-// examined.
+// The current record of an address of which the indexlet says c: what a pending write leaves there, else what the index has.
+fn under(rows: &Records, n: usize, a: Address, c: indexlet::Content) -> Current
+    requires { ⌜ RecordsHeld (now rows) n ⌝ }
+    ensures { λ r. ⌜ SeesUnder (now (rows .entry)) n a c r ⌝ }
+{
+    if c.kind == 0 {
+        let found = records::find(rows, n, a);
+        match found {
+            Found::At { payload, commit } => {
+                return Current {
+                    there: true,
+                    payload,
+                    commit,
+                };
+            }
+            Found::Nothing => {
+                let payload = PayloadWords { value: 0, owner: 0 };
+                return Current {
+                    there: false,
+                    payload,
+                    commit: 0,
+                };
+            }
+        }
+    }
+    let payload = c.payload;
+    Current {
+        there: c.kind == 1,
+        payload,
+        commit: c.commit,
+    }
+}
+
+// The current record of an address, and how many slots a search for it examines.
 pub fn see(rows: &Records, slots: &Slots, n: usize, a: Address) -> Seen
     requires { ⌜ RecordsHeld (now rows) n ⌝ }
     requires { ⌜ SlotsHeld (now slots) ⌝ }
@@ -62,54 +94,22 @@ pub fn see(rows: &Records, slots: &Slots, n: usize, a: Address) -> Seen
 {
     let looked = indexlet::look_up(slots, a);
     let c = looked.content;
-    if c.kind == 0 {
-        let found = records::find(rows, n, a);
-        match found {
-            Found::At { payload, commit } => {
-                let current = Current {
-                    there: true,
-                    payload,
-                    commit,
-                };
-                return Seen {
-                    current,
-                    examined: looked.examined,
-                };
-            }
-            Found::Nothing => {
-                let payload = PayloadWords { value: 0, owner: 0 };
-                let current = Current {
-                    there: false,
-                    payload,
-                    commit: 0,
-                };
-                return Seen {
-                    current,
-                    examined: looked.examined,
-                };
-            }
-        }
-    }
-    let payload = c.payload;
-    let current = Current {
-        there: c.kind == 1,
-        payload,
-        commit: c.commit,
-    };
+    let current = under(rows, n, a, c);
     Seen {
         current,
         examined: looked.examined,
     }
 }
 
-// The current record alone.
+// The current record alone: nothing is counted.
 pub fn current_record(rows: &Records, slots: &Slots, n: usize, a: Address) -> Current
     requires { ⌜ RecordsHeld (now rows) n ⌝ }
     requires { ⌜ SlotsHeld (now slots) ⌝ }
     ensures { λ r. ⌜ Sees (now (rows .entry)) n (now (slots .entry)) a r ⌝ }
 {
-    let seen = see(rows, slots, n, a);
-    seen.current
+    let found = indexlet::find(slots, a);
+    let c = found.content;
+    under(rows, n, a, c)
 }
 
 // The places of the records from lo to hi.
@@ -140,8 +140,8 @@ pub fn seen_at(rows: &Records, slots: &Slots, n: usize, i: usize) -> Observed
 {
     let there = rows::get(rows, i);
     let address = there.address as Address;
-    let looked = indexlet::look_up(slots, address);
-    let c = looked.content;
+    let said = indexlet::find(slots, address);
+    let c = said.content;
     if c.kind == 0 {
         let payload = there.payload;
         let current = Current {
@@ -217,8 +217,8 @@ fn lock_only_at(
     if p != i {
         return 0;
     }
-    let looked = indexlet::look_up(slots, a);
-    let c = looked.content;
+    let said = indexlet::find(slots, a);
+    let c = said.content;
     if c.kind == 1 {
         return 0;
     }

@@ -76,6 +76,9 @@ impl Sources {
         if let Some((left, right)) = text.rsplit_once('+') {
             return Some(self.number(home, left)? + self.number(home, right)?);
         }
+        if let Some((left, right)) = text.rsplit_once('/') {
+            return Some(self.number(home, left)? / self.number(home, right)?);
+        }
         if let Some((left, right)) = text.rsplit_once('*') {
             return Some(self.number(home, left)? * self.number(home, right)?);
         }

@@ -373,7 +373,7 @@ fn header_has_the_limits_of_the_code() {
     let limits = [
         ("SECTIONS_SEATS", reads.dimensions()[0]),
         ("SECTIONS_MAP_LIMIT", records.dimensions()[0]),
-        ("SECTIONS_SLOT_COUNT", slots.dimensions()[0]),
+        ("SECTIONS_SLOT_COUNT", crates().constant("SLOTS").expect("the slots")),
         ("SECTIONS_READ_LIMIT", reads.dimensions()[1]),
         ("SECTIONS_MARK_LIMIT", marks.dimensions()[1]),
         ("SECTIONS_WRITE_LIMIT", writes.dimensions()[1]),
@@ -384,6 +384,7 @@ fn header_has_the_limits_of_the_code() {
         // By request 107: 4 and 4 bytes, then 4 and 10 for each record.
         ("SECTIONS_FILE_LIMIT", 4 + 4 + (4 + 10) * exported.dimensions()[0]),
         ("SECTIONS_FILE_BYTES(0)", 8),
+        ("SECTIONS_SLOT_COUNT + SECTIONS_FILTER_ROWS", slots.dimensions()[0]),
     ];
     let lines: String =
         limits.iter().map(|(name, _)| format!("printf(\"%d\\n\", {name});\n")).collect();

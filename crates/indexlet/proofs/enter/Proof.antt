@@ -2,31 +2,24 @@
 use native.Mathlib.Omega.{arith}
 use mathlib.Core.Path.{sym, _∙_}
 use borrow.Author.Needs.{needs}
-use Rattle.indexlet.specs.SeekLaws.{sought-some, sought-stands}
 use Rattle.indexlet.specs.EnterLaws.{number-most, number-some, enter-out, enter-nothing, enter-over, enter-room, enter-new}
 use Rattle.indexlet.proofs.enter.Statement.{statement}
 use Rattle.indexlet.proofs.enter.Tie as tie
 
-home-requires : tie.Need-home-requires
-home-requires c κs = search needs
-
 idle-requires : tie.Need-idle-requires
 idle-requires c κs = search needs
 
-sub-release : tie.Need-sub-release
-sub-release c = sought-some _ (c .before .before .before .before .before .before .pre .0 .good) (c .before .before .before .before .before .before .pre .1 .1 .1 .ended) (c .before .before .if2 .taken)
-
-release-requires : tie.Need-release-requires
-release-requires c κs = (c .before .before .before .before .before .before .pre .0, (c .before .before .before .before .before .home .ensures, sought-stands (c .before .before .before .before .before .before .pre .0 .good) (c .before .before .before .before .before .before .pre .1 .1 .1 .ended) (c .before .before .if2 .taken)))
+take-out-requires : tie.Need-take-out-requires
+take-out-requires c κs = (c .before .before .before .before .pre .0, (c .before .if2 .taken, c .before .before .before .before .pre .1 .1 .1 .hit (c .before .if2 .taken)))
 
 sub-result : tie.Need-sub-result
-sub-result c = number-some _ _ _ _ (c .before .before .before .before .before .before .before .pre .0) (c .before .before .before .before .before .before .before .pre .1 .0) (c .before .before .before .before .before .before .before .pre .1 .1 .0) _ (c .before .before .before .before .before .before .before .pre .1 .1 .1 .ended) (sym (c .before .before .before .before .before .idle .ensures) ∙ c .before .before .before .before .if1 .taken) (c .before .before .before .if2 .taken)
+sub-result c = number-some _ _ _ _ (c .before .before .before .before .before .pre .0) (c .before .before .before .before .before .pre .1 .0) (c .before .before .before .before .before .pre .1 .1 .0) _ (c .before .before .before .before .before .pre .1 .1 .1) (sym (c .before .before .before .before .idle .ensures) ∙ c .before .before .before .if1 .taken) (c .before .before .if2 .taken)
 
 returns : tie.Need-returns
-returns c = enter-out _ _ _ _ (c .before .before .before .before .before .before .before .pre .0) (c .before .before .before .before .before .before .before .pre .1 .0) (c .before .before .before .before .before .before .before .pre .1 .1 .0) _ (c .before .before .before .before .before .before .before .pre .1 .1 .1 .ended) (sym (c .before .before .before .before .before .idle .ensures) ∙ c .before .before .before .before .if1 .taken) (c .before .before .before .if2 .taken) _ (c .release .ensures)
+returns c = enter-out _ _ _ _ (c .before .before .before .before .before .pre .0) (c .before .before .before .before .before .pre .1 .0) (c .before .before .before .before .before .pre .1 .1 .0) _ (c .before .before .before .before .before .pre .1 .1 .1) (sym (c .before .before .before .before .idle .ensures) ∙ c .before .before .before .if1 .taken) (c .before .before .if2 .taken) _ (c .take-out .ensures)
 
 returns-2 : tie.Need-returns-2
-returns-2 c = enter-nothing _ _ _ _ (c .before .before .before .before .pre .0) (c .before .before .before .before .pre .1 .0) (c .before .before .before .before .pre .1 .1 .0) _ (c .before .before .before .before .pre .1 .1 .1 .ended) (sym (c .before .before .idle .ensures) ∙ c .before .if1 .taken) (c .if2 .left)
+returns-2 c = enter-nothing _ _ _ _ (c .before .before .before .pre .0) (c .before .before .before .pre .1 .0) (c .before .before .before .pre .1 .1 .0) _ (c .before .before .before .pre .1 .1 .1) (sym (c .before .before .idle .ensures) ∙ c .before .if1 .taken) (c .if2 .left)
 
 get-requires : tie.Need-get-requires
 get-requires c κs = search needs
@@ -36,38 +29,32 @@ put-requires c κs = search needs
 
 returns-3 : tie.Need-returns-3
 returns-3 c =
-    enter-over _ _ _ _ (c .before .before .before .before .before .before .before .before .pre .0) (c .before .before .before .before .before .before .before .before .pre .1 .0) (c .before .before .before .before .before .before .before .before .pre .1 .1 .0) _ (c .before .before .before .before .before .before .before .before .pre .1 .1 .1 .ended) (sym (c .before .before .before .before .before .before .idle .ensures) ∙ c .before .before .before .before .before .if1 .left) (c .before .before .before .before .if3 .taken)
-    (c .before .before .before .before .before .before .before .before .fits .a .fits) _ (c .before .before .get .ensures) _ (c .put .ensures)
+    enter-over _ _ _ _ (c .before .before .before .before .before .before .before .pre .0) (c .before .before .before .before .before .before .before .pre .1 .0) (c .before .before .before .before .before .before .before .pre .1 .1 .0) _ (c .before .before .before .before .before .before .before .pre .1 .1 .1) (sym (c .before .before .before .before .before .before .idle .ensures) ∙ c .before .before .before .before .before .if1 .left) (c .before .before .before .before .if3 .taken)
+    (c .before .before .before .before .before .before .before .fits .a .fits) _ (c .before .before .get .ensures) _ (c .put .ensures)
 
-take-requires : tie.Need-take-requires
-take-requires c κs = (
-  c .before .before .before .before .before .pre .0,
-  (
-    c .before .before .before .before .home .ensures,
-    (enter-room _ _ _ _ (c .before .before .before .before .before .pre .0) (c .before .before .before .before .before .pre .1 .0) (c .before .before .before .before .before .pre .1 .1 .0) _ (c .before .before .before .before .before .pre .1 .1 .1 .ended) (sym (c .before .before .before .idle .ensures) ∙ c .before .before .if1 .left) (c .before .if3 .left), sym (c .before .before .before .idle .ensures) ∙ c .before .before .if1 .left),
-  ),
-)
+take-in-requires : tie.Need-take-in-requires
+take-in-requires c κs =
+    let busy = sym (c .before .before .before .idle .ensures) ∙ c .before .before .if1 .left in
+    (c .before .before .before .before .pre .0, (enter-room _ _ _ _ (c .before .before .before .before .pre .0) (c .before .before .before .before .pre .1 .0) (c .before .before .before .before .pre .1 .1 .0) _ (c .before .before .before .before .pre .1 .1 .1) busy (c .before .if3 .left), busy))
 
 add-result : tie.Need-add-result
-add-result c = omega (arith, number-most _ _ _ _ (c .before .before .before .before .before .before .pre .0) (c .before .before .before .before .before .before .pre .1 .0) (c .before .before .before .before .before .before .pre .1 .1 .0))
+add-result c = omega (arith, number-most _ _ _ _ (c .before .before .before .before .before .pre .0) (c .before .before .before .before .before .pre .1 .0) (c .before .before .before .before .before .pre .1 .1 .0))
 
 returns-4 : tie.Need-returns-4
-returns-4 c = enter-new _ _ _ _ (c .before .before .before .before .before .before .pre .0) (c .before .before .before .before .before .before .pre .1 .0) (c .before .before .before .before .before .before .pre .1 .1 .0) _ (c .before .before .before .before .before .before .pre .1 .1 .1 .ended) (sym (c .before .before .before .before .idle .ensures) ∙ c .before .before .before .if1 .left) (c .before .before .if3 .left) _ (c .take .ensures)
+returns-4 c = enter-new _ _ _ _ (c .before .before .before .before .before .pre .0) (c .before .before .before .before .before .pre .1 .0) (c .before .before .before .before .before .pre .1 .1 .0) _ (c .before .before .before .before .before .pre .1 .1 .1) (sym (c .before .before .before .before .idle .ensures) ∙ c .before .before .before .if1 .left) (c .before .before .if3 .left) _ (c .take-in .ensures)
 
 pub enter-spec : {M : Type 1} → statement M
 enter-spec =
     tie.close
     (tie.spec
-    home-requires
     idle-requires
-    sub-release
-    release-requires
+    take-out-requires
     sub-result
     returns
     returns-2
     get-requires
     put-requires
     returns-3
-    take-requires
+    take-in-requires
     add-result
     returns-4)

@@ -66,7 +66,7 @@ returns c =
     let done = c .before .before .before .before in
     let start = done .before .before in
     release-ends _ _ _ _ _ _ (start .pre .0) (start .pre .1 .1)
-    (release-done _ _ _ _ _ _ (done .before .loop .inv) (done .loop-test .left)) _ (c .before .before .get2 .ensures) refl _ idle-zero
+    (release-done _ _ _ _ _ _ (done .before .loop .inv) (done .loop-test .left)) _ (c .before .before .get2 .ensures) refl _ _ idle-zero
     _ (c .put2 .ensures)
 
 pub release-spec : {M : Type 1} → statement M

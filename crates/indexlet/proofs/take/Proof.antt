@@ -35,9 +35,11 @@ returns c =
     let tested = c .before .before .before in
     let got = tested .before .before in
     let turn = got .before .before in
-    let start = turn .before .before in
-    take-ends _ _ _ _ _ (turn .before .loop .inv) (turn .loop-test .taken) _ (got .get .ensures) (start .args .c)
-    (sym (tested .idle .ensures) ∙ c .before .before .if1 .taken) (start .pre .1 .1 .1) (start .fits .a .fits) _ (c .put .ensures)
+    let start = turn .before .before in (
+      take-ends _ _ _ _ _ (turn .before .loop .inv) (turn .loop-test .taken) _ (got .get .ensures) (start .args .c)
+          (sym (tested .idle .ensures) ∙ c .before .before .if1 .taken) (start .pre .1 .1 .1) (start .fits .a .fits) _ (c .put .ensures),
+      omega arith,
+    )
 
 add-t18 : tie.Need-add-t18 Inv-loop μ-loop
 add-t18 c =

@@ -13,15 +13,15 @@ find-leaf-requires c κs = search needs
 returns-2 : tie.Need-returns-2
 returns-2 c = own-put _ _ _ _ _ _ _ (c .before .before .if1 .left) (lock-only-elsewhere _ _ _ _ _ _ _ _ (c .before .find-leaf .ensures) (c .if2 .taken))
 
-look-up-requires : tie.Need-look-up-requires
-look-up-requires c κs = search needs
-
-returns-3 : tie.Need-returns-3
-returns-3 c = let l = c .before .before .before .look-up in
-    own-put _ _ _ _ _ _ _ (c .before .before .before .before .before .before .if1 .left) (lock-only-pending _ _ _ _ _ _ _ (l .result .content) (l .ensures .content) (c .if3 .taken))
-
 find-requires : tie.Need-find-requires
 find-requires c κs = search needs
+
+returns-3 : tie.Need-returns-3
+returns-3 c = let l = c .before .before .before .find in
+    own-put _ _ _ _ _ _ _ (c .before .before .before .before .before .before .if1 .left) (lock-only-pending _ _ _ _ _ _ _ (l .result .content) (l .ensures .content) (c .if3 .taken))
+
+find-requires-2 : tie.Need-find-requires-2
+find-requires-2 c κs = search needs
 
 enum-told : tie.Need-enum-told
 enum-told c = search needs
@@ -30,12 +30,12 @@ enum-told-2 : tie.Need-enum-told-2
 enum-told-2 c = search needs
 
 returns-4 : tie.Need-returns-4
-returns-4 c = own-put _ _ _ _ _ _ _ (c .before .before .before .before .before .before .before .before .before .if1 .left) (lock-only-found _ _ _ _ _ _ _ _ _ _ (c .enum-told .given .1) (c .before .before .find .ensures))
+returns-4 c = own-put _ _ _ _ _ _ _ (c .before .before .before .before .before .before .before .before .before .if1 .left) (lock-only-found _ _ _ _ _ _ _ _ _ _ (c .enum-told .given .1) (c .before .before .find2 .ensures))
 
 returns-5 : tie.Need-returns-5
-returns-5 c = let l = c .before .before .before .before .before .before .look-up in
+returns-5 c = let l = c .before .before .before .before .before .before .find in
     own-put _ _ _ _ _ _ _ (c .before .before .before .before .before .before .before .before .before .if1 .left)
-    (lock-only-yes _ _ _ _ _ _ _ _ (l .result .content) _ (c .before .before .before .before .before .before .before .before .find-leaf .ensures) (c .before .before .before .before .before .before .before .if2 .left) (l .ensures .content) (c .before .before .before .if3 .left) (c .enum-told2 .given .1) (c .before .before .find .ensures))
+    (lock-only-yes _ _ _ _ _ _ _ _ (l .result .content) _ (c .before .before .before .before .before .before .before .before .find-leaf .ensures) (c .before .before .before .before .before .before .before .if2 .left) (l .ensures .content) (c .before .before .before .if3 .left) (c .enum-told2 .given .1) (c .before .before .find2 .ensures))
 
 pub lock-only-at-spec : {M : Type 1} → statement M
 lock-only-at-spec =
@@ -44,9 +44,9 @@ lock-only-at-spec =
     returns
     find-leaf-requires
     returns-2
-    look-up-requires
-    returns-3
     find-requires
+    returns-3
+    find-requires-2
     enum-told
     enum-told-2
     returns-4

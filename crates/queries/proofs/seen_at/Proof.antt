@@ -13,22 +13,22 @@ cast-address : tie.Need-cast-address
 cast-address c = let s = c .before .before in
     record { fits = narrow-address (s .args .rows .now) _ _ (c .before .get .result) (s .pre .0) (s .pre .1 .1) (c .before .get .ensures) }
 
-look-up-requires : tie.Need-look-up-requires
-look-up-requires c κs = search needs
+find-requires : tie.Need-find-requires
+find-requires c κs = search needs
 
 returns : tie.Need-returns
 returns c = let s = c .before .before .before .before .before .before .before in
     let g = c .before .before .before .before .before .before .get in
-    let l = c .before .before .before .before .look-up in
+    let l = c .before .before .before .before .find in
     seen-there (s .args .rows .now) (s .args .n) (s .args .slots .now) _ (g .result) _ (s .pre .0 .held) (s .pre .1 .1) (g .ensures)
     (sees-found _ _ _ _ (l .result .content) (l .ensures .content) _ _ _ (c .before .if1 .taken) refl (row-found _ _ _ (g .result) (s .pre .0 .held) (s .pre .1 .1) (g .ensures)))
 
 returns-2 : tie.Need-returns-2
 returns-2 c = let s = c .before .before .before .before .before .before .before .before in
     let g = c .before .before .before .before .before .before .before .get in
-    let l = c .before .before .before .before .before .look-up in
+    let l = c .before .before .before .before .before .find in
     seen-there (s .args .rows .now) (s .args .n) (s .args .slots .now) _ (g .result) _ (s .pre .0 .held) (s .pre .1 .1) (g .ensures)
     (sees-pending _ _ _ _ (l .result .content) (l .ensures .content) (c .before .before .if1 .left))
 
 pub seen-at-spec : {M : Type 1} → statement M
-seen-at-spec = tie.close (tie.spec get-requires cast-address look-up-requires returns returns-2)
+seen-at-spec = tie.close (tie.spec get-requires cast-address find-requires returns returns-2)

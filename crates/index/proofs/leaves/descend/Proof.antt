@@ -1,11 +1,12 @@
+-- `index::leaves::descend` meets its contract: two steps at a time, and one at the end.
+use Prim.Native.Nat.{_/_, _<_}
+use native.Mathlib.Omega.{arith}
 use mathlib.Core.Path.{_≡_}
-use Prim.Native.Nat.{_<_}
 use lib.ListN.{length, take}
 use lib.Seq.{length-take-le}
-use native.Mathlib.Omega.{arith}
 use borrow.Author.Needs.{needs}
-use Rattle.index.specs.Nearing.{Nearing, near-on, near-end}
-use Rattle.index.specs.LeafPlaces.{lowPlace, place-inside, low-took}
+use Rattle.index.specs.Nearing.{Nearing, near-on, near-two, near-end}
+use Rattle.index.specs.LeafPlaces.{lowPlace, place-inside, probedLow, low-took}
 use Rattle.index.specs.LeafColumns.{lowsOf}
 use Rattle.index.specs.LeafColumnLaws.{column-places}
 use Rattle.index.proofs.leaves.descend.Statement.{statement}
@@ -23,28 +24,56 @@ leaf-places-requires c κs = search needs
 loop-holds : tie.Need-loop-holds Inv-loop μ-loop
 loop-holds c = c .before .pre .1
 
-probe-requires : tie.Need-probe-requires Inv-loop μ-loop
-probe-requires c κs = let i = c .before .loop .inv .inside in search needs
+probe-two-requires : tie.Need-probe-two-requires Inv-loop μ-loop
+probe-two-requires c κs = let i = c .before .loop .inv .inside in search needs
 
 loop-less : tie.Need-loop-less Inv-loop μ-loop
 loop-less c = search needs
 
 loop-again : tie.Need-loop-again Inv-loop μ-loop
-loop-again c = let s = c .before .before .before .before in
+loop-again c =
     let l = c .before .before .loop in
-    let ls = take (s .args .m) (lowsOf (s .args .leaves .now)) in
-    let e : length ls ≡ s .args .m = length-take-le (s .args .m) (lowsOf (s .args .leaves .now)) (rw (column-places 0 (s .args .leaves .now) (c .before .before .before .leaf-places .ensures)) (s .pre .0 .room)) in
-    rw (c .probe .ensures) (near-on (c .before .loop-test .taken) (l .inv) (low-took 0 ls (s .args .key) (l .base) (l .step) (rw e (s .pre .0 .some)) (s .pre .0 .rising) (c .before .loop-test .taken)))
+    let ls = take (c .before .before .before .before .args .m) (lowsOf (c .before .before .before .before .args .leaves .now)) in
+    let e : length ls ≡ c .before .before .before .before .args .m = length-take-le (c .before .before .before .before .args .m) (lowsOf (c .before .before .before .before .args .leaves .now)) (rw (column-places 0 (c .before .before .before .before .args .leaves .now) (c .before .before .before .leaf-places .ensures)) (c .before .before .before .before .pre .0 .room)) in
+    let more = c .before .loop-test .taken in
+    let first = probedLow ls (c .before .before .before .before .args .key) (l .base) (l .step) in
+    rw (c .probe-two .ensures) (near-two more (l .inv) (low-took 0 ls (c .before .before .before .before .args .key) (l .base) (l .step) (rw e (c .before .before .before .before .pre .0 .some)) (c .before .before .before .before .pre .0 .rising) (omega (arith, more)))
+    (low-took 0 ls (c .before .before .before .before .args .key) first (l .step / 2) (rw e (c .before .before .before .before .pre .0 .some)) (c .before .before .before .before .pre .0 .rising) (omega (arith, more))))
+
+probe-requires : tie.Need-probe-requires Inv-loop μ-loop
+probe-requires c κs = let i = c .before .before .loop .inv .inside in search needs
 
 returns : tie.Need-returns Inv-loop μ-loop
-returns c = let s = c .before .before .before in
-    let ls = take (s .args .m) (lowsOf (s .args .leaves .now)) in
-    let e : length ls ≡ s .args .m = length-take-le (s .args .m) (lowsOf (s .args .leaves .now)) (rw (column-places 0 (s .args .leaves .now) (c .before .before .leaf-places .ensures)) (s .pre .0 .room)) in
-    let p : lowPlace (s .args .key) ls < length ls = place-inside (s .args .key) ls (rw e (s .pre .0 .some)) in
-    let r = s .pre .0 .room in
-    let q : c .before .loop .base ≡ lowPlace (s .args .key) ls = near-end (c .before .loop .inv) (c .loop-test .left) in
+returns c =
+    let l = c .before .before .before .loop in
+    let ls = take (c .before .before .before .before .before .args .m) (lowsOf (c .before .before .before .before .before .args .leaves .now)) in
+    let e : length ls ≡ c .before .before .before .before .before .args .m = length-take-le (c .before .before .before .before .before .args .m) (lowsOf (c .before .before .before .before .before .args .leaves .now)) (rw (column-places 0 (c .before .before .before .before .before .args .leaves .now) (c .before .before .before .before .leaf-places .ensures)) (c .before .before .before .before .before .pre .0 .room)) in
+    let p : lowPlace (c .before .before .before .before .before .args .key) ls < length ls = place-inside (c .before .before .before .before .before .args .key) ls (rw e (c .before .before .before .before .before .pre .0 .some)) in
+    let one = c .before .if1 .taken in
+    let q : probedLow ls (c .before .before .before .before .before .args .key) (l .base) (l .step) ≡ lowPlace (c .before .before .before .before .before .args .key) ls
+    = near-end (near-on (omega (arith, one)) (l .inv) (low-took 0 ls (c .before .before .before .before .before .args .key) (l .base) (l .step) (rw e (c .before .before .before .before .before .pre .0 .some)) (c .before .before .before .before .before .pre .0 .rising) (omega (arith, one)))) (omega (arith, one)) in
+    let r = c .probe .ensures in
+    record { is = rw r q; inside = omega arith }
+
+returns-2 : tie.Need-returns-2 Inv-loop μ-loop
+returns-2 c =
+    let ls = take (c .before .before .before .before .args .m) (lowsOf (c .before .before .before .before .args .leaves .now)) in
+    let e : length ls ≡ c .before .before .before .before .args .m = length-take-le (c .before .before .before .before .args .m) (lowsOf (c .before .before .before .before .args .leaves .now)) (rw (column-places 0 (c .before .before .before .before .args .leaves .now) (c .before .before .before .leaf-places .ensures)) (c .before .before .before .before .pre .0 .room)) in
+    let p : lowPlace (c .before .before .before .before .args .key) ls < length ls = place-inside (c .before .before .before .before .args .key) ls (rw e (c .before .before .before .before .pre .0 .some)) in
+    let q : c .before .before .loop .base ≡ lowPlace (c .before .before .before .before .args .key) ls = near-end (c .before .before .loop .inv) (omega (arith, c .before .loop-test .left, c .if1 .left)) in
     record { is = q; inside = omega arith }
 
 pub descend-spec : {M : Type 1} → statement M
 descend-spec =
-    tie.close (tie.spec Inv-loop μ-loop leaf-places-requires loop-holds probe-requires loop-less loop-again returns)
+    tie.close
+    (tie.spec
+    Inv-loop
+    μ-loop
+    leaf-places-requires
+    loop-holds
+    probe-two-requires
+    loop-less
+    loop-again
+    probe-requires
+    returns
+    returns-2)

@@ -1,5 +1,6 @@
+use mathlib.Core.Path.{refl}
 use Rattle.index.specs.Views.{rowOf}
-use Rattle.index.specs.RecordLaws.{present-at, absent-at, absent-past, drop-here, drop-none}
+use Rattle.index.specs.RecordLaws.{present-at, absent-at, absent-past, drop-here, drop-none, behind-removed}
 use borrow.Author.Needs.{needs}
 use Rattle.index.proofs.records.drop.Statement.{statement}
 use Rattle.index.proofs.records.drop.Tie as tie
@@ -13,9 +14,11 @@ locate-requires c κs = search needs
 returns : tie.Need-returns
 returns c = let r = c .before .before .before in
     let s = r .before .before in
-    let p = c .before .locate in
-    drop-none (s .args .rows .now) (s .args .n) (s .args .a) (p .result) (s .pre) (p .ensures)
-    (absent-past (s .args .rows .now) (s .args .n) (s .args .a) (p .result) (s .pre .room) (p .ensures) (c .if1 .taken))
+    let p = c .before .locate in (
+      drop-none (s .args .rows .now) (s .args .n) (s .args .a) (p .result) (s .pre) (p .ensures)
+          (absent-past (s .args .rows .now) (s .args .n) (s .args .a) (p .result) (s .pre .room) (p .ensures) (c .if1 .taken)),
+      refl,
+    )
 
 get-requires : tie.Need-get-requires
 get-requires c κs = search needs
@@ -39,18 +42,22 @@ returns-2 : tie.Need-returns-2
 returns-2 c = let r = c .before .before .before .before .before .before .before .before .before in
     let s = r .before .before in
     let p = c .before .before .before .before .before .before .before .locate in
-    let g = c .before .before .before .before .get in
-    drop-here (s .args .rows .now) (s .args .n) (s .args .a) (p .result) (s .pre) (p .ensures) (c .lower .last .0) (r .record-places .ensures)
-    (present-at (s .args .rows .now) (s .args .n) (s .args .a) (p .result) (s .pre .room) (p .ensures) (rowOf (g .result)) (c .before .before .before .before .before .before .if1 .left) (g .ensures) (c .before .before .if2 .taken))
-    (c .before .before .before .before .before .before .if1 .left) (c .lower .ensures)
+    let g = c .before .before .before .before .get in (
+      drop-here (s .args .rows .now) (s .args .n) (s .args .a) (p .result) (s .pre) (p .ensures) (c .lower .last .0) (r .record-places .ensures)
+          (present-at (s .args .rows .now) (s .args .n) (s .args .a) (p .result) (s .pre .room) (p .ensures) (rowOf (g .result)) (c .before .before .before .before .before .before .if1 .left) (g .ensures) (c .before .before .if2 .taken))
+          (c .before .before .before .before .before .before .if1 .left) (c .lower .ensures),
+      behind-removed (s .args .rows .now) (c .lower .last .0) (r .record-places .ensures) (s .args .n) (p .result) (c .before .before .before .before .before .before .if1 .left) (s .pre .room) (c .lower .ensures),
+    )
 
 returns-3 : tie.Need-returns-3
 returns-3 c = let r = c .before .before .before .before .before .before .before in
     let s = r .before .before in
     let p = c .before .before .before .before .before .locate in
-    let g = c .before .before .get in
-    drop-none (s .args .rows .now) (s .args .n) (s .args .a) (p .result) (s .pre) (p .ensures)
-    (absent-at (s .args .rows .now) (s .args .n) (s .args .a) (p .result) (s .pre .room) (p .ensures) (rowOf (g .result)) (c .before .before .before .before .if1 .left) (g .ensures) (c .if2 .left))
+    let g = c .before .before .get in (
+      drop-none (s .args .rows .now) (s .args .n) (s .args .a) (p .result) (s .pre) (p .ensures)
+          (absent-at (s .args .rows .now) (s .args .n) (s .args .a) (p .result) (s .pre .room) (p .ensures) (rowOf (g .result)) (c .before .before .before .before .if1 .left) (g .ensures) (c .if2 .left)),
+      refl,
+    )
 
 pub drop-spec : {M : Type 1} → statement M
 drop-spec =

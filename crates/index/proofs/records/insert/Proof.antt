@@ -1,5 +1,5 @@
 use mathlib.Core.Path.{refl}
-use Rattle.index.specs.RecordLaws.{inserted}
+use Rattle.index.specs.RecordLaws.{inserted, behind-inserted}
 use borrow.Author.Needs.{needs}
 use Rattle.index.proofs.records.insert.Statement.{statement}
 use Rattle.index.proofs.records.insert.Tie as tie
@@ -25,8 +25,12 @@ add-result c = search needs
 returns : tie.Need-returns
 returns c = let r = c .before .before .before .before in
     let s = r .before .before in (
-      refl,
-      inserted (s .args .rows .now) (c .store .last .0) (r .record-places .ensures) (s .args .n) (s .args .p) (c .before .before .raise .last .0) (s .args .r) (s .pre .0) (s .pre .1)
+      (
+        refl,
+        inserted (s .args .rows .now) (c .store .last .0) (r .record-places .ensures) (s .args .n) (s .args .p) (c .before .before .raise .last .0) (s .args .r) (s .pre .0) (s .pre .1)
+            (c .before .before .raise .ensures) (c .store .ensures),
+      ),
+      behind-inserted (s .args .rows .now) (c .store .last .0) (r .record-places .ensures) (s .args .n) (s .args .p) (c .before .before .raise .last .0) (s .args .r) (s .pre .0) (s .pre .1)
           (c .before .before .raise .ensures) (c .store .ensures),
     )
 

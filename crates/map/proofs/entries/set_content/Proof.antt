@@ -18,11 +18,11 @@ adjust-requires c κs =
 enter-requires : tie.Need-enter-requires
 enter-requires c κs = (c .before .before .before .before .before .before .pre .0 .words, (c .before .before .before .before .before .before .pre .0 .entries-are, (c .before .before .before .before .before .before .pre .1 .1, c .before .before .before .before .before .before .pre .1 .0)))
 
-add-t17 : tie.Need-add-t17
-add-t17 c = record { fits = outside-moves _ (c .before .before .before .before .before .before .before .before .args .z) _ (c .before .before .before .before .before .before .before .before .pre .0) _ _ (c .before .before .before .before .before .before .before .before .pre .1 .1) _ (terms-of (c .before .before .before .before .before .before .before .before .pre .1 .0 .content) (c .before .before .before .before .before .terms .ensures)) .0 }
+add-t19 : tie.Need-add-t19
+add-t19 c = record { fits = outside-moves _ (c .before .before .before .before .before .before .before .before .args .z) _ (c .before .before .before .before .before .before .before .before .pre .0) _ _ (c .before .before .before .before .before .before .before .before .pre .1 .1) _ (terms-of (c .before .before .before .before .before .before .before .before .pre .1 .0 .content) (c .before .before .before .before .before .terms .ensures)) .0 }
 
-sub-t19 : tie.Need-sub-t19
-sub-t19 c = outside-moves _ (c .before .before .before .before .before .before .before .before .args .z) _ (c .before .before .before .before .before .before .before .before .pre .0) _ _ (c .before .before .before .before .before .before .before .before .pre .1 .1) _ (terms-of (c .before .before .before .before .before .before .before .before .pre .1 .0 .content) (c .before .before .before .before .before .terms .ensures)) .1
+sub-t21 : tie.Need-sub-t21
+sub-t21 c = outside-moves _ (c .before .before .before .before .before .before .before .before .args .z) _ (c .before .before .before .before .before .before .before .before .pre .0) _ _ (c .before .before .before .before .before .before .before .before .pre .1 .1) _ (terms-of (c .before .before .before .before .before .before .before .before .pre .1 .0 .content) (c .before .before .before .before .before .terms .ensures)) .1
 
 returns : tie.Need-returns
 returns c =
@@ -33,4 +33,4 @@ returns c =
 
 pub set-content-spec : {M : Type 1} → statement M
 set-content-spec =
-    tie.close (tie.spec terms-requires adjust-requires enter-requires add-t17 sub-t19 returns)
+    tie.close (tie.spec terms-requires adjust-requires enter-requires add-t19 sub-t21 returns)

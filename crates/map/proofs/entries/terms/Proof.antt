@@ -8,8 +8,8 @@ use Rattle.map.specs.EntryLaws.{hide-still, hide-moved, hide-most, balan
 use Rattle.map.proofs.entries.terms.Statement.{statement}
 use Rattle.map.proofs.entries.terms.Tie as tie
 
-find-leaf-requires : tie.Need-find-leaf-requires
-find-leaf-requires c κs = search needs
+find-near-requires : tie.Need-find-near-requires
+find-near-requires c κs = search needs
 
 waits-requires : tie.Need-waits-requires
 waits-requires c κs = search needs
@@ -24,7 +24,7 @@ returns : tie.Need-returns
 returns c =
     let like = sym (c .before .still .ensures) ∙ c .if1 .taken in
     record {
-      place = c .before .before .before .before .find-leaf .ensures;
+      place = c .before .before .before .before .find-near .ensures;
       pend = c .before .before .before .waits .ensures;
       unpend = c .before .before .waits2 .ensures;
       hide-most = search needs;
@@ -57,7 +57,7 @@ returns-2 c =
     let join = c .before .outside-term .ensures ∙ ap (λ (b : Bool). outsideTerm b (contentIn (s .args .c))) n in
     let leave = c .outside-term2 .ensures ∙ ap (λ (b : Bool). outsideTerm b (contentIn (s .args .old))) n in
     record {
-      place = c .before .before .before .before .before .before .before .before .before .find-leaf .ensures;
+      place = c .before .before .before .before .before .before .before .before .before .find-near .ensures;
       pend = c .before .before .before .before .before .before .before .before .waits .ensures;
       unpend = c .before .before .before .before .before .before .before .waits2 .ensures;
       hide-most = hide-most _ _ _ hide;
@@ -70,7 +70,7 @@ pub terms-spec : {M : Type 1} → statement M
 terms-spec =
     tie.close
     (tie.spec
-    find-leaf-requires
+    find-near-requires
     waits-requires
     waits-requires-2
     still-requires

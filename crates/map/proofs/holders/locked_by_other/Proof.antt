@@ -5,14 +5,14 @@ use borrow.Author.Needs.{needs}
 use Rattle.map.proofs.holders.locked_by_other.Statement.{statement}
 use Rattle.map.proofs.holders.locked_by_other.Tie as tie
 
-look-up-requires : tie.Need-look-up-requires
-look-up-requires c κs = search needs
+find-requires : tie.Need-find-requires
+find-requires c κs = search needs
 
 by-other-requires : tie.Need-by-other-requires
 by-other-requires c κs = search needs
 
 returns : tie.Need-returns
-returns c = let s = c .before .before .before in c .by-other .ensures ∙ ap (heldByOther (s .args .w)) (sym (c .before .before .look-up .ensures .content))
+returns c = let s = c .before .before .before in c .by-other .ensures ∙ ap (heldByOther (s .args .w)) (sym (c .before .before .find .ensures .content))
 
 pub locked-by-other-spec : {M : Type 1} → statement M
-locked-by-other-spec = tie.close (tie.spec look-up-requires by-other-requires returns)
+locked-by-other-spec = tie.close (tie.spec find-requires by-other-requires returns)

@@ -7,18 +7,18 @@ use Rattle.map.proofs.locks.entryless_at.Tie as tie
 key-at-requires : tie.Need-key-at-requires
 key-at-requires c κs = search needs
 
-look-up-requires : tie.Need-look-up-requires
-look-up-requires c κs = search needs
+find-requires : tie.Need-find-requires
+find-requires c κs = search needs
 
 idle-requires : tie.Need-idle-requires
 idle-requires c κs = search needs
 
 returns : tie.Need-returns
-returns c = entryless-one _ _ _ _ _ (c .before .before .before .before .key-at .ensures) (c .before .before .before .look-up .ensures .content) (c .before .idle .ensures) (c .if1 .taken)
+returns c = entryless-one _ _ _ _ _ (c .before .before .before .before .key-at .ensures) (c .before .before .before .find .ensures .content) (c .before .idle .ensures) (c .if1 .taken)
 
 returns-2 : tie.Need-returns-2
-returns-2 c = entryless-none _ _ _ _ _ (c .before .before .before .before .key-at .ensures) (c .before .before .before .look-up .ensures .content) (c .before .idle .ensures) (c .if1 .left)
+returns-2 c = entryless-none _ _ _ _ _ (c .before .before .before .before .key-at .ensures) (c .before .before .before .find .ensures .content) (c .before .idle .ensures) (c .if1 .left)
 
 pub entryless-at-spec : {M : Type 1} → statement M
 entryless-at-spec =
-    tie.close (tie.spec key-at-requires look-up-requires idle-requires returns returns-2)
+    tie.close (tie.spec key-at-requires find-requires idle-requires returns returns-2)

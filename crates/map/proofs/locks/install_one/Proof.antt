@@ -1,5 +1,4 @@
 -- `map::locks::install_one` meets its contract: what is said is the write, which waits since the install or before it.
-use mathlib.Core.Path.{ap, _∙_}
 use native.Mathlib.Omega.{arith}
 use Rattle.indexlet.specs.Words.{contentIn}
 use borrow.Author.Needs.{needs}
@@ -11,8 +10,8 @@ use Rattle.map.proofs.locks.install_one.Tie as tie
 write-at-requires : tie.Need-write-at-requires
 write-at-requires c κs = (c .pre .1 .0 .held, omega (arith, c .pre .1 .0 .few, c .pre .1 .1 .0))
 
-look-up-requires : tie.Need-look-up-requires
-look-up-requires c κs = search needs
+find-requires : tie.Need-find-requires
+find-requires c κs = search needs
 
 installed-requires : tie.Need-installed-requires
 installed-requires c κs = search needs
@@ -21,7 +20,7 @@ set-content-requires : tie.Need-set-content-requires
 set-content-requires c κs = let s = c .before .before .before .before .before .before .before in (
   s .pre .0,
   (
-    c .before .before .before .before .look-up .ensures,
+    c .before .before .before .before .find .ensures,
     install-room _ _ _ _ (s .pre .0 .words .good) (given (c .before .before .before .before .before .before .write-at .ensures) (s .pre .1 .1 .0)) (s .pre .1 .1 .1),
   ),
 )
@@ -30,11 +29,11 @@ returns : tie.Need-returns
 returns c = let s = c .before .before .before .before .before .before .before .before in
     said-as (c .set-content .ensures)
     (install-said _ (s .args .number) (s .args .t) _ (c .before .before .before .before .before .before .before .write-at .result)
-    (contentIn (c .before .before .before .before .before .look-up .result .content)) _
+    (contentIn (c .before .before .before .before .before .find .result .content)) _
     (given (c .before .before .before .before .before .before .before .write-at .ensures) (s .pre .1 .1 .0))
-    (c .before .before .before .before .before .look-up .ensures .content) (c .before .before .before .installed .ensures))
+    (c .before .before .before .before .before .find .ensures .content) (c .before .before .before .installed .ensures))
 
 pub install-one-spec : {M : Type 1} → statement M
 install-one-spec =
     tie.close
-    (tie.spec write-at-requires look-up-requires installed-requires set-content-requires returns)
+    (tie.spec write-at-requires find-requires installed-requires set-content-requires returns)

@@ -11,8 +11,8 @@ use Rattle.map.proofs.locks.lock_one.Tie as tie
 write-at-requires : tie.Need-write-at-requires
 write-at-requires c κs = (c .pre .1 .0 .held, omega (arith, c .pre .1 .0 .few, c .pre .1 .1 .0))
 
-look-up-requires : tie.Need-look-up-requires
-look-up-requires c κs = search needs
+find-requires : tie.Need-find-requires
+find-requires c κs = search needs
 
 add-with-lock : tie.Need-add-with-lock
 add-with-lock c = search needs
@@ -21,22 +21,22 @@ with-lock-requires : tie.Need-with-lock-requires
 with-lock-requires c κs = search needs
 
 set-content-requires : tie.Need-set-content-requires
-set-content-requires c κs = let s = c .before .before .before .before .before .before .before in (s .pre .0, (c .before .before .before .before .look-up .ensures, fits (s .pre .1 .1 .2)))
+set-content-requires c κs = let s = c .before .before .before .before .before .before .before in (s .pre .0, (c .before .before .before .before .find .ensures, fits (s .pre .1 .1 .2)))
 
 returns : tie.Need-returns
 returns c =
     let s = c .before .before .before .before .before .before .before .before in
     let r = c .before .before .before .before .before .before .before .write-at in
     said-as (c .set-content .ensures)
-    (lock-said _ (s .args .w) _ (r .result) (contentIn (c .before .before .before .before .before .look-up .result .content)) _
-    (given (r .ensures) (s .pre .1 .1 .0)) (c .before .before .before .before .before .look-up .ensures .content) (c .before .before .before .with-lock .ensures))
+    (lock-said _ (s .args .w) _ (r .result) (contentIn (c .before .before .before .before .before .find .result .content)) _
+    (given (r .ensures) (s .pre .1 .1 .0)) (c .before .before .before .before .before .find .ensures .content) (c .before .before .before .with-lock .ensures))
 
 pub lock-one-spec : {M : Type 1} → statement M
 lock-one-spec =
     tie.close
     (tie.spec
     write-at-requires
-    look-up-requires
+    find-requires
     add-with-lock
     with-lock-requires
     set-content-requires

@@ -9,8 +9,8 @@ use Rattle.map.proofs.locks.unlock_one.Tie as tie
 key-at-requires : tie.Need-key-at-requires
 key-at-requires c κs = search needs
 
-look-up-requires : tie.Need-look-up-requires
-look-up-requires c κs = search needs
+find-requires : tie.Need-find-requires
+find-requires c κs = search needs
 
 by-own-requires : tie.Need-by-own-requires
 by-own-requires c κs = search needs
@@ -19,20 +19,20 @@ with-lock-requires : tie.Need-with-lock-requires
 with-lock-requires c κs = search needs
 
 set-content-requires : tie.Need-set-content-requires
-set-content-requires c κs = let s = c .before .before .before .before .before .before .before .before .before in (s .pre .0, (c .before .before .before .before .before .before .look-up .ensures, unlock-room _ _ _ _ _ (c .before .before .before .before .before .before .before .before .key-at .ensures) (c .before .before .before .before .before .before .look-up .ensures .content) (s .pre .0 .words .good) (c .before .before .with-lock .ensures)))
+set-content-requires c κs = let s = c .before .before .before .before .before .before .before .before .before in (s .pre .0, (c .before .before .before .before .before .before .find .ensures, unlock-room _ _ _ _ _ (c .before .before .before .before .before .before .before .before .key-at .ensures) (c .before .before .before .before .before .before .find .ensures .content) (s .pre .0 .words .good) (c .before .before .with-lock .ensures)))
 
 returns : tie.Need-returns
-returns c = let s = c .before .before .before .before .before .before .before .before .before .before in said-as (c .set-content .ensures) (unlock-said _ _ _ _ _ (c .before .before .before .before .before .before .before .before .before .key-at .ensures) (c .before .before .before .before .before .before .before .look-up .ensures .content) (s .args .w) (sym (c .before .before .before .before .if1 .taken) ∙ c .before .before .before .before .before .by-own .ensures) (c .before .before .before .with-lock .ensures))
+returns c = let s = c .before .before .before .before .before .before .before .before .before .before in said-as (c .set-content .ensures) (unlock-said _ _ _ _ _ (c .before .before .before .before .before .before .before .before .before .key-at .ensures) (c .before .before .before .before .before .before .before .find .ensures .content) (s .args .w) (sym (c .before .before .before .before .if1 .taken) ∙ c .before .before .before .before .before .by-own .ensures) (c .before .before .before .with-lock .ensures))
 
 returns-2 : tie.Need-returns-2
-returns-2 c = let s = c .before .before .before .before .before .before in said-nothing (s .pre .0) _ (unlock-other _ _ _ _ idle (c .before .before .before .before .before .key-at .ensures) (c .before .before .before .look-up .ensures .content) (s .args .w) (sym (c .if1 .left) ∙ c .before .by-own .ensures))
+returns-2 c = let s = c .before .before .before .before .before .before in said-nothing (s .pre .0) _ (unlock-other _ _ _ _ idle (c .before .before .before .before .before .key-at .ensures) (c .before .before .before .find .ensures .content) (s .args .w) (sym (c .if1 .left) ∙ c .before .by-own .ensures))
 
 pub unlock-one-spec : {M : Type 1} → statement M
 unlock-one-spec =
     tie.close
     (tie.spec
     key-at-requires
-    look-up-requires
+    find-requires
     by-own-requires
     with-lock-requires
     set-content-requires

@@ -1,6 +1,7 @@
 -- `merging::merge::hides_alone` meets its contract: the write is pending in the leaf, and nobody hides or it alone does.
 use mathlib.Core.Path.{refl}
 use Rattle.lists.specs.TestLaws.{clash}
+use Rattle.indexlet.specs.WordLaws.{idle-waiting}
 use Rattle.phantomlet.specs.LeafCounts.{reaches-yes}
 use Rattle.merging.specs.MergeShortcuts.{alone-plain, alone-hider}
 use borrow.Author.Needs.{needs}
@@ -26,7 +27,7 @@ returns-3 c e =
     alone-plain _ _ (c .before .before .before .before .before .slot-at .result) (c .before .before .before .before .before .before .pre .1 .0) (c .before .before .before .before .before .before .pre .0 .1) (c .before .before .before .before .before .slot-at .ensures) (y .0) (y .1) (c .before .if2 .left) (c .before .before .before .before .before .before .pre .1 .1 .0) (c .before .before .before .before .before .before .pre .1 .1 .1) (c .if3 .taken)
 
 cast-hides-at : tie.Need-cast-hides-at
-cast-hides-at c = search needs
+cast-hides-at c = record { fits = c .before .before .before .before .before .slot-at .ensures .narrow (idle-waiting (c .before .before .before .before .before .slot-at .result .content) (c .before .if2 .left)) }
 
 hides-at-requires : tie.Need-hides-at-requires
 hides-at-requires c κs = search needs

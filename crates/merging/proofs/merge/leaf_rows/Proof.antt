@@ -1,10 +1,9 @@
 -- `map::merge::leaf_rows` meets its contract: the rows from the place of the leaf's low to that of the next low.
 use Prim.Native.Nat.{ℕ, _+_, _^_, _<_}
-use mathlib.Core.Path.{sym, subst}
-use Rattle.index.specs.LeafColumns.{lowsOf}
+use native.Mathlib.Omega.{arith}
+use mathlib.Core.Path.{refl, sym, subst}
 use Rattle.index.specs.LeafColumnLaws.{column-places}
 use Rattle.phantomlet.specs.LeafCounts.{low-of}
-use Rattle.phantomlet.specs.LeafRows.{spans-next, spans-last}
 use Rattle.merging.specs.MergeSettles.{at-low}
 use borrow.Author.Needs.{needs}
 use Rattle.merging.proofs.merge.leaf_rows.Statement.{statement}
@@ -47,18 +46,28 @@ locate-requires-2 c κs = search needs
 returns : tie.Need-returns
 returns c =
     let s = c .before .before .before .before .before .before .before .before in
-    let l = s .pre .1 .0 in
     let ls = s .args .leaves .now in
-    spans-next (lowsOf ls) (s .args .rows .now) (s .args .n) (s .args .m) (s .args .i) (l .listed) (column-places 0 ls (c .before .before .before .before .before .before .before .leaf-places .ensures)) (s .pre .1 .1) (s .pre .0) (l .first)
-    (c .before .before .before .before .locate .result) (c .locate2 .result) (c .before .before .before .if1 .taken) (at-low (low-of ls (s .args .i) (c .before .before .before .before .before .before .leaf-at .ensures)) (c .before .before .before .before .locate .ensures)) (at-low (low-of ls (s .args .i + 1) (c .before .before .leaf-at2 .ensures)) (c .locate2 .ensures))
+    record {
+      lows-are = s .pre .1 .0;
+      places = column-places 0 ls (c .before .before .before .before .before .before .before .leaf-places .ensures);
+      leaf-in = s .pre .1 .1;
+      low = at-low (low-of ls (s .args .i) (c .before .before .before .before .before .before .leaf-at .ensures)) (c .before .before .before .before .locate .ensures);
+      next = λ h. at-low (low-of ls (s .args .i + 1) (c .before .before .leaf-at2 .ensures)) (c .locate2 .ensures);
+      last = λ h. absurd (let q : ⊥ = omega (arith, h, c .before .before .before .if1 .taken) in q);
+    }
 
 returns-2 : tie.Need-returns-2
 returns-2 c =
     let s = c .before .before .before .before .before in
-    let l = s .pre .1 .0 in
     let ls = s .args .leaves .now in
-    spans-last (lowsOf ls) (s .args .rows .now) (s .args .n) (s .args .m) (s .args .i) (l .listed) (column-places 0 ls (c .before .before .before .before .leaf-places .ensures)) (s .pre .1 .1) (s .pre .0) (l .first)
-    (c .before .locate .result) (c .if1 .left) (at-low (low-of ls (s .args .i) (c .before .before .before .leaf-at .ensures)) (c .before .locate .ensures))
+    record {
+      lows-are = s .pre .1 .0;
+      places = column-places 0 ls (c .before .before .before .before .leaf-places .ensures);
+      leaf-in = s .pre .1 .1;
+      low = at-low (low-of ls (s .args .i) (c .before .before .before .leaf-at .ensures)) (c .before .locate .ensures);
+      next = λ h. absurd (let q : ⊥ = omega (arith, h, c .if1 .left) in q);
+      last = λ h. refl;
+    }
 
 pub leaf-rows-spec : {M : Type 1} → statement M
 leaf-rows-spec =

@@ -7,28 +7,29 @@ use Rattle.index.specs.Views.{recordsOf}
 use Rattle.spec.specs.Slots.{slotCount}
 use Rattle.index.specs.LeafColumns.{lowsOf}
 use Rattle.phantomlet.specs.LeafTests.{placed}
-use Rattle.merging.specs.MergeWalks.{Walking, Clear, walk-start, clear-start, clear-on, walk-end}
+use Rattle.merging.specs.MergeWalks.{Walking, Clear, Stays, stays-same, stays-on, walk-start, clear-start, clear-on, walk-end}
 use Rattle.merging.specs.MergeShortcuts.{skips-walk, skips-clear}
 use Rattle.merging.proofs.merge.take_all.Statement.{statement}
 use Rattle.merging.proofs.merge.take_all.Tie as tie
 
 abbrev Inv-loop : tie.InvT-loop
 Inv-loop rows₀ slots₀ leaves n e out m i r w₀ j₀ rows slots w j =
-    (Walking (placed (lowsOf leaves) m i) (recordsOf rows₀ n) (slotsOf slots₀) rows slots w j) × (Clear (placed (lowsOf leaves) m i) slots (w .left) j)
+    (Walking (placed (lowsOf leaves) m i) out (recordsOf rows₀ n) (slotsOf slots₀) rows slots w j) × (Clear (placed (lowsOf leaves) m i) slots (w .left) j)
+    × (Stays (placed (lowsOf leaves) m i) rows₀ slots₀ n rows slots (w .records))
 
 abbrev μ-loop : tie.MeasureT-loop
 μ-loop rows₀ slots₀ leaves n e out m i r w₀ j₀ rows slots w j = slotCount - j
 
 loop-holds : tie.Need-loop-holds Inv-loop μ-loop
-loop-holds c = (walk-start (placed (lowsOf (c .args .leaves .now)) (c .args .m) (c .args .i)) (c .pre .0), clear-start)
+loop-holds c = (walk-start (c .pre .0), clear-start, stays-same)
 
 next-reached-requires : tie.Need-next-reached-requires Inv-loop μ-loop
 next-reached-requires c κs = (c .before .before .loop .inv .0 .words, (c .before .before .loop .inv .0 .there, c .before .before .before .pre .1 .range .span))
 
-take-standing-requires : tie.Need-take-standing-requires Inv-loop μ-loop
-take-standing-requires c κs =
+take-slot-requires : tie.Need-take-slot-requires Inv-loop μ-loop
+take-slot-requires c κs =
     let s = c .before .before .before .before .before .before .before in (
-      record { records = recordsOf (s .args .rows .now) (s .args .n); begun = slotsOf (s .args .slots .now); walking = skips-walk (c .before .before .before .before .before .before .before .pre .1) (c .before .before .before .next-reached .ensures) (c .before .before .before .before .before .before .loop .inv .0); bound = c .before .before .before .before .before .before .before .pre .0 .bound },
+      record { records = recordsOf (s .args .rows .now) (s .args .n); begun = slotsOf (s .args .slots .now); first = s .args .out; walking = skips-walk (c .before .before .before .before .before .before .before .pre .1) (c .before .before .before .next-reached .ensures) (c .before .before .before .before .before .before .loop .inv .0); behind = s .pre .0 .behind; outer = s .pre .0 .outer; bound = s .pre .0 .bound },
       (c .before .before .before .before .before .before .before .pre .1, c .before .before .if1 .taken),
     )
 
@@ -40,18 +41,19 @@ loop-less c = omega (arith, c .before .before .before .before .next-reached .ens
 
 loop-again : tie.Need-loop-again Inv-loop μ-loop
 loop-again c = (
-  c .take-standing .ensures .on (skips-walk (c .before .before .before .before .before .before .before .before .pre .1) (c .before .before .before .before .next-reached .ensures) (c .before .before .before .before .before .before .before .loop .inv .0)),
-  clear-on (c .take-standing .ensures) (c .before .before .before .if1 .taken) (skips-clear (c .before .before .before .before .before .before .before .before .pre .1) (c .before .before .before .before .next-reached .ensures) (c .before .before .before .before .before .before .before .loop .inv .1)),
+  c .take-slot .ensures .on (skips-walk (c .before .before .before .before .before .before .before .before .pre .1) (c .before .before .before .before .next-reached .ensures) (c .before .before .before .before .before .before .before .loop .inv .0)),
+  clear-on (c .take-slot .ensures) (c .before .before .before .if1 .taken) (skips-clear (c .before .before .before .before .before .before .before .before .pre .1) (c .before .before .before .before .next-reached .ensures) (c .before .before .before .before .before .before .before .loop .inv .1)),
+  stays-on (c .before .before .before .before .before .before .before .loop .inv .2) (c .take-slot .ensures .space),
 )
 
 loop-less-2 : tie.Need-loop-less-2 Inv-loop μ-loop
 loop-less-2 c = omega (arith, c .if1 .left, c .before .before .before .loop-test .taken)
 
 loop-again-2 : tie.Need-loop-again-2 Inv-loop μ-loop
-loop-again-2 c = (skips-walk (c .before .before .before .before .before .pre .1) (c .before .next-reached .ensures) (c .before .before .before .before .loop .inv .0), skips-clear (c .before .before .before .before .before .pre .1) (c .before .next-reached .ensures) (c .before .before .before .before .loop .inv .1))
+loop-again-2 c = (skips-walk (c .before .before .before .before .before .pre .1) (c .before .next-reached .ensures) (c .before .before .before .before .loop .inv .0), skips-clear (c .before .before .before .before .before .pre .1) (c .before .next-reached .ensures) (c .before .before .before .before .loop .inv .1), c .before .before .before .before .loop .inv .2)
 
 returns : tie.Need-returns Inv-loop μ-loop
-returns c = walk-end (c .before .loop .inv .0) (c .before .loop .inv .1) (c .loop-test .left)
+returns c = walk-end (c .before .loop .inv .0) (c .before .loop .inv .1) (c .before .loop .inv .2) (c .loop-test .left)
 
 pub take-all-spec : {M : Type 1} → statement M
 take-all-spec =
@@ -61,7 +63,7 @@ take-all-spec =
     μ-loop
     loop-holds
     next-reached-requires
-    take-standing-requires
+    take-slot-requires
     add-j
     loop-less
     loop-again

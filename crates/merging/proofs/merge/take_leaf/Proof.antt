@@ -10,32 +10,34 @@ leaf-places-requires : tie.Need-leaf-places-requires
 leaf-places-requires c κs = search needs
 
 leaf-at-requires : tie.Need-leaf-at-requires
-leaf-at-requires c κs = c .before .pre .1 .1 .inside
+leaf-at-requires c κs = c .before .pre .1 .1 .1 .inside
 
-look-up-requires : tie.Need-look-up-requires
-look-up-requires c κs = c .before .before .before .before .before .pre .0 .words
+find-requires : tie.Need-find-requires
+find-requires c κs = c .before .before .before .before .before .pre .0 .words
 
 hides-alone-requires : tie.Need-hides-alone-requires
 hides-alone-requires c κs = (
   (c .before .before .before .before .before .before .before .before .before .pre .0 .rows-held, c .before .before .before .before .before .before .before .before .before .pre .0 .words),
-  (c .before .before .before .before .before .before .before .before .before .pre .1 .0, (c .before .before .if2 .taken, sym (hidden-of _ _ (c .before .before .before .before .before .before .before .leaf-at .ensures)) ∙ c .before .before .before .before .before .before .before .before .before .pre .1 .1 .hidden-is)),
+  (c .before .before .before .before .before .before .before .before .before .pre .1 .0, (c .before .before .if2 .taken, sym (hidden-of _ _ (c .before .before .before .before .before .before .before .leaf-at .ensures)) ∙ c .before .before .before .before .before .before .before .before .before .pre .1 .1 .1 .hidden-is)),
 )
 
 take-slot-requires : tie.Need-take-slot-requires
 take-slot-requires c κs = (
-  alone-walk (c .before .before .before .before .before .before .before .before .before .before .before .before .before .pre .0) (c .before .before .before .hides-alone .ensures (c .before .before .if3 .taken)) (sym (c .before .before .before .before .before .before .before .before .before .before .before .before .before .pre .1 .1 .pending-is) ∙ pending-of _ _ (c .before .before .before .before .before .before .before .before .before .before .before .leaf-at .ensures) ∙ c .before .before .before .before .before .before .before .before .before .if1 .taken) (c .before .before .before .before .before .before .if2 .taken),
+  alone-walk (c .before .before .before .before .before .before .before .before .before .before .before .before .before .pre .0) (c .before .before .before .hides-alone .ensures (c .before .before .if3 .taken)) (sym (c .before .before .before .before .before .before .before .before .before .before .before .before .before .pre .1 .1 .1 .pending-is) ∙ pending-of _ _ (c .before .before .before .before .before .before .before .before .before .before .before .leaf-at .ensures) ∙ c .before .before .before .before .before .before .before .before .before .if1 .taken) (c .before .before .before .before .before .before .if2 .taken),
   (c .before .before .before .before .before .before .before .before .before .before .before .before .before .pre .1 .0, c .before .before .before .before .before .before .if2 .taken),
 )
 
 returns : tie.Need-returns
 returns c =
-    alone-took (c .before .before .before .before .before .before .before .before .before .before .before .before .before .before .pre .0) (c .before .before .before .before .hides-alone .ensures (c .before .before .before .if3 .taken)) (sym (c .before .before .before .before .before .before .before .before .before .before .before .before .before .before .pre .1 .1 .pending-is) ∙ pending-of _ _ (c .before .before .before .before .before .before .before .before .before .before .before .before .leaf-at .ensures) ∙ c .before .before .before .before .before .before .before .before .before .before .if1 .taken) (c .before .before .before .before .before .before .before .if2 .taken) (c .take-slot .ensures)
+    alone-took (c .before .before .before .before .before .before .before .before .before .before .before .before .before .before .pre .0) (c .before .before .before .before .hides-alone .ensures (c .before .before .before .if3 .taken)) (sym (c .before .before .before .before .before .before .before .before .before .before .before .before .before .before .pre .1 .1 .1 .pending-is) ∙ pending-of _ _ (c .before .before .before .before .before .before .before .before .before .before .before .before .leaf-at .ensures) ∙ c .before .before .before .before .before .before .before .before .before .before .if1 .taken) (c .before .before .before .before .before .before .before .if2 .taken) (c .take-slot .ensures)
 
-take-all-requires : tie.Need-take-all-requires
-take-all-requires c κs = (c .before .before .before .before .before .before .pre .0, c .before .before .before .before .before .before .pre .1 .0)
+take-many-requires : tie.Need-take-many-requires
+take-many-requires c κs =
+    let s = c .before .before .before .before .before .before in
+    (s .pre .0, (s .pre .1 .0, (s .pre .1 .1 .0, sym (hidden-of _ _ (c .before .before .before .before .leaf-at .ensures)) ∙ s .pre .1 .1 .1 .hidden-is)))
 
 returns-2 : tie.Need-returns-2
-returns-2 c = c .take-all .ensures
+returns-2 c = c .take-many .ensures
 
 pub take-leaf-spec : {M : Type 1} → statement M
 take-leaf-spec =
@@ -43,9 +45,9 @@ take-leaf-spec =
     (tie.spec
     leaf-places-requires
     leaf-at-requires
-    look-up-requires
+    find-requires
     hides-alone-requires
     take-slot-requires
     returns
-    take-all-requires
+    take-many-requires
     returns-2)

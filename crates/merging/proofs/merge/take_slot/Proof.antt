@@ -6,9 +6,11 @@ use Rattle.lists.specs.Rows.{row}
 use Rattle.spec.specs.Slots.{emptySlot}
 use Rattle.laws.specs.SlotCounts.{holds-yes}
 use Rattle.indexlet.specs.Words.{contentIn, slotsOf}
+use Rattle.indexlet.specs.WordLaws.{idle-waiting}
 use Rattle.index.specs.Views.{recordFrom}
 use Rattle.phantomlet.specs.LeafCounts.{leaf-outside, leaf-inside, reaches-yes, reaches-no}
-use Rattle.merging.specs.MergeWalks.{walk-outside, walk-lock, walk-on, left-fits, slot-room, write-room, outside-fits, rest-content, entry-is}
+use Rattle.merging.specs.MergeWalks.{walk-lock, walk-on, left-fits, slot-room, write-room, outside-fits, rest-content, entry-is}
+use Rattle.merging.specs.MergeShortcuts.{walk-unreached}
 use borrow.Author.Needs.{needs}
 use Rattle.merging.proofs.merge.take_slot.Statement.{statement}
 use Rattle.merging.proofs.merge.take_slot.Tie as tie
@@ -22,8 +24,8 @@ reaches-requires c κs = search needs
 returns : tie.Need-returns
 returns c =
     let r = c .before .before .slot-at in
-    walk-outside (r .result) (r .ensures) (c .before .before .before .before .pre .1 .1)
-    (leaf-outside (c .before .before .before .before .pre .1 .0) (r .result .key) (r .ensures .narrow) (reaches-no _ (c .before .before .before .before .args .r) (r .result .key) (c .before .reaches .ensures) (c .if1 .taken)))
+    walk-unreached (r .result) (r .ensures) (c .before .before .before .before .pre .1 .1)
+    (λ t. leaf-outside (c .before .before .before .before .pre .1 .0) (r .result .key) (r .ensures .narrow t) (reaches-no _ (c .before .before .before .before .args .r) (r .result .key) (c .before .reaches .ensures) (c .if1 .taken)))
 
 locked-requires : tie.Need-locked-requires
 locked-requires c κs = search needs
@@ -37,7 +39,7 @@ returns-2 c =
     walk-lock (r .result) (c .before .before .before .locked .result) (r .ensures) (c .before .before .before .before .before .before .before .before .before .pre .1 .1) (c .if2 .taken) (c .before .before .before .locked .ensures)
 
 cast-a : tie.Need-cast-a
-cast-a c = search needs
+cast-a c = record { fits = c .before .before .before .before .before .before .before .slot-at .ensures .narrow (idle-waiting (c .before .before .before .before .before .before .before .slot-at .result .content) (c .if2 .left)) }
 
 take-write-requires : tie.Need-take-write-requires
 take-write-requires c κs =
@@ -67,7 +69,8 @@ enter-requires c κs =
 outside-now-requires : tie.Need-outside-now-requires
 outside-now-requires c κs =
     let r = c .before .before .before .before .before .before .before .before .before .before .before .before .before .before .slot-at in
-    outside-fits (r .result) (c .before .before .before .before .before .before .before .before .before .before .before .before .before .before .before .before .pre .0 .walking .words) (r .ensures) (c .before .before .before .before .before .before .before .if2 .left) _ _ (c .before .before .before .before .before .before .before .before .before .before .before .before .before .before .before .before .pre .1 .1) (c .before .before .before .before .before .before .before .before .before .before .before .before .before .before .before .before .pre .0 .walking) (c .before .before .before .before .before .before .before .before .before .before .locked .ensures) (c .before .before .before .before .take-write .ensures)
+    let y = reaches-yes _ (c .before .before .before .before .before .before .before .before .before .before .before .before .before .before .before .before .args .r) (r .result .key) (c .before .before .before .before .before .before .before .before .before .before .before .before .before .reaches .ensures) (c .before .before .before .before .before .before .before .before .before .before .before .before .if1 .left) in
+    outside-fits (r .result) (c .before .before .before .before .before .before .before .before .before .before .before .before .before .before .before .before .pre .0 .walking .words) (r .ensures) (c .before .before .before .before .before .before .before .if2 .left) _ _ (c .before .before .before .before .before .before .before .before .before .before .before .before .before .before .before .before .pre .1 .1) (leaf-inside (c .before .before .before .before .before .before .before .before .before .before .before .before .before .before .before .before .pre .1 .0) (r .result .key) (y .0) (y .1)) (c .before .before .before .before .before .before .before .before .before .before .before .before .before .before .before .before .pre .0) (c .before .before .before .before .before .before .before .before .before .before .locked .ensures) (c .before .before .before .before .take-write .ensures .0)
 
 add-t28 : tie.Need-add-t28
 add-t28 c = record { fits = omega (arith, c .before .before .before .before .before .before .before .before .before .before .before .before .before .before .before .before .before .before .pre .0 .walking .few, c .before .before .before .before .before .before .before .before .before .before .before .before .before .before .before .before .before .before .pre .1 .1) }
@@ -79,7 +82,7 @@ returns-3 c =
     let w = c .before .before .before .before .before .before .take-write in
     let e = c .before .before .enter in
     walk-on (r .result) (c .before .before .before .before .before .before .before .before .before .before .before .before .before .before .before .before .before .before .pre .0 .walking .words) (r .ensures) (c .before .before .before .before .before .before .before .before .before .if2 .left) (w .last .0) (e .last .0) (w .result) (e .result) (c .before .before .before .before .before .before .before .before .before .before .before .before .locked .result) _ _ (c .before .before .before .before .before .before .before .before .before .before .before .before .before .before .before .before .before .before .pre .1 .1)
-    (leaf-inside (c .before .before .before .before .before .before .before .before .before .before .before .before .before .before .before .before .before .before .pre .1 .0) (r .result .key) (y .0) (y .1)) (c .before .before .before .before .before .before .before .before .before .before .before .before .locked .ensures) (w .ensures) (rest-content (r .result .content)) (e .ensures) (c .before .outside-now .ensures)
+    (leaf-inside (c .before .before .before .before .before .before .before .before .before .before .before .before .before .before .before .before .before .before .pre .1 .0) (r .result .key) (y .0) (y .1)) (c .before .before .before .before .before .before .before .before .before .before .before .before .locked .ensures) (c .before .before .before .before .before .before .before .before .before .before .before .before .before .before .before .before .before .before .pre .0 .walking .rows-held) (w .ensures .0) (w .ensures .1) (rest-content (r .result .content)) (e .ensures) (c .before .outside-now .ensures)
 
 pub take-slot-spec : {M : Type 1} → statement M
 take-slot-spec =

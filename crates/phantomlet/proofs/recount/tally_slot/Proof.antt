@@ -41,7 +41,7 @@ returns-2 c =
     tallied-same (tally-none (s .pre .0) (s .pre .1) (r .result) (r .ensures) (sym (c .before .idle .ensures) ∙ c .if2 .taken))
 
 cast-a : tie.Need-cast-a
-cast-a c = search needs
+cast-a c = record { fits = c .before .before .before .before .before .slot-at .ensures .narrow (sym (c .before .idle .ensures) ∙ c .if2 .left) }
 
 find-leaf-requires : tie.Need-find-leaf-requires
 find-leaf-requires c κs = search needs

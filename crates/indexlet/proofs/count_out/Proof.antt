@@ -1,0 +1,25 @@
+-- `indexlet::count_out` meets its contract: the cell of the address's bucket changes.
+use Prim.Native.Nat.{ℕ, _-_}
+use native.Mathlib.Omega.{arith}
+use borrow.Author.Needs.{needs}
+use Rattle.indexlet.specs.FilterLaws.{bucket-inside, cell-own, cell-changed}
+use Rattle.indexlet.proofs.count_out.Statement.{statement}
+use Rattle.indexlet.proofs.count_out.Tie as tie
+
+bucket-requires : tie.Need-bucket-requires
+bucket-requires c κs = search needs
+
+cell-requires : tie.Need-cell-requires
+cell-requires c κs = bucket-inside _ _ (c .before .bucket .ensures)
+
+sub-put-cell : tie.Need-sub-put-cell
+sub-put-cell c = omega (arith, cell-own (c .before .before .before .before .args .t .now) _ _ _ (c .before .before .before .bucket .ensures) (c .before .cell .ensures), c .before .before .before .before .pre)
+
+put-cell-requires : tie.Need-put-cell-requires
+put-cell-requires c κs = bucket-inside _ _ (c .before .before .before .bucket .ensures)
+
+returns : tie.Need-returns
+returns c = cell-changed (c .before .before .before .before .before .args .t .now) _ _ _ (c .before .before .before .before .bucket .ensures) (c .before .before .cell .ensures) (λ (n : ℕ). n - 256) _ (c .put-cell .ensures)
+
+pub count-out-spec : {M : Type 1} → statement M
+count-out-spec = tie.close (tie.spec bucket-requires cell-requires sub-put-cell put-cell-requires returns)

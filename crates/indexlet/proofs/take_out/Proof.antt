@@ -1,0 +1,27 @@
+-- `indexlet::take_out` meets its contract: the slot is given back, and counted out.
+use Prim.Native.Nat.{ℕ, _<_}
+use mathlib.Core.Path.{sym, subst}
+use borrow.Author.Needs.{needs}
+use Rattle.spec.specs.Slots.{slotCount}
+use Rattle.laws.specs.Probes.{home-less}
+use Rattle.indexlet.specs.EnterLaws.{stands-at, loaded-still}
+use Rattle.indexlet.proofs.take_out.Statement.{statement}
+use Rattle.indexlet.proofs.take_out.Tie as tie
+
+home-requires : tie.Need-home-requires
+home-requires c κs = search needs
+
+passed-requires : tie.Need-passed-requires
+passed-requires c κs = (subst (λ (n : ℕ). n < slotCount) (sym (c .home .ensures)) (home-less 4 (c .before .args .a)), c .before .pre .1 .0)
+
+release-requires : tie.Need-release-requires
+release-requires c κs = (c .before .before .before .pre .0, (c .before .before .home .ensures, stands-at (c .before .before .before .args .a) _ (c .before .before .before .args .at) _ (c .before .before .before .pre .0) (c .before .before .before .pre .1 .0) (c .before .before .before .pre .1 .1) (c .before .before .home .ensures) (c .before .passed .ensures)))
+
+count-out-requires : tie.Need-count-out-requires
+count-out-requires c κs = loaded-still (c .before .before .before .before .before .args .a) (c .before .before .before .before .before .args .at) (c .before .before .before .before .before .pre .0) (c .before .before .before .before .before .pre .1 .0) (c .before .before .before .before .before .pre .1 .1) (c .before .release .ensures .stays)
+
+returns : tie.Need-returns
+returns c = search needs
+
+pub take-out-spec : {M : Type 1} → statement M
+take-out-spec = tie.close (tie.spec home-requires passed-requires release-requires count-out-requires returns)

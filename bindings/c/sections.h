@@ -35,6 +35,7 @@
 #define SECTIONS_MAP_LIMIT 1024  /* records */
 #define SECTIONS_SLOT_COUNT 256  /* of the indexlet */
 #define SECTIONS_FILTER_ROWS 256 /* of the indexlet's filter, behind its slots */
+#define SECTIONS_BITMAP_ROWS 1   /* of the bitmap of its slots, behind the filter */
 #define SECTIONS_READ_LIMIT 64   /* record entries of a job's log */
 #define SECTIONS_MARK_LIMIT 32   /* marks of a job's log */
 #define SECTIONS_WRITE_LIMIT 16  /* edited addresses of a job */
@@ -53,7 +54,7 @@
 #define SECTIONS_EXPORTED (SECTIONS_MAP_LIMIT * 3)
 #define SECTIONS_RECORDS (SECTIONS_MAP_LIMIT * 4)
 #define SECTIONS_LEAVES ((SECTIONS_MAP_LIMIT + 1) * 4)
-#define SECTIONS_SLOTS ((SECTIONS_SLOT_COUNT + SECTIONS_FILTER_ROWS) * 9)
+#define SECTIONS_SLOTS ((SECTIONS_SLOT_COUNT + SECTIONS_FILTER_ROWS + SECTIONS_BITMAP_ROWS) * 9)
 #define SECTIONS_READS (SECTIONS_SEATS * SECTIONS_READ_LIMIT * 5)
 #define SECTIONS_MARKS (SECTIONS_SEATS * SECTIONS_MARK_LIMIT * 7)
 #define SECTIONS_WRITES (SECTIONS_SEATS * SECTIONS_WRITE_LIMIT * 4)

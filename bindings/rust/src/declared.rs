@@ -8,6 +8,8 @@ pub const MAP_LIMIT: usize = 1024;
 const SLOTS: usize = 256;
 /// The rows of the indexlet's filter, behind its slots.
 const FILTER_ROWS: usize = 256;
+/// The row of the bitmap of its slots, behind the filter.
+const BITMAP_ROWS: usize = 1;
 pub const READ_LIMIT: usize = 64;
 const MARK_LIMIT: usize = 32;
 pub const WRITE_LIMIT: usize = 16;
@@ -29,7 +31,7 @@ const EXPORTED_WORDS: usize = 3;
 pub type Core = [[u64; CORE_WORDS]; SEATS + 2];
 pub type Records = [[u64; RECORD_WORDS]; MAP_LIMIT];
 pub type Leaves = [[u64; LEAF_WORDS]; MAP_LIMIT + 1];
-pub type Slots = [[u64; SLOT_WORDS]; SLOTS + FILTER_ROWS];
+pub type Slots = [[u64; SLOT_WORDS]; SLOTS + FILTER_ROWS + BITMAP_ROWS];
 pub type Reads = [[[u64; READ_WORDS]; READ_LIMIT]; SEATS];
 pub type Marks = [[[u64; MARK_WORDS]; MARK_LIMIT]; SEATS];
 pub type Writes = [[[u64; WRITE_WORDS]; WRITE_LIMIT]; SEATS];
@@ -182,7 +184,7 @@ fn blank() -> Box<Map> {
         exported: [[0; EXPORTED_WORDS]; MAP_LIMIT],
         records: [[0; RECORD_WORDS]; MAP_LIMIT],
         leaves: [[0; LEAF_WORDS]; MAP_LIMIT + 1],
-        slots: [[0; SLOT_WORDS]; SLOTS + FILTER_ROWS],
+        slots: [[0; SLOT_WORDS]; SLOTS + FILTER_ROWS + BITMAP_ROWS],
         reads: [[[0; READ_WORDS]; READ_LIMIT]; SEATS],
         marks: [[[0; MARK_WORDS]; MARK_LIMIT]; SEATS],
         writes: [[[0; WRITE_WORDS]; WRITE_LIMIT]; SEATS],

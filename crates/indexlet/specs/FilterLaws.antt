@@ -1,5 +1,5 @@
 -- The filter's laws: which changes of words leave it, what a changed cell says, and that it goes along with `enter`.
-use Prim.Native.Nat.{ℕ, zero, suc, _+_, _-_, _/_, _<_, _≤_}
+use Prim.Native.Nat.{ℕ, zero, suc, _+_, _/_, _<_, _≤_}
 use native.Mathlib.Omega.{arith}
 use mathlib.Core.Path.{_≡_, refl, sym, ap, _∙_, subst}
 use mathlib.Core.Logic.{⊎-elim}
@@ -16,9 +16,9 @@ use Rattle.lists.specs.Sums.{total}
 use Rattle.spec.specs.Slots.{slotCount, Content, isIdle, Slot, emptySlot, emptySlots, entries, contentOf, enter}
 use Rattle.laws.specs.SlotLaws.{Good, Room, weigh, sum-enter}
 use Rattle.indexlet.specs.declared.Slot.{Slot as SlotWords}
-use Rattle.indexlet.specs.Words.{SlotRows, slotWords, slotIn, rowIn, rowAt, wordsOf, store, slotsOf}
+use Rattle.indexlet.specs.Words.{SlotRows, slotWords, slotIn, rowIn, rowAt, wordsOf, store, wordPut, slotsOf}
 use Rattle.indexlet.specs.WordLaws.{length-slots, slots-at}
-use Rattle.indexlet.specs.Filters.{bucketCount, slotRows, bucketOf, cellRow, cellPlace, cellAt, cellPut, inBucket, load, Filtered, FilterStays}
+use Rattle.indexlet.specs.Filters.{bucketCount, slotRows, bucketOf, cellRow, cellPlace, cellAt, cellPut, inBucket, load, Filtered, CellsStay, FilterStays}
 
 -- ---- rows that stay
 
@@ -28,57 +28,60 @@ store-stays ws i s h = record { rows = λ j b. getD-set-other ws i j (wordsOf s)
 pub stays-on : {ws us vs : SlotRows} → FilterStays ws us → FilterStays us vs → FilterStays ws vs
 stays-on f g = record { rows = λ j b. g .rows j b ∙ f .rows j b }
 
-pub stays-filtered : {ws us : SlotRows} {ss : List Slot} → FilterStays ws us → Filtered ws ss → Filtered us ss
-stays-filtered {ws} {us} {ss} s f =
+pub stays-cells : {ws us : SlotRows} → FilterStays ws us → CellsStay ws us
+stays-cells s =
     record {
-      wide = λ j a b. ap length (s .rows j a) ∙ f .wide j a b;
-      loads = λ b h. ap (λ (r : List ℕ). getD r (cellPlace b) 0 / 256) (s .rows (cellRow b) (omega arith)) ∙ f .loads b h;
+      lengths = λ j b. ap length (s .rows j b);
+      cells = λ b h. ap (λ (r : List ℕ). getD r (cellPlace b) 0) (s .rows (cellRow b) (omega arith));
     }
 
--- ---- a changed cell
+pub cells-on : {ws us vs : SlotRows} → CellsStay ws us → CellsStay us vs → CellsStay ws vs
+cells-on f g = record { lengths = λ j b. g .lengths j b ∙ f .lengths j b; cells = λ b h. g .cells b h ∙ f .cells b h }
 
-module _ (ws : SlotRows) (b w : ℕ) (size : length ws ≡ slotRows) (h : b < bucketCount) where
+-- ---- a changed word behind the slots
+
+module _ (ws : SlotRows) (r p w : ℕ) (size : length ws ≡ slotRows) (low : slotCount ≤ r) (high : r < slotRows) where
   -- no slot changes
-  pub cell-row : (i : ℕ) → i < slotCount → rowAt (cellPut ws b w) i ≡ rowAt ws i
-  cell-row i q = ap rowIn (getD-set-other ws (cellRow b) i (set (getD ws (cellRow b) []) (cellPlace b) w) [] (λ e. omega arith))
+  pub word-row : (i : ℕ) → i < slotCount → rowAt (wordPut ws r p w) i ≡ rowAt ws i
+  word-row i q = ap rowIn (getD-set-other ws r i (set (getD ws r []) p w) [] (λ e. omega arith))
 
-  pub cell-slots : slotsOf (cellPut ws b w) ≡ slotsOf ws
-  cell-slots =
-      ext-getD emptySlot (slotsOf (cellPut ws b w)) (slotsOf ws) (length-slots (cellPut ws b w) ∙ sym (length-slots ws))
-      (λ i q. at i (let z : length (slotsOf (cellPut ws b w)) ≡ slotCount = length-slots (cellPut ws b w) in omega arith))
+  pub word-slots : slotsOf (wordPut ws r p w) ≡ slotsOf ws
+  word-slots =
+      ext-getD emptySlot (slotsOf (wordPut ws r p w)) (slotsOf ws) (length-slots (wordPut ws r p w) ∙ sym (length-slots ws))
+      (λ i q. at i (let z : length (slotsOf (wordPut ws r p w)) ≡ slotCount = length-slots (wordPut ws r p w) in omega arith))
     where
-      at : (i : ℕ) → i < slotCount → getD (slotsOf (cellPut ws b w)) i emptySlot ≡ getD (slotsOf ws) i emptySlot
-      at i q = slots-at (cellPut ws b w) i q ∙ ap slotIn (cell-row i q) ∙ sym (slots-at ws i q)
+      at : (i : ℕ) → i < slotCount → getD (slotsOf (wordPut ws r p w)) i emptySlot ≡ getD (slotsOf ws) i emptySlot
+      at i q = slots-at (wordPut ws r p w) i q ∙ ap slotIn (word-row i q) ∙ sym (slots-at ws i q)
 
-  cell-there : getD (cellPut ws b w) (cellRow b) [] ≡ set (getD ws (cellRow b) []) (cellPlace b) w
-  cell-there = getD-set-same ws (cellRow b) (set (getD ws (cellRow b) []) (cellPlace b) w) [] (omega arith)
+  word-there : getD (wordPut ws r p w) r [] ≡ set (getD ws r []) p w
+  word-there = getD-set-same ws r (set (getD ws r []) p w) [] (omega arith)
 
-  pub cell-same : length (getD ws (cellRow b) []) ≡ slotWords → cellAt (cellPut ws b w) b ≡ w
-  cell-same l = ap (λ (r : List ℕ). getD r (cellPlace b) 0) cell-there ∙ getD-set-same (getD ws (cellRow b) []) (cellPlace b) w 0 (omega arith)
+  pub word-same : p < length (getD ws r []) → getD (getD (wordPut ws r p w) r []) p 0 ≡ w
+  word-same l = ap (λ (x : List ℕ). getD x p 0) word-there ∙ getD-set-same (getD ws r []) p w 0 l
 
-  pub cell-other : (c : ℕ) → (c ≡ b → ⊥) → cellAt (cellPut ws b w) c ≡ cellAt ws c
-  cell-other c n =
+  pub word-other : (s q : ℕ) → (s ≡ r → q ≡ p → ⊥) → getD (getD (wordPut ws r p w) s []) q 0 ≡ getD (getD ws s []) q 0
+  word-other s q n =
       ⊎-elim
       (λ t.
-      let e : cellRow c ≡ cellRow b = same-true (cellRow c) (cellRow b) t in
-      ap (λ (j : ℕ). getD (getD (cellPut ws b w) j []) (cellPlace c) 0) e
-      ∙ ap (λ (r : List ℕ). getD r (cellPlace c) 0) cell-there
-      ∙ getD-set-other (getD ws (cellRow b) []) (cellPlace b) (cellPlace c) w 0 (λ q. n (omega arith))
-      ∙ ap (λ (j : ℕ). getD (getD ws j []) (cellPlace c) 0) (sym e))
-      (λ t. ap (λ (r : List ℕ). getD r (cellPlace c) 0) (getD-set-other ws (cellRow b) (cellRow c) (set (getD ws (cellRow b) []) (cellPlace b) w) [] (same-false (cellRow c) (cellRow b) t)))
-      (cases (same (cellRow c) (cellRow b)))
+      let e : s ≡ r = same-true s r t in
+      ap (λ (j : ℕ). getD (getD (wordPut ws r p w) j []) q 0) e
+      ∙ ap (λ (x : List ℕ). getD x q 0) word-there
+      ∙ getD-set-other (getD ws r []) p q w 0 (n e)
+      ∙ ap (λ (j : ℕ). getD (getD ws j []) q 0) (sym e))
+      (λ t. ap (λ (x : List ℕ). getD x q 0) (getD-set-other ws r s (set (getD ws r []) p w) [] (same-false s r t)))
+      (cases (same s r))
 
-  pub cell-wide : {ss : List Slot} → Filtered ws ss → (j : ℕ) → slotCount ≤ j → j < slotRows → length (getD (cellPut ws b w) j []) ≡ slotWords
-  cell-wide f j p q =
+  pub word-lengths : (j : ℕ) → length (getD (wordPut ws r p w) j []) ≡ length (getD ws j [])
+  word-lengths j =
       ⊎-elim
       (λ t.
-      let e : j ≡ cellRow b = same-true j (cellRow b) t in
-      ap (λ (i : ℕ). length (getD (cellPut ws b w) i [])) e
-      ∙ ap length cell-there
-      ∙ length-set (getD ws (cellRow b) []) (cellPlace b) w
-      ∙ f .wide (cellRow b) (omega arith) (omega arith))
-      (λ t. ap length (getD-set-other ws (cellRow b) j (set (getD ws (cellRow b) []) (cellPlace b) w) [] (same-false j (cellRow b) t)) ∙ f .wide j p q)
-      (cases (same j (cellRow b)))
+      let e : j ≡ r = same-true j r t in
+      ap (λ (i : ℕ). length (getD (wordPut ws r p w) i [])) e
+      ∙ ap length word-there
+      ∙ length-set (getD ws r []) p w
+      ∙ ap (λ (i : ℕ). length (getD ws i [])) (sym e))
+      (λ t. ap length (getD-set-other ws r j (set (getD ws r []) p w) [] (same-false j r t)))
+      (cases (same j r))
 
 -- ---- the filter after `enter`
 

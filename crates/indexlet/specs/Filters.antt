@@ -5,19 +5,19 @@
 use Prim.Native.Nat.{ℕ, _+_, _*_, _/_, _%_, _<_, _≤_}
 use mathlib.Core.Path.{_≡_}
 use mathlib.Core.List.{List, []}
-use lib.ListN.{length, getD, set}
+use lib.ListN.{length, getD}
 use Rattle.lists.specs.Tests.{pick, same}
 use Rattle.lists.specs.Rows.{Row}
 use Rattle.lists.specs.Sums.{total}
 use Rattle.spec.specs.Slots.{slotCount, Content, Slot, entries}
-use Rattle.indexlet.specs.Words.{SlotRows, slotWords}
+use Rattle.indexlet.specs.Words.{SlotRows, slotWords, wordPut}
 
 abbrev pub bucketCount : ℕ
 bucketCount = 2048
 
--- the rows of the slots and those of the filter, of eight cells each
+-- the rows of the slots, those of the filter, of eight cells each, and that of the bitmap
 abbrev pub slotRows : ℕ
-slotRows = 512
+slotRows = 513
 
 -- the bucket of an address: eleven bits of its product with a number whose bits are well mixed
 unfoldable pub bucketOf : ℕ → ℕ
@@ -34,7 +34,7 @@ abbrev pub cellAt : SlotRows → ℕ → ℕ
 cellAt ws b = getD (getD ws (cellRow b) []) (cellPlace b) 0
 
 abbrev pub cellPut : SlotRows → ℕ → ℕ → SlotRows
-cellPut ws b w = set ws (cellRow b) (set (getD ws (cellRow b) []) (cellPlace b) w)
+cellPut ws b w = wordPut ws (cellRow b) (cellPlace b) w
 
 -- 1 if the entry's address lies in the bucket
 unfoldable pub inBucket : ℕ → Row Content → ℕ
@@ -49,6 +49,11 @@ pub record Filtered (ws : SlotRows) (ss : List Slot) : Type 0 where
   pub wide : (j : ℕ) → slotCount ≤ j → j < slotRows → length (getD ws j []) ≡ slotWords
   pub loads : (b : ℕ) → b < bucketCount → cellAt ws b / 256 ≡ load b ss
 
--- the filter's rows stay
+-- the cells stay, and the lengths of the rows behind the slots
+pub record CellsStay (ws us : SlotRows) : Type 0 where
+  pub lengths : (j : ℕ) → slotCount ≤ j → length (getD us j []) ≡ length (getD ws j [])
+  pub cells : (b : ℕ) → b < bucketCount → cellAt us b ≡ cellAt ws b
+
+-- the rows of the filter and of the bitmap stay
 pub record FilterStays (ws us : SlotRows) : Type 0 where
   pub rows : (j : ℕ) → slotCount ≤ j → getD us j [] ≡ getD ws j []

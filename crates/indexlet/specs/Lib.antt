@@ -1,8 +1,11 @@
 pub mod Homes
+pub mod Bits
 pub mod Words
 pub mod WordLaws
 pub mod Filters
 pub mod FilterLaws
+pub mod Bitmaps
+pub mod BitmapLaws
 pub mod Promises
 pub mod SeekLaws
 pub mod WalkLaws

@@ -7,16 +7,16 @@ use mathlib.Core.Option.{none, some}
 use lib.ListN.{length, getD}
 use Rattle.lists.specs.Tests.{pick, same, less}
 use Rattle.lists.specs.Rows.{look}
-use Rattle.spec.specs.Slots.{slotCount, homeSlot, isIdle, Slot, emptySlot, emptySlots, entries, contentOf, slotAt, holds, Searched, search, Content, take, release, enter}
+use Rattle.spec.specs.Slots.{slotCount, homeSlot, isIdle, Slot, emptySlot, emptySlots, entries, contentOf, slotAt, holds, countPassed, Searched, search, Content, take, release, enter}
 use Rattle.laws.specs.Probes.{gap}
 use Rattle.laws.specs.SlotCounts.{Good, Place}
 use Rattle.indexlet.specs.declared.Content.{Content as ContentWords}
 use Rattle.indexlet.specs.declared.Slot.{Slot as SlotWords}
 use Rattle.indexlet.specs.declared.Looked.{Looked}
-use Rattle.indexlet.specs.declared.Found.{Found}
 use Rattle.indexlet.specs.declared.Sought.{Sought}
 use Rattle.indexlet.specs.Words.{SlotRows, contentIn, slotIn, rowAt, slotsOf}
 use Rattle.indexlet.specs.Filters.{slotRows, bucketOf, cellAt, cellPut, Filtered, FilterStays}
+use Rattle.indexlet.specs.Bitmaps.{wordBits, bitmapAt, bitmapPut, Occupied, Turns}
 
 -- the key of an entry is an address; of a slot without one it is anything
 abbrev pub Narrow : SlotWords → Type 0
@@ -27,17 +27,32 @@ pub record Sized (ws : SlotRows) : Type 0 where
   pub size : length ws ≡ slotRows
   pub narrow : (i : ℕ) → i < slotCount → Narrow (rowAt ws i)
 
--- The invariant of the lent words: every public function asks it, `fresh_slots` and `enter` leave it.
+-- The invariant of the lent words: every public function but `content_at` asks it, `fresh_slots` and `enter` leave it.
 pub record SlotsHeld (ws : SlotRows) : Type 0 where
   pub sized : Sized ws
   pub good : Good 4 (slotsOf ws)
   pub filtered : Filtered ws (slotsOf ws)
+  pub occupied : Occupied ws (slotsOf ws)
 
 -- the words `us`, which were `ws`, hold these slots, and the filter's rows stay
 pub record SlotsBecome (ws us : SlotRows) (ss : List Slot) : Type 0 where
   pub sized : Sized us
   pub view : slotsOf us ≡ ss
   pub stays : FilterStays ws us
+
+-- the counts of d slots from h on are changed
+pub record Going (f : ℕ → ℕ) (old : SlotRows) (h : ℕ) (ws : SlotRows) (d : ℕ) : Type 0 where
+  pub sized : Sized ws
+  pub view : slotsOf ws ≡ countPassed f (slotsOf old) h d
+  pub stays : FilterStays old ws
+
+abbrev pub shifted : ℕ → ℕ → ℕ → ℕ
+shifted up down n = n + up - down
+
+-- the counts of n slots from h on can have `up` added and `down` taken away
+pub record Countable (up down : ℕ) (ss : List Slot) (h n : ℕ) : Type 0 where
+  pub fits : (d : ℕ) → d < n → slotAt ss (h + d) .overflow + up < 2 ^ 64
+  pub enough : (d : ℕ) → d < n → down ≤ slotAt ss (h + d) .overflow + up
 
 pub record SlotsFresh (ws : SlotRows) : Type 0 where
   pub held : SlotsHeld ws
@@ -83,29 +98,34 @@ pub record Looks (ws : SlotRows) (a : ℕ) (r : Looked) : Type 0 where
   pub searched : search 4 (slotsOf ws) a ≡ lookedIn r
   pub content : contentOf (slotsOf ws) a ≡ contentIn (r .content)
 
--- what the indexlet says of the address, and the slot of its entry; from 256 on there is none
-pub record Finds (ws : SlotRows) (a : ℕ) (r : Found) : Type 0 where
-  pub content : contentOf (slotsOf ws) a ≡ contentIn (r .content)
-  pub hit : r .at < slotCount → holds a (getD (slotsOf ws) (r .at) emptySlot) ≡ true
-  pub miss : slotCount ≤ r .at → look (entries (slotsOf ws)) a ≡ none
+-- what is said in a slot; from 256 on, nothing
+unfoldable pub contentAt : SlotRows → ℕ → ContentWords
+contentAt ws i = pick (less i slotCount) (rowAt ws i .content) unsaid
 
--- the entry in a slot; from 256 on there is none
-unfoldable pub foundAt : SlotRows → ℕ → Found
-foundAt ws i = pick (less i slotCount) (record { content = rowAt ws i .content; at = i }) (record { content = unsaid; at = i })
+-- the slot of an address's entry, where what the indexlet says of it is read; from 256 on there is none
+pub record Finds (ws : SlotRows) (a at : ℕ) : Type 0 where
+  pub content : contentOf (slotsOf ws) a ≡ contentIn (contentAt ws at)
+  pub hit : at < slotCount → holds a (getD (slotsOf ws) at emptySlot) ≡ true
+  pub miss : slotCount ≤ at → look (entries (slotsOf ws)) a ≡ none
 
--- the entry of a was taken out: what `release` leaves, and one less in its bucket
-pub record TakenOut (ws : SlotRows) (a : ℕ) (vs : SlotRows) : Type 0 where
+-- the entry of a, in slot r, was taken out: what `release` leaves, its bit cleared, and one less in its bucket
+pub record TakenOut (ws : SlotRows) (a r : ℕ) (vs : SlotRows) : Type 0 where
   pub middle : SlotRows
   pub released : SlotsBecome ws middle (release 4 (slotsOf ws) a)
-  pub counted : vs ≡ cellPut middle (bucketOf a) (cellAt middle (bucketOf a) - 256)
+  pub cleared : SlotRows
+  pub bit-gone : cleared ≡ bitmapPut middle (r / wordBits) (bitmapAt middle (r / wordBits) - 2 ^ (r % wordBits))
+  pub counted : vs ≡ cellPut cleared (bucketOf a) (cellAt cleared (bucketOf a) - 256)
 
--- a has a new entry: what `take` leaves, and one more in its bucket
+-- a has a new entry: what `take` leaves, its bit set, and one more in its bucket
 pub record TakenIn (ws : SlotRows) (a : ℕ) (c : Content) (vs : SlotRows) : Type 0 where
   pub middle : SlotRows
   pub taken : SlotsBecome ws middle (take 4 (slotsOf ws) a c)
   pub slot : ℕ
   pub inside : slot < slotCount
-  pub counted : vs ≡ cellPut middle (bucketOf a) ((cellAt middle (bucketOf a) / 256 + 1) * 256 + slot)
+  pub turns : Turns true false (slotsOf ws) (take 4 (slotsOf ws) a c) slot
+  pub bit-set : SlotRows
+  pub bit-new : bit-set ≡ bitmapPut middle (slot / wordBits) (bitmapAt middle (slot / wordBits) + 2 ^ (slot % wordBits))
+  pub counted : vs ≡ cellPut bit-set (bucketOf a) ((cellAt bit-set (bucketOf a) / 256 + 1) * 256 + slot)
 
 -- the words after c was said of a, and the number of entries
 pub record Enters (ws : SlotRows) (a : ℕ) (c : ContentWords) (us : SlotRows) (n : ℕ) : Type 0 where

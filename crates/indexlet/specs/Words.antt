@@ -66,6 +66,10 @@ rowIn ws =
 abbrev pub rowAt : SlotRows → ℕ → SlotWords
 rowAt ts i = rowIn (getD ts i [])
 
+-- the slot in words with c said of k in it, and the count that it had
+abbrev pub saying : ℕ → ContentWords → SlotWords → SlotWords
+saying k c s = record { key = k; content = c; overflow = s .overflow }
+
 -- the words of a row
 abbrev pub wordsOf : SlotWords → List ℕ
 wordsOf s =
@@ -75,6 +79,10 @@ wordsOf s =
 -- the rows with another one at slot i
 abbrev pub store : SlotRows → ℕ → SlotWords → SlotRows
 store ts i s = set ts i (wordsOf s)
+
+-- the rows with another word at place p of row r
+abbrev pub wordPut : SlotRows → ℕ → ℕ → ℕ → SlotRows
+wordPut ts r p w = set ts r (set (getD ts r []) p w)
 
 -- The model's slots in the rows: the view.
 unfoldable pub slotsOf : SlotRows → List Slot

@@ -1,20 +1,24 @@
 // The indexlet: 256 slots in lent rows. A row of words is a slot: its key, its overflow count, what is said of the key. Behind the
-// slots is a filter, which tells at once of most addresses that they have no entry, and of others where it is.
+// slots is a filter, which tells at once of most addresses that they have no entry, and of others where it is; and behind that
+// a bitmap of the slots that have an entry, so that a walk over the slots passes the others.
 // The promises speak of the model's slots (`slotsOf`, which reads the words) and of what the model does to them.
 use spec::ADDRESSES;
 use spec::Address;
 use spec::PayloadWords;
 ghost use mathlib.Core.Path.{_≡_};
 ghost use mathlib.Core.Bool.{true, false};
-ghost use Prim.Native.Nat.{_+_, _-_, _*_, _/_, _<_, _≤_};
+ghost use Prim.Native.Nat.{_+_, _-_, _*_, _/_, _%_, _^_, _<_, _≤_};
 ghost use lib.ListN.{length, getD};
-ghost use Rattle.spec.specs.Slots.{slotCount, tableEntry, homeSlot, isIdle, holds, emptySlot, entries};
+ghost use lib.Count.{trailingZeros};
+ghost use Rattle.spec.specs.Slots.{slotCount, tableEntry, homeSlot, isIdle, vacant, holds, emptySlot, entries};
 ghost use Rattle.spec.specs.Slots as model;
-ghost use Rattle.laws.specs.Probes.{gap};
+ghost use Rattle.laws.specs.Probes.{gap, First};
 ghost use Rattle.laws.specs.SlotLaws.{Room};
-ghost use Rattle.indexlet.specs.Words.{contentIn, slotIn, rowAt, store, slotsOf};
+ghost use Rattle.indexlet.specs.Words.{contentIn, slotIn, rowAt, saying, store, slotsOf};
 ghost use Rattle.indexlet.specs.Filters.{bucketCount, bucketOf, cellAt, cellPut};
-ghost use Rattle.indexlet.specs.Promises.{SlotsHeld, SlotsBecome, SlotsFresh, IsSlot, Looks, foundAt, Finds, TakenOut, TakenIn, Enters, Stands, sought};
+ghost use Rattle.indexlet.specs.Bits.{bit, rest};
+ghost use Rattle.indexlet.specs.Bitmaps.{wordBits, bitmapAt, bitmapPut, Turns, wordEnd, BitsFrom};
+ghost use Rattle.indexlet.specs.Promises.{Sized, SlotsHeld, SlotsBecome, Going, shifted, Countable, SlotsFresh, IsSlot, Looks, contentAt, Finds, TakenOut, TakenIn, Enters, Stands, sought};
 
 // How many slots there are, and how many words a slot has.
 pub const SLOTS: usize = 256;
@@ -26,8 +30,14 @@ const BUCKETS: usize = 2048;
 
 const ROW_CELLS: usize = 8;
 
-// The slots, a row each, and the rows of the filter behind them.
-pub const SLOT_ROWS: usize = SLOTS + BUCKETS / ROW_CELLS;
+// The row of the bitmap, behind those of the slots and of the filter.
+const BITMAP_ROW: usize = SLOTS + BUCKETS / ROW_CELLS;
+
+// How many slots have their bit in a word of it.
+const WORD_BITS: usize = 64;
+
+// All rows.
+pub const SLOT_ROWS: usize = BITMAP_ROW + 1;
 
 pub type Slots = [[u64; SLOT_WORDS]; SLOT_ROWS];
 
@@ -53,12 +63,6 @@ pub struct Slot {
 pub struct Looked {
     pub content: Content,
     pub examined: usize,
-}
-
-// What is said of an address, and the slot of its entry, or 256.
-pub struct Found {
-    pub content: Content,
-    pub at: usize,
 }
 
 // Where a search ends: at the slot with the entry, or at 256; and how many slots it examined.
@@ -109,7 +113,7 @@ fn holds_key(s: Slot, a: Address) -> bool
     !idle(c)
 }
 
-// The row of slot i. Only this function, the next, and the two of cells touch words.
+// The row of slot i. Only this function, the next, and those of cells and of the bitmap touch words.
 fn get(t: &Slots, i: usize) -> Slot
     requires { ⌜ i < slotCount ⌝ }
     ensures { λ r. ⌜ r ≡ rowAt (now (t .entry)) i ⌝ }
@@ -207,6 +211,84 @@ fn count_out(t: &mut Slots, a: Address)
     put_cell(t, b, w - 256);
 }
 
+// Word k of the bitmap.
+fn word(t: &Slots, k: usize) -> u64
+    requires { ⌜ k < 4 ⌝ }
+    ensures { λ r. ⌜ r ≡ bitmapAt (now (t .entry)) k ⌝ }
+{
+    t[BITMAP_ROW][k + 1]
+}
+
+// Another word of the bitmap.
+fn put_word(t: &mut Slots, k: usize, w: u64)
+    requires { ⌜ k < 4 ⌝ }
+    ensures { λ _. ⌜ now (t .exit) ≡ bitmapPut (now (t .entry)) k w ⌝ }
+{
+    t[BITMAP_ROW][k + 1] = w;
+}
+
+// The bit of slot i within its word.
+fn bit_of(i: usize) -> u64
+    ensures { λ r. ⌜ r ≡ 2 ^ (i % wordBits) ⌝ }
+{
+    1u64 << (i % WORD_BITS)
+}
+
+// Slot i has an entry now.
+fn set_bit(t: &mut Slots, i: usize)
+    requires { ⌜ (i < slotCount) × (bit (i % wordBits) (bitmapAt (now t) (i / wordBits)) ≡ 0) ⌝ }
+    ensures { λ _. ⌜ now (t .exit) ≡ bitmapPut (now (t .entry)) (i / wordBits) (bitmapAt (now (t .entry)) (i / wordBits) + 2 ^ (i % wordBits)) ⌝ }
+{
+    let k = i / WORD_BITS;
+    let w = word(t, k);
+    let m = bit_of(i);
+    put_word(t, k, w + m);
+}
+
+// Slot i has none any more.
+fn clear_bit(t: &mut Slots, i: usize)
+    requires { ⌜ (i < slotCount) × (bit (i % wordBits) (bitmapAt (now t) (i / wordBits)) ≡ 1) ⌝ }
+    ensures { λ _. ⌜ now (t .exit) ≡ bitmapPut (now (t .entry)) (i / wordBits) (bitmapAt (now (t .entry)) (i / wordBits) - 2 ^ (i % wordBits)) ⌝ }
+{
+    let k = i / WORD_BITS;
+    let w = word(t, k);
+    let m = bit_of(i);
+    put_word(t, k, w - m);
+}
+
+// The bits of the slots with an entry, from this slot on, up to the end of its word: the lowest is its own.
+pub fn bits_from(t: &Slots, from: usize) -> u64
+    requires { ⌜ SlotsHeld (now t) ⌝ }
+    requires { ⌜ from < slotCount ⌝ }
+    ensures { λ r. ⌜ BitsFrom false (now (t .entry)) from r ⌝ }
+{
+    let w = word(t, from / WORD_BITS);
+    w >> (from % WORD_BITS)
+}
+
+// The lowest bit that is set: how many slots its own is from the first of them.
+pub fn lowest_bit(w: u64) -> usize
+    ensures { λ r. ⌜ r ≡ trailingZeros 64 w ⌝ }
+{
+    u64::trailing_zeros(w) as usize
+}
+
+// The bits without the lowest that is set.
+pub fn other_bits(w: u64) -> u64
+    requires { ⌜ 0 < w ⌝ }
+    ensures { λ r. ⌜ r ≡ rest w ⌝ }
+{
+    w & (w - 1)
+}
+
+// The first slot whose bit stands in the word behind that of slot i.
+pub fn word_end(i: usize) -> usize
+    requires { ⌜ i < slotCount ⌝ }
+    ensures { λ r. ⌜ r ≡ wordEnd i ⌝ }
+{
+    (i / WORD_BITS + 1) * WORD_BITS
+}
+
 // The row of slot i, for a walk over the slots.
 pub fn slot_at(t: &Slots, i: usize) -> Slot
     requires { ⌜ SlotsHeld (now t) ⌝ }
@@ -245,55 +327,45 @@ fn seek(t: &Slots, a: Address, h: usize) -> Sought
     }
 }
 
-// The entry in a slot, or that there is none.
-fn found_in(t: &Slots, at: usize) -> Found
-    ensures { λ r. ⌜ r ≡ foundAt (now (t .entry)) at ⌝ }
+// What is said in slot `at`; from 256 on, nothing.
+pub fn content_at(t: &Slots, at: usize) -> Content
+    ensures { λ r. ⌜ r ≡ contentAt (now (t .entry)) at ⌝ }
 {
     if at < SLOTS {
         let s = get(t, at);
-        let content = s.content;
-        return Found { content, at };
+        return s.content;
     }
     let payload = PayloadWords { value: 0, owner: 0 };
-    let content = Content {
+    Content {
         kind: 0,
         payload,
         commit: 0,
         since: 0,
         lock: 0,
         forput: 0,
-    };
-    Found { content, at }
+    }
 }
 
-// What is said of an address. The filter tells of most addresses without an entry that they have none, and of most entries
-// where they are; else the slots are searched.
-pub fn find(t: &Slots, a: Address) -> Found
+// The slot of an address's entry, or 256. Only the slot is answered: it comes in a register, and what is said there would come
+// in memory; `content_at` reads it. The filter tells of most addresses without an entry that they have none, and of most
+// entries where they are; else the slots are searched.
+pub fn find(t: &Slots, a: Address) -> usize
     requires { ⌜ SlotsHeld (now t) ⌝ }
     ensures { λ r. ⌜ Finds (now (t .entry)) a r ⌝ }
 {
     let b = bucket(a);
     let w = cell(t, b);
     if w < 256 {
-        return found_in(t, SLOTS);
+        return SLOTS;
     }
     let j = (w % 256) as usize;
     let s = get(t, j);
     if holds_key(s, a) {
-        return found_in(t, j);
+        return j;
     }
     let h = home(a);
     let f = seek(t, a, h);
-    found_in(t, f.at)
-}
-
-// The same of an address whose entry stands in slot j: nothing is searched.
-pub fn found_at(t: &Slots, a: Address, j: usize) -> Found
-    requires { ⌜ SlotsHeld (now t) ⌝ }
-    requires { ⌜ (j < slotCount) × (holds a (getD (slotsOf (now t)) j emptySlot) ≡ true) ⌝ }
-    ensures { λ r. ⌜ Finds (now (t .entry)) a r ⌝ }
-{
-    found_in(t, j)
+    f.at
 }
 
 // How many slots lie between the home slot h and slot j.
@@ -309,9 +381,8 @@ pub fn look_up(t: &Slots, a: Address) -> Looked
     requires { ⌜ SlotsHeld (now t) ⌝ }
     ensures { λ r. ⌜ Looks (now (t .entry)) a r ⌝ }
 {
-    let f = find(t, a);
-    let content = f.content;
-    let at = f.at;
+    let at = find(t, a);
+    let content = content_at(t, at);
     let h = home(a);
     if at < SLOTS {
         return Looked {
@@ -326,37 +397,107 @@ pub fn look_up(t: &Slots, a: Address) -> Looked
     }
 }
 
-// A new entry takes the first empty slot from the home slot h, and each slot passed adds one. Answers the slot.
+// The counts of n slots from this one on, up to the last slot at most: each has `up` added and `down` taken away.
+fn recount(t: &mut Slots, from: usize, n: usize, up: u64, down: u64)
+    requires { ⌜ (Sized (now t)) × (from < slotCount) × (from + n ≤ slotCount) ⌝ }
+    requires { ⌜ Countable up down (slotsOf (now t)) from n ⌝ }
+    ensures { λ _. ⌜ Going (shifted up down) (now (t .entry)) from (now (t .exit)) n ⌝ }
+{
+    let mut d = 0;
+    while d < n {
+        let i = from + d;
+        let s = get(t, i);
+        let said = s.content;
+        let other = Slot {
+            key: s.key,
+            content: said,
+            overflow: s.overflow + up - down,
+        };
+        put(t, i, other);
+        d += 1;
+    }
+}
+
+// The same of n slots from the home slot h on, where the first slot follows the last: in two parts, so that no slot's number
+// is computed.
+fn recount_passed(t: &mut Slots, h: usize, n: usize, up: u64, down: u64)
+    requires { ⌜ (Sized (now t)) × (h < slotCount) × (n < slotCount) ⌝ }
+    requires { ⌜ Countable up down (slotsOf (now t)) h n ⌝ }
+    ensures { λ _. ⌜ Going (shifted up down) (now (t .entry)) h (now (t .exit)) n ⌝ }
+{
+    if h + n <= SLOTS {
+        recount(t, h, n, up, down);
+        return;
+    }
+    let m = SLOTS - h;
+    recount(t, h, m, up, down);
+    recount(t, 0, n - m, up, down);
+}
+
+// The bits of the slots without an entry, from this slot on, up to the end of its word: the lowest is its own.
+fn free_from(t: &Slots, from: usize) -> u64
+    requires { ⌜ SlotsHeld (now t) ⌝ }
+    requires { ⌜ from < slotCount ⌝ }
+    ensures { λ r. ⌜ BitsFrom true (now (t .entry)) from r ⌝ }
+{
+    let w = word(t, from / WORD_BITS);
+    !w >> (from % WORD_BITS)
+}
+
+// How many slots a new entry passes from the home slot h on: those up to the first without an entry, where the first slot follows
+// the last.
+fn passed_by_new(t: &Slots, h: usize) -> usize
+    requires { ⌜ SlotsHeld (now t) ⌝ }
+    requires { ⌜ (h < slotCount) × (length (entries (slotsOf (now t))) < slotCount) ⌝ }
+    ensures { λ d. ⌜ (First vacant (slotsOf (now (t .entry))) h 0 d) × (d < slotCount) ⌝ }
+{
+    let mut d = 0;
+    while d < SLOTS {
+        let i = (h + d) % SLOTS;
+        let w = free_from(t, i);
+        if w != 0 {
+            return d + lowest_bit(w);
+        }
+        d += word_end(i) - i;
+    }
+    0
+}
+
+// Slot i says c of the address, and its count stays.
+fn say_at(t: &mut Slots, i: usize, a: Address, c: Content)
+    requires { ⌜ i < slotCount ⌝ }
+    ensures { λ _. ⌜ now (t .exit) ≡ store (now (t .entry)) i (saying a c (rowAt (now (t .entry)) i)) ⌝ }
+{
+    let s = get(t, i);
+    let own = Slot {
+        key: a as u64,
+        content: c,
+        overflow: s.overflow,
+    };
+    put(t, i, own);
+}
+
+// A new entry takes the first empty slot from the home slot h, and each slot passed adds one. Answers the slot. Most take the home
+// slot itself.
 fn take(t: &mut Slots, a: Address, h: usize, c: Content) -> usize
     requires { ⌜ SlotsHeld (now t) ⌝ }
     requires { ⌜ h ≡ homeSlot 4 a ⌝ }
     requires { ⌜ length (entries (slotsOf (now t))) < slotCount ⌝ }
     requires { ⌜ isIdle (contentIn c) ≡ false ⌝ }
     ensures { λ r. ⌜ (SlotsBecome (now (t .entry)) (now (t .exit)) (model.take 4 (slotsOf (now (t .entry))) a (contentIn c))) × (r < slotCount) ⌝ }
+    ensures { λ r. ⌜ Turns true false (slotsOf (now (t .entry))) (model.take 4 (slotsOf (now (t .entry))) a (contentIn c)) r ⌝ }
 {
-    let mut d = 0;
-    while d < SLOTS {
-        let i = (h + d) % SLOTS;
-        let s = get(t, i);
-        let said = s.content;
-        if idle(said) {
-            let own = Slot {
-                key: a as u64,
-                content: c,
-                overflow: s.overflow,
-            };
-            put(t, i, own);
-            return i;
-        }
-        let more = Slot {
-            key: s.key,
-            content: said,
-            overflow: s.overflow + 1,
-        };
-        put(t, i, more);
-        d += 1;
+    let s = get(t, h);
+    let said = s.content;
+    if idle(said) {
+        say_at(t, h, a, c);
+        return h;
     }
-    0
+    let d = passed_by_new(t, h);
+    recount_passed(t, h, d, 1, 0);
+    let i = (h + d) % SLOTS;
+    say_at(t, i, a, c);
+    i
 }
 
 // The entry of an address, which stands `passed` slots after the home slot h, is taken out, and each slot passed subtracts
@@ -367,19 +508,7 @@ fn release(t: &mut Slots, a: Address, h: usize, passed: usize)
     requires { ⌜ Stands (slotsOf (now t)) a passed ⌝ }
     ensures { λ _. ⌜ SlotsBecome (now (t .entry)) (now (t .exit)) (model.release 4 (slotsOf (now (t .entry))) a) ⌝ }
 {
-    let mut d = 0;
-    while d < passed {
-        let i = (h + d) % SLOTS;
-        let s = get(t, i);
-        let said = s.content;
-        let less = Slot {
-            key: s.key,
-            content: said,
-            overflow: s.overflow - 1,
-        };
-        put(t, i, less);
-        d += 1;
-    }
+    recount_passed(t, h, passed, 0, 1);
     let i = (h + passed) % SLOTS;
     let s = get(t, i);
     let payload = PayloadWords { value: 0, owner: 0 };
@@ -399,19 +528,20 @@ fn release(t: &mut Slots, a: Address, h: usize, passed: usize)
     put(t, i, none);
 }
 
-// The entry of the address, in slot `at`, is taken out, and its bucket has one less.
+// The entry of the address, in slot `at`, is taken out, its bit is cleared, and its bucket has one less.
 fn take_out(t: &mut Slots, a: Address, at: usize)
     requires { ⌜ SlotsHeld (now t) ⌝ }
     requires { ⌜ (at < slotCount) × (holds a (getD (slotsOf (now t)) at emptySlot) ≡ true) ⌝ }
-    ensures { λ _. ⌜ TakenOut (now (t .entry)) a (now (t .exit)) ⌝ }
+    ensures { λ _. ⌜ TakenOut (now (t .entry)) a at (now (t .exit)) ⌝ }
 {
     let h = home(a);
     let n = passed(h, at);
     release(t, a, h, n);
+    clear_bit(t, at);
     count_out(t, a);
 }
 
-// The address, which has no entry, gets one, and its bucket has one more.
+// The address, which has no entry, gets one, its bit is set, and its bucket has one more.
 fn take_in(t: &mut Slots, a: Address, c: Content)
     requires { ⌜ SlotsHeld (now t) ⌝ }
     requires { ⌜ (length (entries (slotsOf (now t))) < slotCount) × (isIdle (contentIn c) ≡ false) ⌝ }
@@ -419,19 +549,19 @@ fn take_in(t: &mut Slots, a: Address, c: Content)
 {
     let h = home(a);
     let i = take(t, a, h, c);
+    set_bit(t, i);
     count_in(t, a, i);
 }
 
-// `c` is said of the address, of which `f` was found: its entry is written, taken or taken out. `n` is the number of entries; the
-// new number is returned.
-pub fn enter(t: &mut Slots, n: usize, a: Address, f: Found, c: Content) -> usize
+// `c` is said of the address, whose entry is in slot `at`, or nowhere from 256 on: it is written, taken or taken out. `n` is the
+// number of entries; the new number is returned.
+pub fn enter(t: &mut Slots, n: usize, a: Address, at: usize, c: Content) -> usize
     requires { ⌜ SlotsHeld (now t) ⌝ }
     requires { ⌜ n ≡ length (entries (slotsOf (now t))) ⌝ }
     requires { ⌜ Room (slotsOf (now t)) a (contentIn c) ⌝ }
-    requires { ⌜ Finds (now t) a f ⌝ }
+    requires { ⌜ Finds (now t) a at ⌝ }
     ensures { λ r. ⌜ Enters (now (t .entry)) a c (now (t .exit)) r ⌝ }
 {
-    let at = f.at;
     if idle(c) {
         if at < SLOTS {
             take_out(t, a, at);
@@ -440,13 +570,7 @@ pub fn enter(t: &mut Slots, n: usize, a: Address, f: Found, c: Content) -> usize
         return n;
     }
     if at < SLOTS {
-        let s = get(t, at);
-        let own = Slot {
-            key: a as u64,
-            content: c,
-            overflow: s.overflow,
-        };
-        put(t, at, own);
+        say_at(t, at, a, c);
         return n;
     }
     take_in(t, a, c);

@@ -9,13 +9,13 @@ use index::leaves::Leaf;
 use phantomlet::recount;
 use spec::Address;
 ghost use mathlib.Core.Path.{_≡_};
-ghost use Rattle.spec.specs.Slots.{enter};
+ghost use Rattle.spec.specs.Slots.{contentOf, enter};
 ghost use Rattle.spec.specs.Maps.{freshMap};
 ghost use Rattle.laws.specs.SlotLaws.{Room};
 ghost use Rattle.indexlet.specs.Words.{contentIn, slotsOf};
 ghost use Rattle.indexlet.specs.Promises as indexlet;
 ghost use Rattle.index.specs.Views as index;
-ghost use Rattle.index.specs.LeafPlaces.{Listed};
+ghost use Rattle.index.specs.LeafPlaces.{AtLeaf};
 ghost use Rattle.index.specs.LeafColumns.{lowsOf, hiddenOf, pendingOf};
 ghost use Rattle.map.specs.Views.{lent};
 ghost use Rattle.map.specs.MapHeld.{Tables};
@@ -80,14 +80,14 @@ fn still(old: indexlet::Content, c: indexlet::Content) -> bool
 
 // What an address adds to the phantomlet's numbers, at the place of its leaf, and what it takes away: pending writes, and
 // hidden keys; and the same of the entries outside of the index.
-struct Change {
-    at: usize,
-    pend: u64,
-    unpend: u64,
-    hide: u64,
-    unhide: u64,
-    join: u64,
-    leave: u64,
+pub struct Change {
+    pub at: usize,
+    pub pend: u64,
+    pub unpend: u64,
+    pub hide: u64,
+    pub unhide: u64,
+    pub join: u64,
+    pub leave: u64,
 }
 
 // The phantomlet's two numbers of a leaf change.
@@ -107,21 +107,22 @@ fn adjust(leaves: &mut Leaves, t: Change)
     leaves::put_leaf(leaves, at, changed);
 }
 
-// Where nothing of the entry changes that counts, the index is not searched. The leaf at place `near` is tried first.
-fn terms(
+// What changes if c is said of an address of which `old` is said, and whose leaf has place `at`. Where nothing of the entry changes
+// that counts, the index is not searched. This and the next function are called one after the other, since each by itself is small
+// enough for the compiler to put it where it is called, and there most of it is known.
+pub fn terms(
     rows: &Records,
     leaves: &Leaves,
     z: Sizes,
     a: Address,
     old: indexlet::Content,
     c: indexlet::Content,
-    near: usize,
+    at: usize,
 ) -> Change
     requires { ⌜ index.RecordsSorted (now rows) (z .records) ⌝ }
-    requires { ⌜ Listed (lowsOf (now leaves)) (z .leaves) ⌝ }
+    requires { ⌜ AtLeaf (lowsOf (now leaves)) (z .leaves) a at ⌝ }
     ensures { λ r. ⌜ Terms (contentIn old) (now (rows .entry)) (lowsOf (now (leaves .entry))) z a (contentIn c) r ⌝ }
 {
-    let at = leaves::find_near(leaves, z.leaves, a, near);
     let pend = recount::waits(c);
     let unpend = recount::waits(old);
     if still(old, c) {
@@ -153,8 +154,8 @@ pub struct Placed {
     pub at: usize,
 }
 
-// `c` is said of the address, where `found` was; the phantomlet's two numbers of its leaf, which is looked for at place
-// `near` first, change with it.
+// `c` is said of the address, for which slot `at` was found; the phantomlet's two numbers of its leaf change by t, which tells what
+// comes of it.
 pub fn set_content(
     leaves: &mut Leaves,
     slots: &mut Slots,
@@ -162,19 +163,18 @@ pub fn set_content(
     z: Sizes,
     k: Counters,
     a: Address,
-    found: indexlet::Found,
+    at: usize,
     c: indexlet::Content,
-    near: usize,
+    t: Change,
 ) -> Placed
     requires { ⌜ Tables (lent (now rows) (now leaves) (now slots)) z (k .version) ⌝ }
-    requires { ⌜ indexlet.Finds (now slots) a found ⌝ }
+    requires { ⌜ indexlet.Finds (now slots) a at ⌝ }
     requires { ⌜ Room (slotsOf (now slots)) a (contentIn c) ⌝ }
+    requires { ⌜ Terms (contentOf (slotsOf (now slots)) a) (now rows) (lowsOf (now leaves)) z a (contentIn c) t ⌝ }
     ensures { λ r. ⌜ ContentSet (lent (now (rows .entry)) (now (leaves .entry)) (now (slots .entry))) (lent (now (rows .entry)) (now (leaves .exit)) (now (slots .exit))) z (r .sizes) (k .version) (enter 4 (slotsOf (now (slots .entry))) a (contentIn c)) ⌝ }
 {
-    let old = found.content;
-    let t = terms(rows, leaves, z, a, old, c, near);
     adjust(leaves, t);
-    let entries = indexlet::enter(slots, z.entries, a, found, c);
+    let entries = indexlet::enter(slots, z.entries, a, at, c);
     let sizes = Sizes {
         records: z.records,
         leaves: z.leaves,

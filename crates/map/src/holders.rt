@@ -23,7 +23,7 @@ pub fn locked_by_other(slots: &Slots, a: Address, w: u64) -> bool
     requires { ⌜ indexlet.SlotsHeld (now slots) ⌝ }
     ensures { λ r. ⌜ r ≡ heldByOther w (contentOf (slotsOf (now (slots .entry))) a) ⌝ }
 {
-    let found = indexlet::find(slots, a);
-    let c = found.content;
+    let at = indexlet::find(slots, a);
+    let c = indexlet::content_at(slots, at);
     by_other(c, w)
 }

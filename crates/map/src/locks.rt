@@ -7,6 +7,7 @@ use crate::entries;
 use crate::entries::Placed;
 use crate::holders;
 use counters::Counters;
+use index::leaves;
 use phantomlet::recount;
 use sets::WriteSet;
 use sets::writes;
@@ -119,10 +120,12 @@ fn lock_one(
 {
     let row = writes::write_at(ws, i);
     let a = row.address;
-    let found = indexlet::find(slots, a);
-    let old = found.content;
+    let at = indexlet::find(slots, a);
+    let old = indexlet::content_at(slots, at);
     let c = with_lock(old, w + 1, row.kind);
-    entries::set_content(leaves, slots, rows, z, k, a, found, c, near)
+    let leaf = leaves::find_near(leaves, z.leaves, a, near);
+    let t = entries::terms(rows, leaves, z, a, old, c, leaf);
+    entries::set_content(leaves, slots, rows, z, k, a, at, c, t)
 }
 
 // Worker w's lock on the address in row i goes, if w has it.
@@ -144,11 +147,13 @@ fn unlock_one(
     ensures { λ r. ⌜ ContentSet (lent (now (rows .entry)) (now (leaves .entry)) (now (slots .entry))) (lent (now (rows .entry)) (now (leaves .exit)) (now (slots .exit))) z (r .sizes) (k .version) (unlockKey 4 w (slotsOf (now (slots .entry))) (writeAt (now (ws .entry)) i .key)) ⌝ }
 {
     let a = key_at(ws, n, i);
-    let found = indexlet::find(slots, a);
-    let old = found.content;
+    let at = indexlet::find(slots, a);
+    let old = indexlet::content_at(slots, at);
     if by_own(old, w) {
         let c = with_lock(old, 0, 0);
-        return entries::set_content(leaves, slots, rows, z, k, a, found, c, near);
+        let leaf = leaves::find_near(leaves, z.leaves, a, near);
+        let t = entries::terms(rows, leaves, z, a, old, c, leaf);
+        return entries::set_content(leaves, slots, rows, z, k, a, at, c, t);
     }
     Placed { sizes: z, at: near }
 }
@@ -210,10 +215,12 @@ fn install_one(
 {
     let row = writes::write_at(ws, i);
     let a = row.address;
-    let found = indexlet::find(slots, a);
-    let old = found.content;
+    let at = indexlet::find(slots, a);
+    let old = indexlet::content_at(slots, at);
     let c = installed(row, number, t, old);
-    entries::set_content(leaves, slots, rows, z, k, a, found, c, near)
+    let leaf = leaves::find_near(leaves, z.leaves, a, near);
+    let t = entries::terms(rows, leaves, z, a, old, c, leaf);
+    entries::set_content(leaves, slots, rows, z, k, a, at, c, t)
 }
 
 // Worker w locks the addresses of the write set, by rising address. The tests of refusals 9 to 11 come before.
@@ -312,8 +319,8 @@ fn entryless_at(slots: &Slots, ws: &WriteSet, n: usize, i: usize) -> usize
     ensures { λ r. ⌜ r ≡ pick (entryless (now (slots .entry)) (writeAt (now (ws .entry)) i .key)) 1 0 ⌝ }
 {
     let a = key_at(ws, n, i);
-    let found = indexlet::find(slots, a);
-    let c = found.content;
+    let at = indexlet::find(slots, a);
+    let c = indexlet::content_at(slots, at);
     if indexlet::idle(c) {
         return 1;
     }

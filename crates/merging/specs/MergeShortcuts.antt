@@ -14,7 +14,7 @@ use Rattle.lists.specs.TestLaws.{cases, clash, same-true, same-false, less-true
 use Rattle.lists.specs.Rows.{Row, row, look}
 use Rattle.lists.specs.Sums.{total-at, total-two}
 use Rattle.spec.specs.Records.{Record}
-use Rattle.spec.specs.Slots.{slotCount, Content, isIdle, Slot, emptySlot, kept}
+use Rattle.spec.specs.Slots.{slotCount, Content, isIdle, Slot, emptySlot, vacant, kept}
 use Rattle.laws.specs.SlotCounts.{entryAt, tally, only-here, holds-yes}
 use Rattle.laws.specs.Entering.{kept-entry}
 use Rattle.indexlet.specs.Words.{contentIn, slotIn, slotsOf}
@@ -65,21 +65,36 @@ entry-of slots j s reads = sym (ap (λ (x : Slot). x .entry) (reads .slot))
 kept-key : (k : ℕ) (c : Content) (e : Row Content) → kept k c ≡ some e → k ≡ e .key
 kept-key k c e q = ap (λ (x : Row Content). x .key) (kept-entry k c e q .1)
 
-pub skips-on : {slots : SlotRows} {r : Reach} {from j : ℕ} (s : SlotWords) → Skips slots r from j → j < slotCount → indexlet.IsSlot slots j s → reached r (s .key) ≡ false → Skips slots r from (j + 1)
-skips-on {slots} {r} {from} {j} s k h reads f =
-    let a : from ≤ j = k .forth in
+-- an entry in slot i, if there is one, lies elsewhere
+abbrev pub Elsewhere : SlotRows → Reach → ℕ → Type 0
+Elsewhere slots r i = (e : Row Content) → entryAt (slotsOf slots) i ≡ some e → (e .key < 2 ^ 32) × (reached r (e .key) ≡ false)
+
+pub elsewhere-empty : (slots : SlotRows) (r : Reach) (i : ℕ) → vacant (getD (slotsOf slots) i emptySlot) ≡ true → Elsewhere slots r i
+unfolding vacant
+elsewhere-empty slots r i t e q = clash t (ap (λ (o : Option (Row Content)). not (present o)) q)
+
+pub elsewhere-read : {slots : SlotRows} (r : Reach) {j : ℕ} (s : SlotWords) → indexlet.IsSlot slots j s → reached r (s .key) ≡ false → Elsewhere slots r j
+elsewhere-read {slots} r {j} s reads f e q =
+    let there : kept (s .key) (contentIn (s .content)) ≡ some e = sym (entry-of slots j s reads) ∙ q in
+    let own : s .key ≡ e .key = kept-key (s .key) (contentIn (s .content)) e there in
+    (subst (λ (x : ℕ). x < 2 ^ 32) own (reads .narrow (kept-entry (s .key) (contentIn (s .content)) e there .0)), ap (reached r) (sym own) ∙ f)
+
+pub skips-all : {slots : SlotRows} {r : Reach} {from j : ℕ} → from ≤ j → j ≤ slotCount → ((i : ℕ) → from ≤ i → i < j → Elsewhere slots r i) → Skips slots r from j
+skips-all a b f = record { forth = a; there = b; passed = f }
+
+pub skips-join : {slots : SlotRows} {r : Reach} {from i j : ℕ} → Skips slots r from i → Skips slots r i j → Skips slots r from j
+skips-join {slots} {r} {from} {i} {j} k l =
+    let a : from ≤ i = k .forth in
+    let b : i ≤ j = l .forth in
     record {
       forth = omega arith;
-      there = omega arith;
+      there = l .there;
       passed =
-          λ i b l e q.
+          λ n p q.
           ⊎-elim
-          (λ t.
-          let there : kept (s .key) (contentIn (s .content)) ≡ some e = sym (entry-of slots j s reads) ∙ ap (entryAt (slotsOf slots)) (sym (same-true i j t)) ∙ q in
-          let own : s .key ≡ e .key = kept-key (s .key) (contentIn (s .content)) e there in
-          (subst (λ (x : ℕ). x < 2 ^ 32) own (reads .narrow (kept-entry (s .key) (contentIn (s .content)) e there .0)), ap (reached r) (sym own) ∙ f))
-          (λ t. let n : i ≡ j → ⊥ = same-false i j t in k .passed i b (omega arith) e q)
-          (cases (same i j));
+          (λ t. let h : n < i = less-true n i t in k .passed n p h)
+          (λ t. let h : i ≤ n = less-false n i t in l .passed n h q)
+          (cases (less n i));
     }
 
 stands-is : {slots : SlotRows} {j : ℕ} (s : SlotWords) (b : Bool) → indexlet.IsSlot slots j s → b ≡ isIdle (contentIn (s .content)) → not b ≡ present (entryAt (slotsOf slots) j)

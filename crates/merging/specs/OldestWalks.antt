@@ -1,5 +1,5 @@
 -- A walk over the slots for the pending write that has waited longest.
-use Prim.Native.Nat.{ℕ, zero, suc, _+_, _^_, _<_, _≤_}
+use Prim.Native.Nat.{ℕ, zero, suc, _+_, _-_, _^_, _<_, _≤_}
 use native.Mathlib.Nat.{le-refl}
 use native.Mathlib.Omega.{arith}
 use mathlib.Core.Path.{_≡_, refl, sym, ap, _∙_, subst}
@@ -8,12 +8,12 @@ use mathlib.Core.List.{List, [], _∷_}
 use mathlib.Core.Option.{Option, none, some}
 use lib.Dec.{ltb, eqb}
 use borrow.Author.Tests.{eqb-true, eqb-false}
-use lib.ListN.{length, drop, drop-of-length-le}
+use lib.ListN.{length, getD, drop, drop-of-length-le}
 use lib.Seq.{drop-cons}
-use Rattle.lists.specs.Tests.{pick, either, both, maybe, same, less}
+use Rattle.lists.specs.Tests.{pick, either, both, maybe, present, same, less}
 use Rattle.lists.specs.TestLaws.{clash, same-yes, same-no, less-no}
 use Rattle.lists.specs.Rows.{Row, row}
-use Rattle.spec.specs.Slots.{slotCount, Pending, Content, isIdle, Slot, emptySlot, entries}
+use Rattle.spec.specs.Slots.{slotCount, Pending, Content, isIdle, Slot, emptySlot, vacant, entries}
 use Rattle.spec.specs.Maps.{ages, older, oldestOf, oldestKey}
 use Rattle.indexlet.specs.declared.Content.{Content as ContentWords}
 use Rattle.indexlet.specs.declared.Slot.{Slot as SlotWords}
@@ -151,20 +151,20 @@ module _ (slots : List (List ℕ)) (j : ℕ) (o : Oldest) (s : SlotWords) (reads
 
 -- ---- the test
 
+pub is-there : (b : Bool) → not b ≡ false → b ≡ true
+is-there true e = refl
+is-there false e = clash refl e
+
 module _ (o : Oldest) (key since : ℕ) where
   absent : (b : Bool) → not b ≡ true → b ≡ false
   absent true e = clash e refl
   absent false e = refl
 
-  there : (b : Bool) → not b ≡ false → b ≡ true
-  there true e = refl
-  there false e = clash refl e
-
   pub elder-first : not (o .there) ≡ true → true ≡ elder o key since
   elder-first n = let e : o .there ≡ false = absent (o .there) n in sym (ap (λ (b : Bool). maybe (pick b (some (row (o .key) (o .since))) none) true (λ (a : Row ℕ). older (row key since) a)) e)
 
   there-older : not (o .there) ≡ false → older (row key since) (row (o .key) (o .since)) ≡ elder o key since
-  there-older n = let e : o .there ≡ true = there (o .there) n in sym (ap (λ (b : Bool). maybe (pick b (some (row (o .key) (o .since))) none) true (λ (a : Row ℕ). older (row key since) a)) e)
+  there-older n = let e : o .there ≡ true = is-there (o .there) n in sym (ap (λ (b : Bool). maybe (pick b (some (row (o .key) (o .since))) none) true (λ (a : Row ℕ). older (row key since) a)) e)
 
   pub elder-tie : not (o .there) ≡ false → since ≡ o .since → ltb key (o .key) ≡ elder o key since
   unfolding older less
@@ -190,16 +190,33 @@ module _ (o : Oldest) (key since : ℕ) where
 pub passes-none : (ss : List Slot) (o : Oldest) (from : ℕ) → from ≤ slotCount → Passes ss o from from
 passes-none ss o from h = record { forth = le-refl from; there = h; same-oldest = refl }
 
-pub passes-on : (slots : List (List ℕ)) (j : ℕ) (o : Oldest) (s : SlotWords) {from : ℕ} → indexlet.IsSlot slots j s → j < slotCount → o .key < 2 ^ 32 → not (o .there) ≡ false
-    → o .since < ageIn (s .content) → Passes (slotsOf slots) o from j → Passes (slotsOf slots) o from (j + 1)
+-- slot i has no write older than o
+abbrev pub Younger : List Slot → Oldest → ℕ → Type 0
+Younger ss o i = oldestAfter (oldestSo o) (agesFrom ss (i + 1)) ≡ oldestAfter (oldestSo o) (agesFrom ss i)
+
+pub younger-empty : (slots : List (List ℕ)) (o : Oldest) (i : ℕ) → i < slotCount → vacant (getD (slotsOf slots) i emptySlot) ≡ true → Younger (slotsOf slots) o i
+unfolding vacant entries ages
+younger-empty slots o i h t =
+    let z : length (slotsOf slots) ≡ slotCount = length-slots slots in
+    let n : suc i ≡ i + 1 = omega arith in
+    sym (ap (λ (ss : List Slot). oldestAfter (oldestSo o) (ages (entries ss))) (drop-cons (slotsOf slots) i emptySlot (omega arith))
+    ∙ go (getD (slotsOf slots) i emptySlot .entry) t
+    ∙ ap (λ (m : ℕ). oldestAfter (oldestSo o) (agesFrom (slotsOf slots) m)) n)
+  where
+    go : (e : Option (Row Content)) → not (present e) ≡ true
+        → oldestAfter (oldestSo o) (ages (maybe e (entries (drop (suc i) (slotsOf slots))) (λ (x : Row Content). x ∷ entries (drop (suc i) (slotsOf slots)))))
+        ≡ oldestAfter (oldestSo o) (agesFrom (slotsOf slots) (suc i))
+    go none t = refl
+    go (some e) t = clash t refl
+
+pub younger-read : (slots : List (List ℕ)) (j : ℕ) (o : Oldest) (s : SlotWords) → indexlet.IsSlot slots j s → j < slotCount → o .key < 2 ^ 32 → o .there ≡ true
+    → o .since < ageIn (s .content) → Younger (slotsOf slots) o j
 unfolding less
-passes-on slots j o s {from} reads inside narrow t l p =
-    let a : from ≤ j = p .forth in
-    record { forth = omega arith; there = omega arith; same-oldest = go (eqb (s .content .kind) 0) refl .same-oldest ∙ p .same-oldest }
+younger-read slots j o s reads inside narrow t l = go (eqb (s .content .kind) 0) refl .same-oldest
   where
     younger : (s .content .kind ≡ 0 → ⊥) → o .since < s .content .since → elder o (s .key) (s .content .since) ≡ false
     younger n h =
-        sym (elder-time o (s .key) (s .content .since) t (λ e. let q : ⊥ = omega arith in q))
+        sym (elder-time o (s .key) (s .content .since) (ap not t) (λ e. let q : ⊥ = omega arith in q))
         ∙ less-no {m = s .content .since} {n = o .since} (omega arith)
 
     go : (b : Bool) → eqb (s .content .kind) 0 ≡ b → Elder (slotsOf slots) j o o
@@ -208,6 +225,31 @@ passes-on slots j o s {from} reads inside narrow t l p =
         let n : s .content .kind ≡ 0 → ⊥ = eqb-false (s .content .kind) 0 e in
         elder-stays slots j o s reads inside narrow n
         (younger n (subst (λ (x : ℕ). o .since < x) (ap (λ (b : Bool). pick b 18446744073709551615 (s .content .since)) e) l))
+
+-- as many slots as d from `from` on
+younger-run : (ss : List Slot) (o : Oldest) (from d : ℕ) → ((i : ℕ) → from ≤ i → i < from + d → Younger ss o i)
+    → oldestAfter (oldestSo o) (agesFrom ss (from + d)) ≡ oldestAfter (oldestSo o) (agesFrom ss from)
+younger-run ss o from zero f = ap (λ (n : ℕ). oldestAfter (oldestSo o) (agesFrom ss n)) (let e : from + 0 ≡ from = omega arith in e)
+younger-run ss o from (suc d) f =
+    ap (λ (n : ℕ). oldestAfter (oldestSo o) (agesFrom ss n)) (let e : from + suc d ≡ from + d + 1 = omega arith in e)
+    ∙ f (from + d) (omega arith) (omega arith)
+    ∙ younger-run ss o from d (λ i a b. f i a (omega arith))
+
+pub passes-all : {ss : List Slot} {o : Oldest} {from j : ℕ} → from ≤ j → j ≤ slotCount → ((i : ℕ) → from ≤ i → i < j → Younger ss o i) → Passes ss o from j
+passes-all {ss} {o} {from} {j} a b f =
+    record {
+      forth = a;
+      there = b;
+      same-oldest =
+          ap (λ (n : ℕ). oldestAfter (oldestSo o) (agesFrom ss n)) (let e : j ≡ from + (j - from) = omega arith in e)
+          ∙ younger-run ss o from (j - from) (λ i p q. f i p (omega arith));
+    }
+
+pub passes-join : {ss : List Slot} {o : Oldest} {from i j : ℕ} → Passes ss o from i → Passes ss o i j → Passes ss o from j
+passes-join {ss} {o} {from} {i} {j} k l =
+    let a : from ≤ i = k .forth in
+    let b : i ≤ j = l .forth in
+    record { forth = omega arith; there = l .there; same-oldest = l .same-oldest ∙ k .same-oldest }
 
 pub passes-walk : {ss : List Slot} {from j : ℕ} {o : Oldest} → Walking ss from o → Passes ss o from j → Walking ss j o
 passes-walk w p = record { oldest-is = p .same-oldest ∙ w .oldest-is; narrow = w .narrow; nothing = w .nothing; inside = p .there }

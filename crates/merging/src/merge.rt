@@ -16,7 +16,7 @@ use phantomlet::recount::Reach;
 use spec::Address;
 use spec::PayloadWords;
 ghost use mathlib.Core.Path.{_≡_};
-ghost use mathlib.Core.Bool.{true};
+ghost use mathlib.Core.Bool.{true, false};
 ghost use mathlib.Core.Option.{some};
 ghost use Prim.Native.Nat.{_+_, _-_, _^_, _<_, _≤_};
 ghost use lib.ListN.{length, drop};
@@ -26,6 +26,7 @@ ghost use Rattle.spec.specs.Records.{standard};
 ghost use Rattle.spec.specs.Slots.{slotCount};
 ghost use Rattle.laws.specs.VersionBounds.{versionsPerMerge};
 ghost use Rattle.indexlet.specs.Words.{contentIn};
+ghost use Rattle.indexlet.specs.Bitmaps.{BitsFrom};
 ghost use Rattle.indexlet.specs.Promises as indexlet-promises;
 ghost use Rattle.index.specs.Views as index-views;
 ghost use Rattle.index.specs.LeafColumns.{lowsOf};
@@ -150,8 +151,7 @@ fn take_slot(
         lock: c.lock,
         forput: c.forput,
     };
-    let found = indexlet::found_at(slots, a, j);
-    let e = indexlet::enter(slots, w.entries, a, found, rest);
+    let e = indexlet::enter(slots, w.entries, a, j, rest);
     let outside = outside_now(w.outside, w.records, n, c.kind, lock);
     Walk {
         records: n,
@@ -162,8 +162,27 @@ fn take_slot(
     }
 }
 
-// The next slot, from this one on, whose key is among the addresses r; 256 if there is none. Most slots are passed here, those
-// without an entry too: their key is no address.
+// The next slot, from this one on, that has an entry among the addresses r, of the slots whose bits these are; the end of their
+// word if there is none.
+fn reached_in(slots: &Slots, r: Reach, from: usize, bits: u64) -> usize
+    requires { ⌜ indexlet-promises.SlotsHeld (now slots) ⌝ }
+    requires { ⌜ (from < slotCount) × (r .span ≡ r .high - r .low) × (BitsFrom false (now slots) from bits) ⌝ }
+    ensures { λ j. ⌜ Skips (now (slots .entry)) r from j ⌝ }
+{
+    let mut w = bits;
+    while w != 0 {
+        let j = from + indexlet::lowest_bit(w);
+        let s = indexlet::slot_at(slots, j);
+        if recount::reaches(r, s.key) {
+            return j;
+        }
+        w = indexlet::other_bits(w);
+    }
+    indexlet::word_end(from)
+}
+
+// The next slot, from this one on, that has an entry among the addresses r; 256 if there is none. Most slots are passed here, and
+// those without an entry are not looked at.
 fn next_reached(slots: &Slots, r: Reach, from: usize) -> usize
     requires { ⌜ indexlet-promises.SlotsHeld (now slots) ⌝ }
     requires { ⌜ (from ≤ slotCount) × (r .span ≡ r .high - r .low) ⌝ }
@@ -171,11 +190,12 @@ fn next_reached(slots: &Slots, r: Reach, from: usize) -> usize
 {
     let mut next = from;
     while next < SLOTS {
-        let s = indexlet::slot_at(slots, next);
-        if recount::reaches(r, s.key) {
-            return next;
+        let w = indexlet::bits_from(slots, next);
+        let j = reached_in(slots, r, next, w);
+        if j < indexlet::word_end(next) {
+            return j;
         }
-        next += 1;
+        next = j;
     }
     next
 }
@@ -362,8 +382,7 @@ fn take_leaf(
     let n = z.records;
     let own = leaves::leaf_at(leaves, i);
     if own.pending == 1 {
-        let found = indexlet::find(slots, a);
-        let j = found.at;
+        let j = indexlet::find(slots, a);
         if j < SLOTS {
             if hides_alone(rows, slots, leaves, n, m, i, r, j, own.hidden) {
                 let w = Walk {

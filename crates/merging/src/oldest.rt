@@ -3,10 +3,12 @@ use indexlet::SLOTS;
 use map::Slots;
 use spec::Address;
 ghost use mathlib.Core.Path.{_≡_};
+ghost use mathlib.Core.Bool.{true, false};
 ghost use Prim.Native.Nat.{_^_, _<_, _≤_};
 ghost use Rattle.spec.specs.Slots.{slotCount, entries};
 ghost use Rattle.spec.specs.Maps.{oldestKey, ages};
 ghost use Rattle.indexlet.specs.Words.{slotsOf};
+ghost use Rattle.indexlet.specs.Bitmaps.{BitsFrom};
 ghost use Rattle.indexlet.specs.Promises as indexlet;
 ghost use Rattle.merging.specs.OldestWalks.{elder, Elder, ageIn, Passes};
 
@@ -62,26 +64,45 @@ fn age(c: indexlet::Content) -> u64
     c.since
 }
 
-// The next slot, from this one on, that may have a write older than the oldest so far; 256 if there is none. Whether a slot has
-// a write is hard to guess, whether it has an older one is not.
-fn next_older(slots: &Slots, o: Oldest, from: usize) -> usize
+// The next slot, from this one on, that may have a write older than the oldest so far, of the slots whose bits these are; the end
+// of their word if there is none. Whether a slot has a write is hard to guess, whether it has an older one is not.
+fn older_in(slots: &Slots, o: Oldest, from: usize, bits: u64) -> usize
     requires { ⌜ indexlet.SlotsHeld (now slots) ⌝ }
-    requires { ⌜ (from ≤ slotCount) × (o .key < 2 ^ 32) ⌝ }
+    requires { ⌜ (from < slotCount) × (o .key < 2 ^ 32) × (o .there ≡ true) × (BitsFrom false (now slots) from bits) ⌝ }
     ensures { λ j. ⌜ Passes (slotsOf (now (slots .entry))) o from j ⌝ }
 {
-    let mut j = from;
-    if !o.there {
-        return j;
-    }
-    while j < SLOTS {
+    let mut w = bits;
+    while w != 0 {
+        let j = from + indexlet::lowest_bit(w);
         let s = indexlet::slot_at(slots, j);
         let c = s.content;
         if age(c) <= o.since {
             return j;
         }
-        j += 1;
+        w = indexlet::other_bits(w);
     }
-    j
+    indexlet::word_end(from)
+}
+
+// The same of all slots from this one on; 256 if there is none.
+fn next_older(slots: &Slots, o: Oldest, from: usize) -> usize
+    requires { ⌜ indexlet.SlotsHeld (now slots) ⌝ }
+    requires { ⌜ (from ≤ slotCount) × (o .key < 2 ^ 32) ⌝ }
+    ensures { λ j. ⌜ Passes (slotsOf (now (slots .entry))) o from j ⌝ }
+{
+    let mut next = from;
+    if !o.there {
+        return next;
+    }
+    while next < SLOTS {
+        let w = indexlet::bits_from(slots, next);
+        let j = older_in(slots, o, next, w);
+        if j < indexlet::word_end(next) {
+            return j;
+        }
+        next = j;
+    }
+    next
 }
 
 // The address of the pending write that has waited longest; 0 where nothing is pending.

@@ -107,8 +107,8 @@ pub fn current_record(rows: &Records, slots: &Slots, n: usize, a: Address) -> Cu
     requires { ⌜ SlotsHeld (now slots) ⌝ }
     ensures { λ r. ⌜ Sees (now (rows .entry)) n (now (slots .entry)) a r ⌝ }
 {
-    let found = indexlet::find(slots, a);
-    let c = found.content;
+    let at = indexlet::find(slots, a);
+    let c = indexlet::content_at(slots, at);
     under(rows, n, a, c)
 }
 
@@ -140,8 +140,8 @@ pub fn seen_at(rows: &Records, slots: &Slots, n: usize, i: usize) -> Observed
 {
     let there = rows::get(rows, i);
     let address = there.address as Address;
-    let said = indexlet::find(slots, address);
-    let c = said.content;
+    let at = indexlet::find(slots, address);
+    let c = indexlet::content_at(slots, at);
     if c.kind == 0 {
         let payload = there.payload;
         let current = Current {
@@ -217,8 +217,8 @@ fn lock_only_at(
     if p != i {
         return 0;
     }
-    let said = indexlet::find(slots, a);
-    let c = said.content;
+    let at = indexlet::find(slots, a);
+    let c = indexlet::content_at(slots, at);
     if c.kind == 1 {
         return 0;
     }

@@ -384,7 +384,7 @@ fn header_has_the_limits_of_the_code() {
         // By request 107: 4 and 4 bytes, then 4 and 10 for each record.
         ("SECTIONS_FILE_LIMIT", 4 + 4 + (4 + 10) * exported.dimensions()[0]),
         ("SECTIONS_FILE_BYTES(0)", 8),
-        ("SECTIONS_SLOT_COUNT + SECTIONS_FILTER_ROWS", slots.dimensions()[0]),
+        ("SECTIONS_SLOT_COUNT + SECTIONS_FILTER_ROWS + SECTIONS_BITMAP_ROWS", slots.dimensions()[0]),
     ];
     let lines: String =
         limits.iter().map(|(name, _)| format!("printf(\"%d\\n\", {name});\n")).collect();

@@ -1,6 +1,6 @@
 -- `indexlet::enter` meets its contract: an entry goes, stays away, is rewritten or is new.
 use native.Mathlib.Omega.{arith}
-use mathlib.Core.Path.{sym, _∙_}
+use mathlib.Core.Path.{refl, sym, _∙_}
 use borrow.Author.Needs.{needs}
 use Rattle.indexlet.specs.EnterLaws.{number-most, number-some, enter-out, enter-nothing, enter-over, enter-room, enter-new}
 use Rattle.indexlet.proofs.enter.Statement.{statement}
@@ -21,16 +21,13 @@ returns c = enter-out _ _ _ _ (c .before .before .before .before .before .pre .0
 returns-2 : tie.Need-returns-2
 returns-2 c = enter-nothing _ _ _ _ (c .before .before .before .pre .0) (c .before .before .before .pre .1 .0) (c .before .before .before .pre .1 .1 .0) _ (c .before .before .before .pre .1 .1 .1) (sym (c .before .before .idle .ensures) ∙ c .before .if1 .taken) (c .if2 .left)
 
-get-requires : tie.Need-get-requires
-get-requires c κs = search needs
-
-put-requires : tie.Need-put-requires
-put-requires c κs = search needs
+say-at-requires : tie.Need-say-at-requires
+say-at-requires c κs = c .before .if3 .taken
 
 returns-3 : tie.Need-returns-3
 returns-3 c =
-    enter-over _ _ _ _ (c .before .before .before .before .before .before .before .pre .0) (c .before .before .before .before .before .before .before .pre .1 .0) (c .before .before .before .before .before .before .before .pre .1 .1 .0) _ (c .before .before .before .before .before .before .before .pre .1 .1 .1) (sym (c .before .before .before .before .before .before .idle .ensures) ∙ c .before .before .before .before .before .if1 .left) (c .before .before .before .before .if3 .taken)
-    (c .before .before .before .before .before .before .before .fits .a .fits) _ (c .before .before .get .ensures) _ (c .put .ensures)
+    enter-over _ _ _ _ (c .before .before .before .before .before .pre .0) (c .before .before .before .before .before .pre .1 .0) (c .before .before .before .before .before .pre .1 .1 .0) _ (c .before .before .before .before .before .pre .1 .1 .1) (sym (c .before .before .before .before .idle .ensures) ∙ c .before .before .before .if1 .left) (c .before .before .if3 .taken)
+    (c .before .before .before .before .before .fits .a .fits) _ refl _ (c .say-at .ensures)
 
 take-in-requires : tie.Need-take-in-requires
 take-in-requires c κs =
@@ -52,8 +49,7 @@ enter-spec =
     sub-result
     returns
     returns-2
-    get-requires
-    put-requires
+    say-at-requires
     returns-3
     take-in-requires
     add-result

@@ -2,9 +2,7 @@
 use native.Mathlib.Omega.{arith}
 use borrow.Author.Needs.{needs}
 use Rattle.indexlet.specs.FilterLaws.{bucket-inside}
-use Rattle.indexlet.specs.SeekLaws.{sought-holds, sought-absent}
-use Rattle.indexlet.specs.Words.{slotsOf}
-use Rattle.indexlet.specs.EnterLaws.{found-is, filter-miss, tried}
+use Rattle.indexlet.specs.EnterLaws.{at-finds, none-finds, sought-finds, filter-miss, tried}
 use Rattle.indexlet.proofs.find.Statement.{statement}
 use Rattle.indexlet.proofs.find.Tie as tie
 
@@ -14,13 +12,10 @@ bucket-requires c κs = search needs
 cell-requires : tie.Need-cell-requires
 cell-requires c κs = bucket-inside _ _ (c .bucket .ensures)
 
-found-in-requires : tie.Need-found-in-requires
-found-in-requires c κs = search needs
-
 returns : tie.Need-returns
 returns c =
-    found-is _ (c .before .before .before .before .args .a) _ _ (c .before .before .before .before .pre) (λ b. absurd (omega arith))
-    (λ b. filter-miss (c .before .before .before .before .args .t .now) (c .before .before .before .before .args .a) _ _ (c .before .before .before .before .pre) (c .before .before .before .bucket .ensures) (c .before .before .cell .ensures) (c .before .if1 .taken)) (c .found-in .ensures)
+    let s = c .before .before .before in
+    none-finds (filter-miss (s .args .t .now) (s .args .a) _ _ (s .pre) (c .before .before .bucket .ensures) (c .before .cell .ensures) (c .if1 .taken)) (omega arith)
 
 get-requires : tie.Need-get-requires
 get-requires c κs = search needs
@@ -28,13 +23,10 @@ get-requires c κs = search needs
 holds-key-requires : tie.Need-holds-key-requires
 holds-key-requires c κs = search needs
 
-found-in-requires-2 : tie.Need-found-in-requires-2
-found-in-requires-2 c κs = search needs
-
 returns-2 : tie.Need-returns-2
 returns-2 c =
-    found-is _ (c .before .before .before .before .before .before .before .args .a) _ _ (c .before .before .before .before .before .before .before .pre) (λ b. tried (c .before .before .before .before .before .before .before .args .t .now) (c .before .before .before .before .before .before .before .args .a) _ _ _ b (c .before .before .before .get .ensures) (c .before .before .holds-key .ensures) (c .before .if2 .taken))
-    (λ b. absurd (omega arith)) (c .found-in2 .ensures)
+    let s = c .before .before .before .before .before .before in
+    at-finds (s .pre) (omega arith) (tried (s .args .t .now) (s .args .a) _ _ _ (omega arith) (c .before .before .get .ensures) (c .before .holds-key .ensures) (c .if2 .taken))
 
 home-requires : tie.Need-home-requires
 home-requires c κs = search needs
@@ -42,13 +34,8 @@ home-requires c κs = search needs
 seek-requires : tie.Need-seek-requires
 seek-requires c κs = search needs
 
-found-in-requires-3 : tie.Need-found-in-requires-3
-found-in-requires-3 c κs = search needs
-
 returns-3 : tie.Need-returns-3
-returns-3 c =
-    found-is _ (c .before .before .before .before .before .before .before .before .before .args .a) _ _ (c .before .before .before .before .before .before .before .before .before .pre) (λ b. sought-holds (slotsOf (c .before .before .before .before .before .before .before .before .before .args .t .now)) (c .before .before .before .before .before .before .before .before .before .args .a) (c .before .seek .ensures) b)
-    (λ b. sought-absent (c .before .before .before .before .before .before .before .before .before .args .a) (c .before .before .before .before .before .before .before .before .before .pre .good) (c .before .seek .ensures) b) (c .found-in3 .ensures)
+returns-3 c = sought-finds (c .before .before .before .before .before .before .before .before .pre) (c .seek .ensures)
 
 pub find-spec : {M : Type 1} → statement M
 find-spec =
@@ -56,13 +43,10 @@ find-spec =
     (tie.spec
     bucket-requires
     cell-requires
-    found-in-requires
     returns
     get-requires
     holds-key-requires
-    found-in-requires-2
     returns-2
     home-requires
     seek-requires
-    found-in-requires-3
     returns-3)

@@ -6,12 +6,15 @@ use mathlib.Core.Path.{sym, ap, _∙_, subst}
 use borrow.Author.Needs.{needs}
 use Rattle.spec.specs.Slots.{slotCount}
 use Rattle.laws.specs.Probes.{gap, gap-less, home-less}
-use Rattle.indexlet.specs.EnterLaws.{look-hit, look-miss}
+use Rattle.indexlet.specs.EnterLaws.{said-at, look-hit, look-miss}
 use Rattle.indexlet.proofs.look_up.Statement.{statement}
 use Rattle.indexlet.proofs.look_up.Tie as tie
 
 find-requires : tie.Need-find-requires
 find-requires c κs = search needs
+
+content-at-requires : tie.Need-content-at-requires
+content-at-requires c κs = search needs
 
 home-requires : tie.Need-home-requires
 home-requires c κs = search needs
@@ -19,19 +22,30 @@ home-requires c κs = search needs
 passed-requires : tie.Need-passed-requires
 passed-requires c κs = (subst (λ (n : ℕ). n < slotCount) (sym (c .before .home .ensures)) (home-less 4 (c .before .before .before .before .args .a)), c .if1 .taken)
 
-add-t10 : tie.Need-add-t10
-add-t10 c = omega (arith, c .passed .ensures, gap-less (c .before .before .home .result) (c .before .before .before .before .find .result .at))
+add-t9 : tie.Need-add-t9
+add-t9 c = omega (arith, c .passed .ensures, gap-less (c .before .before .home .result) (c .before .before .before .before .find .result))
 
 returns : tie.Need-returns
 returns c =
-    look-hit _ _ _ (c .before .before .before .before .before .pre) (c .before .before .before .before .find .ensures .content) _ _ (c .before .if1 .taken) (c .before .before .before .before .find .ensures .hit (c .before .if1 .taken))
-    (add-one (c .passed .result) ∙ ap suc (c .passed .ensures ∙ ap (λ (n : ℕ). gap n (c .before .before .before .before .find .result .at)) (c .before .before .home .ensures)))
+    let f = c .before .before .before .before .find in
+    look-hit _ _ _ (c .before .before .before .before .before .pre) (said-at (f .ensures) (c .before .before .before .content-at .ensures)) _ _ (c .before .if1 .taken) (f .ensures .hit (c .before .if1 .taken))
+    (add-one (c .passed .result) ∙ ap suc (c .passed .ensures ∙ ap (λ (n : ℕ). gap n (f .result)) (c .before .before .home .ensures)))
 
 seek-requires : tie.Need-seek-requires
 seek-requires c κs = search needs
 
 returns-2 : tie.Need-returns-2
-returns-2 c = look-miss _ _ _ (c .before .before .before .before .before .pre) (c .before .before .before .before .find .ensures .content) _ (c .seek .ensures)
+returns-2 c = look-miss _ _ _ (c .before .before .before .before .before .pre) (said-at (c .before .before .before .before .find .ensures) (c .before .before .before .content-at .ensures)) _ (c .seek .ensures)
 
 pub look-up-spec : {M : Type 1} → statement M
-look-up-spec = tie.close (tie.spec find-requires home-requires passed-requires add-t10 returns seek-requires returns-2)
+look-up-spec =
+    tie.close
+    (tie.spec
+    find-requires
+    content-at-requires
+    home-requires
+    passed-requires
+    add-t9
+    returns
+    seek-requires
+    returns-2)

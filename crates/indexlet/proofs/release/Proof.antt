@@ -1,89 +1,32 @@
--- `indexlet::release` meets its contract. The invariant: the counts of the slots passed so far are one less.
-use Prim.Native.Nat.{_-_}
+-- `indexlet::release` meets its contract: the counts of the slots passed are one less, and the entry goes.
+use Prim.Native.Nat.{ℕ, _<_}
 use native.Mathlib.Omega.{arith}
-use mathlib.Core.Path.{refl}
+use mathlib.Core.Path.{sym, subst}
+use Rattle.spec.specs.Slots.{slotCount}
 use Rattle.laws.specs.Probes.{home-less}
 use Rattle.indexlet.specs.WordLaws.{idle-zero}
-use Rattle.indexlet.specs.WalkLaws.{Releasing, far-less, release-start, release-some, release-on, release-done, release-ends}
+use Rattle.indexlet.specs.WalkLaws.{far-less, release-counts, release-ends}
 use Rattle.indexlet.proofs.release.Statement.{statement}
 use Rattle.indexlet.proofs.release.Tie as tie
 
-abbrev Inv-loop : tie.InvT-loop
-Inv-loop t₀ a h passed d₀ t d = Releasing t₀ a passed h t d
+recount-passed-requires : tie.Need-recount-passed-requires
+recount-passed-requires c κs = (
+  (c .before .pre .0 .sized, subst (λ (n : ℕ). n < slotCount) (sym (c .before .pre .1 .0)) (home-less 4 (c .before .args .a)), far-less (c .before .pre .1 .1)),
+  release-counts _ _ _ _ (c .before .pre .0) (c .before .pre .1 .0) (c .before .pre .1 .1),
+)
 
-abbrev μ-loop : tie.MeasureT-loop
-μ-loop t₀ a h passed d₀ t d = passed - d
+add-i : tie.Need-add-i
+add-i c = omega (arith, c .before .before .pre .1 .0, home-less 4 (c .before .before .args .a), far-less (c .before .before .pre .1 .1))
 
-loop-holds : tie.Need-loop-holds Inv-loop μ-loop
-loop-holds c = release-start _ _ _ _ (c .pre .0) (c .pre .1 .0)
-
-add-i : tie.Need-add-i Inv-loop μ-loop
-add-i c = omega (arith, c .before .loop .inv .home, home-less 4 (c .before .before .args .a), far-less (c .before .before .pre .1 .1))
-
-get-requires : tie.Need-get-requires Inv-loop μ-loop
+get-requires : tie.Need-get-requires
 get-requires c κs = omega arith
 
-sub-t18 : tie.Need-sub-t18 Inv-loop μ-loop
-sub-t18 c =
-    let got = c .before .before in
-    let turn = got .before .before in
-    let start = turn .before .before in
-    omega (
-      arith,
-      release-some _ _ _ _ _ _ (start .pre .0) (start .pre .1 .1) (turn .before .loop .inv) _ (got .get .ensures) (turn .loop-test .taken),
-    )
-
-put-requires : tie.Need-put-requires Inv-loop μ-loop
+put-requires : tie.Need-put-requires
 put-requires c κs = omega arith
 
-add-d : tie.Need-add-d Inv-loop μ-loop
-add-d c =
-    let start = c .before .before .before .before .before .before .before .before in
-    omega (arith, far-less (start .pre .1 .1))
-
-loop-less : tie.Need-loop-less Inv-loop μ-loop
-loop-less c = omega arith
-
-loop-again : tie.Need-loop-again Inv-loop μ-loop
-loop-again c =
-    let got = c .before .before .before .before in
-    let turn = got .before .before in
-    let start = turn .before .before in
-    release-on _ _ _ _ _ _ (start .pre .0) (start .pre .1 .1) (turn .before .loop .inv) _ (got .get .ensures) (turn .loop-test .taken)
-    _ (c .put .ensures)
-
-add-i-2 : tie.Need-add-i-2 Inv-loop μ-loop
-add-i-2 c = omega (arith, c .before .loop .inv .home, home-less 4 (c .before .before .args .a), far-less (c .before .before .pre .1 .1))
-
-get-requires-2 : tie.Need-get-requires-2 Inv-loop μ-loop
-get-requires-2 c κs = omega arith
-
-put-requires-2 : tie.Need-put-requires-2 Inv-loop μ-loop
-put-requires-2 c κs = omega arith
-
-returns : tie.Need-returns Inv-loop μ-loop
+returns : tie.Need-returns
 returns c =
-    let done = c .before .before .before .before in
-    let start = done .before .before in
-    release-ends _ _ _ _ _ _ (start .pre .0) (start .pre .1 .1)
-    (release-done _ _ _ _ _ _ (done .before .loop .inv) (done .loop-test .left)) _ (c .before .before .get2 .ensures) refl _ _ idle-zero
-    _ (c .put2 .ensures)
+    release-ends _ _ _ _ (c .before .before .before .before .before .before .pre .0) (c .before .before .before .before .before .before .pre .1 .0) (c .before .before .before .before .before .before .pre .1 .1) _ (c .before .before .before .before .recount-passed .ensures) _ (c .before .before .get .ensures) _ _ idle-zero _ (c .put .ensures)
 
 pub release-spec : {M : Type 1} → statement M
-release-spec =
-    tie.close
-    (tie.spec
-    Inv-loop
-    μ-loop
-    loop-holds
-    add-i
-    get-requires
-    sub-t18
-    put-requires
-    add-d
-    loop-less
-    loop-again
-    add-i-2
-    get-requires-2
-    put-requires-2
-    returns)
+release-spec = tie.close (tie.spec recount-passed-requires add-i get-requires put-requires returns)

@@ -1,10 +1,11 @@
--- `indexlet::take_out` meets its contract: the slot is given back, and counted out.
+-- `indexlet::take_out` meets its contract: the slot is given back, its bit is cleared, and it is counted out.
 use Prim.Native.Nat.{ℕ, _<_}
 use mathlib.Core.Path.{sym, subst}
 use borrow.Author.Needs.{needs}
 use Rattle.spec.specs.Slots.{slotCount}
 use Rattle.laws.specs.Probes.{home-less}
-use Rattle.indexlet.specs.EnterLaws.{stands-at, loaded-still}
+use Rattle.indexlet.specs.BitmapLaws.{put-cells, bit-is}
+use Rattle.indexlet.specs.EnterLaws.{stands-at, release-turns, loaded-still}
 use Rattle.indexlet.proofs.take_out.Statement.{statement}
 use Rattle.indexlet.proofs.take_out.Tie as tie
 
@@ -17,11 +18,15 @@ passed-requires c κs = (subst (λ (n : ℕ). n < slotCount) (sym (c .home .ensu
 release-requires : tie.Need-release-requires
 release-requires c κs = (c .before .before .before .pre .0, (c .before .before .home .ensures, stands-at (c .before .before .before .args .a) _ (c .before .before .before .args .at) _ (c .before .before .before .pre .0) (c .before .before .before .pre .1 .0) (c .before .before .before .pre .1 .1) (c .before .before .home .ensures) (c .before .passed .ensures)))
 
+clear-bit-requires : tie.Need-clear-bit-requires
+clear-bit-requires c κs =
+    (c .before .before .before .before .before .pre .1 .0, bit-is _ (c .before .before .before .before .before .pre .0 .occupied) (c .before .release .ensures .stays) (c .before .before .before .before .before .pre .1 .0) (release-turns (c .before .before .before .before .before .args .a) _ (c .before .before .before .before .before .pre .0) (c .before .before .before .before .before .pre .1 .0) (c .before .before .before .before .before .pre .1 .1)))
+
 count-out-requires : tie.Need-count-out-requires
-count-out-requires c κs = loaded-still (c .before .before .before .before .before .args .a) (c .before .before .before .before .before .args .at) (c .before .before .before .before .before .pre .0) (c .before .before .before .before .before .pre .1 .0) (c .before .before .before .before .before .pre .1 .1) (c .before .release .ensures .stays)
+count-out-requires c κs = loaded-still (c .before .before .before .before .before .before .before .args .a) (c .before .before .before .before .before .before .before .args .at) (c .before .before .before .before .before .before .before .pre .0) (c .before .before .before .before .before .before .before .pre .1 .0) (c .before .before .before .before .before .before .before .pre .1 .1) (put-cells (c .before .before .before .release .ensures .stays) (c .before .before .before .release .ensures .sized .size) _ _ (c .before .clear-bit .ensures))
 
 returns : tie.Need-returns
 returns c = search needs
 
 pub take-out-spec : {M : Type 1} → statement M
-take-out-spec = tie.close (tie.spec home-requires passed-requires release-requires count-out-requires returns)
+take-out-spec = tie.close (tie.spec home-requires passed-requires release-requires clear-bit-requires count-out-requires returns)

@@ -1,4 +1,5 @@
 -- `queries::lock_only_at` meets its contract: by each of its tests.
+use Rattle.indexlet.specs.EnterLaws.{said-at}
 use Rattle.queries.specs.PhantomLaws.{own-removal, own-put, lock-only-elsewhere, lock-only-pending, lock-only-found, lock-only-yes}
 use borrow.Author.Needs.{needs}
 use Rattle.queries.proofs.lock_only_at.Statement.{statement}
@@ -16,9 +17,12 @@ returns-2 c = own-put _ _ _ _ _ _ _ (c .before .before .if1 .left) (lock-only-el
 find-requires : tie.Need-find-requires
 find-requires c κs = search needs
 
+content-at-requires : tie.Need-content-at-requires
+content-at-requires c κs = search needs
+
 returns-3 : tie.Need-returns-3
-returns-3 c = let l = c .before .before .before .find in
-    own-put _ _ _ _ _ _ _ (c .before .before .before .before .before .before .if1 .left) (lock-only-pending _ _ _ _ _ _ _ (l .result .content) (l .ensures .content) (c .if3 .taken))
+returns-3 c = let l = c .before .before .content-at in
+    own-put _ _ _ _ _ _ _ (c .before .before .before .before .before .before .if1 .left) (lock-only-pending _ _ _ _ _ _ _ (l .result) (said-at (c .before .before .before .find .ensures) (l .ensures)) (c .if3 .taken))
 
 find-requires-2 : tie.Need-find-requires-2
 find-requires-2 c κs = search needs
@@ -33,9 +37,9 @@ returns-4 : tie.Need-returns-4
 returns-4 c = own-put _ _ _ _ _ _ _ (c .before .before .before .before .before .before .before .before .before .if1 .left) (lock-only-found _ _ _ _ _ _ _ _ _ _ (c .enum-told .given .1) (c .before .before .find2 .ensures))
 
 returns-5 : tie.Need-returns-5
-returns-5 c = let l = c .before .before .before .before .before .before .find in
+returns-5 c = let l = c .before .before .before .before .before .content-at in
     own-put _ _ _ _ _ _ _ (c .before .before .before .before .before .before .before .before .before .if1 .left)
-    (lock-only-yes _ _ _ _ _ _ _ _ (l .result .content) _ (c .before .before .before .before .before .before .before .before .find-leaf .ensures) (c .before .before .before .before .before .before .before .if2 .left) (l .ensures .content) (c .before .before .before .if3 .left) (c .enum-told2 .given .1) (c .before .before .find2 .ensures))
+    (lock-only-yes _ _ _ _ _ _ _ _ (l .result) _ (c .before .before .before .before .before .before .before .before .find-leaf .ensures) (c .before .before .before .before .before .before .before .if2 .left) (said-at (c .before .before .before .before .before .before .find .ensures) (l .ensures)) (c .before .before .before .if3 .left) (c .enum-told2 .given .1) (c .before .before .find2 .ensures))
 
 pub lock-only-at-spec : {M : Type 1} → statement M
 lock-only-at-spec =
@@ -45,6 +49,7 @@ lock-only-at-spec =
     find-leaf-requires
     returns-2
     find-requires
+    content-at-requires
     returns-3
     find-requires-2
     enum-told

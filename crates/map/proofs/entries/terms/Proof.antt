@@ -8,9 +8,6 @@ use Rattle.map.specs.EntryLaws.{hide-still, hide-moved, hide-most, balan
 use Rattle.map.proofs.entries.terms.Statement.{statement}
 use Rattle.map.proofs.entries.terms.Tie as tie
 
-find-near-requires : tie.Need-find-near-requires
-find-near-requires c κs = search needs
-
 waits-requires : tie.Need-waits-requires
 waits-requires c κs = search needs
 
@@ -24,7 +21,7 @@ returns : tie.Need-returns
 returns c =
     let like = sym (c .before .still .ensures) ∙ c .if1 .taken in
     record {
-      place = c .before .before .before .before .find-near .ensures;
+      place = c .before .before .before .before .pre .1;
       pend = c .before .before .before .waits .ensures;
       unpend = c .before .before .waits2 .ensures;
       hide-most = search needs;
@@ -50,14 +47,14 @@ outside-term-requires-2 c κs = search needs
 
 returns-2 : tie.Need-returns-2
 returns-2 c =
-    let s = c .before .before .before .before .before .before .before .before .before .before in
+    let s = c .before .before .before .before .before .before .before .before .before in
     let n = c .before .before .before .before .lacks .ensures in
     let hide = c .before .before .before .hidden-term .ensures ∙ ap (λ (b : Bool). hiddenTerm b (contentIn (s .args .c))) n in
     let unhide = c .before .before .hidden-term2 .ensures ∙ ap (λ (b : Bool). hiddenTerm b (contentIn (s .args .old))) n in
     let join = c .before .outside-term .ensures ∙ ap (λ (b : Bool). outsideTerm b (contentIn (s .args .c))) n in
     let leave = c .outside-term2 .ensures ∙ ap (λ (b : Bool). outsideTerm b (contentIn (s .args .old))) n in
     record {
-      place = c .before .before .before .before .before .before .before .before .before .find-near .ensures;
+      place = c .before .before .before .before .before .before .before .before .before .pre .1;
       pend = c .before .before .before .before .before .before .before .before .waits .ensures;
       unpend = c .before .before .before .before .before .before .before .waits2 .ensures;
       hide-most = hide-most _ _ _ hide;
@@ -70,7 +67,6 @@ pub terms-spec : {M : Type 1} → statement M
 terms-spec =
     tie.close
     (tie.spec
-    find-near-requires
     waits-requires
     waits-requires-2
     still-requires

@@ -1,9 +1,11 @@
 -- `map::locks::lock_one` meets its contract: what is said is the content with the lock, for the write of the row.
 use native.Mathlib.Omega.{arith}
 use Rattle.indexlet.specs.Words.{contentIn}
+use Rattle.indexlet.specs.EnterLaws.{said-at}
 use Rattle.laws.specs.SlotLaws.{fits}
 use borrow.Author.Needs.{needs}
 use Rattle.map.specs.WriteWalks.{given}
+use Rattle.map.specs.EntryLaws.{terms-of}
 use Rattle.map.specs.LockLaws.{said-as, lock-said}
 use Rattle.map.proofs.locks.lock_one.Statement.{statement}
 use Rattle.map.proofs.locks.lock_one.Tie as tie
@@ -14,22 +16,29 @@ write-at-requires c κs = (c .pre .1 .0 .held, omega (arith, c .pre .1 .0 .few, 
 find-requires : tie.Need-find-requires
 find-requires c κs = search needs
 
+content-at-requires : tie.Need-content-at-requires
+content-at-requires c κs = search needs
+
 add-with-lock : tie.Need-add-with-lock
 add-with-lock c = search needs
 
 with-lock-requires : tie.Need-with-lock-requires
 with-lock-requires c κs = search needs
 
+find-near-requires : tie.Need-find-near-requires
+find-near-requires c κs = search needs
+
+terms-requires : tie.Need-terms-requires
+terms-requires c κs = search needs
+
 set-content-requires : tie.Need-set-content-requires
-set-content-requires c κs = let s = c .before .before .before .before .before .before .before in (s .pre .0, (c .before .before .before .before .find .ensures, fits (s .pre .1 .1 .2)))
+set-content-requires c κs = (c .before .before .before .before .before .before .before .before .before .before .before .before .pre .0, (c .before .before .before .before .before .before .before .before .before .find .ensures, (fits (c .before .before .before .before .before .before .before .before .before .before .before .before .pre .1 .1 .2), terms-of (said-at (c .before .before .before .before .before .before .before .before .before .find .ensures) (c .before .before .before .before .before .before .before .content-at .ensures)) (c .before .before .terms .ensures))))
 
 returns : tie.Need-returns
 returns c =
-    let s = c .before .before .before .before .before .before .before .before in
-    let r = c .before .before .before .before .before .before .before .write-at in
     said-as (c .set-content .ensures)
-    (lock-said _ (s .args .w) _ (r .result) (contentIn (c .before .before .before .before .before .find .result .content)) _
-    (given (r .ensures) (s .pre .1 .1 .0)) (c .before .before .before .before .before .find .ensures .content) (c .before .before .before .with-lock .ensures))
+    (lock-said _ (c .before .before .before .before .before .before .before .before .before .before .before .before .before .args .w) _ (c .before .before .before .before .before .before .before .before .before .before .before .before .write-at .result) (contentIn (c .before .before .before .before .before .before .before .before .content-at .result)) _
+    (given (c .before .before .before .before .before .before .before .before .before .before .before .before .write-at .ensures) (c .before .before .before .before .before .before .before .before .before .before .before .before .before .pre .1 .1 .0)) (said-at (c .before .before .before .before .before .before .before .before .before .before .find .ensures) (c .before .before .before .before .before .before .before .before .content-at .ensures)) (c .before .before .before .before .before .before .before .with-lock .ensures))
 
 pub lock-one-spec : {M : Type 1} → statement M
 lock-one-spec =
@@ -37,7 +46,10 @@ lock-one-spec =
     (tie.spec
     write-at-requires
     find-requires
+    content-at-requires
     add-with-lock
     with-lock-requires
+    find-near-requires
+    terms-requires
     set-content-requires
     returns)

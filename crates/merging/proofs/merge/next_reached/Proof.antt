@@ -1,9 +1,9 @@
--- `merging::merge::next_reached` meets its contract: slots are passed while their keys lie elsewhere.
+-- `merging::merge::next_reached` meets its contract: words of bits are passed while none of their slots is reached.
 use Prim.Native.Nat.{_-_}
+use native.Mathlib.Omega.{arith}
 use borrow.Author.Needs.{needs}
-use mathlib.Core.Path.{sym, _∙_}
 use Rattle.spec.specs.Slots.{slotCount}
-use Rattle.merging.specs.MergeShortcuts.{Skips, skips-start, skips-on}
+use Rattle.merging.specs.MergeShortcuts.{Skips, skips-start, skips-join}
 use Rattle.merging.proofs.merge.next_reached.Statement.{statement}
 use Rattle.merging.proofs.merge.next_reached.Tie as tie
 
@@ -16,23 +16,23 @@ abbrev μ-loop : tie.MeasureT-loop
 loop-holds : tie.Need-loop-holds Inv-loop μ-loop
 loop-holds c = skips-start (c .pre .1 .0)
 
-slot-at-requires : tie.Need-slot-at-requires Inv-loop μ-loop
-slot-at-requires c κs = search needs
+bits-from-requires : tie.Need-bits-from-requires Inv-loop μ-loop
+bits-from-requires c κs = search needs
 
-reaches-requires : tie.Need-reaches-requires Inv-loop μ-loop
-reaches-requires c κs = search needs
+reached-in-requires : tie.Need-reached-in-requires Inv-loop μ-loop
+reached-in-requires c κs = (c .before .before .before .pre .0, (c .before .loop-test .taken, c .before .before .before .pre .1 .1, c .bits-from .ensures))
+
+word-end-requires : tie.Need-word-end-requires Inv-loop μ-loop
+word-end-requires c κs = search needs
 
 returns : tie.Need-returns Inv-loop μ-loop
-returns c = c .before .before .before .before .loop .inv
-
-add-next : tie.Need-add-next Inv-loop μ-loop
-add-next c = search needs
+returns c = skips-join (c .before .before .before .before .before .loop .inv) (c .before .before .reached-in .ensures)
 
 loop-less : tie.Need-loop-less Inv-loop μ-loop
-loop-less c = search needs
+loop-less c = omega (arith, c .before .word-end .ensures, c .before .before .reached-in .ensures .there)
 
 loop-again : tie.Need-loop-again Inv-loop μ-loop
-loop-again c = skips-on (c .before .before .slot-at .result) (c .before .before .before .before .loop .inv) (c .before .before .before .loop-test .taken) (c .before .before .slot-at .ensures) (sym (c .before .reaches .ensures) ∙ c .if1 .left)
+loop-again c = skips-join (c .before .before .before .before .before .loop .inv) (c .before .before .reached-in .ensures)
 
 returns-2 : tie.Need-returns-2 Inv-loop μ-loop
 returns-2 c = c .before .loop .inv
@@ -40,4 +40,4 @@ returns-2 c = c .before .loop .inv
 pub next-reached-spec : {M : Type 1} → statement M
 next-reached-spec =
     tie.close
-    (tie.spec Inv-loop μ-loop loop-holds slot-at-requires reaches-requires returns add-next loop-less loop-again returns-2)
+    (tie.spec Inv-loop μ-loop loop-holds bits-from-requires reached-in-requires word-end-requires returns loop-less loop-again returns-2)

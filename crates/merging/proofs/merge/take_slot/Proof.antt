@@ -7,6 +7,7 @@ use Rattle.spec.specs.Slots.{emptySlot}
 use Rattle.laws.specs.SlotCounts.{holds-yes}
 use Rattle.indexlet.specs.Words.{contentIn, slotsOf}
 use Rattle.indexlet.specs.WordLaws.{idle-waiting}
+use Rattle.indexlet.specs.EnterLaws.{at-finds}
 use Rattle.index.specs.Views.{recordFrom}
 use Rattle.phantomlet.specs.LeafCounts.{leaf-outside, leaf-inside, reaches-yes, reaches-no}
 use Rattle.merging.specs.MergeWalks.{walk-lock, walk-on, left-fits, slot-room, write-room, outside-fits, rest-content, entry-is}
@@ -48,41 +49,40 @@ take-write-requires c κs =
       write-room (r .result) (c .before .before .before .before .before .before .before .before .before .before .before .pre .0 .walking .words) (r .ensures) (c .before .before .if2 .left) (c .before .before .before .before .before .before .before .before .before .before .before .pre .0) (c .before .before .before .before .before .before .before .before .before .before .before .pre .1 .1) (recordFrom (r .result .content .payload) (r .result .content .commit)),
     )
 
-found-at-requires : tie.Need-found-at-requires
-found-at-requires c κs =
-    let r = c .before .before .before .before .before .before .before .before .before .before .before .slot-at in (
-      c .before .before .before .before .before .before .before .before .before .before .before .before .before .pre .0 .walking .words,
-      (
-        c .before .before .before .before .before .before .before .before .before .before .before .before .before .pre .1 .1,
-        holds-yes (r .result .key) (getD (slotsOf (c .before .before .before .before .before .before .before .before .before .before .before .before .before .args .slots .now)) (c .before .before .before .before .before .before .before .before .before .before .before .before .before .args .j) emptySlot) (row (r .result .key) (contentIn (r .result .content)))
-            (entry-is (r .result) (c .before .before .before .before .before .before .before .before .before .before .before .before .before .pre .0 .walking .words) (r .ensures) (c .before .before .before .before .if2 .left)) refl,
-      ),
-    )
-
 enter-requires : tie.Need-enter-requires
 enter-requires c κs =
-    let r = c .before .before .before .before .before .before .before .before .before .before .before .before .before .slot-at in (
-      c .before .before .before .before .before .before .before .before .before .before .before .before .before .before .before .pre .0 .walking .words,
-      (c .before .before .before .before .before .before .before .before .before .before .before .before .before .before .before .pre .0 .walking .number, (slot-room (r .result) (c .before .before .before .before .before .before .before .before .before .before .before .before .before .before .before .pre .0 .walking .words) (r .ensures) (c .before .before .before .before .before .before .if2 .left) _, c .before .found-at .ensures)),
+    let s = c .before .before .before .before .before .before .before .before .before .before .before .before .before in
+    let r = c .before .before .before .before .before .before .before .before .before .before .before .slot-at in
+    let z = s .pre .0 .walking .words in (
+      z,
+      (
+        s .pre .0 .walking .number,
+        (
+          slot-room (r .result) z (r .ensures) (c .before .before .before .before .if2 .left) _,
+          at-finds z (s .pre .1 .1)
+              (holds-yes (r .result .key) (getD (slotsOf (s .args .slots .now)) (s .args .j) emptySlot) (row (r .result .key) (contentIn (r .result .content)))
+              (entry-is (r .result) z (r .ensures) (c .before .before .before .before .if2 .left)) refl),
+        ),
+      ),
     )
 
 outside-now-requires : tie.Need-outside-now-requires
 outside-now-requires c κs =
-    let r = c .before .before .before .before .before .before .before .before .before .before .before .before .before .before .slot-at in
-    let y = reaches-yes _ (c .before .before .before .before .before .before .before .before .before .before .before .before .before .before .before .before .args .r) (r .result .key) (c .before .before .before .before .before .before .before .before .before .before .before .before .before .reaches .ensures) (c .before .before .before .before .before .before .before .before .before .before .before .before .if1 .left) in
-    outside-fits (r .result) (c .before .before .before .before .before .before .before .before .before .before .before .before .before .before .before .before .pre .0 .walking .words) (r .ensures) (c .before .before .before .before .before .before .before .if2 .left) _ _ (c .before .before .before .before .before .before .before .before .before .before .before .before .before .before .before .before .pre .1 .1) (leaf-inside (c .before .before .before .before .before .before .before .before .before .before .before .before .before .before .before .before .pre .1 .0) (r .result .key) (y .0) (y .1)) (c .before .before .before .before .before .before .before .before .before .before .before .before .before .before .before .before .pre .0) (c .before .before .before .before .before .before .before .before .before .before .locked .ensures) (c .before .before .before .before .take-write .ensures .0)
+    let r = c .before .before .before .before .before .before .before .before .before .before .before .before .slot-at in
+    let y = reaches-yes _ (c .before .before .before .before .before .before .before .before .before .before .before .before .before .before .args .r) (r .result .key) (c .before .before .before .before .before .before .before .before .before .before .before .reaches .ensures) (c .before .before .before .before .before .before .before .before .before .before .if1 .left) in
+    outside-fits (r .result) (c .before .before .before .before .before .before .before .before .before .before .before .before .before .before .pre .0 .walking .words) (r .ensures) (c .before .before .before .before .before .if2 .left) _ _ (c .before .before .before .before .before .before .before .before .before .before .before .before .before .before .pre .1 .1) (leaf-inside (c .before .before .before .before .before .before .before .before .before .before .before .before .before .before .pre .1 .0) (r .result .key) (y .0) (y .1)) (c .before .before .before .before .before .before .before .before .before .before .before .before .before .before .pre .0) (c .before .before .before .before .before .before .before .before .locked .ensures) (c .before .before .take-write .ensures .0)
 
-add-t28 : tie.Need-add-t28
-add-t28 c = record { fits = omega (arith, c .before .before .before .before .before .before .before .before .before .before .before .before .before .before .before .before .before .before .pre .0 .walking .few, c .before .before .before .before .before .before .before .before .before .before .before .before .before .before .before .before .before .before .pre .1 .1) }
+add-t26 : tie.Need-add-t26
+add-t26 c = record { fits = omega (arith, c .before .before .before .before .before .before .before .before .before .before .before .before .before .before .before .before .pre .0 .walking .few, c .before .before .before .before .before .before .before .before .before .before .before .before .before .before .before .before .pre .1 .1) }
 
 returns-3 : tie.Need-returns-3
 returns-3 c =
-    let r = c .before .before .before .before .before .before .before .before .before .before .before .before .before .before .before .before .slot-at in
-    let y = reaches-yes _ (c .before .before .before .before .before .before .before .before .before .before .before .before .before .before .before .before .before .before .args .r) (r .result .key) (c .before .before .before .before .before .before .before .before .before .before .before .before .before .before .before .reaches .ensures) (c .before .before .before .before .before .before .before .before .before .before .before .before .before .before .if1 .left) in
-    let w = c .before .before .before .before .before .before .take-write in
+    let r = c .before .before .before .before .before .before .before .before .before .before .before .before .before .before .slot-at in
+    let y = reaches-yes _ (c .before .before .before .before .before .before .before .before .before .before .before .before .before .before .before .before .args .r) (r .result .key) (c .before .before .before .before .before .before .before .before .before .before .before .before .before .reaches .ensures) (c .before .before .before .before .before .before .before .before .before .before .before .before .if1 .left) in
+    let w = c .before .before .before .before .take-write in
     let e = c .before .before .enter in
-    walk-on (r .result) (c .before .before .before .before .before .before .before .before .before .before .before .before .before .before .before .before .before .before .pre .0 .walking .words) (r .ensures) (c .before .before .before .before .before .before .before .before .before .if2 .left) (w .last .0) (e .last .0) (w .result) (e .result) (c .before .before .before .before .before .before .before .before .before .before .before .before .locked .result) _ _ (c .before .before .before .before .before .before .before .before .before .before .before .before .before .before .before .before .before .before .pre .1 .1)
-    (leaf-inside (c .before .before .before .before .before .before .before .before .before .before .before .before .before .before .before .before .before .before .pre .1 .0) (r .result .key) (y .0) (y .1)) (c .before .before .before .before .before .before .before .before .before .before .before .before .locked .ensures) (c .before .before .before .before .before .before .before .before .before .before .before .before .before .before .before .before .before .before .pre .0 .walking .rows-held) (w .ensures .0) (w .ensures .1) (rest-content (r .result .content)) (e .ensures) (c .before .outside-now .ensures)
+    walk-on (r .result) (c .before .before .before .before .before .before .before .before .before .before .before .before .before .before .before .before .pre .0 .walking .words) (r .ensures) (c .before .before .before .before .before .before .before .if2 .left) (w .last .0) (e .last .0) (w .result) (e .result) (c .before .before .before .before .before .before .before .before .before .before .locked .result) _ _ (c .before .before .before .before .before .before .before .before .before .before .before .before .before .before .before .before .pre .1 .1)
+    (leaf-inside (c .before .before .before .before .before .before .before .before .before .before .before .before .before .before .before .before .pre .1 .0) (r .result .key) (y .0) (y .1)) (c .before .before .before .before .before .before .before .before .before .before .locked .ensures) (c .before .before .before .before .before .before .before .before .before .before .before .before .before .before .before .before .pre .0 .walking .rows-held) (w .ensures .0) (w .ensures .1) (rest-content (r .result .content)) (e .ensures) (c .before .outside-now .ensures)
 
 pub take-slot-spec : {M : Type 1} → statement M
 take-slot-spec =
@@ -96,8 +96,7 @@ take-slot-spec =
     returns-2
     cast-a
     take-write-requires
-    found-at-requires
     enter-requires
     outside-now-requires
-    add-t28
+    add-t26
     returns-3)

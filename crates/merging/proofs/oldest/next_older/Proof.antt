@@ -1,18 +1,18 @@
--- `merging::oldest::next_older` meets its contract: slots are passed while they have nothing older.
-use mathlib.Core.Path.{subst}
-use Prim.Native.Nat.{ℕ, _-_, _<_}
+-- `merging::oldest::next_older` meets its contract: words of bits are passed while none of their slots has anything older.
+use Prim.Native.Nat.{_-_}
+use native.Mathlib.Omega.{arith}
+use borrow.Author.Needs.{needs}
 use Rattle.spec.specs.Slots.{slotCount}
 use Rattle.indexlet.specs.Words.{slotsOf}
-use Rattle.merging.specs.OldestWalks.{Passes, passes-none, passes-on}
-use borrow.Author.Needs.{needs}
+use Rattle.merging.specs.OldestWalks.{Passes, passes-none, passes-join, is-there}
 use Rattle.merging.proofs.oldest.next_older.Statement.{statement}
 use Rattle.merging.proofs.oldest.next_older.Tie as tie
 
 abbrev Inv-loop : tie.InvT-loop
-Inv-loop slots o from j₀ j = Passes (slotsOf slots) o from j
+Inv-loop slots o from next₀ next = Passes (slotsOf slots) o from next
 
 abbrev μ-loop : tie.MeasureT-loop
-μ-loop slots o from j₀ j = slotCount - j
+μ-loop slots o from next₀ next = slotCount - next
 
 returns : tie.Need-returns Inv-loop μ-loop
 returns c = passes-none _ _ _ (c .before .before .pre .1 .0)
@@ -20,25 +20,23 @@ returns c = passes-none _ _ _ (c .before .before .pre .1 .0)
 loop-holds : tie.Need-loop-holds Inv-loop μ-loop
 loop-holds c = passes-none _ _ _ (c .before .before .pre .1 .0)
 
-slot-at-requires : tie.Need-slot-at-requires Inv-loop μ-loop
-slot-at-requires c κs = search needs
+bits-from-requires : tie.Need-bits-from-requires Inv-loop μ-loop
+bits-from-requires c κs = search needs
 
-age-requires : tie.Need-age-requires Inv-loop μ-loop
-age-requires c κs = search needs
+older-in-requires : tie.Need-older-in-requires Inv-loop μ-loop
+older-in-requires c κs = (c .before .before .before .before .before .pre .0, (c .before .loop-test .taken, c .before .before .before .before .before .pre .1 .1, is-there _ (c .before .before .before .if1 .left), c .bits-from .ensures))
+
+word-end-requires : tie.Need-word-end-requires Inv-loop μ-loop
+word-end-requires c κs = search needs
 
 returns-2 : tie.Need-returns-2 Inv-loop μ-loop
-returns-2 c = c .before .before .before .before .before .before .loop .inv
-
-add-j : tie.Need-add-j Inv-loop μ-loop
-add-j c = search needs
+returns-2 c = passes-join (c .before .before .before .before .before .loop .inv) (c .before .before .older-in .ensures)
 
 loop-less : tie.Need-loop-less Inv-loop μ-loop
-loop-less c = search needs
+loop-less c = omega (arith, c .before .word-end .ensures, c .before .before .older-in .ensures .there)
 
 loop-again : tie.Need-loop-again Inv-loop μ-loop
-loop-again c =
-    passes-on _ _ _ (c .before .before .before .before .slot-at .result) (c .before .before .before .before .slot-at .ensures) (c .before .before .before .before .before .loop-test .taken) (c .before .before .before .before .before .before .before .before .before .pre .1 .1) (c .before .before .before .before .before .before .before .if1 .left)
-    (subst (λ (n : ℕ). c .before .before .before .before .before .before .before .before .before .args .o .since < n) (c .before .before .age .ensures) (c .if2 .left)) (c .before .before .before .before .before .before .loop .inv)
+loop-again c = passes-join (c .before .before .before .before .before .loop .inv) (c .before .before .older-in .ensures)
 
 returns-3 : tie.Need-returns-3 Inv-loop μ-loop
 returns-3 c = c .before .loop .inv
@@ -46,15 +44,4 @@ returns-3 c = c .before .loop .inv
 pub next-older-spec : {M : Type 1} → statement M
 next-older-spec =
     tie.close
-    (tie.spec
-    Inv-loop
-    μ-loop
-    returns
-    loop-holds
-    slot-at-requires
-    age-requires
-    returns-2
-    add-j
-    loop-less
-    loop-again
-    returns-3)
+    (tie.spec Inv-loop μ-loop returns loop-holds bits-from-requires older-in-requires word-end-requires returns-2 loop-less loop-again returns-3)

@@ -1,0 +1,17 @@
+-- `indexlet::content_at` meets its contract: by whether the slot is one.
+use borrow.Author.Needs.{needs}
+use Rattle.indexlet.specs.EnterLaws.{content-there, content-nowhere}
+use Rattle.indexlet.proofs.content_at.Statement.{statement}
+use Rattle.indexlet.proofs.content_at.Tie as tie
+
+get-requires : tie.Need-get-requires
+get-requires c κs = search needs
+
+returns : tie.Need-returns
+returns c = content-there _ _ _ (c .before .before .if1 .taken) (c .before .get .ensures)
+
+returns-2 : tie.Need-returns-2
+returns-2 c = content-nowhere _ _ (c .if1 .left)
+
+pub content-at-spec : {M : Type 1} → statement M
+content-at-spec = tie.close (tie.spec get-requires returns returns-2)

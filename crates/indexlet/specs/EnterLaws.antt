@@ -13,10 +13,10 @@ use Rattle.lists.specs.Tests.{pick, present, same, less}
 use Rattle.lists.specs.TestLaws.{cases, clash, same-true, same-false, less-true, less-false, less-yes, less-no}
 use Rattle.lists.specs.Rows.{Row, row, look}
 use Rattle.lists.specs.Options.{options}
-use Rattle.spec.specs.Slots.{slotCount, homeSlot, Content, idle, isIdle, Slot, emptySlot, emptySlots, entries, contentOf, vacant, holds, search, Searched, countPassed, withEntry, take, release, enter, kept}
-use Rattle.laws.specs.Probes.{gap, gap-less, gap-back, home-less, distance-first}
+use Rattle.spec.specs.Slots.{slotCount, homeSlot, Content, idle, isIdle, Slot, emptySlot, emptySlots, entries, contentOf, slotAt, vacant, holds, search, Searched, countPassed, withEntry, take, release, enter, kept}
+use Rattle.laws.specs.Probes.{gap, gap-less, gap-back, home-less}
 use Rattle.laws.specs.SlotCounts.{Good, Place, holds-entry, look-held, absent-count, entries-most}
-use Rattle.laws.specs.SlotChanges.{release-none, release-at, distance-absent, distance-place, rewrite-at}
+use Rattle.laws.specs.SlotChanges.{release-none, distance-absent, rewrite-at}
 use Rattle.laws.specs.SlotLaws.{Room, goes, stands, fits, enter-idle, enter-present, enter-absent, enter-good, count-enter, fresh-good, kept-entry, content-none, content-some, present-content}
 use Rattle.laws.specs.Searches.{search-finds, search-place}
 use Rattle.indexlet.specs.declared.Content.{Content as ContentWords}
@@ -31,7 +31,7 @@ use Rattle.indexlet.specs.Bitmaps.{wordBits, bitmapRow, bitmapAt, bitmap
 use Rattle.indexlet.specs.BitmapLaws.{stays-bits, put-cells, cell-bits, occupied-still, bit-is, occupied-turns, entry-turns}
 use Rattle.indexlet.specs.Promises.{Narrow, unsaid, contentAt, Sized, SlotsHeld, SlotsBecome, SlotsFresh, IsSlot, lookedIn, Looks, Finds, TakenOut, TakenIn, Enters, sought, Stands}
 use Rattle.indexlet.specs.SeekLaws.{search-ends, sought-place, sought-present, sought-absent, sought-holds}
-use Rattle.indexlet.specs.WalkLaws.{sized-store}
+use Rattle.indexlet.specs.WalkLaws.{sized-store, released-as}
 
 -- ---- reading
 
@@ -174,10 +174,21 @@ vacant-some s e q = ap (λ (o : Option (Row Content)). not (present o)) q
 vacant-held : (a : ℕ) (s : Slot) → holds a s ≡ true → vacant s ≡ false
 vacant-held a s h = let r = holds-entry a s h in vacant-some s (r .0) (r .1)
 
+-- the distance of an entry that stands in slot j
+stands-there : {ws : SlotRows} (a j : ℕ) → SlotsHeld ws → j < slotCount → holds a (getD (slotsOf ws) j emptySlot) ≡ true → Stands (slotsOf ws) a (gap (homeSlot 4 a) j)
+stands-there {ws} a j z b k = record { place = place-of {ws = ws} {a = a} j z b k; far = refl }
+
+pub stands-at : {ws : SlotRows} (a h j n : ℕ) → SlotsHeld ws → j < slotCount → holds a (getD (slotsOf ws) j emptySlot) ≡ true → h ≡ homeSlot 4 a → n ≡ gap h j
+    → Stands (slotsOf ws) a n
+stands-at {ws} a h j n z b k e f = subst (Stands (slotsOf ws) a) (ap (λ (x : ℕ). gap x j) (sym e) ∙ sym f) (stands-there a j z b k)
+
 -- the slot of an entry that goes
 pub release-turns : {ws : SlotRows} (a j : ℕ) → SlotsHeld ws → j < slotCount → holds a (getD (slotsOf ws) j emptySlot) ≡ true
     → Turns false true (slotsOf ws) (release 4 (slotsOf ws) a) j
-release-turns {ws} a j z b h = subst (λ (ss : List Slot). Turns false true (slotsOf ws) ss j) (sym goes-as) turns
+release-turns {ws} a j z b h =
+    subst (λ (us : List Slot). Turns false true ss us j) (sym (released-as a d z (stands-there a j z b h)))
+    (subst (Turns false true ss (withEntry (countPassed pred ss (homeSlot 4 a) d) (homeSlot 4 a + d) none)) there
+    (record { was = ap (λ (n : ℕ). vacant (getD ss n emptySlot)) there ∙ vacant-held a (getD ss j emptySlot) h; is = turns .is; others = turns .others }))
   where
     ss : List Slot
     ss = slotsOf ws
@@ -188,18 +199,8 @@ release-turns {ws} a j z b h = subst (λ (ss : List Slot). Turns false true (slo
     there : (homeSlot 4 a + d) % slotCount ≡ j
     there = gap-back (homeSlot 4 a) j (home-less 4 a) b
 
-    goes-as : release 4 ss a ≡ withEntry (countPassed pred ss (homeSlot 4 a) d) (homeSlot 4 a + d) none
-    goes-as =
-        release-at 4 ss a d
-        (distance-first (holds a) ss (homeSlot 4 a) slotCount 0 d
-        (distance-place ss a (homeSlot 4 a) (length-slots ws) (home-less 4 a) (z .good .once a) (place-of {ws = ws} {a = a} j z b h))
-        (let y : d < slotCount = gap-less (homeSlot 4 a) j in omega arith))
-
-    turns : Turns false true ss (withEntry (countPassed pred ss (homeSlot 4 a) d) (homeSlot 4 a + d) none) j
-    turns =
-        let t = entry-turns pred ss (homeSlot 4 a) d none (length-slots ws) (home-less 4 a) (gap-less (homeSlot 4 a) j) in
-        subst (Turns false true ss (withEntry (countPassed pred ss (homeSlot 4 a) d) (homeSlot 4 a + d) none)) there
-        (record { was = ap (λ (n : ℕ). vacant (getD ss n emptySlot)) there ∙ vacant-held a (getD ss j emptySlot) h; is = t .is; others = t .others })
+    turns : Turns (vacant (slotAt ss (homeSlot 4 a + d))) true ss (withEntry (countPassed pred ss (homeSlot 4 a) d) (homeSlot 4 a + d) none) ((homeSlot 4 a + d) % slotCount)
+    turns = entry-turns pred ss (homeSlot 4 a) d none (length-slots ws) (home-less 4 a) (gap-less (homeSlot 4 a) j)
 
 -- a changed word behind the slots leaves them
 sized-word : (ws : SlotRows) (r p w : ℕ) → Sized ws → slotCount ≤ r → r < slotRows → Sized (wordPut ws r p w)
@@ -526,11 +527,6 @@ module _ (ws : SlotRows) (n a : ℕ) (c : ContentWords) (z : SlotsHeld ws) (q : 
 
     pub enter-new : isIdle (contentIn c) ≡ false → slotCount ≤ j → (vs : SlotRows) → TakenIn ws a (contentIn c) vs → Enters ws a c vs (n + 1)
     enter-new t b vs u = goes-in (sought (slotsOf ws) a) refl t (ends-nowhere b) vs u
-
--- the distance of an entry that stands in slot j
-pub stands-at : {ws : SlotRows} (a h j n : ℕ) → SlotsHeld ws → j < slotCount → holds a (getD (slotsOf ws) j emptySlot) ≡ true → h ≡ homeSlot 4 a → n ≡ gap h j
-    → Stands (slotsOf ws) a n
-stands-at {ws} a h j n z b k e f = record { place = place-of {ws = ws} {a = a} j z b k; far = ap (λ (x : ℕ). gap x j) (sym e) ∙ sym f }
 
 -- its bucket has an entry, also once its slot is given back
 pub loaded-still : {ws us : SlotRows} (a j : ℕ) → SlotsHeld ws → j < slotCount → holds a (getD (slotsOf ws) j emptySlot) ≡ true → CellsStay ws us → 256 ≤ cellAt us (bucketOf a)

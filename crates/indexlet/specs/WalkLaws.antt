@@ -111,6 +111,9 @@ module _ (f : ℕ → ℕ) (old : SlotRows) (h : ℕ) (ws : SlotRows) (d : ℕ) 
       new : SlotWords
       new = record { key = k; content = c; overflow = s .overflow }
 
+pub home-inside : (a h : ℕ) → h ≡ homeSlot 4 a → h < slotCount
+home-inside a h e = subst (λ (n : ℕ). n < slotCount) (sym e) (home-less 4 a)
+
 slot-around : (ss : List Slot) (i j : ℕ) → i + slotCount ≡ j → slotAt ss i ≡ slotAt ss j
 unfolding slotAt
 slot-around ss i j e = ap (λ (n : ℕ). getD ss n emptySlot) (let q : i % slotCount ≡ j % slotCount = omega arith in q)
@@ -321,9 +324,6 @@ filled-never ws h d g hb q r =
     clash (f .0 .passes) (g .before (v .0) (let z : v .0 < 0 + slotCount = f .1 in omega arith))
 
 module _ (old : SlotRows) (a h d : ℕ) (e : h ≡ homeSlot 4 a) (first : First vacant (slotsOf old) h 0 d) (db : d < slotCount) where
-  home-small : h < slotCount
-  home-small = subst (λ (n : ℕ). n < slotCount) (sym e) (home-less 4 a)
-
   -- a count does not wrap
   pub take-counts : SlotsHeld old → Countable 1 0 (slotsOf old) h d
   take-counts z =
@@ -348,7 +348,7 @@ module _ (old : SlotRows) (a h d : ℕ) (e : h ≡ homeSlot 4 a) (first : First 
         (ap (λ (o : Option (Row Content)). withEntry (countPassed suc (slotsOf old) h d) (h + d) o)
         (ap (λ (t : Bool). pick t none (some (row a (contentIn c)))) busy)
         ∙ taken-as)
-        (going-ends suc old h ws d (subst (λ (f : ℕ → ℕ). Going f old h ws d) one-more g) home-small s f a c (λ t. ab) us u)
+        (going-ends suc old h ws d (subst (λ (f : ℕ → ℕ). Going f old h ws d) one-more g) (home-inside a h e) s f a c (λ t. ab) us u)
       where
         more-one : (n : ℕ) → shifted 1 0 n ≡ suc n
         more-one n = omega arith
@@ -358,14 +358,14 @@ module _ (old : SlotRows) (a h d : ℕ) (e : h ≡ homeSlot 4 a) (first : First 
 
     pub take-turns : Turns true false (slotsOf old) (take 4 (slotsOf old) a (contentIn c)) ((h + d) % slotCount)
     take-turns =
-        let t = entry-turns suc (slotsOf old) h d (some (row a (contentIn c))) (length-slots old) home-small db in
+        let t = entry-turns suc (slotsOf old) h d (some (row a (contentIn c))) (length-slots old) (home-inside a h e) db in
         subst (λ (ss : List Slot). Turns true false (slotsOf old) ss ((h + d) % slotCount)) taken-as
         (record { was = t .was ∙ first .passes; is = t .is; others = t .others })
 
 -- the home slot itself is empty
 module _ (old : SlotRows) (a h : ℕ) (e : h ≡ homeSlot 4 a) (z : SlotsHeld old) (s : SlotWords) (q : s ≡ rowAt old h) (t : isIdle (contentIn (s .content)) ≡ true) where
   home-there : (h + 0) % slotCount ≡ h
-  home-there = let b : h < slotCount = subst (λ (n : ℕ). n < slotCount) (sym e) (home-less 4 a) in omega arith
+  home-there = let b : h < slotCount = home-inside a h e in omega arith
 
   home-first : First vacant (slotsOf old) h 0 0
   home-first =
@@ -389,10 +389,17 @@ module _ (old : SlotRows) (a h : ℕ) (e : h ≡ homeSlot 4 a) (z : SlotsHeld ol
 pub far-less : {ss : List Slot} {k d : ℕ} → Stands ss k d → d < slotCount
 far-less {ss} {k} {d} r = subst (λ (n : ℕ). n < slotCount) (r .far) (gap-less (homeSlot 4 k) (r .place .at))
 
-module _ (old : SlotRows) (a m h : ℕ) (z : SlotsHeld old) (e : h ≡ homeSlot 4 a) (r : Stands (slotsOf old) a m) where
-  home-low : h < slotCount
-  home-low = subst (λ (n : ℕ). n < slotCount) (sym e) (home-less 4 a)
+-- what is left once the entry of a, m slots after its home slot, is taken out
+pub released-as : {ws : SlotRows} (a m : ℕ) → SlotsHeld ws → Stands (slotsOf ws) a m
+    → release 4 (slotsOf ws) a ≡ withEntry (countPassed pred (slotsOf ws) (homeSlot 4 a) m) (homeSlot 4 a + m) none
+released-as {ws} a m z r =
+    release-at 4 (slotsOf ws) a m
+    (distance-first (holds a) (slotsOf ws) (homeSlot 4 a) slotCount 0 m
+    (subst (First (holds a) (slotsOf ws) (homeSlot 4 a) 0) (r .far)
+    (distance-place (slotsOf ws) a (homeSlot 4 a) (length-slots ws) (home-less 4 a) (z .good .once a) (r .place)))
+    (let y : m < slotCount = far-less r in omega arith))
 
+module _ (old : SlotRows) (a m h : ℕ) (z : SlotsHeld old) (e : h ≡ homeSlot 4 a) (r : Stands (slotsOf old) a m) where
   -- a slot that was passed has a count
   pub release-counts : Countable 0 1 (slotsOf old) h m
   release-counts =
@@ -418,12 +425,8 @@ module _ (old : SlotRows) (a m h : ℕ) (z : SlotsHeld old) (e : h ≡ homeSlot 
       (ap (λ (o : Option (Row Content)). withEntry (countPassed pred (slotsOf old) h m) (h + m) o)
       (ap (λ (t : Bool). pick t none (some (row k (contentIn c)))) t)
       ∙ ap (λ (n : ℕ). withEntry (countPassed pred (slotsOf old) n m) (n + m) none) e
-      ∙ sym (release-at 4 (slotsOf old) a m
-      (distance-first (holds a) (slotsOf old) (homeSlot 4 a) slotCount 0 m
-      (subst (First (holds a) (slotsOf old) (homeSlot 4 a) 0) (r .far)
-      (distance-place (slotsOf old) a (homeSlot 4 a) (length-slots old) (home-less 4 a) (z .good .once a) (r .place)))
-      (let y : m < slotCount = far-less r in omega arith))))
-      (going-ends pred old h ws m (subst (λ (f : ℕ → ℕ). Going f old h ws m) one-less g) home-low s f k c (λ f. clash t f) us u)
+      ∙ sym (released-as a m z r))
+      (going-ends pred old h ws m (subst (λ (f : ℕ → ℕ). Going f old h ws m) one-less g) (home-inside a h e) s f k c (λ f. clash t f) us u)
     where
       less-one : (n : ℕ) → shifted 0 1 n ≡ pred n
       less-one n = omega arith

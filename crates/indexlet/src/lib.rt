@@ -18,7 +18,7 @@ ghost use Rattle.indexlet.specs.Words.{contentIn, slotIn, rowAt, saying,
 ghost use Rattle.indexlet.specs.Filters.{bucketCount, bucketOf, cellAt, cellPut};
 ghost use Rattle.indexlet.specs.Bits.{bit, rest};
 ghost use Rattle.indexlet.specs.Bitmaps.{wordBits, bitmapAt, bitmapPut, Turns, wordEnd, BitsFrom};
-ghost use Rattle.indexlet.specs.Promises.{Sized, SlotsHeld, SlotsBecome, Going, shifted, Countable, SlotsFresh, IsSlot, Looks, contentAt, Finds, TakenOut, TakenIn, Enters, Stands, sought};
+ghost use Rattle.indexlet.specs.Promises.{Sized, SlotsHeld, SlotsBecome, Going, shifted, Countable, SlotsFresh, IsSlot, Looks, unsaid, contentAt, Finds, TakenOut, TakenIn, Enters, Stands, sought};
 
 // How many slots there are, and how many words a slot has.
 pub const SLOTS: usize = 256;
@@ -172,7 +172,7 @@ pub fn fresh_slots(t: &mut Slots)
 fn bucket(a: Address) -> usize
     ensures { λ r. ⌜ r ≡ bucketOf a ⌝ }
 {
-    (a as u64 * 2654435769 / 2097152 % 2048) as usize
+    (a as u64 * 2654435769 / 2097152) as usize % BUCKETS
 }
 
 // The cell of a bucket: 256 for each of its entries, and the slot that the newest of them took.
@@ -327,14 +327,10 @@ fn seek(t: &Slots, a: Address, h: usize) -> Sought
     }
 }
 
-// What is said in slot `at`; from 256 on, nothing.
-pub fn content_at(t: &Slots, at: usize) -> Content
-    ensures { λ r. ⌜ r ≡ contentAt (now (t .entry)) at ⌝ }
+// What is said where nothing is.
+fn nothing() -> Content
+    ensures { λ r. ⌜ r ≡ unsaid ⌝ }
 {
-    if at < SLOTS {
-        let s = get(t, at);
-        return s.content;
-    }
     let payload = PayloadWords { value: 0, owner: 0 };
     Content {
         kind: 0,
@@ -344,6 +340,17 @@ pub fn content_at(t: &Slots, at: usize) -> Content
         lock: 0,
         forput: 0,
     }
+}
+
+// What is said in slot `at`; from 256 on, nothing.
+pub fn content_at(t: &Slots, at: usize) -> Content
+    ensures { λ r. ⌜ r ≡ contentAt (now (t .entry)) at ⌝ }
+{
+    if at < SLOTS {
+        let s = get(t, at);
+        return s.content;
+    }
+    nothing()
 }
 
 // The slot of an address's entry, or 256. Only the slot is answered: it comes in a register, and what is said there would come
@@ -511,18 +518,10 @@ fn release(t: &mut Slots, a: Address, h: usize, passed: usize)
     recount_passed(t, h, passed, 0, 1);
     let i = (h + passed) % SLOTS;
     let s = get(t, i);
-    let payload = PayloadWords { value: 0, owner: 0 };
-    let nothing = Content {
-        kind: 0,
-        payload,
-        commit: 0,
-        since: 0,
-        lock: 0,
-        forput: 0,
-    };
+    let content = nothing();
     let none = Slot {
         key: ADDRESSES,
-        content: nothing,
+        content,
         overflow: s.overflow,
     };
     put(t, i, none);

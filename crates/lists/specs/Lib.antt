@@ -11,6 +11,7 @@ pub mod Memberships
 pub mod Filters
 pub mod Halving
 pub mod Places
+pub mod Fronts
 pub mod Tabulation
 pub mod Shifts
 pub mod Mapped

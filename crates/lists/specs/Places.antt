@@ -152,7 +152,7 @@ module _ {A : Type 0} where
 
   -- ---- deletion
 
-  delete-low : (k lo : ℕ) (rs : List (Row A)) → From lo rs → k < lo → delete k rs ≡ rs
+  pub delete-low : (k lo : ℕ) (rs : List (Row A)) → From lo rs → k < lo → delete k rs ≡ rs
   unfolding delete From
   delete-low k lo [] f h = refl
   delete-low k lo (r ∷ rs) f h =

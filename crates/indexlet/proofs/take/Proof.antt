@@ -1,40 +1,38 @@
 -- `indexlet::take` meets its contract: the entry stands in the home slot; or the counts of the slots passed are one more, and the first
 -- empty one has the entry.
-use Prim.Native.Nat.{ℕ, _<_}
 use native.Mathlib.Omega.{arith}
-use mathlib.Core.Path.{refl, sym, _∙_, subst}
+use mathlib.Core.Path.{refl, sym, _∙_}
 use borrow.Author.Needs.{needs}
-use Rattle.spec.specs.Slots.{slotCount}
 use Rattle.laws.specs.Probes.{home-less}
-use Rattle.indexlet.specs.WalkLaws.{take-counts, take-ends, take-turns, home-ends, home-turns}
+use Rattle.indexlet.specs.WalkLaws.{home-inside, take-counts, take-ends, take-turns, home-ends, home-turns}
 use Rattle.indexlet.proofs.take.Statement.{statement}
 use Rattle.indexlet.proofs.take.Tie as tie
 
 get-requires : tie.Need-get-requires
-get-requires c κs = subst (λ (n : ℕ). n < slotCount) (sym (c .before .pre .1 .0)) (home-less 4 (c .before .args .a))
+get-requires c κs = home-inside (c .before .args .a) _ (c .before .pre .1 .0)
 
 idle-requires : tie.Need-idle-requires
 idle-requires c κs = search needs
 
 say-at-requires : tie.Need-say-at-requires
-say-at-requires c κs = subst (λ (n : ℕ). n < slotCount) (sym (c .before .before .before .before .before .before .pre .1 .0)) (home-less 4 (c .before .before .before .before .before .before .args .a))
+say-at-requires c κs = home-inside (c .before .before .before .before .before .before .args .a) _ (c .before .before .before .before .before .before .pre .1 .0)
 
 returns : tie.Need-returns
 returns c =
     let empty = sym (c .before .before .before .idle .ensures) ∙ c .before .before .if1 .taken in (
       (
         home-ends _ (c .before .before .before .before .before .before .before .args .a) _ (c .before .before .before .before .before .before .before .pre .1 .0) (c .before .before .before .before .before .before .before .pre .0) _ (c .before .before .before .before .before .get .ensures) empty (c .before .before .before .before .before .before .before .args .c) (c .before .before .before .before .before .before .before .pre .1 .1 .1) (c .before .before .before .before .before .before .before .fits .a .fits) _ (c .say-at .ensures),
-        subst (λ (n : ℕ). n < slotCount) (sym (c .before .before .before .before .before .before .before .pre .1 .0)) (home-less 4 (c .before .before .before .before .before .before .before .args .a)),
+        home-inside (c .before .before .before .before .before .before .before .args .a) _ (c .before .before .before .before .before .before .before .pre .1 .0),
       ),
       home-turns _ (c .before .before .before .before .before .before .before .args .a) _ (c .before .before .before .before .before .before .before .pre .1 .0) (c .before .before .before .before .before .before .before .pre .0) _ (c .before .before .before .before .before .get .ensures) empty (c .before .before .before .before .before .before .before .args .c),
     )
 
 passed-by-new-requires : tie.Need-passed-by-new-requires
-passed-by-new-requires c κs = (c .before .before .before .before .before .before .pre .0, (subst (λ (n : ℕ). n < slotCount) (sym (c .before .before .before .before .before .before .pre .1 .0)) (home-less 4 (c .before .before .before .before .before .before .args .a)), c .before .before .before .before .before .before .pre .1 .1 .0))
+passed-by-new-requires c κs = (c .before .before .before .before .before .before .pre .0, (home-inside (c .before .before .before .before .before .before .args .a) _ (c .before .before .before .before .before .before .pre .1 .0), c .before .before .before .before .before .before .pre .1 .1 .0))
 
 recount-passed-requires : tie.Need-recount-passed-requires
 recount-passed-requires c κs = (
-  (c .before .before .before .before .before .before .before .before .pre .0 .sized, subst (λ (n : ℕ). n < slotCount) (sym (c .before .before .before .before .before .before .before .before .pre .1 .0)) (home-less 4 (c .before .before .before .before .before .before .before .before .args .a)), c .before .passed-by-new .ensures .1),
+  (c .before .before .before .before .before .before .before .before .pre .0 .sized, home-inside (c .before .before .before .before .before .before .before .before .args .a) _ (c .before .before .before .before .before .before .before .before .pre .1 .0), c .before .passed-by-new .ensures .1),
   take-counts _ (c .before .before .before .before .before .before .before .before .args .a) _ _ (c .before .before .before .before .before .before .before .before .pre .1 .0) (c .before .passed-by-new .ensures .0) (c .before .passed-by-new .ensures .1) (c .before .before .before .before .before .before .before .before .pre .0),
 )
 

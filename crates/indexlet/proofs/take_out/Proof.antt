@@ -1,10 +1,7 @@
 -- `indexlet::take_out` meets its contract: the slot is given back, its bit is cleared, and it is counted out.
-use Prim.Native.Nat.{ℕ, _<_}
-use mathlib.Core.Path.{sym, subst}
 use borrow.Author.Needs.{needs}
-use Rattle.spec.specs.Slots.{slotCount}
-use Rattle.laws.specs.Probes.{home-less}
 use Rattle.indexlet.specs.BitmapLaws.{put-cells, bit-is}
+use Rattle.indexlet.specs.WalkLaws.{home-inside}
 use Rattle.indexlet.specs.EnterLaws.{stands-at, release-turns, loaded-still}
 use Rattle.indexlet.proofs.take_out.Statement.{statement}
 use Rattle.indexlet.proofs.take_out.Tie as tie
@@ -13,7 +10,7 @@ home-requires : tie.Need-home-requires
 home-requires c κs = search needs
 
 passed-requires : tie.Need-passed-requires
-passed-requires c κs = (subst (λ (n : ℕ). n < slotCount) (sym (c .home .ensures)) (home-less 4 (c .before .args .a)), c .before .pre .1 .0)
+passed-requires c κs = (home-inside (c .before .args .a) _ (c .home .ensures), c .before .pre .1 .0)
 
 release-requires : tie.Need-release-requires
 release-requires c κs = (c .before .before .before .pre .0, (c .before .before .home .ensures, stands-at (c .before .before .before .args .a) _ (c .before .before .before .args .at) _ (c .before .before .before .pre .0) (c .before .before .before .pre .1 .0) (c .before .before .before .pre .1 .1) (c .before .before .home .ensures) (c .before .passed .ensures)))

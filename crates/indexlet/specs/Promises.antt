@@ -22,19 +22,20 @@ use Rattle.indexlet.specs.Bitmaps.{wordBits, bitmapAt, bitmapPut, Occupi
 abbrev pub Narrow : SlotWords → Type 0
 Narrow s = isIdle (contentIn (s .content)) ≡ false → s .key < 2 ^ 32
 
--- as many rows as there are slots, with the filter's behind them; the keys of entries are addresses
+-- as many rows as there are slots, with those of the filter and of the bitmap behind them; the keys of entries are addresses
 pub record Sized (ws : SlotRows) : Type 0 where
   pub size : length ws ≡ slotRows
   pub narrow : (i : ℕ) → i < slotCount → Narrow (rowAt ws i)
 
--- The invariant of the lent words: every public function but `content_at` asks it, `fresh_slots` and `enter` leave it.
+-- The invariant of the lent words: `fresh_slots` establishes it, `enter` keeps it, and so does whatever only reads them; all of these but
+-- `fresh_slots` and `content_at` ask it.
 pub record SlotsHeld (ws : SlotRows) : Type 0 where
   pub sized : Sized ws
   pub good : Good 4 (slotsOf ws)
   pub filtered : Filtered ws (slotsOf ws)
   pub occupied : Occupied ws (slotsOf ws)
 
--- the words `us`, which were `ws`, hold these slots, and the filter's rows stay
+-- the words `us`, which were `ws`, hold these slots, and the rows behind the slots stay
 pub record SlotsBecome (ws us : SlotRows) (ss : List Slot) : Type 0 where
   pub sized : Sized us
   pub view : slotsOf us ≡ ss
@@ -46,6 +47,7 @@ pub record Going (f : ℕ → ℕ) (old : SlotRows) (h : ℕ) (ws : SlotRows) (d
   pub view : slotsOf ws ≡ countPassed f (slotsOf old) h d
   pub stays : FilterStays old ws
 
+-- a count with `up` added and `down` taken away
 abbrev pub shifted : ℕ → ℕ → ℕ → ℕ
 shifted up down n = n + up - down
 

@@ -158,8 +158,8 @@ fn put(t: &mut Slots, i: usize, s: Slot)
     t[i] = row;
 }
 
-// All slots are empty. The key of an empty one is no address, so that a walk over the slots passes it by its key alone; in the
-// filter's rows that word is not used.
+// All slots are empty. The key of an empty one is no address, so that a walk that compares keys passes it; in the rows behind the
+// slots that word is not used.
 pub fn fresh_slots(t: &mut Slots)
     ensures { λ _. ⌜ SlotsFresh (now (t .exit)) ⌝ }
 {

@@ -15,14 +15,14 @@ use Rattle.lists.specs.Rows.{Row}
 use Rattle.spec.specs.Slots.{slotCount, Content, Slot, emptySlot, slotAt, vacant, setSlot, countPassed, withEntry}
 use Rattle.laws.specs.Probes.{gap, counted, length-countPassed, at-countPassed}
 use Rattle.indexlet.specs.Words.{SlotRows, slotsOf}
-use Rattle.indexlet.specs.Filters.{bucketCount, slotRows, cellRow, cellPlace, cellPut, CellsStay, FilterStays}
+use Rattle.indexlet.specs.Filters.{bucketCount, slotRows, cellRow, cellPlace, cellPut, CellsStay, BehindStays}
 use Rattle.indexlet.specs.FilterLaws.{stays-cells, cells-on, word-other, word-lengths}
 use Rattle.indexlet.specs.Bits.{bit, bit-zero, bit-above, bit-inside, bit-not, lowest-set, lowest-first, rest, rest-less, rest-other}
 use Rattle.indexlet.specs.Bitmaps.{wordBits, bitmapRow, bitmapAt, bitmapPut, Occupied, Turns, wordEnd, BitsFrom, Unseen}
 
 -- ---- words that stay
 
-pub stays-bits : {ws us : SlotRows} (k : ℕ) → FilterStays ws us → bitmapAt us k ≡ bitmapAt ws k
+pub stays-bits : {ws us : SlotRows} (k : ℕ) → BehindStays ws us → bitmapAt us k ≡ bitmapAt ws k
 stays-bits k s = ap (λ (r : List ℕ). getD r (k + 1) 0) (s .rows bitmapRow (omega arith))
 
 -- a changed word of the bitmap leaves the cells
@@ -33,7 +33,7 @@ bitmap-cells ws k w size =
       cells = λ b h. word-other ws bitmapRow (k + 1) w size (omega arith) (omega arith) (cellRow b) (cellPlace b) (λ e q. omega arith);
     }
 
-pub put-cells : {ws us vs : SlotRows} → FilterStays ws us → length us ≡ slotRows → (k w : ℕ) → vs ≡ bitmapPut us k w → CellsStay ws vs
+pub put-cells : {ws us vs : SlotRows} → BehindStays ws us → length us ≡ slotRows → (k w : ℕ) → vs ≡ bitmapPut us k w → CellsStay ws vs
 put-cells {ws} {us} s size k w e = cells-on (stays-cells s) (subst (CellsStay us) (sym e) (bitmap-cells us k w size))
 
 -- and a changed cell the bitmap
@@ -54,7 +54,7 @@ bit-was : {ws : SlotRows} {ss ts : List Slot} {p q : Bool} (r : ℕ) → Occupie
 bit-was r m h t = m .bits r h ∙ ap (λ (t : Bool). pick t 0 1) (t .was)
 
 -- also after the slots' rows changed
-pub bit-is : {ws us : SlotRows} {ss ts : List Slot} {p q : Bool} (r : ℕ) → Occupied ws ss → FilterStays ws us → r < slotCount → Turns p q ss ts r
+pub bit-is : {ws us : SlotRows} {ss ts : List Slot} {p q : Bool} (r : ℕ) → Occupied ws ss → BehindStays ws us → r < slotCount → Turns p q ss ts r
     → bit (r % wordBits) (bitmapAt us (r / wordBits)) ≡ pick p 0 1
 bit-is r m s h t = ap (bit (r % wordBits)) (stays-bits (r / wordBits) s) ∙ bit-was r m h t
 

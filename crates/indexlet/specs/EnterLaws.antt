@@ -24,7 +24,7 @@ use Rattle.indexlet.specs.declared.Slot.{Slot as SlotWords}
 use Rattle.indexlet.specs.declared.Sought.{Sought}
 use Rattle.indexlet.specs.Words.{SlotRows, pendingIn, holderIn, contentIn, slotIn, rowIn, rowAt, store, wordPut, slotsOf}
 use Rattle.indexlet.specs.WordLaws.{length-slots, slots-at, slots-store, idle-zero}
-use Rattle.indexlet.specs.Filters.{bucketCount, slotRows, bucketOf, cellRow, cellPlace, cellAt, cellPut, load, Filtered, CellsStay, FilterStays}
+use Rattle.indexlet.specs.Filters.{bucketCount, slotRows, bucketOf, cellRow, cellPlace, cellAt, cellPut, load, Filtered, CellsStay, BehindStays}
 use Rattle.indexlet.specs.FilterLaws.{store-stays, stays-cells, word-row, word-slots, word-same, word-other, word-lengths, filter-enter, unloaded-absent, load-most, load-none, bucket-less}
 use Rattle.indexlet.specs.Bits.{bit, bit-zero, set-there, set-other, clear-there, clear-other}
 use Rattle.indexlet.specs.Bitmaps.{wordBits, bitmapRow, bitmapAt, bitmapPut, Occupied, Turns}
@@ -236,7 +236,7 @@ module _ (ws : SlotRows) (n a : ℕ) (c : ContentWords) (z : SlotsHeld ws) (q : 
       }
 
   -- the filter, where no cell changes, since an entry neither comes nor goes
-  still-filtered : (us : SlotRows) → FilterStays ws us → isIdle (contentOf (slotsOf ws) a) ≡ isIdle (contentIn c) → Filtered us (enter 4 (slotsOf ws) a (contentIn c))
+  still-filtered : (us : SlotRows) → BehindStays ws us → isIdle (contentOf (slotsOf ws) a) ≡ isIdle (contentIn c) → Filtered us (enter 4 (slotsOf ws) a (contentIn c))
   still-filtered us s e =
       filter-enter {ws = ws} {us = us} (z .good) room (z .filtered) (λ j p q. ap length (s .rows j p) ∙ z .filtered .wide j p q) (λ b h n. stays-cells s .cells b h)
       (ap (λ (n : ℕ). n / 256 + pick (isIdle (contentOf (slotsOf ws) a)) 0 1) (stays-cells s .cells (bucketOf a) (bucket-less a))
@@ -420,8 +420,8 @@ module _ (ws : SlotRows) (n a : ℕ) (c : ContentWords) (z : SlotsHeld ws) (q : 
         inside : r .at < length (slotsOf ws)
         inside = let x : length (slotsOf ws) ≡ slotCount = length-slots ws in omega arith
 
-        stays : FilterStays ws us
-        stays = subst (FilterStays ws) (sym u) (store-stays ws (r .at) new b)
+        stays : BehindStays ws us
+        stays = subst (BehindStays ws) (sym u) (store-stays ws (r .at) new b)
 
         over : set (slotsOf ws) (r .at) slot ≡ enter 4 (slotsOf ws) a (contentIn c)
         over =

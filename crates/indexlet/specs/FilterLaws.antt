@@ -18,17 +18,17 @@ use Rattle.laws.specs.SlotLaws.{Good, Room, weigh, sum-enter}
 use Rattle.indexlet.specs.declared.Slot.{Slot as SlotWords}
 use Rattle.indexlet.specs.Words.{SlotRows, slotWords, slotIn, rowIn, rowAt, wordsOf, store, wordPut, slotsOf}
 use Rattle.indexlet.specs.WordLaws.{length-slots, slots-at}
-use Rattle.indexlet.specs.Filters.{bucketCount, slotRows, bucketOf, cellRow, cellPlace, cellAt, cellPut, inBucket, load, Filtered, CellsStay, FilterStays}
+use Rattle.indexlet.specs.Filters.{bucketCount, slotRows, bucketOf, cellRow, cellPlace, cellAt, cellPut, inBucket, load, Filtered, CellsStay, BehindStays}
 
 -- ---- rows that stay
 
-pub store-stays : (ws : SlotRows) (i : ℕ) (s : SlotWords) → i < slotCount → FilterStays ws (store ws i s)
+pub store-stays : (ws : SlotRows) (i : ℕ) (s : SlotWords) → i < slotCount → BehindStays ws (store ws i s)
 store-stays ws i s h = record { rows = λ j b. getD-set-other ws i j (wordsOf s) [] (λ e. omega arith) }
 
-pub stays-on : {ws us vs : SlotRows} → FilterStays ws us → FilterStays us vs → FilterStays ws vs
+pub stays-on : {ws us vs : SlotRows} → BehindStays ws us → BehindStays us vs → BehindStays ws vs
 stays-on f g = record { rows = λ j b. g .rows j b ∙ f .rows j b }
 
-pub stays-cells : {ws us : SlotRows} → FilterStays ws us → CellsStay ws us
+pub stays-cells : {ws us : SlotRows} → BehindStays ws us → CellsStay ws us
 stays-cells s =
     record {
       lengths = λ j b. ap length (s .rows j b);

@@ -55,5 +55,5 @@ pub record CellsStay (ws us : SlotRows) : Type 0 where
   pub cells : (b : ℕ) → b < bucketCount → cellAt us b ≡ cellAt ws b
 
 -- the rows of the filter and of the bitmap stay
-pub record FilterStays (ws us : SlotRows) : Type 0 where
+pub record BehindStays (ws us : SlotRows) : Type 0 where
   pub rows : (j : ℕ) → slotCount ≤ j → getD us j [] ≡ getD ws j []

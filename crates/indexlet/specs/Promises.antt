@@ -15,7 +15,7 @@ use Rattle.indexlet.specs.declared.Slot.{Slot as SlotWords}
 use Rattle.indexlet.specs.declared.Looked.{Looked}
 use Rattle.indexlet.specs.declared.Sought.{Sought}
 use Rattle.indexlet.specs.Words.{SlotRows, contentIn, slotIn, rowAt, slotsOf}
-use Rattle.indexlet.specs.Filters.{slotRows, bucketOf, cellAt, cellPut, Filtered, FilterStays}
+use Rattle.indexlet.specs.Filters.{slotRows, bucketOf, cellAt, cellPut, Filtered, BehindStays}
 use Rattle.indexlet.specs.Bitmaps.{wordBits, bitmapAt, bitmapPut, Occupied, Turns}
 
 -- the key of an entry is an address; of a slot without one it is anything
@@ -39,13 +39,11 @@ pub record SlotsHeld (ws : SlotRows) : Type 0 where
 pub record SlotsBecome (ws us : SlotRows) (ss : List Slot) : Type 0 where
   pub sized : Sized us
   pub view : slotsOf us ≡ ss
-  pub stays : FilterStays ws us
+  pub stays : BehindStays ws us
 
--- the counts of d slots from h on are changed
-pub record Going (f : ℕ → ℕ) (old : SlotRows) (h : ℕ) (ws : SlotRows) (d : ℕ) : Type 0 where
-  pub sized : Sized ws
-  pub view : slotsOf ws ≡ countPassed f (slotsOf old) h d
-  pub stays : FilterStays old ws
+-- the words `ws`, which were `old`, hold the same slots, but that the counts of d slots from h on are changed
+abbrev pub Going : (ℕ → ℕ) → SlotRows → ℕ → SlotRows → ℕ → Type 0
+Going f old h ws d = SlotsBecome old ws (countPassed f (slotsOf old) h d)
 
 -- a count with `up` added and `down` taken away
 abbrev pub shifted : ℕ → ℕ → ℕ → ℕ

@@ -23,7 +23,7 @@ use Rattle.indexlet.specs.declared.Content.{Content as ContentWords}
 use Rattle.indexlet.specs.declared.Slot.{Slot as SlotWords}
 use Rattle.indexlet.specs.Words.{SlotRows, contentIn, slotIn, rowAt, saying, store, slotsOf}
 use Rattle.indexlet.specs.WordLaws.{length-store, row-store-same, row-store-other, length-slots, slot-there, slots-store, vacant-idle}
-use Rattle.indexlet.specs.Filters.{FilterStays}
+use Rattle.indexlet.specs.Filters.{BehindStays}
 use Rattle.indexlet.specs.FilterLaws.{store-stays, stays-on}
 use Rattle.indexlet.specs.Bits.{bit, bit-zero, lowest-set, lowest-first}
 use Rattle.indexlet.specs.Bitmaps.{Turns, wordEnd, BitsFrom}
@@ -74,7 +74,7 @@ module _ (f : ℕ → ℕ) (old : SlotRows) (h : ℕ) (ws : SlotRows) (d : ℕ) 
             ∙ ap (λ (l : List Slot). set l i (counted f (slotAt l (h + d)))) (g .view)
             ∙ sym (countPassed-next f (slotsOf old) h d (length-slots old) hb db)
             ∙ ap (countPassed f (slotsOf old) h) (sym (add-one d));
-        stays = stays-on (g .stays) (subst (FilterStays ws) (sym u) (store-stays ws i new ib));
+        stays = stays-on (g .stays) (subst (BehindStays ws) (sym u) (store-stays ws i new ib));
       }
     where
       i : ℕ
@@ -99,7 +99,7 @@ module _ (f : ℕ → ℕ) (old : SlotRows) (h : ℕ) (ws : SlotRows) (d : ℕ) 
             ∙ slots-store ws i new (g .sized .size) ib
             ∙ ap (λ (x : Slot). set (slotsOf ws) i (record { entry = kept k (contentIn c); overflow = x .overflow })) (examined-slot ws (h + d) s e)
             ∙ ap (λ (l : List Slot). set l i (record { entry = kept k (contentIn c); overflow = slotAt l (h + d) .overflow })) (g .view);
-        stays = stays-on (g .stays) (subst (FilterStays ws) (sym u) (store-stays ws i new ib));
+        stays = stays-on (g .stays) (subst (BehindStays ws) (sym u) (store-stays ws i new ib));
       }
     where
       i : ℕ
@@ -138,8 +138,8 @@ count-on f old h ws d g b s e us u =
     going-on f old h ws d g (omega arith) s (e ∙ ap (rowAt ws) q) (omega arith) (f (s .overflow)) refl us
     (u ∙ ap (λ (i : ℕ). store ws i (record { key = s .key; content = s .content; overflow = f (s .overflow) })) q)
 
-pub going-done : {f : ℕ → ℕ} {old ws : SlotRows} {h d n : ℕ} → Going f old h ws d → d ≡ n → Going f old h ws n
-going-done {f} {old} {ws} {h} g e = subst (Going f old h ws) e g
+pub going-done : (f : ℕ → ℕ) {old ws : SlotRows} (h : ℕ) {d n : ℕ} → Going f old h ws d → d ≡ n → Going f old h ws n
+going-done f {old} {ws} h g e = subst (Going f old h ws) e g
 
 pub countable-part : {up down : ℕ} {ss : List Slot} {h n : ℕ} (m : ℕ) → m ≤ n → Countable up down ss h n → Countable up down ss h m
 countable-part m l c = record { fits = λ d h. c .fits d (omega arith); enough = λ d h. c .enough d (omega arith) }
@@ -219,13 +219,13 @@ module _ (f : ℕ → ℕ) (ss : List Slot) (h m : ℕ) (size : length ss ≡ sl
           ∙ sym (at-countPassed f ss h (m + k) j size hb (omega arith) q)
 
 -- in two parts
-pub countable-after : {f : ℕ → ℕ} {ws us : SlotRows} {up down n : ℕ} (h m : ℕ) → h < slotCount → h + m ≡ slotCount → m ≤ n → n < slotCount → Going f ws h us m
+pub countable-after : (f : ℕ → ℕ) {ws us : SlotRows} {up down n : ℕ} (h m : ℕ) → h < slotCount → h + m ≡ slotCount → m ≤ n → n < slotCount → Going f ws h us m
     → Countable up down (slotsOf ws) h n → Countable up down (slotsOf us) 0 (n - m)
-countable-after {f} {ws} {us} {up} {down} {n} h m hb all a b g c =
+countable-after f {ws} {us} {up} {down} {n} h m hb all a b g c =
     subst (λ (ss : List Slot). Countable up down ss 0 (n - m)) (sym (g .view)) (countable-rest f (slotsOf ws) h m (length-slots ws) hb all a b c)
 
-pub going-join : {f : ℕ → ℕ} {ws us vs : SlotRows} (h m k n : ℕ) → h < slotCount → h + m ≡ slotCount → k ≤ h → n ≡ m + k → Going f ws h us m → Going f us 0 vs k → Going f ws h vs n
-going-join {f} {ws} {us} {vs} h m k n hb all l e g i =
+pub going-join : (f : ℕ → ℕ) {ws us vs : SlotRows} (h m k n : ℕ) → h < slotCount → h + m ≡ slotCount → k ≤ h → n ≡ m + k → Going f ws h us m → Going f us 0 vs k → Going f ws h vs n
+going-join f {ws} {us} {vs} h m k n hb all l e g i =
     record {
       sized = i .sized;
       view = i .view ∙ ap (λ (ss : List Slot). countPassed f ss 0 k) (g .view) ∙ passed-on f (slotsOf ws) h m (length-slots ws) hb all k l ∙ ap (countPassed f (slotsOf ws) h) (sym e);

@@ -41,7 +41,7 @@ loop-again c =
     (count-on _ _ _ _ (c .before .before .before .before .before .before .before .loop .d) (c .before .before .before .before .before .before .before .loop .inv .0) (omega (arith, c .before .before .before .before .before .before .before .before .pre .0 .2)) _ (c .before .before .before .before .get .ensures) _ (c .put .ensures), omega arith)
 
 returns : tie.Need-returns Inv-loop μ-loop
-returns c = going-done (c .before .loop .inv .0) (omega arith)
+returns c = going-done (shifted (c .before .before .args .up) (c .before .before .args .down)) (c .before .before .args .from) (c .before .loop .inv .0) (omega arith)
 
 pub recount-spec : {M : Type 1} → statement M
 recount-spec =

@@ -1,6 +1,7 @@
 -- `indexlet::recount_passed` meets its contract: the slots up to the last, and then those from the first on.
 use native.Mathlib.Omega.{arith}
 use borrow.Author.Needs.{needs}
+use Rattle.indexlet.specs.Promises.{shifted}
 use Rattle.indexlet.specs.WalkLaws.{countable-part, countable-after, going-join}
 use Rattle.indexlet.proofs.recount_passed.Statement.{statement}
 use Rattle.indexlet.proofs.recount_passed.Tie as tie
@@ -26,11 +27,11 @@ sub-recount c = search needs
 recount-requires-3 : tie.Need-recount-requires-3
 recount-requires-3 c κs = (
   (c .before .recount2 .ensures .sized, omega arith, omega (arith, c .before .before .before .before .pre .0 .2, c .before .before .before .before .pre .0 .1)),
-  countable-after (c .before .before .before .before .args .h) _ (c .before .before .before .before .pre .0 .1) (omega (arith, c .before .before .before .before .pre .0 .1)) (omega (arith, c .before .before .before .if1 .left)) (c .before .before .before .before .pre .0 .2) (c .before .recount2 .ensures) (c .before .before .before .before .pre .1),
+  countable-after (shifted (c .before .before .before .before .args .up) (c .before .before .before .before .args .down)) (c .before .before .before .before .args .h) _ (c .before .before .before .before .pre .0 .1) (omega (arith, c .before .before .before .before .pre .0 .1)) (omega (arith, c .before .before .before .if1 .left)) (c .before .before .before .before .pre .0 .2) (c .before .recount2 .ensures) (c .before .before .before .before .pre .1),
 )
 
 returns-2 : tie.Need-returns-2
-returns-2 c = going-join (c .before .before .before .before .before .args .h) _ _ _ (c .before .before .before .before .before .pre .0 .1) (omega (arith, c .before .before .before .before .before .pre .0 .1)) (omega (arith, c .before .before .before .before .before .pre .0 .2)) (omega (arith, c .before .before .before .before .if1 .left)) (c .before .before .recount2 .ensures) (c .recount3 .ensures)
+returns-2 c = going-join (shifted (c .before .before .before .before .before .args .up) (c .before .before .before .before .before .args .down)) (c .before .before .before .before .before .args .h) _ _ _ (c .before .before .before .before .before .pre .0 .1) (omega (arith, c .before .before .before .before .before .pre .0 .1)) (omega (arith, c .before .before .before .before .before .pre .0 .2)) (omega (arith, c .before .before .before .before .if1 .left)) (c .before .before .recount2 .ensures) (c .recount3 .ensures)
 
 pub recount-passed-spec : {M : Type 1} → statement M
 recount-passed-spec =

@@ -30,8 +30,8 @@ use Rattle.sets.specs.SetLaws.{each-set, other-set, length-rows}
 use Rattle.sets.specs.WriteLaws.{put-kind, deletion-kind, room-found}
 use Rattle.map.specs.Views.{Lent}
 use Rattle.transactions.specs.declared.Core.{Core}
+use Rattle.transactions.specs.declared.begins.Plain.{Plain}
 use Rattle.transactions.specs.declared.begins.Plain.the-variants.{Granted, Refused}
-use Rattle.transactions.specs.declared.begins.Done.{Done}
 use Rattle.transactions.specs.Answering.{Yields, yields-granted, cause-holds, cause-fails, front, front-first}
 use Rattle.transactions.specs.Admits.{Turned, Entered}
 use Rattle.transactions.specs.Views.{Logs, logs, stateOf, coreWith}
@@ -50,10 +50,10 @@ editing w a deleted = remove w a
 abbrev pub fullAt : WriteRows → ℕ → ℕ → Bool
 fullAt ws n a = both (not (present (look (writesOf ws n) a))) (not (less n (standard .writeLimit)))
 
--- The step, whatever the other arrays hold: ws are the write sets before it, us those after it.
-pub record Edits (ws : List WriteRows) (c : Core) (w a : ℕ) (e : Write) (us : List WriteRows) (r : Done) : Type 0 where
+-- The step, whatever the other arrays hold: ws are the write sets before it, us those after it, and c' is the core after it.
+pub record Edits (ws : List WriteRows) (c : Core) (w a : ℕ) (e : Write) (us : List WriteRows) (c' : Core) (r : Plain) : Type 0 where
   pub refines-so : (l : Lent) (rs : List ReadRows) (ls : List LeafSetRows) → Ready l (logs rs ls ws) c
-      → Refines l (logs rs ls ws) c (editing w a e) l (logs rs ls us) (r .core) (plainIn (r .answer))
+      → Refines l (logs rs ls ws) c (editing w a e) l (logs rs ls us) c' (plainIn r)
 
 -- ---- whether there is room
 
@@ -98,7 +98,7 @@ refusal-front σ w a e o q =
     refusal-editing σ w a e ∙ ap (λ (p : Option Refusal). maybe p (firstCause (cause (writesFull σ w a) WritesFull ∷ [])) some) q
 
 pub edit-refused : {ws : List WriteRows} {c : Core} {w a : ℕ} {e : Write} {r : Refusal} → Turned isOpen (c .workers) w r
-    → Edits ws c w a e ws (record { core = c; answer = Refused r })
+    → Edits ws c w a e ws c (Refused r)
 edit-refused {ws} {c} {w} {a} {e} {r} t =
     record {
       refines-so = λ l rs ls k.
@@ -124,7 +124,7 @@ module _ (l : Lent) (g : Logs) (c : Core) (w : ℕ) (x : Worker) (k : Ready l g 
       ∙ ap (λ (d : Bool). firstCause (cause d WritesFull ∷ [])) (full-is a ∙ sym q)
 
 pub edit-full : {ws : List WriteRows} {c : Core} {w a : ℕ} {e : Write} {x : Worker} {b : Bool} → Entered isOpen (c .workers) w x
-    → b ≡ fullAt (getD ws w []) (x .writes) a → b ≡ true → Edits ws c w a e ws (record { core = c; answer = Refused WritesFull })
+    → b ≡ fullAt (getD ws w []) (x .writes) a → b ≡ true → Edits ws c w a e ws c (Refused WritesFull)
 edit-full {ws} {c} {w} {a} {e} {x} {b} t q f =
     record {
       refines-so = λ l rs ls k.
@@ -143,11 +143,11 @@ unfolding effect
 effect-editing σ w a (written p) = refl
 effect-editing σ w a deleted = refl
 
-pub edit-granted : {ws : List WriteRows} {us : WriteRows} {c o : Core} {w a kind : ℕ} {v : PayloadWords} {x : Worker} {b : Bool} {n : ℕ} → Entered isOpen (c .workers) w x
-    → b ≡ fullAt (getD ws w []) (x .writes) a → b ≡ false → PutsWrite (getD ws w []) (x .writes) a kind v us n → o ≡ coreWith c w (withWrites x n)
-    → Edits ws c w a (writeOf kind v) (set ws w us) (record { core = o; answer = Granted })
+pub edit-granted : {ws : List WriteRows} {us : WriteRows} {c c' : Core} {w a kind : ℕ} {v : PayloadWords} {x : Worker} {b : Bool} {n : ℕ} → Entered isOpen (c .workers) w x
+    → b ≡ fullAt (getD ws w []) (x .writes) a → b ≡ false → PutsWrite (getD ws w []) (x .writes) a kind v us n → c' ≡ coreWith c w (withWrites x n)
+    → Edits ws c w a (writeOf kind v) (set ws w us) c' Granted
 unfolding firstCause
-edit-granted {ws} {us} {c} {o} {w} {a} {kind} {v} {x} {b} {n} t q f p s =
+edit-granted {ws} {us} {c} {c'} {w} {a} {kind} {v} {x} {b} {n} t q f p s =
     record {
       refines-so = λ l rs ls k.
           subst (λ (o : Core). Refines l (logs rs ls ws) c (editing w a (writeOf kind v)) l (logs rs ls (set ws w us)) o (plainIn Granted)) (sym s)
@@ -170,17 +170,17 @@ edit-granted {ws} {us} {c} {o} {w} {a} {kind} {v} {x} {b} {n} t q f p s =
 
 -- ---- the two steps
 
-pub put-refines : {ws us : List WriteRows} {c : Core} {w a : ℕ} {r : Done} {l : Lent} {rs : List ReadRows} {ls : List LeafSetRows} (value owner : ℕ) → owner < owners
-    → Edits ws c w a (writeOf 1 (record { value = value; owner = owner })) us r → Ready l (logs rs ls ws) c
-    → Refines l (logs rs ls ws) c (put w a (record { value = value; owner = owner })) l (logs rs ls us) (r .core) (plainIn (r .answer))
-put-refines {ws} {us} {c} {w} {a} {r} {l} {rs} {ls} value owner h e k =
-    subst (λ (x : Write). Refines l (logs rs ls ws) c (editing w a x) l (logs rs ls us) (r .core) (plainIn (r .answer)))
+pub put-refines : {ws us : List WriteRows} {c c' : Core} {w a : ℕ} {r : Plain} {l : Lent} {rs : List ReadRows} {ls : List LeafSetRows} (value owner : ℕ) → owner < owners
+    → Edits ws c w a (writeOf 1 (record { value = value; owner = owner })) us c' r → Ready l (logs rs ls ws) c
+    → Refines l (logs rs ls ws) c (put w a (record { value = value; owner = owner })) l (logs rs ls us) c' (plainIn r)
+put-refines {ws} {us} {c} {c'} {w} {a} {r} {l} {rs} {ls} value owner h e k =
+    subst (λ (x : Write). Refines l (logs rs ls ws) c (editing w a x) l (logs rs ls us) c' (plainIn r))
     (put-kind 1 (record { value = value; owner = owner }) refl
     ∙ ap (λ (n : ℕ). written (record { value = value; owner = n })) (let z : owner % owners ≡ owner = omega arith in z))
     (e .refines-so l rs ls k)
 
-pub remove-refines : {ws us : List WriteRows} {c : Core} {w a : ℕ} {r : Done} {l : Lent} {rs : List ReadRows} {ls : List LeafSetRows} → Edits ws c w a (writeOf 2 noPayload) us r
-    → Ready l (logs rs ls ws) c → Refines l (logs rs ls ws) c (remove w a) l (logs rs ls us) (r .core) (plainIn (r .answer))
-remove-refines {ws} {us} {c} {w} {a} {r} {l} {rs} {ls} e k =
-    subst (λ (x : Write). Refines l (logs rs ls ws) c (editing w a x) l (logs rs ls us) (r .core) (plainIn (r .answer)))
+pub remove-refines : {ws us : List WriteRows} {c c' : Core} {w a : ℕ} {r : Plain} {l : Lent} {rs : List ReadRows} {ls : List LeafSetRows} → Edits ws c w a (writeOf 2 noPayload) us c' r
+    → Ready l (logs rs ls ws) c → Refines l (logs rs ls ws) c (remove w a) l (logs rs ls us) c' (plainIn r)
+remove-refines {ws} {us} {c} {c'} {w} {a} {r} {l} {rs} {ls} e k =
+    subst (λ (x : Write). Refines l (logs rs ls ws) c (editing w a x) l (logs rs ls us) c' (plainIn r))
     (deletion-kind 2 noPayload (λ q. let z : ⊥ = omega arith in z)) (e .refines-so l rs ls k)

@@ -37,7 +37,6 @@ use Rattle.map.specs.Views.{leavesIn, byColumns, SlotRows, RecordRows, Lent}
 use Rattle.transactions.specs.declared.Core.{Core}
 use Rattle.accesses.specs.declared.reads.ReadAnswer.{ReadAnswer}
 use Rattle.accesses.specs.declared.reads.ReadAnswer.the-variants.{Value, Absent, Refused}
-use Rattle.accesses.specs.declared.reads.ReadDone.{ReadDone}
 use Rattle.accesses.specs.declared.reads.Taken.{Taken}
 use Rattle.transactions.specs.Answering.{Yields, yields-granted, cause-holds, cause-fails, front, front-first}
 use Rattle.transactions.specs.Admits.{Turned, Entered}
@@ -58,7 +57,7 @@ pub record Loggable (rs : List ReadRows) (rows : RecordRows) (slots : SlotRows) 
 -- and for any read
 pub record Readable (rs : List ReadRows) (rows : RecordRows) (slots : SlotRows) (ws : List WriteRows) (c : Core) : Type 0 where
   pub loggable : Loggable rs rows slots c
-  pub writable : Writable ws c
+  pub writable : Writable ws (c .workers)
 
 pub ready-readable : {rs : List ReadRows} {ls : List LeafSetRows} {ws : List WriteRows} {rows : RecordRows} {lows versions hidden pending : List ℕ} {slots : SlotRows} {c : Core}
     → Ready (byColumns rows lows versions hidden pending slots) (logs rs ls ws) c → Readable rs rows slots ws c
@@ -73,16 +72,16 @@ pub record LogsCurrent (rs : ReadRows) (rows : RecordRows) (slots : SlotRows) (r
   pub logs : LogsRead rs n a (r .seen) us (r .count)
   pub examines : Examines rows records slots a (record { current = r .seen; examined = r .examined })
 
--- The step, whatever the other arrays hold: rs are the read sets before it, us those after it.
-pub record Tells (rs : List ReadRows) (rows : RecordRows) (slots : SlotRows) (ws : List WriteRows) (c : Core) (w a : ℕ) (us : List ReadRows) (r : ReadDone) : Type 0 where
+-- The step, whatever the other arrays hold: rs are the read sets before it, us those after it, and c' is the core after it.
+pub record Tells (rs : List ReadRows) (rows : RecordRows) (slots : SlotRows) (ws : List WriteRows) (c : Core) (w a : ℕ) (us : List ReadRows) (c' : Core) (r : ReadAnswer) : Type 0 where
   pub refines-so : (lows versions hidden pending : List ℕ) (ls : List LeafSetRows)
       → Ready (byColumns rows lows versions hidden pending slots) (logs rs ls ws) c
       → Refines (byColumns rows lows versions hidden pending slots) (logs rs ls ws) c (read w a)
-      (byColumns rows lows versions hidden pending slots) (logs us ls ws) (r .core) (readAnswer (r .answer))
+      (byColumns rows lows versions hidden pending slots) (logs us ls ws) c' (readAnswer r)
 
 -- The step of a worker that has no write at the address.
-pub record TellsCurrent (rs : List ReadRows) (rows : RecordRows) (slots : SlotRows) (c : Core) (w : ℕ) (x : Worker) (a : ℕ) (us : List ReadRows) (r : ReadDone) : Type 0 where
-  pub tells : (ws : List WriteRows) → look (writesIn ws w (x .writes)) a ≡ none → Tells rs rows slots ws c w a us r
+pub record TellsCurrent (rs : List ReadRows) (rows : RecordRows) (slots : SlotRows) (c : Core) (w : ℕ) (x : Worker) (a : ℕ) (us : List ReadRows) (c' : Core) (r : ReadAnswer) : Type 0 where
+  pub tells : (ws : List WriteRows) → look (writesIn ws w (x .writes)) a ≡ none → Tells rs rows slots ws c w a us c' r
 
 -- ---- what was seen
 
@@ -110,7 +109,7 @@ unfolding refusal causes noWorker workerFree wrongStage any
 mild σ w a r q = mild-cause (causes σ (read w a)) r refl q
 
 pub read-refused : {rs : List ReadRows} {rows : RecordRows} {slots : SlotRows} {ws : List WriteRows} {c : Core} {w a : ℕ} {r : Refusal} → Turned isOpen (c .workers) w r
-    → Tells rs rows slots ws c w a rs (record { core = c; answer = Refused r })
+    → Tells rs rows slots ws c w a rs c (Refused r)
 read-refused {rs} {rows} {slots} {ws} {c} {w} {a} {r} t =
     record {
       refines-so = λ lows versions hidden pending ls k.
@@ -143,7 +142,7 @@ module _ (l : Lent) (g : Logs) (c : Core) (w : ℕ) (x : Worker) (k : Ready l g 
       ∙ ap (λ (d : Bool). firstCause (cause d LogFull ∷ [])) (full-is o q)
 
 pub read-full : {rs : List ReadRows} {rows : RecordRows} {slots : SlotRows} {c : Core} {w a : ℕ} {x : Worker} → Entered isOpen (c .workers) w x → standard .readLimit ≤ x .reads
-    → TellsCurrent rs rows slots c w x a rs (record { core = c; answer = Refused LogFull })
+    → TellsCurrent rs rows slots c w x a rs c (Refused LogFull)
 read-full {rs} {rows} {slots} {c} {w} {a} {x} t h =
     record {
       tells = λ ws q. record {
@@ -200,7 +199,7 @@ yields-read σ w a o q n =
 
 read-own : {rs : List ReadRows} {rows : RecordRows} {slots : SlotRows} {ws : List WriteRows} {c : Core} {w a : ℕ} {x : Worker} (e : Write) (v : ReadAnswer) → Entered isOpen (c .workers) w x
     → look (writesIn ws w (x .writes)) a ≡ some e → readAnswer v ≡ found (ownView e) 0
-    → Tells rs rows slots ws c w a rs (record { core = c; answer = v })
+    → Tells rs rows slots ws c w a rs c v
 unfolding firstCause
 read-own {rs} {rows} {slots} {ws} {c} {w} {a} {x} e v t q s =
     record {
@@ -215,31 +214,31 @@ read-own {rs} {rows} {slots} {ws} {c} {w} {a} {x} e v t q s =
 
 pub read-put : {rs : List ReadRows} {rows : RecordRows} {slots : SlotRows} {ws : List WriteRows} {c : Core} {w a : ℕ} {v : PayloadWords} {x : Worker} {f : Found}
     → Entered isOpen (c .workers) w x → f ≡ Put v → foundIn f ≡ look (writesIn ws w (x .writes)) a
-    → Tells rs rows slots ws c w a rs (record { core = c; answer = Value (v .value) (v .owner % owners) 0 })
+    → Tells rs rows slots ws c w a rs c (Value (v .value) (v .owner % owners) 0)
 unfolding ownView
 read-put {v} t e q =
     read-own (written (payloadIn v)) (Value (v .value) (v .owner % owners) 0) t (sym q ∙ ap foundIn e) refl
 
 pub read-deletion : {rs : List ReadRows} {rows : RecordRows} {slots : SlotRows} {ws : List WriteRows} {c : Core} {w a : ℕ} {x : Worker} {f : Found}
     → Entered isOpen (c .workers) w x → f ≡ Deletion → foundIn f ≡ look (writesIn ws w (x .writes)) a
-    → Tells rs rows slots ws c w a rs (record { core = c; answer = Absent 0 })
+    → Tells rs rows slots ws c w a rs c (Absent 0)
 unfolding ownView
 read-deletion t e q =
     read-own deleted (Absent 0) t (sym q ∙ ap foundIn e) refl
 
-pub read-nothing : {rs us : List ReadRows} {rows : RecordRows} {slots : SlotRows} {ws : List WriteRows} {c : Core} {w a : ℕ} {x : Worker} {f : Found} {r : ReadDone}
+pub read-nothing : {rs us : List ReadRows} {rows : RecordRows} {slots : SlotRows} {ws : List WriteRows} {c c' : Core} {w a : ℕ} {x : Worker} {f : Found} {r : ReadAnswer}
     → f ≡ Nothing → foundIn f ≡ look (writesIn ws w (x .writes)) a
-    → TellsCurrent rs rows slots c w x a us r → Tells rs rows slots ws c w a us r
+    → TellsCurrent rs rows slots c w x a us c' r → Tells rs rows slots ws c w a us c' r
 read-nothing {ws = ws} e q k = k .tells ws (sym q ∙ ap foundIn e)
 
 -- ---- the current record
 
-pub read-logged : {rs : List ReadRows} {rows : RecordRows} {slots : SlotRows} {us : ReadRows} {c o : Core} {w a : ℕ} {x : Worker} {r : Taken} {v : ReadAnswer}
+pub read-logged : {rs : List ReadRows} {rows : RecordRows} {slots : SlotRows} {us : ReadRows} {c c' : Core} {w a : ℕ} {x : Worker} {r : Taken} {v : ReadAnswer}
     → Entered isOpen (c .workers) w x → x .reads < standard .readLimit → LogsCurrent (getD rs w []) rows slots (c .sizes .records) (x .reads) a us r
-    → o ≡ coreWith c w (withReads x (r .count)) → readAnswer v ≡ found (payloadOf (recordIn (r .seen))) (r .examined)
-    → TellsCurrent rs rows slots c w x a (set rs w us) (record { core = o; answer = v })
+    → c' ≡ coreWith c w (withReads x (r .count)) → readAnswer v ≡ found (payloadOf (recordIn (r .seen))) (r .examined)
+    → TellsCurrent rs rows slots c w x a (set rs w us) c' v
 unfolding firstCause
-read-logged {rs} {rows} {slots} {us} {c} {o} {w} {a} {x} {r} {v} t h p m s =
+read-logged {rs} {rows} {slots} {us} {c} {c'} {w} {a} {x} {r} {v} t h p m s =
     record {
       tells = λ ws q. record {
         refines-so = λ lows versions hidden pending ls k.

@@ -5,7 +5,6 @@ use Rattle.map.specs.Views.{Lent}
 use Rattle.transactions.specs.declared.Core.{Core}
 use Rattle.accesses.specs.declared.scans.ScanAnswer.{ScanAnswer}
 use Rattle.accesses.specs.declared.scans.ScanAnswer.the-variants.{Count, Refused}
-use Rattle.accesses.specs.declared.scans.ScanDone.{ScanDone}
 use Rattle.ranges.specs.Buffers.{Buffers, placesOf, rowsIn, Beyond}
 use Rattle.transactions.specs.Views.{Logs}
 use Rattle.transactions.specs.Ready.{Refines}
@@ -22,6 +21,6 @@ places (Refused r) = 0
 
 -- A scan taken: the arrays, the buffers and the core before it, its range, and those after it. Every place of a buffer
 -- past those shown is as it was; of a refused scan every place is.
-pub record Scans (l : Lent) (g : Logs) (c : Core) (w lo hi : ℕ) (b : Buffers) (g' : Logs) (d : Buffers) (r : ScanDone) : Type 0 where
-  pub refines : Refines l g c (scan w lo hi (placesOf b)) l g' (r .core) (scanIn (r .answer) d)
-  pub beyond : Beyond (places (r .answer)) b d
+pub record Scans (l : Lent) (g : Logs) (c : Core) (w lo hi : ℕ) (b : Buffers) (g' : Logs) (d : Buffers) (c' : Core) (r : ScanAnswer) : Type 0 where
+  pub refines : Refines l g c (scan w lo hi (placesOf b)) l g' c' (scanIn r d)
+  pub beyond : Beyond (places r) b d

@@ -1,12 +1,13 @@
 // Put and remove: a worker's write set takes a write.
-use crate::cores;
 use map::Leaves;
 use map::Records;
 use map::Slots;
 use sets::LeafSets;
 use sets::ReadSets;
+use sets::Workers;
 use sets::WriteSet;
 use sets::WriteSets;
+use sets::workers;
 use sets::workers::Worker;
 use sets::writes;
 use sets::writes::Found;
@@ -14,16 +15,17 @@ use spec::Address;
 use spec::PayloadWords;
 use spec::Refusal;
 use spec::WRITE_LIMIT;
-use transactions::Core;
+use transactions::Globals;
 use transactions::admits;
 use transactions::admits::Admit;
-use transactions::begins::Done;
 use transactions::begins::Plain;
 ghost use mathlib.Core.Path.{_≡_};
 ghost use Rattle.spec.specs.Steps.{put, remove};
+ghost use Rattle.sets.specs.Workers.{workersOf};
 ghost use Rattle.sets.specs.Writes.{WriteSetOrdered, writeOf};
 ghost use Rattle.map.specs.Views.{lent};
-ghost use Rattle.transactions.specs.Views.{logs};
+ghost use Rattle.transactions.specs.declared.Globals as global;
+ghost use Rattle.transactions.specs.Views.{logs, coreOf};
 ghost use Rattle.transactions.specs.Ready.{Ready, Refines};
 ghost use Rattle.transactions.specs.Begins.{plainIn};
 ghost use Rattle.transactions.specs.CoreLaws.{Writable};
@@ -47,29 +49,22 @@ fn full(writes: &WriteSet, n: usize, a: Address) -> bool
 // Both steps: the write is of kind 1 (a put) or 2 (a deletion).
 fn edit(
     writes: &mut WriteSets,
-    c: Core,
+    workers: &mut Workers,
     w: u32,
     a: Address,
     kind: u64,
     payload: PayloadWords,
-) -> Done
-    requires { ⌜ Writable (now writes) c ⌝ }
-    ensures { λ r. ⌜ Edits (now (writes .entry)) c w a (writeOf kind payload) (now (writes .exit)) r ⌝ }
+) -> Plain
+    requires { ⌜ Writable (now writes) (workersOf (now workers)) ⌝ }
+    ensures { λ r. ⌜ ((c : global.Globals) → Edits (now (writes .entry)) (coreOf (now (workers .entry)) c) w a (writeOf kind payload) (now (writes .exit)) (coreOf (now (workers .exit)) c) r) ⌝ }
 {
-    let workers = c.workers;
     match admits::open(workers, w) {
-        Admit::Refused(r) => Done {
-            core: c,
-            answer: Plain::Refused(r),
-        },
+        Admit::Refused(r) => Plain::Refused(r),
         Admit::Allowed(x) => {
             let v = w as usize;
             let n = x.writes as usize;
             if full(&writes[v], n, a) {
-                return Done {
-                    core: c,
-                    answer: Plain::Refused(Refusal::WritesFull),
-                };
+                return Plain::Refused(Refusal::WritesFull);
             }
             let count = writes::put_write(&mut writes[v], n, a, kind, payload);
             let stage = x.stage;
@@ -80,11 +75,8 @@ fn edit(
                 leaves: x.leaves,
                 writes: count as u8,
             };
-            let core = cores::with_worker(c, v, y);
-            Done {
-                core,
-                answer: Plain::Granted,
-            }
+            workers::put_worker(workers, v, y);
+            Plain::Granted
         }
     }
 }
@@ -92,48 +84,50 @@ fn edit(
 // Worker w puts a value at an address, for an owner.
 pub fn put(
     writes: &mut WriteSets,
+    workers: &mut Workers,
     rows: &Records,
     leaves: &Leaves,
     slots: &Slots,
     reads: &ReadSets,
     leafsets: &LeafSets,
-    c: Core,
+    c: Globals,
     w: u32,
     a: Address,
     value: u64,
     owner: u16,
-) -> Done
-    requires { ⌜ Ready (lent (now rows) (now leaves) (now slots)) (logs (now reads) (now leafsets) (now writes)) c ⌝ }
+) -> Plain
+    requires { ⌜ Ready (lent (now rows) (now leaves) (now slots)) (logs (now reads) (now leafsets) (now writes)) (coreOf (now workers) c) ⌝ }
     ensures { λ r. ⌜ Refines (lent (now (rows .entry)) (now (leaves .entry)) (now (slots .entry)))
-        (logs (now (reads .entry)) (now (leafsets .entry)) (now (writes .entry))) c (put w a (record { value = value; owner = owner }))
+        (logs (now (reads .entry)) (now (leafsets .entry)) (now (writes .entry))) (coreOf (now (workers .entry)) c) (put w a (record { value = value; owner = owner }))
         (lent (now (rows .entry)) (now (leaves .entry)) (now (slots .entry)))
-        (logs (now (reads .entry)) (now (leafsets .entry)) (now (writes .exit))) (r .core) (plainIn (r .answer)) ⌝ }
+        (logs (now (reads .entry)) (now (leafsets .entry)) (now (writes .exit))) (coreOf (now (workers .exit)) c) (plainIn r) ⌝ }
 {
     let payload = PayloadWords {
         value,
         owner: owner as u64,
     };
-    edit(writes, c, w, a, 1, payload)
+    edit(writes, workers, w, a, 1, payload)
 }
 
 // Worker w removes an address.
 pub fn remove(
     writes: &mut WriteSets,
+    workers: &mut Workers,
     rows: &Records,
     leaves: &Leaves,
     slots: &Slots,
     reads: &ReadSets,
     leafsets: &LeafSets,
-    c: Core,
+    c: Globals,
     w: u32,
     a: Address,
-) -> Done
-    requires { ⌜ Ready (lent (now rows) (now leaves) (now slots)) (logs (now reads) (now leafsets) (now writes)) c ⌝ }
+) -> Plain
+    requires { ⌜ Ready (lent (now rows) (now leaves) (now slots)) (logs (now reads) (now leafsets) (now writes)) (coreOf (now workers) c) ⌝ }
     ensures { λ r. ⌜ Refines (lent (now (rows .entry)) (now (leaves .entry)) (now (slots .entry)))
-        (logs (now (reads .entry)) (now (leafsets .entry)) (now (writes .entry))) c (remove w a)
+        (logs (now (reads .entry)) (now (leafsets .entry)) (now (writes .entry))) (coreOf (now (workers .entry)) c) (remove w a)
         (lent (now (rows .entry)) (now (leaves .entry)) (now (slots .entry)))
-        (logs (now (reads .entry)) (now (leafsets .entry)) (now (writes .exit))) (r .core) (plainIn (r .answer)) ⌝ }
+        (logs (now (reads .entry)) (now (leafsets .entry)) (now (writes .exit))) (coreOf (now (workers .exit)) c) (plainIn r) ⌝ }
 {
     let payload = PayloadWords { value: 0, owner: 0 };
-    edit(writes, c, w, a, 2, payload)
+    edit(writes, workers, w, a, 2, payload)
 }

@@ -1,13 +1,14 @@
 // Read: a worker's own write, or the current record, which its read set takes.
-use crate::cores;
 use map::Leaves;
 use map::Records;
 use map::Slots;
 use sets::LeafSets;
 use sets::ReadSet;
 use sets::ReadSets;
+use sets::Workers;
 use sets::WriteSets;
 use sets::reads;
+use sets::workers;
 use sets::workers::Worker;
 use sets::writes;
 use sets::writes::Found;
@@ -16,17 +17,18 @@ use spec::Current;
 use spec::OWNERS;
 use spec::READ_LIMIT;
 use spec::Refusal;
-use transactions::Core;
+use transactions::Globals;
 use transactions::admits;
 use transactions::admits::Admit;
 ghost use mathlib.Core.Path.{_≡_};
 ghost use Prim.Native.Nat.{_<_};
 ghost use Rattle.spec.specs.Records.{standard, payloadOf};
 ghost use Rattle.spec.specs.Steps.{read, found, isOpen};
+ghost use Rattle.sets.specs.Workers.{workersOf};
 ghost use Rattle.sets.specs.Reads.{recordIn, ReadSetHeld};
 ghost use Rattle.map.specs.Parts.{RecordsHeld, SlotsHeld};
 ghost use Rattle.map.specs.Views.{lent};
-ghost use Rattle.transactions.specs.Views.{logs};
+ghost use Rattle.transactions.specs.Views.{logs, coreOf};
 ghost use Rattle.transactions.specs.Ready.{Ready, Refines};
 ghost use Rattle.transactions.specs.Admits.{Entered};
 ghost use Rattle.accesses.specs.ReadSteps.{Loggable, Readable, LogsCurrent, Tells, TellsCurrent};
@@ -37,12 +39,6 @@ pub enum ReadAnswer {
     Value(u64, u16, usize),
     Absent(usize),
     Refused(Refusal),
-}
-
-// The core after a read, and its answer.
-pub struct ReadDone {
-    pub core: Core,
-    pub answer: ReadAnswer,
 }
 
 // How many reads are logged now, what the last one saw, and how many slots it examined.
@@ -91,25 +87,23 @@ fn take(
 // The read of a worker that has no write at the address.
 fn read_current(
     reads: &mut ReadSets,
+    workers: &mut Workers,
     rows: &Records,
     slots: &Slots,
-    c: Core,
+    c: Globals,
     w: u32,
     x: Worker,
     a: Address,
-) -> ReadDone
-    requires { ⌜ Loggable (now reads) (now rows) (now slots) c ⌝ }
-    requires { ⌜ Entered isOpen (c .workers) w x ⌝ }
-    ensures { λ r. ⌜ TellsCurrent (now (reads .entry)) (now (rows .entry)) (now (slots .entry)) c w x a (now (reads .exit)) r ⌝ }
+) -> ReadAnswer
+    requires { ⌜ Loggable (now reads) (now rows) (now slots) (coreOf (now workers) c) ⌝ }
+    requires { ⌜ Entered isOpen (workersOf (now workers)) w x ⌝ }
+    ensures { λ r. ⌜ TellsCurrent (now (reads .entry)) (now (rows .entry)) (now (slots .entry)) (coreOf (now (workers .entry)) c) w x a (now (reads .exit)) (coreOf (now (workers .exit)) c) r ⌝ }
 {
     let sizes = c.sizes;
     let v = w as usize;
     let n = x.reads as usize;
     if READ_LIMIT <= n {
-        return ReadDone {
-            core: c,
-            answer: ReadAnswer::Refused(Refusal::LogFull),
-        };
+        return ReadAnswer::Refused(Refusal::LogFull);
     }
     let taken = take(&mut reads[v], rows, slots, sizes.records, n, a);
     let stage = x.stage;
@@ -120,44 +114,34 @@ fn read_current(
         leaves: x.leaves,
         writes: x.writes,
     };
-    let core = cores::with_worker(c, v, y);
+    workers::put_worker(workers, v, y);
     let seen = taken.seen;
-    let answer = shown(seen, taken.examined);
-    ReadDone { core, answer }
+    shown(seen, taken.examined)
 }
 
 // The step, over the arrays that it looks at.
 fn tell(
     reads: &mut ReadSets,
+    workers: &mut Workers,
     rows: &Records,
     slots: &Slots,
     writes: &WriteSets,
-    c: Core,
+    c: Globals,
     w: u32,
     a: Address,
-) -> ReadDone
-    requires { ⌜ Readable (now reads) (now rows) (now slots) (now writes) c ⌝ }
-    ensures { λ r. ⌜ Tells (now (reads .entry)) (now (rows .entry)) (now (slots .entry)) (now (writes .entry)) c w a (now (reads .exit)) r ⌝ }
+) -> ReadAnswer
+    requires { ⌜ Readable (now reads) (now rows) (now slots) (now writes) (coreOf (now workers) c) ⌝ }
+    ensures { λ r. ⌜ Tells (now (reads .entry)) (now (rows .entry)) (now (slots .entry)) (now (writes .entry)) (coreOf (now (workers .entry)) c) w a (now (reads .exit)) (coreOf (now (workers .exit)) c) r ⌝ }
 {
-    let workers = c.workers;
     match admits::open(workers, w) {
-        Admit::Refused(r) => ReadDone {
-            core: c,
-            answer: ReadAnswer::Refused(r),
-        },
+        Admit::Refused(r) => ReadAnswer::Refused(r),
         Admit::Allowed(x) => {
             let v = w as usize;
             let own = writes::find_write(&writes[v], x.writes as usize, a);
             match own {
-                Found::Put(p) => ReadDone {
-                    core: c,
-                    answer: ReadAnswer::Value(p.value, (p.owner % OWNERS) as u16, 0),
-                },
-                Found::Deletion => ReadDone {
-                    core: c,
-                    answer: ReadAnswer::Absent(0),
-                },
-                Found::Nothing => read_current(reads, rows, slots, c, w, x, a),
+                Found::Put(p) => ReadAnswer::Value(p.value, (p.owner % OWNERS) as u16, 0),
+                Found::Deletion => ReadAnswer::Absent(0),
+                Found::Nothing => read_current(reads, workers, rows, slots, c, w, x, a),
             }
         }
     }
@@ -167,20 +151,21 @@ fn tell(
 // logged.
 pub fn read(
     reads: &mut ReadSets,
+    workers: &mut Workers,
     rows: &Records,
     leaves: &Leaves,
     slots: &Slots,
     leafsets: &LeafSets,
     writes: &WriteSets,
-    c: Core,
+    c: Globals,
     w: u32,
     a: Address,
-) -> ReadDone
-    requires { ⌜ Ready (lent (now rows) (now leaves) (now slots)) (logs (now reads) (now leafsets) (now writes)) c ⌝ }
+) -> ReadAnswer
+    requires { ⌜ Ready (lent (now rows) (now leaves) (now slots)) (logs (now reads) (now leafsets) (now writes)) (coreOf (now workers) c) ⌝ }
     ensures { λ r. ⌜ Refines (lent (now (rows .entry)) (now (leaves .entry)) (now (slots .entry)))
-        (logs (now (reads .entry)) (now (leafsets .entry)) (now (writes .entry))) c (read w a)
+        (logs (now (reads .entry)) (now (leafsets .entry)) (now (writes .entry))) (coreOf (now (workers .entry)) c) (read w a)
         (lent (now (rows .entry)) (now (leaves .entry)) (now (slots .entry)))
-        (logs (now (reads .exit)) (now (leafsets .entry)) (now (writes .entry))) (r .core) (readAnswer (r .answer)) ⌝ }
+        (logs (now (reads .exit)) (now (leafsets .entry)) (now (writes .entry))) (coreOf (now (workers .exit)) c) (readAnswer r) ⌝ }
 {
-    tell(reads, rows, slots, writes, c, w, a)
+    tell(reads, workers, rows, slots, writes, c, w, a)
 }

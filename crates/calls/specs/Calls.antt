@@ -14,7 +14,7 @@ use Rattle.transactions.specs.Views.{Logs, stateOf}
 use Rattle.transactions.specs.Ready.{Ready}
 use Rattle.ranges.specs.Buffers.{Buffers, placesOf}
 use Rattle.engine.specs.declared.steps.Op.{Op}
-use Rattle.engine.specs.declared.steps.Performed.{Performed}
+use Rattle.engine.specs.declared.cores.Performed.{Performed}
 use Rattle.engine.specs.Performs.{stepIn, replyIn, Performs}
 
 -- The step that a call takes, with the lengths of the buffers lent to it, and the answer that it gives, with what it left in them.

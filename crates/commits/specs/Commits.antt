@@ -7,15 +7,17 @@ use mathlib.Core.List.{List}
 use lib.ListN.{length, set}
 use Rattle.lists.specs.Rows.{Row, keys}
 use Rattle.spec.specs.Records.{standard, Write}
+use Rattle.spec.specs.Slots.{Slot}
 use Rattle.spec.specs.Maps.{MapState, withSlots, unlockAll, installAll}
 use Rattle.spec.specs.Steps as model
 use Rattle.spec.specs.Steps.{State, freeWorker, workerOf, writeKeys, withWorker, withMap, installedMap, dropped, effect, install}
+use Rattle.laws.specs.MapLaws.{Installable}
 use Rattle.sets.specs.declared.workers.Worker.{Worker}
 use Rattle.sets.specs.Workers.{workerIn, freed}
 use Rattle.sets.specs.WorkerLaws.{free-in}
 use Rattle.sets.specs.Reads.{ReadRows}
 use Rattle.sets.specs.Leaves.{LeafSetRows}
-use Rattle.sets.specs.Writes.{WriteRows, writesIn, WriteSetOrdered}
+use Rattle.sets.specs.Writes.{WriteRows, writesOf, writesIn, WriteSetOrdered}
 use Rattle.map.specs.declared.Sizes.{Sizes}
 use Rattle.counters.specs.declared.Counters.{Counters}
 use Rattle.map.specs.Views.{Lent, mapOf}
@@ -37,10 +39,21 @@ pub record Reaches (f : State → State) (l : Lent) (ws : List WriteRows) (c : C
 pub writing : {ws : WriteRows} {n : ℕ} → WriteSetOrdered ws n → Writing ws n
 writing o = record { held = o .held; few = o .room }
 
+-- what holds of a worker's write set holds of that of the worker handed over
+pub set-of : {ws : WriteRows} {x y : Worker} → x ≡ y → WriteSetOrdered ws (y .writes) → WriteSetOrdered ws (x .writes)
+set-of {ws} e o = subst (λ (u : Worker). WriteSetOrdered ws (u .writes)) (sym e) o
+
+pub can-of : {ss : List Slot} (ws : WriteRows) {x y : Worker} → x ≡ y → Installable ss (writesOf ws (y .writes)) → Installable ss (writesOf ws (x .writes))
+can-of {ss} ws e i = subst (λ (u : Worker). Installable ss (writesOf ws (u .writes))) (sym e) i
+
 -- ---- a new map and a new worker
 
+-- the core with other workers and sizes
+abbrev pub withWorkers : Core → List Worker → Sizes → Core
+withWorkers c xs z = record { workers = xs; sizes = z; counters = c .counters; guarded = c .guarded }
+
 new-map : (l l' : Lent) (g : Logs) (c : Core) (z : Sizes) (m : MapState) → mapOf l' z ≡ m
-    → stateOf l' g (record { workers = c .workers; sizes = z; counters = c .counters; guarded = c .guarded }) ≡ withMap (stateOf l g c) m
+    → stateOf l' g (withWorkers c (c .workers) z) ≡ withMap (stateOf l g c) m
 unfolding stateOf withMap
 new-map l l' g c z m e =
     ap
@@ -57,7 +70,7 @@ new-map l l' g c z m e =
 state-both : (l l' : Lent) (g : Logs) (c : Core) (w : ℕ) (x : Worker) (z : Sizes) (m : MapState) → mapOf l' z ≡ m
     → stateOf l' g (withBoth c w x z) ≡ withWorker (withMap (stateOf l g c) m) w (modelWorker g x w)
 state-both l l' g c w x z m e =
-    state-with l' g g (record { workers = c .workers; sizes = z; counters = c .counters; guarded = c .guarded }) w x (same-logs g w)
+    state-with l' g g (withWorkers c (c .workers) z) w x (same-logs g w)
     ∙ ap (λ (σ : State). withWorker σ w (modelWorker g x w)) (new-map l l' g c z m e)
 
 stored-both : (l l' : Lent) (g : Logs) (c : Core) (w : ℕ) (x : Worker) (z : Sizes) (m : MapState) → w < standard .workers
@@ -107,20 +120,21 @@ unlock-leaves : (w : ℕ) (m : MapState) (ks : List ℕ) → unlockAll standard 
 unfolding unlockAll withSlots
 unlock-leaves w m ks = refl
 
--- y the worker after it
-pub drops : (l l' : Lent) (ws : List WriteRows) (c : Core) (w : ℕ) (y : Worker) (z : Sizes) → w < standard .workers → y ≡ freed
-    → MapBecomes l' z (c .counters .version) (unlockAll standard w (mapOf l (c .sizes)) (keys (writesIn ws w (workerAt c w .writes))))
-    → Reaches (λ (σ : State). dropped σ w) l ws c l' (withBoth c w y z)
-drops l l' ws c w y z h q b =
-    subst (λ (u : Worker). Reaches (λ (σ : State). dropped σ w) l ws c l' (withBoth c w u z)) (sym q)
-    (reached (λ (σ : State). dropped σ w) l l' ws c w freed z _ h b (unlock-leaves w (mapOf l (c .sizes)) (keys (writesIn ws w (workerAt c w .writes)))) (inr refl)
+-- x the worker before it, y after it, xs the workers after it
+pub drops : (l l' : Lent) (ws : List WriteRows) (c : Core) {xs : List Worker} (w : ℕ) (x y : Worker) (z : Sizes) → w < standard .workers → x ≡ workerAt c w
+    → y ≡ freed → MapBecomes l' z (c .counters .version) (unlockAll standard w (mapOf l (c .sizes)) (keys (writesIn ws w (x .writes))))
+    → xs ≡ set (c .workers) w y → Reaches (λ (σ : State). dropped σ w) l ws c l' (withWorkers c xs z)
+drops l l' ws c w x y z h e q b p =
+    subst (λ (us : List Worker). Reaches (λ (σ : State). dropped σ w) l ws c l' (withWorkers c us z))
+    (sym (p ∙ ap (set (c .workers) w) q))
+    (reached (λ (σ : State). dropped σ w) l l' ws c w freed z _ h b (unlock-leaves w (mapOf l (c .sizes)) (keys (writesIn ws w (x .writes)))) (inr refl)
     (λ rs ls t. freed-within)
     (λ rs ls t.
     (λ i. withWorker (withMap (stateOf l (logs rs ls ws) c) (unlockAll standard w (mapOf l (c .sizes)) (ks rs ls t i))) w (free-in rs ls ws w i))
     ∙ (unfold dropped stateOf in refl)))
   where
-    ks : (rs : List ReadRows) (ls : List LeafSetRows) → Stored l (logs rs ls ws) c → keys (writesIn ws w (workerAt c w .writes)) ≡ writeKeys (stateOf l (logs rs ls ws) c) w
-    ks rs ls t = sym (keys-are l (logs rs ls ws) c w (worker-inside t w h))
+    ks : (rs : List ReadRows) (ls : List LeafSetRows) → Stored l (logs rs ls ws) c → keys (writesIn ws w (x .writes)) ≡ writeKeys (stateOf l (logs rs ls ws) c) w
+    ks rs ls t = ap (λ (u : Worker). keys (writesIn ws w (u .writes))) e ∙ sym (keys-are l (logs rs ls ws) c w (worker-inside t w h))
 
 -- ---- install
 
@@ -174,28 +188,29 @@ counts {f} {l} {l'} {ws} {c} {c'} r =
 abbrev installedState : ℕ → State → State
 installedState w σ = withWorker (withMap σ (installedMap σ w)) w freeWorker
 
--- y the worker after it, k the counters
-pub installs : (l l' : Lent) (ws : List WriteRows) (c : Core) (w : ℕ) (y : Worker) (z : Sizes) (k : Counters) → w < standard .workers → y ≡ freed
-    → k ≡ installCounted (c .counters)
-    → MapBecomes l' z (c .counters .version) (installAll standard (workerAt c w .number) (k .installs) (mapOf l (c .sizes)) (writesIn ws w (workerAt c w .writes)))
-    → Reaches (λ (σ : State). effect σ (install w)) l ws c l' (record { workers = set (c .workers) w y; sizes = z; counters = k; guarded = c .guarded })
+-- x the worker before it, y after it, k the counters and xs the workers after it
+pub installs : (l l' : Lent) (ws : List WriteRows) (c : Core) {xs : List Worker} (w : ℕ) (x y : Worker) (z : Sizes) (k : Counters) → w < standard .workers
+    → x ≡ workerAt c w → y ≡ freed → k ≡ installCounted (c .counters)
+    → MapBecomes l' z (c .counters .version) (installAll standard (x .number) (k .installs) (mapOf l (c .sizes)) (writesIn ws w (x .writes)))
+    → xs ≡ set (c .workers) w y
+    → Reaches (λ (σ : State). effect σ (install w)) l ws c l' (record { workers = xs; sizes = z; counters = k; guarded = c .guarded })
 unfolding effect
-installs l l' ws c w y z k h q e b =
-    subst (λ (x : Counters). Reaches (λ (σ : State). effect σ (install w)) l ws c l' (record { workers = set (c .workers) w y; sizes = z; counters = x; guarded = c .guarded })) (sym e)
+installs l l' ws c w x y z k h f q e b p =
+    subst (λ (d : Core). Reaches (λ (σ : State). effect σ (install w)) l ws c l' d)
+    (sym (λ i. record { workers = (p ∙ ap (set (c .workers) w) q) i; sizes = z; counters = e i; guarded = c .guarded }))
     (counts
-    (subst (λ (u : Worker). Reaches (installedState w) l ws c l' (withBoth c w u z)) (sym q)
     (reached (installedState w) l l' ws c w freed z _ h b
-    (install-leaves (workerAt c w .number) (k .installs) (mapOf l (c .sizes)) (writesIn ws w (workerAt c w .writes))) (inr refl) (λ rs ls t. freed-within)
+    (install-leaves (x .number) (k .installs) (mapOf l (c .sizes)) (writesIn ws w (x .writes))) (inr refl) (λ rs ls t. freed-within)
     (λ rs ls t.
     (λ i.
     withWorker (withMap (stateOf l (logs rs ls ws) c) (installAll standard (number rs ls t i) (install-number i) (mapOf l (c .sizes)) (writes rs ls t i))) w (free-in rs ls ws w i))
-    ∙ (unfold stateOf in refl)))))
+    ∙ (unfold stateOf in refl))))
   where
     install-number : k .installs ≡ suc (c .counters .installs)
-    install-number = ap (λ (x : Counters). x .installs) e ∙ one-more (c .counters .installs)
+    install-number = ap (λ (n : Counters). n .installs) e ∙ one-more (c .counters .installs)
 
-    number : (rs : List ReadRows) (ls : List LeafSetRows) → Stored l (logs rs ls ws) c → workerAt c w .number ≡ workerOf (stateOf l (logs rs ls ws) c) w .number
-    number rs ls t = sym (number-is l (logs rs ls ws) c w (worker-inside t w h))
+    number : (rs : List ReadRows) (ls : List LeafSetRows) → Stored l (logs rs ls ws) c → x .number ≡ workerOf (stateOf l (logs rs ls ws) c) w .number
+    number rs ls t = ap (λ (u : Worker). u .number) f ∙ sym (number-is l (logs rs ls ws) c w (worker-inside t w h))
 
-    writes : (rs : List ReadRows) (ls : List LeafSetRows) → Stored l (logs rs ls ws) c → writesIn ws w (workerAt c w .writes) ≡ workerOf (stateOf l (logs rs ls ws) c) w .writes
-    writes rs ls t = sym (writes-are l (logs rs ls ws) c w (worker-inside t w h))
+    writes : (rs : List ReadRows) (ls : List LeafSetRows) → Stored l (logs rs ls ws) c → writesIn ws w (x .writes) ≡ workerOf (stateOf l (logs rs ls ws) c) w .writes
+    writes rs ls t = ap (λ (u : Worker). writesIn ws w (u .writes)) f ∙ sym (writes-are l (logs rs ls ws) c w (worker-inside t w h))

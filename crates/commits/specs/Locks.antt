@@ -1,13 +1,13 @@
 -- Lock, as it goes: refused by 1, 2, 4, in a guarded map by 16, 17 or 18, by 9, 10 or 11, or the addresses of the write set are
 -- locked.
-use Prim.Native.Nat.{ℕ, _+_, _^_, _<_, _≤_}
+use Prim.Native.Nat.{ℕ, _+_, _^_, _<_}
 use native.Mathlib.Omega.{arith}
 use mathlib.Core.Path.{_≡_, refl, sym, ap, _∙_, subst}
 use mathlib.Core.Logic.{inl}
 use mathlib.Core.Bool.{Bool, true, false}
 use mathlib.Core.List.{List, [], _∷_}
 use mathlib.Core.Option.{Option, none, some}
-use lib.ListN.{getD}
+use lib.ListN.{getD, set}
 use Rattle.lists.specs.Tests.{pick, both, maybe, present, less}
 use Rattle.lists.specs.TestLaws.{clash, less-false}
 use Rattle.lists.specs.Rows.{Row, keys, any, Rising}
@@ -44,13 +44,13 @@ use Rattle.transactions.specs.declared.begins.Plain.{Plain}
 use Rattle.transactions.specs.declared.begins.Plain.the-variants.{Granted, Refused}
 use Rattle.transactions.specs.Answering.{front, front-first, cause-holds, cause-fails, yields-granted, yields-refused}
 use Rattle.transactions.specs.Admits.{Turned, Entered}
-use Rattle.transactions.specs.Views.{Logs, logs, guardedIn, stateOf, withBoth}
+use Rattle.transactions.specs.Views.{Logs, logs, guardedIn, stateOf}
 use Rattle.transactions.specs.ViewLaws.{worker-at}
 use Rattle.transactions.specs.Ready.{workerAt, Stored, Ready, Refines}
 use Rattle.transactions.specs.ReadyLaws.{refines, refines-refused}
 use Rattle.transactions.specs.CoreLaws.{worker-is, within, ready-writable, worker-writable}
 use Rattle.transactions.specs.Begins.{plainIn}
-use Rattle.commits.specs.Commits.{Reaches, reached, worker-inside, writes-are, keys-are}
+use Rattle.commits.specs.Commits.{Reaches, withWorkers, reached, worker-inside, writes-are, keys-are}
 use Rattle.commits.specs.Finishes.{mild}
 
 -- the refusal that is answered
@@ -133,46 +133,49 @@ pub record LocksOpen (l : Lent) (ws : List WriteRows) (c : Core) (w : ℕ) (l' :
   pub tests : lockTests (mapOf l (c .sizes)) (keys (writesIn ws w (workerAt c w .writes))) w ≡ refusalIn a
   pub reaches : Reaches (λ (σ : State). maybe (refusalIn a) (effect σ (lock w)) (λ (r : Refusal). σ)) l ws c l' c'
 
-same-tests : (l : Lent) (ws : List WriteRows) (c : Core) (w : ℕ) (a : Plain) → Tested (l .rows) (l .slots) (getD ws w []) (c .sizes) (workerAt c w .writes) w a
+same-tests : (l : Lent) (ws : List WriteRows) (c : Core) (w : ℕ) (x : Worker) (a : Plain) → x ≡ workerAt c w
+    → Tested (l .rows) (l .slots) (getD ws w []) (c .sizes) (x .writes) w a
     → lockTests (mapOf l (c .sizes)) (keys (writesIn ws w (workerAt c w .writes))) w ≡ refusalIn a
-same-tests l ws c w a t = t .is (mapOf l (c .sizes)) refl refl
+same-tests l ws c w x a e t =
+    ap (λ (u : Worker). lockTests (mapOf l (c .sizes)) (keys (writesIn ws w (u .writes))) w) (sym e) ∙ t .is (mapOf l (c .sizes)) refl refl
 
-pub locks-refused : (l : Lent) (ws : List WriteRows) (c : Core) (w : ℕ) (a : Plain)
-    → Tested (l .rows) (l .slots) (getD ws w []) (c .sizes) (workerAt c w .writes) w a → present (refusalIn a) ≡ true → LocksOpen l ws c w l c a
-locks-refused l ws c w Granted t p = clash p refl
-locks-refused l ws c w (Refused r) t p =
-    record { tests = same-tests l ws c w (Refused r) t; reaches = record { state = λ rs ls s. refl; stored = λ rs ls s. s } }
+pub locks-refused : (l : Lent) (ws : List WriteRows) (c : Core) (w : ℕ) (x : Worker) (a : Plain) → x ≡ workerAt c w
+    → Tested (l .rows) (l .slots) (getD ws w []) (c .sizes) (x .writes) w a → present (refusalIn a) ≡ true → LocksOpen l ws c w l c a
+locks-refused l ws c w x Granted e t p = clash p refl
+locks-refused l ws c w x (Refused r) e t p =
+    record { tests = same-tests l ws c w x (Refused r) e t; reaches = record { state = λ rs ls s. refl; stored = λ rs ls s. s } }
 
 lock-leaves : (w : ℕ) (m : MapState) (us : List (Row Write)) → lockAll standard w m us .leaves ≡ m .leaves
 unfolding lockAll withSlots
 lock-leaves w m us = refl
 
--- y the worker after it
-locks : (l l' : Lent) (ws : List WriteRows) (c : Core) (w : ℕ) (y : Worker) (z : Sizes) → w < standard .workers → y ≡ atLock (workerAt c w)
-    → MapBecomes l' z (c .counters .version) (lockAll standard w (mapOf l (c .sizes)) (writesIn ws w (workerAt c w .writes)))
-    → Reaches (λ (σ : State). effect σ (lock w)) l ws c l' (withBoth c w y z)
-locks l l' ws c w y z h q b =
-    subst (λ (u : Worker). Reaches (λ (σ : State). effect σ (lock w)) l ws c l' (withBoth c w u z)) (sym q)
+-- x the worker before it, y after it, xs the workers after it
+locks : (l l' : Lent) (ws : List WriteRows) (c : Core) {xs : List Worker} (w : ℕ) (x y : Worker) (z : Sizes) → w < standard .workers → x ≡ workerAt c w → y ≡ atLock x
+    → MapBecomes l' z (c .counters .version) (lockAll standard w (mapOf l (c .sizes)) (writesIn ws w (x .writes)))
+    → xs ≡ set (c .workers) w y → Reaches (λ (σ : State). effect σ (lock w)) l ws c l' (withWorkers c xs z)
+locks l l' ws c w x y z h e q b p =
+    subst (λ (us : List Worker). Reaches (λ (σ : State). effect σ (lock w)) l ws c l' (withWorkers c us z))
+    (sym (p ∙ ap (set (c .workers) w) (q ∙ ap atLock e)))
     (reached (λ (σ : State). effect σ (lock w)) l l' ws c w (atLock (workerAt c w)) z _ h b
-    (lock-leaves w (mapOf l (c .sizes)) (writesIn ws w (workerAt c w .writes))) (inl refl)
+    (lock-leaves w (mapOf l (c .sizes)) (writesIn ws w (x .writes))) (inl refl)
     (λ rs ls t. record { reads = t .counts w h .reads; leaves = t .counts w h .leaves; writes = t .counts w h .writes })
     (λ rs ls t.
     (λ i. withWorker (withMap (stateOf l (logs rs ls ws) c) (lockAll standard w (mapOf l (c .sizes)) (us rs ls t i))) w (worker rs ls t i))
     ∙ (unfold effect stateOf in refl)))
   where
-    us : (rs : List ReadRows) (ls : List LeafSetRows) → Stored l (logs rs ls ws) c → writesIn ws w (workerAt c w .writes) ≡ workerOf (stateOf l (logs rs ls ws) c) w .writes
-    us rs ls t = sym (writes-are l (logs rs ls ws) c w (worker-inside t w h))
+    us : (rs : List ReadRows) (ls : List LeafSetRows) → Stored l (logs rs ls ws) c → writesIn ws w (x .writes) ≡ workerOf (stateOf l (logs rs ls ws) c) w .writes
+    us rs ls t = ap (λ (u : Worker). writesIn ws w (u .writes)) e ∙ sym (writes-are l (logs rs ls ws) c w (worker-inside t w h))
 
     worker : (rs : List ReadRows) (ls : List LeafSetRows) → Stored l (logs rs ls ws) c
         → workerIn (atLock (workerAt c w)) rs ls ws w ≡ atStage Locked (workerOf (stateOf l (logs rs ls ws) c) w)
     worker rs ls t = lock-in rs ls ws w (workerAt c w) ∙ ap (atStage Locked) (sym (worker-at l (logs rs ls ws) c w (worker-inside t w h)))
 
-pub locks-granted : (l l' : Lent) (ws : List WriteRows) (c : Core) (w : ℕ) (y : Worker) (z : Sizes) (a : Plain) → w < standard .workers
-    → Tested (l .rows) (l .slots) (getD ws w []) (c .sizes) (workerAt c w .writes) w a → present (refusalIn a) ≡ false → y ≡ atLock (workerAt c w)
-    → MapBecomes l' z (c .counters .version) (lockAll standard w (mapOf l (c .sizes)) (writesIn ws w (workerAt c w .writes)))
-    → LocksOpen l ws c w l' (withBoth c w y z) a
-locks-granted l l' ws c w y z Granted h t p q b = record { tests = same-tests l ws c w Granted t; reaches = locks l l' ws c w y z h q b }
-locks-granted l l' ws c w y z (Refused r) h t p q b = clash refl p
+pub locks-granted : (l l' : Lent) (ws : List WriteRows) (c : Core) {xs : List Worker} (w : ℕ) (x y : Worker) (z : Sizes) (a : Plain) → w < standard .workers
+    → x ≡ workerAt c w → Tested (l .rows) (l .slots) (getD ws w []) (c .sizes) (x .writes) w a → present (refusalIn a) ≡ false → y ≡ atLock x
+    → MapBecomes l' z (c .counters .version) (lockAll standard w (mapOf l (c .sizes)) (writesIn ws w (x .writes)))
+    → xs ≡ set (c .workers) w y → LocksOpen l ws c w l' (withWorkers c xs z) a
+locks-granted l l' ws c w x y z Granted h e t p q b u = record { tests = same-tests l ws c w x Granted e t; reaches = locks l l' ws c w x y z h e q b u }
+locks-granted l l' ws c w x y z (Refused r) h e t p q b u = clash refl p
 
 -- ---- the guard
 

@@ -2,7 +2,7 @@
 use Prim.Native.Nat.{ℕ, _+_, _%_, _<_, _≤_}
 use mathlib.Core.Path.{_≡_, refl, sym, ap, _∙_, subst}
 use mathlib.Core.Bool.{Bool, true, false, not}
-use mathlib.Core.List.{[], _∷_}
+use mathlib.Core.List.{List, [], _∷_}
 use mathlib.Core.Option.{Option, none, some}
 use lib.Dec.{eqb}
 use lib.ListN.{getD, set}
@@ -33,9 +33,11 @@ use Rattle.transactions.specs.declared.Core.{Core}
 use Rattle.commits.specs.declared.validates.Verdict.{Verdict}
 use Rattle.commits.specs.declared.validates.Verdict.the-variants as verdict
 use Rattle.commits.specs.declared.validates.Verdict.the-variants.{Passed}
+use Rattle.commits.specs.declared.validates.ValidateAnswer.{ValidateAnswer}
 use Rattle.commits.specs.declared.validates.ValidateAnswer.the-variants as answer
 use Rattle.commits.specs.declared.validates.ValidateAnswer.the-variants.{Number}
 use Rattle.commits.specs.declared.validates.ValidateDone.{ValidateDone}
+use Rattle.transactions.specs.Views.{coreOf}
 use Rattle.transactions.specs.Ready.{Within}
 use Rattle.map.specs.Parts as map-parts
 use Rattle.map.specs.Views.{recordFrom, slotsIn, mapOf, Lent, SlotRows, RecordRows}
@@ -84,19 +86,27 @@ abbrev pub verdictIn : Verdict → Option Refusal
 verdictIn Passed = none
 verdictIn (verdict.Refused r) = some r
 
+-- The core after a validation, and its answer.
+pub record Validated : Type 0 where
+  pub core : Core
+  pub answer : ValidateAnswer
+
+abbrev pub validatedOf : List ℕ → ValidateDone → Validated
+validatedOf ws d = record { core = coreOf ws (d .globals); answer = d .answer }
+
 -- the core after worker w, now y, took commit number n
 abbrev pub withNumber : Core → ℕ → Worker → ℕ → Core
 withNumber c w y n = record { workers = set (c .workers) w y; sizes = c .sizes; counters = record { number = n; version = c .counters .version; installs = c .counters .installs }; guarded = c .guarded }
 
 -- what a validation answers if a commit number is left, and if none is
-abbrev takes : Core → ℕ → Worker → Bool → ValidateDone
+abbrev takes : Core → ℕ → Worker → Bool → Validated
 takes c w x left =
     pick left
     (record { core = withNumber c w (atCheck x (c .counters .number + 1)) (c .counters .number + 1); answer = Number (c .counters .number + 1) })
     (record { core = c; answer = answer.Refused Spent })
 
 -- the next commit number, if one is left
-unfoldable pub numbering : Core → ℕ → Worker → ValidateDone
+unfoldable pub numbering : Core → ℕ → Worker → Validated
 numbering c w x = takes c w x (less (c .counters .number) (standard .lastNumber))
 
 -- ---- two records compared
@@ -196,10 +206,11 @@ module _ (c : Core) (w : ℕ) (x : Worker) where
   unfolding numbering
   number-left h = sym (ap (takes c w x) (less-yes {m = c .counters .number} {n = standard .lastNumber} h))
 
-  -- the number is taken from the counters
-  pub number-taken : (k : Counters) (n : ℕ) (y : Worker) → c .counters .number < standard .lastNumber
+  -- the number is taken from the counters, xs the workers after it
+  pub number-taken : {xs : List Worker} (k : Counters) (n : ℕ) (y : Worker) → c .counters .number < standard .lastNumber
       → (n ≡ map-parts.numbered (c .counters) .number) × (k ≡ map-parts.numbered (c .counters)) → y ≡ atCheck x n
-      → record { core = record { workers = set (c .workers) w y; sizes = c .sizes; counters = k; guarded = c .guarded }; answer = Number n } ≡ numbering c w x
-  number-taken k n y h (p, q) e =
-      (λ i. record { core = record { workers = set (c .workers) w ((e ∙ ap (atCheck x) p) i); sizes = c .sizes; counters = q i; guarded = c .guarded }; answer = Number (p i) })
+      → xs ≡ set (c .workers) w y
+      → record { core = record { workers = xs; sizes = c .sizes; counters = k; guarded = c .guarded }; answer = Number n } ≡ numbering c w x
+  number-taken k n y h (p, q) e u =
+      (λ i. record { core = record { workers = (u ∙ ap (set (c .workers) w) (e ∙ ap (atCheck x) p)) i; sizes = c .sizes; counters = q i; guarded = c .guarded }; answer = Number (p i) })
       ∙ number-left h

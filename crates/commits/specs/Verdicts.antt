@@ -34,7 +34,6 @@ use Rattle.commits.specs.declared.validates.Verdict.{Verdict}
 use Rattle.commits.specs.declared.validates.Verdict.the-variants as verdict
 use Rattle.commits.specs.declared.validates.Verdict.the-variants.{Passed}
 use Rattle.commits.specs.declared.validates.ValidateAnswer.the-variants.{Number, Refused}
-use Rattle.commits.specs.declared.validates.ValidateDone.{ValidateDone}
 use Rattle.transactions.specs.Answering.{Yields, yields-granted, cause-holds, cause-fails, front, front-first}
 use Rattle.transactions.specs.Admits.{Turned, Entered}
 use Rattle.transactions.specs.Views.{logs, modelWorker, stateOf}
@@ -43,7 +42,7 @@ use Rattle.transactions.specs.Ready.{Within, Stored, Ready, Refines}
 use Rattle.transactions.specs.ReadyLaws.{refines, refines-refused}
 use Rattle.transactions.specs.CoreLaws.{ready-writable, worker-is, within, worker-writable, stored-worker}
 use Rattle.commits.specs.Commits.{Reaches, writing}
-use Rattle.commits.specs.Validates.{changedIn, lockedIn, LoggedAll, Examinable, firstOf, judged, verdictIn, withNumber, numbering, number-spent, number-left}
+use Rattle.commits.specs.Validates.{changedIn, lockedIn, LoggedAll, Examinable, firstOf, judged, verdictIn, Validated, withNumber, numbering, number-spent, number-left}
 use Rattle.commits.specs.Answers.{validateIn}
 
 -- ---- the tests, in their order
@@ -314,7 +313,7 @@ module _ {l : Lent} {rs : List ReadRows} {ls : List LeafSetRows} {ws : List Writ
         (checked-state (suc (c .counters .number)) ∙ effect-is)
         (checked-stored (suc (c .counters .number))))
 
-    pub validate-passed : (v : Verdict) (y : ValidateDone) → v ≡ Passed
+    pub validate-passed : (v : Verdict) (y : Validated) → v ≡ Passed
         → verdictIn v ≡ judged l (getD rs w []) (getD ls w []) (c .sizes) x w → y ≡ numbering c w x
         → Refines l (logs rs ls ws) c (validate w) l (logs rs ls ws) (y .core) (validateIn (y .answer))
     validate-passed v y p j e =
@@ -327,5 +326,5 @@ module _ {l : Lent} {rs : List ReadRows} {ls : List LeafSetRows} {ws : List Writ
         (refines-refused k (refusal-by none q ∙ spent-is false b ∙ cause-holds true Spent [] refl) refl))
         (cases (less (c .counters .number) (standard .lastNumber)))
       where
-        Taken : ValidateDone → Type 0
+        Taken : Validated → Type 0
         Taken r = Refines l (logs rs ls ws) c (validate w) l (logs rs ls ws) (r .core) (validateIn (r .answer))

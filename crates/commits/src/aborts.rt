@@ -1,19 +1,20 @@
 // Abort: a transaction is given up.
+use crate::Done;
 use crate::drops;
 use map::Leaves;
 use map::Records;
 use map::Slots;
 use sets::LeafSets;
 use sets::ReadSets;
+use sets::Workers;
 use sets::WriteSets;
-use transactions::Core;
+use transactions::Globals;
 use transactions::admits;
 use transactions::admits::Admit;
-use transactions::begins::Done;
 use transactions::begins::Plain;
 ghost use Rattle.spec.specs.Steps as model;
 ghost use Rattle.map.specs.Views.{lent};
-ghost use Rattle.transactions.specs.Views.{logs};
+ghost use Rattle.transactions.specs.Views.{logs, coreOf};
 ghost use Rattle.transactions.specs.Ready.{Ready, Refines};
 ghost use Rattle.transactions.specs.Begins.{plainIn};
 
@@ -21,28 +22,36 @@ ghost use Rattle.transactions.specs.Begins.{plainIn};
 pub fn abort(
     leaves: &mut Leaves,
     slots: &mut Slots,
+    workers: &mut Workers,
     rows: &Records,
     reads: &ReadSets,
     leafsets: &LeafSets,
     writes: &WriteSets,
-    c: Core,
+    c: Globals,
     w: u32,
 ) -> Done
-    requires { ⌜ Ready (lent (now rows) (now leaves) (now slots)) (logs (now reads) (now leafsets) (now writes)) c ⌝ }
+    requires { ⌜ Ready (lent (now rows) (now leaves) (now slots)) (logs (now reads) (now leafsets) (now writes)) (coreOf (now workers) c) ⌝ }
     ensures { λ r. ⌜ Refines (lent (now (rows .entry)) (now (leaves .entry)) (now (slots .entry)))
-        (logs (now (reads .entry)) (now (leafsets .entry)) (now (writes .entry))) c (model.abort w) (lent (now (rows .entry)) (now (leaves .exit)) (now (slots .exit)))
-        (logs (now (reads .entry)) (now (leafsets .entry)) (now (writes .entry))) (r .core) (plainIn (r .answer)) ⌝ }
+        (logs (now (reads .entry)) (now (leafsets .entry)) (now (writes .entry))) (coreOf (now (workers .entry)) c) (model.abort w) (lent (now (rows .entry)) (now (leaves .exit)) (now (slots .exit)))
+        (logs (now (reads .entry)) (now (leafsets .entry)) (now (writes .entry))) (coreOf (now (workers .exit)) (r .globals)) (plainIn (r .answer)) ⌝ }
 {
-    let workers = c.workers;
     match admits::busy(workers, w) {
         Admit::Refused(r) => Done {
-            core: c,
+            globals: c,
             answer: Plain::Refused(r),
         },
         Admit::Allowed(_) => {
-            let core = drops::drop_transaction(leaves, slots, rows, writes, c, w as usize);
+            let globals = drops::drop_transaction(
+                leaves,
+                slots,
+                workers,
+                rows,
+                writes,
+                c,
+                w as usize,
+            );
             Done {
-                core,
+                globals,
                 answer: Plain::Granted,
             }
         }

@@ -2,8 +2,10 @@
 use map::Leaves;
 use map::Records;
 use map::Slots;
+use sets::Workers;
 use sets::WriteSets;
-use transactions::Core;
+use sets::workers;
+use transactions::Globals;
 ghost use Prim.Native.Nat.{_<_};
 ghost use lib.ListN.{getD};
 ghost use mathlib.Core.List.{[]};
@@ -12,6 +14,7 @@ ghost use Rattle.spec.specs.Steps.{State, dropped};
 ghost use Rattle.sets.specs.Writes.{WriteSetOrdered};
 ghost use Rattle.map.specs.Views.{lent};
 ghost use Rattle.map.specs.MapHeld as map;
+ghost use Rattle.transactions.specs.Views.{coreOf};
 ghost use Rattle.transactions.specs.Ready.{workerAt};
 ghost use Rattle.commits.specs.Commits.{Reaches};
 
@@ -19,20 +22,20 @@ ghost use Rattle.commits.specs.Commits.{Reaches};
 pub fn drop_transaction(
     leaves: &mut Leaves,
     slots: &mut Slots,
+    workers: &mut Workers,
     rows: &Records,
     writes: &WriteSets,
-    c: Core,
+    c: Globals,
     w: usize,
-) -> Core
+) -> Globals
     requires { ⌜ map.MapHeld (lent (now rows) (now leaves) (now slots)) (c .sizes) (c .counters .version) ⌝ }
     requires { ⌜ w < standard .workers ⌝ }
-    requires { ⌜ WriteSetOrdered (getD (now writes) w []) (workerAt c w .writes) ⌝ }
-    ensures { λ r. ⌜ Reaches (λ (σ : State). dropped σ w) (lent (now (rows .entry)) (now (leaves .entry)) (now (slots .entry))) (now (writes .entry)) c (lent (now (rows .entry)) (now (leaves .exit)) (now (slots .exit))) r ⌝ }
+    requires { ⌜ WriteSetOrdered (getD (now writes) w []) (workerAt (coreOf (now workers) c) w .writes) ⌝ }
+    ensures { λ r. ⌜ Reaches (λ (σ : State). dropped σ w) (lent (now (rows .entry)) (now (leaves .entry)) (now (slots .entry))) (now (writes .entry)) (coreOf (now (workers .entry)) c) (lent (now (rows .entry)) (now (leaves .exit)) (now (slots .exit))) (coreOf (now (workers .exit)) r) ⌝ }
 {
-    let mut workers = c.workers;
     let sizes = c.sizes;
     let counters = c.counters;
-    let x = workers[w];
+    let x = workers::worker_at(workers, w);
     let own = w as u64;
     let z = map::locks::unlock_all(
         leaves,
@@ -45,9 +48,8 @@ pub fn drop_transaction(
         own,
     );
     let free = x.free();
-    workers[w] = free;
-    Core {
-        workers,
+    workers::put_worker(workers, w, free);
+    Globals {
         sizes: z,
         counters,
         guarded: c.guarded,

@@ -1,14 +1,16 @@
 // Install: the writes of a validated transaction enter the map.
+use crate::Done;
 use map::Leaves;
 use map::Records;
 use map::Slots;
 use sets::LeafSets;
 use sets::ReadSets;
+use sets::Workers;
 use sets::WriteSets;
-use transactions::Core;
+use sets::workers;
+use transactions::Globals;
 use transactions::admits;
 use transactions::admits::Admit;
-use transactions::begins::Done;
 use transactions::begins::Plain;
 ghost use mathlib.Core.List.{[]};
 ghost use Prim.Native.Nat.{_+_, _^_, _<_};
@@ -20,7 +22,7 @@ ghost use Rattle.laws.specs.MapLaws.{Installable};
 ghost use Rattle.sets.specs.Writes.{writesIn, WriteSetOrdered};
 ghost use Rattle.map.specs.Views.{lent, slotsIn};
 ghost use Rattle.map.specs.MapHeld as map;
-ghost use Rattle.transactions.specs.Views.{logs};
+ghost use Rattle.transactions.specs.Views.{logs, coreOf};
 ghost use Rattle.transactions.specs.Ready.{workerAt, Ready, Refines};
 ghost use Rattle.transactions.specs.Begins.{plainIn};
 ghost use Rattle.commits.specs.Commits.{Reaches};
@@ -29,23 +31,23 @@ ghost use Rattle.commits.specs.Commits.{Reaches};
 fn install_transaction(
     leaves: &mut Leaves,
     slots: &mut Slots,
+    workers: &mut Workers,
     rows: &Records,
     writes: &WriteSets,
-    c: Core,
+    c: Globals,
     w: usize,
-) -> Core
+) -> Globals
     requires { ⌜ map.MapHeld (lent (now rows) (now leaves) (now slots)) (c .sizes) (c .counters .version) ⌝ }
     requires { ⌜ w < standard .workers ⌝ }
-    requires { ⌜ WriteSetOrdered (getD (now writes) w []) (workerAt c w .writes) ⌝ }
-    requires { ⌜ Installable (slotsIn (now slots)) (writesIn (now writes) w (workerAt c w .writes)) ⌝ }
+    requires { ⌜ WriteSetOrdered (getD (now writes) w []) (workerAt (coreOf (now workers) c) w .writes) ⌝ }
+    requires { ⌜ Installable (slotsIn (now slots)) (writesIn (now writes) w (workerAt (coreOf (now workers) c) w .writes)) ⌝ }
     requires { ⌜ c .counters .installs + 1 < 2 ^ 64 ⌝ }
-    ensures { λ r. ⌜ Reaches (λ (σ : State). effect σ (model.install w)) (lent (now (rows .entry)) (now (leaves .entry)) (now (slots .entry))) (now (writes .entry)) c (lent (now (rows .entry)) (now (leaves .exit)) (now (slots .exit))) r ⌝ }
+    ensures { λ r. ⌜ Reaches (λ (σ : State). effect σ (model.install w)) (lent (now (rows .entry)) (now (leaves .entry)) (now (slots .entry))) (now (writes .entry)) (coreOf (now (workers .entry)) c) (lent (now (rows .entry)) (now (leaves .exit)) (now (slots .exit))) (coreOf (now (workers .exit)) r) ⌝ }
 {
-    let mut workers = c.workers;
     let sizes = c.sizes;
     let counters = c.counters;
     let counted = counters::count_install(counters);
-    let x = workers[w];
+    let x = workers::worker_at(workers, w);
     let z = map::locks::install_all(
         leaves,
         slots,
@@ -58,9 +60,8 @@ fn install_transaction(
         counted.installs,
     );
     let free = x.free();
-    workers[w] = free;
-    Core {
-        workers,
+    workers::put_worker(workers, w, free);
+    Globals {
         sizes: z,
         counters: counted,
         guarded: c.guarded,
@@ -71,28 +72,28 @@ fn install_transaction(
 pub fn install(
     leaves: &mut Leaves,
     slots: &mut Slots,
+    workers: &mut Workers,
     rows: &Records,
     reads: &ReadSets,
     leafsets: &LeafSets,
     writes: &WriteSets,
-    c: Core,
+    c: Globals,
     w: u32,
 ) -> Done
-    requires { ⌜ Ready (lent (now rows) (now leaves) (now slots)) (logs (now reads) (now leafsets) (now writes)) c ⌝ }
+    requires { ⌜ Ready (lent (now rows) (now leaves) (now slots)) (logs (now reads) (now leafsets) (now writes)) (coreOf (now workers) c) ⌝ }
     ensures { λ r. ⌜ Refines (lent (now (rows .entry)) (now (leaves .entry)) (now (slots .entry)))
-        (logs (now (reads .entry)) (now (leafsets .entry)) (now (writes .entry))) c (model.install w) (lent (now (rows .entry)) (now (leaves .exit)) (now (slots .exit)))
-        (logs (now (reads .entry)) (now (leafsets .entry)) (now (writes .entry))) (r .core) (plainIn (r .answer)) ⌝ }
+        (logs (now (reads .entry)) (now (leafsets .entry)) (now (writes .entry))) (coreOf (now (workers .entry)) c) (model.install w) (lent (now (rows .entry)) (now (leaves .exit)) (now (slots .exit)))
+        (logs (now (reads .entry)) (now (leafsets .entry)) (now (writes .entry))) (coreOf (now (workers .exit)) (r .globals)) (plainIn (r .answer)) ⌝ }
 {
-    let workers = c.workers;
     match admits::checked(workers, w) {
         Admit::Refused(r) => Done {
-            core: c,
+            globals: c,
             answer: Plain::Refused(r),
         },
         Admit::Allowed(_) => {
-            let core = install_transaction(leaves, slots, rows, writes, c, w as usize);
+            let globals = install_transaction(leaves, slots, workers, rows, writes, c, w as usize);
             Done {
-                core,
+                globals,
                 answer: Plain::Granted,
             }
         }

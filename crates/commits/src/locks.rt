@@ -1,4 +1,5 @@
 // Lock: the addresses of a write set, all or none, and the tests before it; in a guarded map first those of its puts.
+use crate::Done;
 use guards::Judged;
 use map::Leaves;
 use map::Records;
@@ -6,14 +7,15 @@ use map::Sizes;
 use map::Slots;
 use sets::LeafSets;
 use sets::ReadSets;
+use sets::Workers;
 use sets::WriteSet;
 use sets::WriteSets;
+use sets::workers;
 use sets::workers::Worker;
 use spec::Refusal;
-use transactions::Core;
+use transactions::Globals;
 use transactions::admits;
 use transactions::admits::Admit;
-use transactions::begins::Done;
 use transactions::begins::Plain;
 ghost use mathlib.Core.Path.{_≡_};
 ghost use mathlib.Core.List.{[]};
@@ -30,7 +32,7 @@ ghost use Rattle.guards.specs.Judging.{judgedIn, Guardable};
 ghost use Rattle.map.specs.Views.{lent, slotsIn};
 ghost use Rattle.map.specs.MapHeld as map;
 ghost use Rattle.map.specs.AddressCounts.{Counted};
-ghost use Rattle.transactions.specs.Views.{logs};
+ghost use Rattle.transactions.specs.Views.{logs, coreOf};
 ghost use Rattle.transactions.specs.Ready.{workerAt, Ready, Refines};
 ghost use Rattle.transactions.specs.Begins.{plainIn};
 ghost use Rattle.commits.specs.Locks.{refusalIn, guardTests, Tested, LocksOpen};
@@ -68,25 +70,25 @@ fn refused(a: Plain) -> bool
 fn lock_open(
     leaves: &mut Leaves,
     slots: &mut Slots,
+    workers: &mut Workers,
     rows: &Records,
     writes: &WriteSets,
-    c: Core,
+    c: Globals,
     w: usize,
 ) -> Done
     requires { ⌜ map.MapHeld (lent (now rows) (now leaves) (now slots)) (c .sizes) (c .counters .version) ⌝ }
     requires { ⌜ w < standard .workers ⌝ }
-    requires { ⌜ WriteSetOrdered (getD (now writes) w []) (workerAt c w .writes) ⌝ }
-    ensures { λ r. ⌜ LocksOpen (lent (now (rows .entry)) (now (leaves .entry)) (now (slots .entry))) (now (writes .entry)) c w (lent (now (rows .entry)) (now (leaves .exit)) (now (slots .exit))) (r .core) (r .answer) ⌝ }
+    requires { ⌜ WriteSetOrdered (getD (now writes) w []) (workerAt (coreOf (now workers) c) w .writes) ⌝ }
+    ensures { λ r. ⌜ LocksOpen (lent (now (rows .entry)) (now (leaves .entry)) (now (slots .entry))) (now (writes .entry)) (coreOf (now (workers .entry)) c) w (lent (now (rows .entry)) (now (leaves .exit)) (now (slots .exit))) (coreOf (now (workers .exit)) (r .globals)) (r .answer) ⌝ }
 {
-    let mut workers = c.workers;
     let sizes = c.sizes;
     let counters = c.counters;
-    let x = workers[w];
+    let x = workers::worker_at(workers, w);
     let n = x.writes as usize;
     let tested = lock_tests(rows, slots, &writes[w], sizes, n, w as u64);
     if refused(tested) {
         return Done {
-            core: c,
+            globals: c,
             answer: tested,
         };
     }
@@ -101,15 +103,14 @@ fn lock_open(
         w as u64,
     );
     let locked = x.lock();
-    workers[w] = locked;
-    let core = Core {
-        workers,
+    workers::put_worker(workers, w, locked);
+    let globals = Globals {
         sizes: z,
         counters,
         guarded: c.guarded,
     };
     Done {
-        core,
+        globals,
         answer: tested,
     }
 }
@@ -137,32 +138,32 @@ fn guard(
 pub fn lock(
     leaves: &mut Leaves,
     slots: &mut Slots,
+    workers: &mut Workers,
     rows: &Records,
     reads: &ReadSets,
     leafsets: &LeafSets,
     writes: &WriteSets,
-    c: Core,
+    c: Globals,
     w: u32,
 ) -> Done
-    requires { ⌜ Ready (lent (now rows) (now leaves) (now slots)) (logs (now reads) (now leafsets) (now writes)) c ⌝ }
+    requires { ⌜ Ready (lent (now rows) (now leaves) (now slots)) (logs (now reads) (now leafsets) (now writes)) (coreOf (now workers) c) ⌝ }
     ensures { λ r. ⌜ Refines (lent (now (rows .entry)) (now (leaves .entry)) (now (slots .entry)))
-        (logs (now (reads .entry)) (now (leafsets .entry)) (now (writes .entry))) c (model.lock w) (lent (now (rows .entry)) (now (leaves .exit)) (now (slots .exit)))
-        (logs (now (reads .entry)) (now (leafsets .entry)) (now (writes .entry))) (r .core) (plainIn (r .answer)) ⌝ }
+        (logs (now (reads .entry)) (now (leafsets .entry)) (now (writes .entry))) (coreOf (now (workers .entry)) c) (model.lock w) (lent (now (rows .entry)) (now (leaves .exit)) (now (slots .exit)))
+        (logs (now (reads .entry)) (now (leafsets .entry)) (now (writes .entry))) (coreOf (now (workers .exit)) (r .globals)) (plainIn (r .answer)) ⌝ }
 {
-    let workers = c.workers;
     match admits::open(workers, w) {
         Admit::Refused(r) => Done {
-            core: c,
+            globals: c,
             answer: Plain::Refused(r),
         },
         Admit::Allowed(x) => {
             let v = w as usize;
             match guard(reads, leafsets, writes, c.guarded == 1, v, x) {
                 Judged::Refused(r) => Done {
-                    core: c,
+                    globals: c,
                     answer: Plain::Refused(r),
                 },
-                Judged::Passed => lock_open(leaves, slots, rows, writes, c, v),
+                Judged::Passed => lock_open(leaves, slots, workers, rows, writes, c, v),
             }
         }
     }

@@ -9,17 +9,19 @@ use sets::LeafSet;
 use sets::LeafSets;
 use sets::ReadSet;
 use sets::ReadSets;
+use sets::Workers;
 use sets::WriteSet;
 use sets::WriteSets;
 use sets::leaves;
 use sets::reads;
+use sets::workers;
 use sets::workers::Worker;
 use spec::Current;
 use spec::LAST_NUMBER;
 use spec::OWNERS;
 use spec::PayloadWords;
 use spec::Refusal;
-use transactions::Core;
+use transactions::Globals;
 use transactions::admits;
 use transactions::admits::Admit;
 ghost use mathlib.Core.Path.{_≡_};
@@ -34,9 +36,9 @@ ghost use Rattle.map.specs.Views.{lent, mapOf};
 ghost use Rattle.queries.specs.PhantomViews.{Holding, Owns, phantomAt};
 ghost use Rattle.sets.specs.Reads.{recordIn, readsOf, ReadSetHeld};
 ghost use Rattle.sets.specs.Leaves.{versionsOf, LeafSetHeld};
-ghost use Rattle.transactions.specs.Views.{logs};
+ghost use Rattle.transactions.specs.Views.{logs, coreOf};
 ghost use Rattle.transactions.specs.Ready.{Ready, Refines};
-ghost use Rattle.commits.specs.Validates.{changedIn, lockedIn, LoggedAll, Examinable, verdictIn, judged, numbering};
+ghost use Rattle.commits.specs.Validates.{changedIn, lockedIn, LoggedAll, Examinable, verdictIn, judged, validatedOf, numbering};
 ghost use Rattle.commits.specs.Answers.{validateIn};
 
 // A validation's answer: the commit number, or the refusal.
@@ -45,9 +47,9 @@ pub enum ValidateAnswer {
     Refused(Refusal),
 }
 
-// The core after a validation, and its answer.
+// The globals after a validation, and its answer.
 pub struct ValidateDone {
-    pub core: Core,
+    pub globals: Globals,
     pub answer: ValidateAnswer,
 }
 
@@ -191,33 +193,31 @@ fn judge(
     Verdict::Passed
 }
 
-// Worker w, of a valid log, takes the next commit number, if one is left (refusal 15). No array is touched.
-fn take_number(c: Core, w: usize, x: Worker) -> ValidateDone
+// Worker w, of a valid log, takes the next commit number, if one is left (refusal 15). No array is touched but the workers.
+fn take_number(workers: &mut Workers, c: Globals, w: usize, x: Worker) -> ValidateDone
     requires { ⌜ w < standard .workers ⌝ }
-    ensures { λ r. ⌜ r ≡ numbering c w x ⌝ }
+    ensures { λ r. ⌜ validatedOf (now (workers .exit)) r ≡ numbering (coreOf (now (workers .entry)) c) w x ⌝ }
 {
-    let mut workers = c.workers;
-    let sizes = c.sizes;
     let last = c.counters;
     if LAST_NUMBER <= last.number {
         return ValidateDone {
-            core: c,
+            globals: c,
             answer: ValidateAnswer::Refused(Refusal::Spent),
         };
     }
     let taken = counters::take_number(last);
     let n = taken.last;
     let checked = x.check(n as u32);
-    workers[w] = checked;
+    workers::put_worker(workers, w, checked);
     let counters = taken.counters;
-    let core = Core {
-        workers,
+    let sizes = c.sizes;
+    let globals = Globals {
         sizes,
         counters,
         guarded: c.guarded,
     };
     ValidateDone {
-        core,
+        globals,
         answer: ValidateAnswer::Number(n),
     }
 }
@@ -227,23 +227,23 @@ fn take_number(c: Core, w: usize, x: Worker) -> ValidateDone
 pub fn validate(
     leaves: &mut Leaves,
     slots: &mut Slots,
+    workers: &mut Workers,
     rows: &Records,
     reads: &ReadSets,
     leafsets: &LeafSets,
     writes: &WriteSets,
-    c: Core,
+    c: Globals,
     w: u32,
 ) -> ValidateDone
-    requires { ⌜ Ready (lent (now rows) (now leaves) (now slots)) (logs (now reads) (now leafsets) (now writes)) c ⌝ }
+    requires { ⌜ Ready (lent (now rows) (now leaves) (now slots)) (logs (now reads) (now leafsets) (now writes)) (coreOf (now workers) c) ⌝ }
     ensures { λ r. ⌜ Refines (lent (now (rows .entry)) (now (leaves .entry)) (now (slots .entry)))
-        (logs (now (reads .entry)) (now (leafsets .entry)) (now (writes .entry))) c (model.validate w) (lent (now (rows .entry)) (now (leaves .exit)) (now (slots .exit)))
-        (logs (now (reads .entry)) (now (leafsets .entry)) (now (writes .entry))) (r .core) (validateIn (r .answer)) ⌝ }
+        (logs (now (reads .entry)) (now (leafsets .entry)) (now (writes .entry))) (coreOf (now (workers .entry)) c) (model.validate w) (lent (now (rows .entry)) (now (leaves .exit)) (now (slots .exit)))
+        (logs (now (reads .entry)) (now (leafsets .entry)) (now (writes .entry))) (coreOf (now (workers .exit)) (r .globals)) (validateIn (r .answer)) ⌝ }
 {
-    let workers = c.workers;
     let sizes = c.sizes;
     match admits::locked(workers, w) {
         Admit::Refused(r) => ValidateDone {
-            core: c,
+            globals: c,
             answer: ValidateAnswer::Refused(r),
         },
         Admit::Allowed(x) => {
@@ -261,13 +261,21 @@ pub fn validate(
             );
             match said {
                 Verdict::Refused(r) => {
-                    let core = drops::drop_transaction(leaves, slots, rows, writes, c, i);
+                    let globals = drops::drop_transaction(
+                        leaves,
+                        slots,
+                        workers,
+                        rows,
+                        writes,
+                        c,
+                        i,
+                    );
                     ValidateDone {
-                        core,
+                        globals,
                         answer: ValidateAnswer::Refused(r),
                     }
                 }
-                Verdict::Passed => take_number(c, i, x),
+                Verdict::Passed => take_number(workers, c, i, x),
             }
         }
     }

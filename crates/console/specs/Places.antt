@@ -11,7 +11,7 @@ use Rattle.map.specs.Views.{Lent}
 use Rattle.transactions.specs.Views.{Logs, stateOf}
 use Rattle.ranges.specs.Buffers.{Buffers, buffers, placesOf}
 use Rattle.engine.specs.declared.steps.Op.{Op}
-use Rattle.engine.specs.declared.steps.Performed.{Performed}
+use Rattle.engine.specs.declared.cores.Performed.{Performed}
 use Rattle.engine.specs.Performs.{stepIn, placesIn, Performs}
 use Rattle.engine.specs.Listings as listings
 use Rattle.script.specs.declared.Line.{Line}

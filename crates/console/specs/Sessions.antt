@@ -10,15 +10,24 @@ use Rattle.lists.specs.Texts.{Wrote}
 use Rattle.spec.specs.Records.{standard}
 use Rattle.spec.specs.Steps.{State, fresh}
 use Rattle.map.specs.Views.{Lent}
-use Rattle.transactions.specs.declared.Core.{Core}
-use Rattle.transactions.specs.Views.{Logs, stateOf}
+use Rattle.transactions.specs.Views.{Logs, stateOf, coreOf, globalsIn}
 use Rattle.transactions.specs.Ready.{Ready}
 use Rattle.transactions.specs.Starts.{Fresh, guardedCore}
 use Rattle.script.specs.declared.Parser.{Parser}
 use Rattle.script.specs.Parsing.{After}
 use Rattle.answers.specs.Output.{guardedAnswer, malformedLine}
 use Rattle.console.specs.declared.session.Session.{Session}
+use Rattle.console.specs.declared.session.Progress.{Progress}
 use Rattle.console.specs.Program.{writtenFrom, longestLine, output}
+
+-- a session of lent workers and the rest, and the rest of a session
+abbrev pub sessionOf : List ℕ → Progress → Session
+sessionOf ws x =
+    record { core = coreOf ws (x .globals); parser = x .parser; next = x .next; at = x .at; stopped = x .stopped; first = x .first }
+
+abbrev pub progressIn : Session → Progress
+progressIn x =
+    record { globals = globalsIn (x .core); parser = x .parser; next = x .next; at = x .at; stopped = x .stopped; first = x .first }
 
 -- The parser has read some bytes of a line. As long as no line has been read through, the map is fresh, and not guarded.
 pub record Started (l : Lent) (g : Logs) (x : Session) : Type 0 where

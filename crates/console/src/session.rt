@@ -10,24 +10,29 @@ use script::Event;
 use script::Parser;
 use sets::LeafSets;
 use sets::ReadSets;
+use sets::Workers;
 use sets::WriteSets;
+use sets::workers;
 use transactions::Core;
+use transactions::Globals;
+use transactions::cores;
 use transactions::starts;
 ghost use mathlib.Core.Path.{_≡_};
 ghost use mathlib.Core.Bool.{true};
-ghost use Prim.Native.Nat.{_+_, _≤_};
+ghost use Prim.Native.Nat.{ℕ, _+_, _≤_};
+ghost use mathlib.Core.List.{List};
 ghost use lib.ListN.{length};
 ghost use Rattle.map.specs.Views.{lent};
-ghost use Rattle.transactions.specs.Views.{logs};
+ghost use Rattle.transactions.specs.Views.{logs, coreOf};
 ghost use Rattle.transactions.specs.Ready.{Ready};
-ghost use Rattle.transactions.specs.Starts.{guardedCore};
+ghost use Rattle.transactions.specs.Starts.{guardedGlobals};
 ghost use Rattle.console.specs.Program.{longestLine};
-ghost use Rattle.console.specs.Sessions.{Started, canGoOn, EndsMalformed, RunsGuard, RunsLine, Runs, Begins, withPlaces};
+ghost use Rattle.console.specs.Sessions.{progressIn, sessionOf, Started, canGoOn, EndsMalformed, RunsGuard, RunsLine, Runs, Begins, withPlaces};
 
 // The longest line that is written: a letter, two numbers, a scan's triples and a line feed.
 const LONGEST_LINE: usize = 44 + 63 * SCAN_PLACES;
 
-// What is kept from line to line: the engine's core, the parser, the place in the input, the place in the output, whether a
+// What is kept from input to input: the engine's core, the parser, the place in the input, the place in the output, whether a
 // malformed line has ended the script, and whether the first line has not been read through, so that it may be `G`.
 pub struct Session {
     pub core: Core,
@@ -36,6 +41,16 @@ pub struct Session {
     pub at: usize,
     pub stopped: bool,
     pub first: bool,
+}
+
+// The same from line to line, where the workers are lent.
+struct Progress {
+    globals: Globals,
+    parser: Parser,
+    next: usize,
+    at: usize,
+    stopped: bool,
+    first: bool,
 }
 
 // A session with a fresh map that is not guarded, whatever the arrays held.
@@ -96,15 +111,47 @@ fn can_go_on(stopped: bool, next: usize, size: usize, at: usize, room: usize) ->
     true
 }
 
-// The core of a guarded map.
-fn guarded(c: Core) -> Core
-    ensures { λ r. ⌜ r ≡ guardedCore c ⌝ }
+// All of a session but its workers.
+fn progress_of(x: Session) -> Progress
+    ensures { λ r. ⌜ r ≡ progressIn x ⌝ }
 {
-    let workers = c.workers;
+    let core = x.core;
+    let globals = cores::globals_of(core);
+    let parser = x.parser;
+    Progress {
+        globals,
+        parser,
+        next: x.next,
+        at: x.at,
+        stopped: x.stopped,
+        first: x.first,
+    }
+}
+
+// The session of lent workers and the rest.
+fn session_of(workers: &Workers, x: Progress) -> Session
+    ensures { λ r. ⌜ r ≡ sessionOf (now (workers .entry)) x ⌝ }
+{
+    let globals = x.globals;
+    let core = cores::core_of(workers, globals);
+    let parser = x.parser;
+    Session {
+        core,
+        parser,
+        next: x.next,
+        at: x.at,
+        stopped: x.stopped,
+        first: x.first,
+    }
+}
+
+// The globals of a guarded map.
+fn guarded(c: Globals) -> Globals
+    ensures { λ r. ⌜ r ≡ guardedGlobals c ⌝ }
+{
     let sizes = c.sizes;
     let counters = c.counters;
-    Core {
-        workers,
+    Globals {
         sizes,
         counters,
         guarded: 1,
@@ -112,14 +159,14 @@ fn guarded(c: Core) -> Core
 }
 
 // A malformed line ends the script.
-fn end_malformed(out: &mut [u8], x: Session, parser: Parser, next: usize) -> Session
+fn end_malformed(out: &mut [u8], x: Progress, parser: Parser, next: usize) -> Progress
     requires { ⌜ x .at + 2 ≤ length (now out) ⌝ }
-    ensures { λ r. ⌜ EndsMalformed x parser next (now (out .entry)) (now (out .exit)) r ⌝ }
+    ensures { λ r. ⌜ ((ws : List ℕ) → EndsMalformed (sessionOf ws x) parser next (now (out .entry)) (now (out .exit)) (sessionOf ws r)) ⌝ }
 {
-    let core = x.core;
+    let globals = x.globals;
     let at = answers::put_malformed(out, x.at);
-    Session {
-        core,
+    Progress {
+        globals,
         parser,
         next,
         at,
@@ -129,15 +176,15 @@ fn end_malformed(out: &mut [u8], x: Session, parser: Parser, next: usize) -> Ses
 }
 
 // The line `G`: as the first one it makes the map, on which nothing was run, a guarded one. Any other is malformed.
-fn run_guard(out: &mut [u8], x: Session, parser: Parser, next: usize) -> Session
+fn run_guard(out: &mut [u8], x: Progress, parser: Parser, next: usize) -> Progress
     requires { ⌜ x .at + longestLine ≤ length (now out) ⌝ }
-    ensures { λ r. ⌜ RunsGuard x parser next (now (out .entry)) (now (out .exit)) r ⌝ }
+    ensures { λ r. ⌜ ((ws : List ℕ) → RunsGuard (sessionOf ws x) parser next (now (out .entry)) (now (out .exit)) (sessionOf ws r)) ⌝ }
 {
     if x.first {
-        let core = guarded(x.core);
+        let globals = guarded(x.globals);
         let at = answers::put_guarded(out, x.at);
-        return Session {
-            core,
+        return Progress {
+            globals,
             parser,
             next,
             at,
@@ -161,17 +208,18 @@ fn run_line(
     reads: &mut ReadSets,
     leafsets: &mut LeafSets,
     writes: &mut WriteSets,
+    workers: &mut Workers,
     input: &[u8],
-    x: Session,
-) -> Session
-    requires { ⌜ Ready (lent (now rows) (now leaves) (now slots)) (logs (now reads) (now leafsets) (now writes)) (x .core) ⌝ }
-    requires { ⌜ Started (lent (now rows) (now leaves) (now slots)) (logs (now reads) (now leafsets) (now writes)) x ⌝ }
+    x: Progress,
+) -> Progress
+    requires { ⌜ Ready (lent (now rows) (now leaves) (now slots)) (logs (now reads) (now leafsets) (now writes)) (coreOf (now workers) (x .globals)) ⌝ }
+    requires { ⌜ Started (lent (now rows) (now leaves) (now slots)) (logs (now reads) (now leafsets) (now writes)) (sessionOf (now workers) x) ⌝ }
     requires { ⌜ canGoOn (x .stopped) (x .next) (length (now input)) (x .at) (length (now out)) ≡ true ⌝ }
     ensures { λ r. ⌜ RunsLine (lent (now (rows .entry)) (now (leaves .entry)) (now (slots .entry)))
-        (logs (now (reads .entry)) (now (leafsets .entry)) (now (writes .entry))) x (now (input .entry)) (now (out .entry))
-        (lent (now (rows .exit)) (now (leaves .exit)) (now (slots .exit))) (logs (now (reads .exit)) (now (leafsets .exit)) (now (writes .exit))) r (now (out .exit)) ⌝ }
+        (logs (now (reads .entry)) (now (leafsets .entry)) (now (writes .entry))) (sessionOf (now (workers .entry)) x) (now (input .entry)) (now (out .entry))
+        (lent (now (rows .exit)) (now (leaves .exit)) (now (slots .exit))) (logs (now (reads .exit)) (now (leafsets .exit)) (now (writes .exit))) (sessionOf (now (workers .exit)) r) (now (out .exit)) ⌝ }
 {
-    let core = x.core;
+    let globals = x.globals;
     let parser = x.parser;
     let t = script::parse(input, x.next, parser);
     let after = t.parser;
@@ -189,15 +237,16 @@ fn run_line(
                 reads,
                 leafsets,
                 writes,
-                core,
+                workers,
+                globals,
                 lines::op_of(l),
             );
             let reply = done.reply;
-            let then = done.core;
+            let then = done.globals;
             let letter = lines::letter_of(l);
             let at = replies::write_reply(out, x.at, addresses, values, owners, letter, reply);
-            Session {
-                core: then,
+            Progress {
+                globals: then,
                 parser: after,
                 next,
                 at,
@@ -207,8 +256,8 @@ fn run_line(
         }
         Event::Guard => run_guard(out, x, after, next),
         Event::Malformed => end_malformed(out, x, after, next),
-        Event::SliceEnd => Session {
-            core,
+        Event::SliceEnd => Progress {
+            globals,
             parser: after,
             next,
             at: x.at,
@@ -241,7 +290,10 @@ pub fn feed(
     let mut addresses = [0u32; SCAN_PLACES];
     let mut values = [0u64; SCAN_PLACES];
     let mut owners = [0u16; SCAN_PLACES];
-    let mut x = start;
+    let core = start.core;
+    let seats = core.workers;
+    let mut workers = workers::pack_all(seats);
+    let mut x = progress_of(start);
     while can_go_on(x.stopped, x.next, input.len(), x.at, out.len()) {
         x = run_line(
             out,
@@ -254,9 +306,10 @@ pub fn feed(
             reads,
             leafsets,
             writes,
+            &mut workers,
             input,
             x,
         );
     }
-    x
+    session_of(&workers, x)
 }

@@ -6,19 +6,17 @@ use Rattle.spec.specs.Steps as model
 use Rattle.spec.specs.Steps.{Places, Step, Answer}
 use Rattle.map.specs.Views.{Lent}
 use Rattle.transactions.specs.declared.Core.{Core}
-use Rattle.transactions.specs.declared.begins.Done.{Done}
+use Rattle.transactions.specs.declared.Globals.{Globals}
 use Rattle.transactions.specs.declared.begins.Plain.{Plain}
 use Rattle.transactions.specs.declared.begins.Plain.the-variants as plain
-use Rattle.accesses.specs.declared.reads.ReadDone.{ReadDone}
 use Rattle.accesses.specs.declared.reads.ReadAnswer.{ReadAnswer}
 use Rattle.accesses.specs.declared.reads.ReadAnswer.the-variants as reading
-use Rattle.accesses.specs.declared.scans.ScanDone.{ScanDone}
 use Rattle.accesses.specs.declared.scans.ScanAnswer.{ScanAnswer}
 use Rattle.accesses.specs.declared.scans.ScanAnswer.the-variants as scanning
+use Rattle.commits.specs.declared.Done.{Done}
 use Rattle.commits.specs.declared.validates.ValidateDone.{ValidateDone}
 use Rattle.commits.specs.declared.validates.ValidateAnswer.{ValidateAnswer}
 use Rattle.commits.specs.declared.validates.ValidateAnswer.the-variants as validating
-use Rattle.transactions.specs.declared.merges.MergeDone.{MergeDone}
 use Rattle.engine.specs.declared.steps.Access.{Access}
 use Rattle.engine.specs.declared.steps.Access.the-variants as access
 use Rattle.engine.specs.declared.steps.Ending.{Ending}
@@ -26,30 +24,27 @@ use Rattle.engine.specs.declared.steps.Op.{Op}
 use Rattle.engine.specs.declared.steps.Op.the-variants as op
 use Rattle.engine.specs.declared.steps.Reply.{Reply}
 use Rattle.engine.specs.declared.steps.Reply.the-variants as reply
-use Rattle.engine.specs.declared.steps.Performed.{Performed}
+use Rattle.engine.specs.declared.steps.Outcome.{Outcome}
+use Rattle.engine.specs.declared.cores.Performed.{Performed}
 use Rattle.transactions.specs.Begins.{plainIn}
 use Rattle.accesses.specs.Answers.{readAnswer}
 use Rattle.ranges.specs.Buffers.{Buffers, placesOf, Beyond}
 use Rattle.ranges.specs.BufferLaws.{beyond-refl}
 use Rattle.accesses.specs.Scans.{scanIn, places, Scans}
 use Rattle.commits.specs.Answers.{validateIn}
-use Rattle.transactions.specs.Views.{Logs}
-use Rattle.transactions.specs.Ready.{Refines}
-use Rattle.engine.specs.Performs.{Performs, Quiet, ofMerge, ofPlain, ofRead, ofScan, ofValidate, placesIn, plainReply, readReply, replyIn, scanReply, stepIn, validateReply}
+use Rattle.sets.specs.Workers.{workersOf}
+use Rattle.transactions.specs.Views.{Logs, coreOf, globalsIn}
+use Rattle.transactions.specs.ViewLaws.{core-again}
+use Rattle.transactions.specs.Ready.{Ready, Refines}
+use Rattle.engine.specs.Performs.{Performs, Quiet, ofDone, ofValidate, performedOf, placesIn, plainReply, readReply, replyIn, scanReply, stepIn, validateReply}
 
 -- ---- the outcome, once the answer is known
 
-pub plain-is : (d : Done) {p : Plain} → d .answer ≡ p → record { core = d .core; reply = plainReply p } ≡ ofPlain d
-plain-is d e = ap (λ (x : Plain). record { core = d .core; reply = plainReply x }) (sym e)
+pub done-is : (d : Done) {p : Reply} → p ≡ plainReply (d .answer) → record { globals = d .globals; reply = p } ≡ ofDone d
+done-is d e = ap (λ (x : Reply). record { globals = d .globals; reply = x }) e
 
-pub read-is : (d : ReadDone) {p : ReadAnswer} → d .answer ≡ p → record { core = d .core; reply = readReply p } ≡ ofRead d
-read-is d e = ap (λ (x : ReadAnswer). record { core = d .core; reply = readReply x }) (sym e)
-
-pub scan-is : (d : ScanDone) {p : ScanAnswer} → d .answer ≡ p → record { core = d .core; reply = scanReply p } ≡ ofScan d
-scan-is d e = ap (λ (x : ScanAnswer). record { core = d .core; reply = scanReply x }) (sym e)
-
-pub validate-is : (d : ValidateDone) {p : ValidateAnswer} → d .answer ≡ p → record { core = d .core; reply = validateReply p } ≡ ofValidate d
-validate-is d e = ap (λ (x : ValidateAnswer). record { core = d .core; reply = validateReply x }) (sym e)
+pub validate-is : (d : ValidateDone) {p : ValidateAnswer} → d .answer ≡ p → record { globals = d .globals; reply = validateReply p } ≡ ofValidate d
+validate-is d e = ap (λ (x : ValidateAnswer). record { globals = d .globals; reply = validateReply x }) (sym e)
 
 -- ---- as it goes
 
@@ -60,13 +55,13 @@ accesses w e = ap (op.Access w) e
 pub ending-is : (w : ℕ) {x y : Ending} → x ≡ y → op.Ending w x ≡ op.Ending w y
 ending-is w e = ap (op.Ending w) e
 
--- an entry's promise, under the names that the code has for the operation and the outcome
-quiet : {l l' : Lent} {g g' : Logs} {c : Core} {o : Op} {r : Performed} (s : Op) (t : Step) (k : Core) (p : Reply) (a : Answer)
-    → ((b : Places) → stepIn s b ≡ t) → o ≡ s → r ≡ record { core = k; reply = p } → Refines l g c t l' g' k a
-    → ((b : Buffers) → replyIn p b ≡ a) → placesIn p ≡ 0 → Quiet l g c o l' g' r
-quiet {l} {l'} {g} {g'} {c} {o} {r} s t k p a i e f h q z =
-    subst (λ (x : Op). Quiet l g c x l' g' r) (sym e)
-    (subst (λ (x : Performed). Quiet l g c s l' g' x) (sym f)
+-- an entry's promise, under the names that the code has for the operation and the reply
+quiet : {l l' : Lent} {g g' : Logs} {c k : Core} {o : Op} {u : Reply} (s : Op) (t : Step) (p : Reply) (a : Answer)
+    → ((b : Places) → stepIn s b ≡ t) → o ≡ s → u ≡ p → Refines l g c t l' g' k a
+    → ((b : Buffers) → replyIn p b ≡ a) → placesIn p ≡ 0 → Quiet l g c o l' g' (record { core = k; reply = u })
+quiet {l} {l'} {g} {g'} {c} {k} {o} {u} s t p a i e f h q z =
+    subst (λ (x : Op). Quiet l g c x l' g' (record { core = k; reply = u })) (sym e)
+    (subst (λ (x : Reply). Quiet l g c s l' g' (record { core = k; reply = x })) (sym f)
     (record {
       refines =
           λ b. subst (λ (x : Answer). Refines l g c (stepIn s (placesOf b)) l' g' k x) (sym (q b))
@@ -82,10 +77,9 @@ plain-places : (p : Plain) → placesIn (plainReply p) ≡ 0
 plain-places plain.Granted = refl
 plain-places (plain.Refused r) = refl
 
-pub quiet-plain : {l l' : Lent} {g g' : Logs} {c : Core} {o : Op} {r : Performed} {t : Step} (s : Op) (d : Done) → ((b : Places) → stepIn s b ≡ t) → o ≡ s
-    → r ≡ ofPlain d → Refines l g c t l' g' (d .core) (plainIn (d .answer)) → Quiet l g c o l' g' r
-quiet-plain {t} s d i e f h =
-    quiet s t (d .core) (plainReply (d .answer)) (plainIn (d .answer)) i e f h (plain-answer (d .answer)) (plain-places (d .answer))
+pub quiet-plain : {l l' : Lent} {g g' : Logs} {c k : Core} {o : Op} {u : Reply} {t : Step} (s : Op) (p : Plain) → ((b : Places) → stepIn s b ≡ t) → o ≡ s
+    → u ≡ plainReply p → Refines l g c t l' g' k (plainIn p) → Quiet l g c o l' g' (record { core = k; reply = u })
+quiet-plain {t} s p i e f h = quiet s t (plainReply p) (plainIn p) i e f h (plain-answer p) (plain-places p)
 
 read-answer : (p : ReadAnswer) (b : Buffers) → replyIn (readReply p) b ≡ readAnswer p
 read-answer (reading.Value v o n) b = refl
@@ -97,10 +91,9 @@ read-places (reading.Value v o n) = refl
 read-places (reading.Absent n) = refl
 read-places (reading.Refused r) = refl
 
-pub quiet-read : {l l' : Lent} {g g' : Logs} {c : Core} {o : Op} {r : Performed} {t : Step} (s : Op) (d : ReadDone) → ((b : Places) → stepIn s b ≡ t) → o ≡ s
-    → r ≡ ofRead d → Refines l g c t l' g' (d .core) (readAnswer (d .answer)) → Quiet l g c o l' g' r
-quiet-read {t} s d i e f h =
-    quiet s t (d .core) (readReply (d .answer)) (readAnswer (d .answer)) i e f h (read-answer (d .answer)) (read-places (d .answer))
+pub quiet-read : {l l' : Lent} {g g' : Logs} {c k : Core} {o : Op} {u : Reply} {t : Step} (s : Op) (p : ReadAnswer) → ((b : Places) → stepIn s b ≡ t) → o ≡ s
+    → u ≡ readReply p → Refines l g c t l' g' k (readAnswer p) → Quiet l g c o l' g' (record { core = k; reply = u })
+quiet-read {t} s p i e f h = quiet s t (readReply p) (readAnswer p) i e f h (read-answer p) (read-places p)
 
 validate-answer : (p : ValidateAnswer) (b : Buffers) → replyIn (validateReply p) b ≡ validateIn p
 validate-answer (validating.Number n) b = refl
@@ -110,15 +103,18 @@ validate-places : (p : ValidateAnswer) → placesIn (validateReply p) ≡ 0
 validate-places (validating.Number n) = refl
 validate-places (validating.Refused r) = refl
 
-pub quiet-validate : {l l' : Lent} {g g' : Logs} {c : Core} {o : Op} {r : Performed} {t : Step} (s : Op) (d : ValidateDone) → ((b : Places) → stepIn s b ≡ t) → o ≡ s
-    → r ≡ ofValidate d → Refines l g c t l' g' (d .core) (validateIn (d .answer)) → Quiet l g c o l' g' r
-quiet-validate {t} s d i e f h =
-    quiet s t (d .core) (validateReply (d .answer)) (validateIn (d .answer)) i e f h (validate-answer (d .answer)) (validate-places (d .answer))
+pub quiet-validate : {l l' : Lent} {g g' : Logs} {c k : Core} {o : Op} {u : Reply} {t : Step} (s : Op) (p : ValidateAnswer) → ((b : Places) → stepIn s b ≡ t) → o ≡ s
+    → u ≡ validateReply p → Refines l g c t l' g' k (validateIn p) → Quiet l g c o l' g' (record { core = k; reply = u })
+quiet-validate {t} s p i e f h = quiet s t (validateReply p) (validateIn p) i e f h (validate-answer p) (validate-places p)
 
-pub quiet-merge : {l l' : Lent} {g g' : Logs} {c : Core} {o : Op} {r : Performed} {t : Step} (s : Op) (d : MergeDone) → ((b : Places) → stepIn s b ≡ t) → o ≡ s
-    → r ≡ ofMerge d → Refines l g c t l' g' (d .core) (model.counted (d .count)) → Quiet l g c o l' g' r
-quiet-merge {t} s d i e f h =
-    quiet s t (d .core) (reply.Counted (d .count)) (model.counted (d .count)) i e f h (λ b. refl) refl
+pub quiet-merge : {l l' : Lent} {g g' : Logs} {c k : Core} {o : Op} {u : Reply} {t : Step} (s : Op) (n : ℕ) → ((b : Places) → stepIn s b ≡ t) → o ≡ s
+    → u ≡ reply.Counted n → Refines l g c t l' g' k (model.counted n) → Quiet l g c o l' g' (record { core = k; reply = u })
+quiet-merge {t} s n i e f h = quiet s t (reply.Counted n) (model.counted n) i e f h (λ b. refl) refl
+
+-- the same of an outcome
+pub quiet-outcome : {l l' : Lent} {g g' : Logs} {c : Core} {o : Op} {r d : Outcome} (ws : List ℕ) → r ≡ d
+    → Quiet l g c o l' g' (performedOf ws d) → Quiet l g c o l' g' (performedOf ws r)
+quiet-outcome {l} {l'} {g} {g'} {c} {o} {r} {d} ws e h = subst (λ (x : Outcome). Quiet l g c o l' g' (performedOf ws x)) (sym e) h
 
 -- a step that looks at no buffer leaves them
 pub performs-quiet : {l l' : Lent} {g g' : Logs} {c : Core} {o : Op} {r : Performed} (b : Buffers) → Quiet l g c o l' g' r
@@ -146,12 +142,24 @@ scan-places : (p : ScanAnswer) → placesIn (scanReply p) ≡ places p
 scan-places (scanning.Count n) = refl
 scan-places (scanning.Refused r) = refl
 
-pub performs-scan : {l : Lent} {g g' : Logs} {c : Core} {o : Op} {r : Performed} {w lo hi : ℕ} {b b' : Buffers} (d : ScanDone)
-    → o ≡ op.Access w (access.Scan lo hi) → r ≡ ofScan d → Scans l g c w lo hi b g' b' d → Performs l g c o b l g' b' r
-performs-scan {l} {g} {g'} {c} {o} {r} {w} {lo} {hi} {b} {b'} d e f h =
+pub performs-scan : {l : Lent} {g g' : Logs} {c k : Core} {o : Op} {u : Reply} {w lo hi : ℕ} {b b' : Buffers} (p : ScanAnswer)
+    → o ≡ op.Access w (access.Scan lo hi) → u ≡ scanReply p → Scans l g c w lo hi b g' b' k p → Performs l g c o b l g' b' (record { core = k; reply = u })
+performs-scan {l} {g} {g'} {c} {k} {o} {u} {w} {lo} {hi} {b} {b'} p e f h =
     performs-as e
-    (subst (λ (x : Performed). Performs l g c (op.Access w (access.Scan lo hi)) b l g' b' x) (sym f)
+    (subst (λ (x : Reply). Performs l g c (op.Access w (access.Scan lo hi)) b l g' b' (record { core = k; reply = x })) (sym f)
     (record {
-      refines = subst (λ (x : Answer). Refines l g c (model.scan w lo hi (placesOf b)) l g' (d .core) x) (sym (scan-answer (d .answer) b')) (h .refines);
-      beyond = subst (λ (n : ℕ). Beyond n b b') (sym (scan-places (d .answer))) (h .beyond);
+      refines = subst (λ (x : Answer). Refines l g c (model.scan w lo hi (placesOf b)) l g' k x) (sym (scan-answer p b')) (h .refines);
+      beyond = subst (λ (n : ℕ). Beyond n b b') (sym (scan-places p)) (h .beyond);
     }))
+
+-- ---- a core by value, whose workers are lent for one step
+
+module _ {l : Lent} {g : Logs} {c : Core} (ws : List ℕ) {d : Globals} (e : workersOf ws ≡ c .workers) (q : d ≡ globalsIn c) where
+  pub ready-lent : Ready l g c → Ready l g (coreOf ws d)
+  ready-lent k = subst (Ready l g) (sym (core-again ws c e q)) k
+
+  pub performs-core : {l' : Lent} {g' : Logs} {k : Core} {o : Op} {b b' : Buffers} (vs : List ℕ) (r : Outcome) → k ≡ coreOf vs (r .globals)
+      → Performs l g (coreOf ws d) o b l' g' b' (performedOf vs r) → Performs l g c o b l' g' b' (record { core = k; reply = r .reply })
+  performs-core {l'} {g'} {k} {o} {b} {b'} vs r f h =
+      subst (λ (x : Core). Performs l g c o b l' g' b' (record { core = x; reply = r .reply })) (sym f)
+      (subst (λ (x : Core). Performs l g x o b l' g' b' (performedOf vs r)) (core-again ws c e q) h)

@@ -1,20 +1,19 @@
 -- One step, whichever it is: what an operation and a reply mean, and what performing one promises.
 use Prim.Native.Nat.{ℕ}
 use mathlib.Core.Path.{_≡_}
+use mathlib.Core.List.{List}
 use mathlib.Core.Option.{none, some}
 use Rattle.spec.specs.Steps as model
 use Rattle.spec.specs.Steps.{Places, Step, Answer}
 use Rattle.map.specs.Views.{Lent}
 use Rattle.transactions.specs.declared.Core.{Core}
-use Rattle.transactions.specs.declared.begins.Done.{Done}
 use Rattle.transactions.specs.declared.begins.Plain.{Plain}
 use Rattle.transactions.specs.declared.begins.Plain.the-variants as plain
-use Rattle.accesses.specs.declared.reads.ReadDone.{ReadDone}
 use Rattle.accesses.specs.declared.reads.ReadAnswer.{ReadAnswer}
 use Rattle.accesses.specs.declared.reads.ReadAnswer.the-variants as reading
-use Rattle.accesses.specs.declared.scans.ScanDone.{ScanDone}
 use Rattle.accesses.specs.declared.scans.ScanAnswer.{ScanAnswer}
 use Rattle.accesses.specs.declared.scans.ScanAnswer.the-variants as scanning
+use Rattle.commits.specs.declared.Done.{Done}
 use Rattle.commits.specs.declared.validates.ValidateDone.{ValidateDone}
 use Rattle.commits.specs.declared.validates.ValidateAnswer.{ValidateAnswer}
 use Rattle.commits.specs.declared.validates.ValidateAnswer.the-variants as validating
@@ -27,10 +26,11 @@ use Rattle.engine.specs.declared.steps.Op.{Op}
 use Rattle.engine.specs.declared.steps.Op.the-variants as op
 use Rattle.engine.specs.declared.steps.Reply.{Reply}
 use Rattle.engine.specs.declared.steps.Reply.the-variants as reply
-use Rattle.engine.specs.declared.steps.Performed.{Performed}
+use Rattle.engine.specs.declared.steps.Outcome.{Outcome}
+use Rattle.engine.specs.declared.cores.Performed.{Performed}
 use Rattle.ranges.specs.Buffers.{Buffers, placesOf, rowsIn, Beyond}
 use Rattle.accesses.specs.Scans.{places}
-use Rattle.transactions.specs.Views.{Logs}
+use Rattle.transactions.specs.Views.{Logs, coreOf}
 use Rattle.transactions.specs.Ready.{Refines}
 
 -- document 01's step, with the places of the lent buffers
@@ -67,6 +67,10 @@ placesIn (reply.Numbered n) = 0
 placesIn (reply.Counted n) = 0
 placesIn (reply.Refused r) = 0
 
+-- an outcome, with the core of the lent workers
+abbrev pub performedOf : List ℕ → Outcome → Performed
+performedOf ws r = record { core = coreOf ws (r .globals); reply = r .reply }
+
 -- A step taken: the arrays, the core and the buffers before it, and those after it. Every place of a buffer past those
 -- that a scan filled is as it was.
 pub record Performs (l : Lent) (g : Logs) (c : Core) (o : Op) (b : Buffers) (l' : Lent) (g' : Logs) (b' : Buffers) (r : Performed) : Type 0 where
@@ -97,17 +101,11 @@ abbrev pub validateReply : ValidateAnswer → Reply
 validateReply (validating.Number n) = reply.Numbered n
 validateReply (validating.Refused r) = reply.Refused r
 
-abbrev pub ofPlain : Done → Performed
-ofPlain d = record { core = d .core; reply = plainReply (d .answer) }
+abbrev pub ofDone : Done → Outcome
+ofDone d = record { globals = d .globals; reply = plainReply (d .answer) }
 
-abbrev pub ofRead : ReadDone → Performed
-ofRead d = record { core = d .core; reply = readReply (d .answer) }
+abbrev pub ofValidate : ValidateDone → Outcome
+ofValidate d = record { globals = d .globals; reply = validateReply (d .answer) }
 
-abbrev pub ofScan : ScanDone → Performed
-ofScan d = record { core = d .core; reply = scanReply (d .answer) }
-
-abbrev pub ofValidate : ValidateDone → Performed
-ofValidate d = record { core = d .core; reply = validateReply (d .answer) }
-
-abbrev pub ofMerge : MergeDone → Performed
-ofMerge d = record { core = d .core; reply = reply.Counted (d .count) }
+abbrev pub ofMerge : MergeDone → Outcome
+ofMerge d = record { globals = d .globals; reply = reply.Counted (d .count) }

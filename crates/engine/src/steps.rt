@@ -2,10 +2,9 @@
 use accesses::edits;
 use accesses::reads;
 use accesses::reads::ReadAnswer;
-use accesses::reads::ReadDone;
 use accesses::scans;
 use accesses::scans::ScanAnswer;
-use accesses::scans::ScanDone;
+use commits::Done;
 use commits::aborts;
 use commits::installs;
 use commits::locks;
@@ -17,21 +16,21 @@ use map::Records;
 use map::Slots;
 use sets::LeafSets;
 use sets::ReadSets;
+use sets::Workers;
 use sets::WriteSets;
 use spec::Address;
 use spec::Refusal;
-use transactions::Core;
+use transactions::Globals;
 use transactions::begins;
-use transactions::begins::Done;
 use transactions::begins::Plain;
 use transactions::merges;
 use transactions::merges::MergeDone;
 ghost use mathlib.Core.Path.{_≡_};
 ghost use Rattle.map.specs.Views.{lent};
-ghost use Rattle.transactions.specs.Views.{logs};
+ghost use Rattle.transactions.specs.Views.{logs, coreOf};
 ghost use Rattle.transactions.specs.Ready.{Ready};
 ghost use Rattle.ranges.specs.Buffers.{buffers};
-ghost use Rattle.engine.specs.Performs.{ofPlain, ofRead, ofScan, ofValidate, ofMerge, Quiet, Performs};
+ghost use Rattle.engine.specs.Performs.{plainReply, readReply, scanReply, ofDone, ofValidate, ofMerge, performedOf, Quiet, Performs};
 
 // What a worker does within an open transaction. The buffers of a scan are lent beside it.
 pub enum Access {
@@ -70,90 +69,72 @@ pub enum Reply {
     Refused(Refusal),
 }
 
-// The core after a step, and its answer.
-pub struct Performed {
-    pub core: Core,
+// The globals after a step, and its answer.
+pub struct Outcome {
+    pub globals: Globals,
     pub reply: Reply,
 }
 
-fn of_plain(d: Done) -> Performed
-    ensures { λ r. ⌜ r ≡ ofPlain d ⌝ }
+fn of_plain(a: Plain) -> Reply
+    ensures { λ r. ⌜ r ≡ plainReply a ⌝ }
 {
-    let core = d.core;
-    let answer = d.answer;
-    match answer {
-        Plain::Granted => Performed {
-            core,
-            reply: Reply::Granted,
-        },
-        Plain::Refused(r) => Performed {
-            core,
-            reply: Reply::Refused(r),
-        },
+    match a {
+        Plain::Granted => Reply::Granted,
+        Plain::Refused(r) => Reply::Refused(r),
     }
 }
 
-fn of_read(d: ReadDone) -> Performed
-    ensures { λ r. ⌜ r ≡ ofRead d ⌝ }
+fn of_read(a: ReadAnswer) -> Reply
+    ensures { λ r. ⌜ r ≡ readReply a ⌝ }
 {
-    let core = d.core;
-    let answer = d.answer;
-    match answer {
-        ReadAnswer::Value(v, o, n) => Performed {
-            core,
-            reply: Reply::Value(v, o, n),
-        },
-        ReadAnswer::Absent(n) => Performed {
-            core,
-            reply: Reply::Absent(n),
-        },
-        ReadAnswer::Refused(r) => Performed {
-            core,
-            reply: Reply::Refused(r),
-        },
+    match a {
+        ReadAnswer::Value(v, o, n) => Reply::Value(v, o, n),
+        ReadAnswer::Absent(n) => Reply::Absent(n),
+        ReadAnswer::Refused(r) => Reply::Refused(r),
     }
 }
 
-fn of_scan(d: ScanDone) -> Performed
-    ensures { λ r. ⌜ r ≡ ofScan d ⌝ }
+fn of_scan(a: ScanAnswer) -> Reply
+    ensures { λ r. ⌜ r ≡ scanReply a ⌝ }
 {
-    let core = d.core;
-    let answer = d.answer;
-    match answer {
-        ScanAnswer::Count(n) => Performed {
-            core,
-            reply: Reply::Listed(n),
-        },
-        ScanAnswer::Refused(r) => Performed {
-            core,
-            reply: Reply::Refused(r),
-        },
+    match a {
+        ScanAnswer::Count(n) => Reply::Listed(n),
+        ScanAnswer::Refused(r) => Reply::Refused(r),
     }
 }
 
-fn of_validate(d: ValidateDone) -> Performed
+fn of_done(d: Done) -> Outcome
+    ensures { λ r. ⌜ r ≡ ofDone d ⌝ }
+{
+    let globals = d.globals;
+    let answer = d.answer;
+    let reply = of_plain(answer);
+    Outcome { globals, reply }
+}
+
+fn of_validate(d: ValidateDone) -> Outcome
     ensures { λ r. ⌜ r ≡ ofValidate d ⌝ }
 {
-    let core = d.core;
+    let globals = d.globals;
     let answer = d.answer;
     match answer {
-        ValidateAnswer::Number(n) => Performed {
-            core,
+        ValidateAnswer::Number(n) => Outcome {
+            globals,
             reply: Reply::Numbered(n),
         },
-        ValidateAnswer::Refused(r) => Performed {
-            core,
+        ValidateAnswer::Refused(r) => Outcome {
+            globals,
             reply: Reply::Refused(r),
         },
     }
 }
 
-fn of_merge(d: MergeDone) -> Performed
+fn of_merge(d: MergeDone) -> Outcome
     ensures { λ r. ⌜ r ≡ ofMerge d ⌝ }
 {
-    let core = d.core;
-    Performed {
-        core,
+    let globals = d.globals;
+    Outcome {
+        globals,
         reply: Reply::Counted(d.count),
     }
 }
@@ -166,22 +147,24 @@ fn take_access(
     reads: &mut ReadSets,
     leafsets: &mut LeafSets,
     writes: &mut WriteSets,
+    workers: &mut Workers,
     rows: &Records,
     leaves: &Leaves,
     slots: &Slots,
-    c: Core,
+    c: Globals,
     w: u32,
     x: Access,
-) -> Performed
-    requires { ⌜ Ready (lent (now rows) (now leaves) (now slots)) (logs (now reads) (now leafsets) (now writes)) c ⌝ }
+) -> Reply
+    requires { ⌜ Ready (lent (now rows) (now leaves) (now slots)) (logs (now reads) (now leafsets) (now writes)) (coreOf (now workers) c) ⌝ }
     ensures { λ r. ⌜ Performs (lent (now (rows .entry)) (now (leaves .entry)) (now (slots .entry)))
-        (logs (now (reads .entry)) (now (leafsets .entry)) (now (writes .entry))) c (Op.Access w x) (buffers (now (addresses .entry)) (now (values .entry)) (now (owners .entry)))
+        (logs (now (reads .entry)) (now (leafsets .entry)) (now (writes .entry))) (coreOf (now (workers .entry)) c) (Op.Access w x) (buffers (now (addresses .entry)) (now (values .entry)) (now (owners .entry)))
         (lent (now (rows .entry)) (now (leaves .entry)) (now (slots .entry))) (logs (now (reads .exit)) (now (leafsets .exit)) (now (writes .exit)))
-        (buffers (now (addresses .exit)) (now (values .exit)) (now (owners .exit))) r ⌝ }
+        (buffers (now (addresses .exit)) (now (values .exit)) (now (owners .exit))) (record { core = coreOf (now (workers .exit)) c; reply = r }) ⌝ }
 {
     match x {
         Access::Read(a) => of_read(reads::read(
             reads,
+            workers,
             rows,
             leaves,
             slots,
@@ -197,6 +180,7 @@ fn take_access(
             owners,
             reads,
             leafsets,
+            workers,
             rows,
             leaves,
             slots,
@@ -208,6 +192,7 @@ fn take_access(
         )),
         Access::Put(a, v, o) => of_plain(edits::put(
             writes,
+            workers,
             rows,
             leaves,
             slots,
@@ -221,6 +206,7 @@ fn take_access(
         )),
         Access::Remove(a) => of_plain(edits::remove(
             writes,
+            workers,
             rows,
             leaves,
             slots,
@@ -237,24 +223,36 @@ fn take_access(
 fn take_ending(
     leaves: &mut Leaves,
     slots: &mut Slots,
+    workers: &mut Workers,
     rows: &Records,
     reads: &ReadSets,
     leafsets: &LeafSets,
     writes: &WriteSets,
-    c: Core,
+    c: Globals,
     w: u32,
     x: Ending,
-) -> Performed
-    requires { ⌜ Ready (lent (now rows) (now leaves) (now slots)) (logs (now reads) (now leafsets) (now writes)) c ⌝ }
+) -> Outcome
+    requires { ⌜ Ready (lent (now rows) (now leaves) (now slots)) (logs (now reads) (now leafsets) (now writes)) (coreOf (now workers) c) ⌝ }
     ensures { λ r. ⌜ Quiet (lent (now (rows .entry)) (now (leaves .entry)) (now (slots .entry)))
-        (logs (now (reads .entry)) (now (leafsets .entry)) (now (writes .entry))) c (Op.Ending w x) (lent (now (rows .entry)) (now (leaves .exit)) (now (slots .exit)))
-        (logs (now (reads .entry)) (now (leafsets .entry)) (now (writes .entry))) r ⌝ }
+        (logs (now (reads .entry)) (now (leafsets .entry)) (now (writes .entry))) (coreOf (now (workers .entry)) c) (Op.Ending w x) (lent (now (rows .entry)) (now (leaves .exit)) (now (slots .exit)))
+        (logs (now (reads .entry)) (now (leafsets .entry)) (now (writes .entry))) (performedOf (now (workers .exit)) r) ⌝ }
 {
     match x {
-        Ending::Lock => of_plain(locks::lock(leaves, slots, rows, reads, leafsets, writes, c, w)),
+        Ending::Lock => of_done(locks::lock(
+            leaves,
+            slots,
+            workers,
+            rows,
+            reads,
+            leafsets,
+            writes,
+            c,
+            w,
+        )),
         Ending::Validate => of_validate(validates::validate(
             leaves,
             slots,
+            workers,
             rows,
             reads,
             leafsets,
@@ -262,9 +260,10 @@ fn take_ending(
             c,
             w,
         )),
-        Ending::Install => of_plain(installs::install(
+        Ending::Install => of_done(installs::install(
             leaves,
             slots,
+            workers,
             rows,
             reads,
             leafsets,
@@ -272,9 +271,10 @@ fn take_ending(
             c,
             w,
         )),
-        Ending::Abort => of_plain(aborts::abort(
+        Ending::Abort => of_done(aborts::abort(
             leaves,
             slots,
+            workers,
             rows,
             reads,
             leafsets,
@@ -296,32 +296,51 @@ pub fn perform(
     reads: &mut ReadSets,
     leafsets: &mut LeafSets,
     writes: &mut WriteSets,
-    c: Core,
+    workers: &mut Workers,
+    c: Globals,
     op: Op,
-) -> Performed
-    requires { ⌜ Ready (lent (now rows) (now leaves) (now slots)) (logs (now reads) (now leafsets) (now writes)) c ⌝ }
+) -> Outcome
+    requires { ⌜ Ready (lent (now rows) (now leaves) (now slots)) (logs (now reads) (now leafsets) (now writes)) (coreOf (now workers) c) ⌝ }
     ensures { λ r. ⌜ Performs (lent (now (rows .entry)) (now (leaves .entry)) (now (slots .entry)))
-        (logs (now (reads .entry)) (now (leafsets .entry)) (now (writes .entry))) c op (buffers (now (addresses .entry)) (now (values .entry)) (now (owners .entry)))
+        (logs (now (reads .entry)) (now (leafsets .entry)) (now (writes .entry))) (coreOf (now (workers .entry)) c) op (buffers (now (addresses .entry)) (now (values .entry)) (now (owners .entry)))
         (lent (now (rows .exit)) (now (leaves .exit)) (now (slots .exit))) (logs (now (reads .exit)) (now (leafsets .exit)) (now (writes .exit)))
-        (buffers (now (addresses .exit)) (now (values .exit)) (now (owners .exit))) r ⌝ }
+        (buffers (now (addresses .exit)) (now (values .exit)) (now (owners .exit))) (performedOf (now (workers .exit)) r) ⌝ }
 {
     match op {
-        Op::Begin(w) => of_plain(begins::begin(c, w)),
-        Op::Access(w, x) => take_access(
-            addresses,
-            values,
-            owners,
+        Op::Begin(w) => {
+            let reply = of_plain(begins::begin(workers, w));
+            Outcome { globals: c, reply }
+        }
+        Op::Access(w, x) => {
+            let reply = take_access(
+                addresses,
+                values,
+                owners,
+                reads,
+                leafsets,
+                writes,
+                workers,
+                rows,
+                leaves,
+                slots,
+                c,
+                w,
+                x,
+            );
+            Outcome { globals: c, reply }
+        }
+        Op::Ending(w, x) => take_ending(
+            leaves,
+            slots,
+            workers,
+            rows,
             reads,
             leafsets,
             writes,
-            rows,
-            leaves,
-            slots,
             c,
             w,
             x,
         ),
-        Op::Ending(w, x) => take_ending(leaves, slots, rows, reads, leafsets, writes, c, w, x),
         Op::Merge(a) => of_merge(merges::merge_at(
             rows,
             leaves,
@@ -329,6 +348,7 @@ pub fn perform(
             reads,
             leafsets,
             writes,
+            workers,
             c,
             a,
         )),
@@ -339,6 +359,7 @@ pub fn perform(
             reads,
             leafsets,
             writes,
+            workers,
             c,
         )),
     }

@@ -6,7 +6,7 @@ use Rattle.ranges.specs.Buffers.{Buffers, placesOf, firstOf, othersOf}
 use Rattle.transactions.specs.declared.Core.{Core}
 use Rattle.transactions.specs.Views.{Logs}
 use Rattle.engine.specs.declared.steps.Op.{Op}
-use Rattle.engine.specs.declared.steps.Performed.{Performed}
+use Rattle.engine.specs.declared.cores.Performed.{Performed}
 use Rattle.engine.specs.declared.steps.Reply.{Reply}
 use Rattle.engine.specs.Performs.{Performs}
 use Rattle.codes.specs.declared.Code.{Code}

@@ -7,7 +7,7 @@ use Rattle.ranges.specs.Buffers.{Buffers, placesOf}
 use Rattle.transactions.specs.declared.Core.{Core}
 use Rattle.transactions.specs.Views.{Logs}
 use Rattle.engine.specs.declared.steps.Op.{Op}
-use Rattle.engine.specs.declared.steps.Performed.{Performed}
+use Rattle.engine.specs.declared.cores.Performed.{Performed}
 use Rattle.codes.specs.declared.Code.{Code}
 use Rattle.codes.specs.declared.Coded.{Coded}
 use Rattle.codes.specs.declared.decodes.Decoded.{Decoded}

@@ -1,7 +1,7 @@
 // A step with a part of the lent scan buffers.
-use engine::steps;
+use engine::cores;
+use engine::cores::Performed;
 use engine::steps::Op;
-use engine::steps::Performed;
 use map::Leaves;
 use map::Records;
 use map::Slots;
@@ -42,7 +42,7 @@ pub fn perform_first(
         (lent (now (rows .exit)) (now (leaves .exit)) (now (slots .exit))) (logs (now (reads .exit)) (now (leafsets .exit)) (now (writes .exit)))
         (buffers (now (addresses .exit)) (now (values .exit)) (now (owners .exit))) r ⌝ }
 {
-    steps::perform(
+    cores::perform_core(
         &mut addresses[..m],
         &mut values[..n],
         &mut owners[..q],

@@ -204,7 +204,7 @@ unfolding meaning moreWords numbers firstWord lettered
 start-nothing = refl
 
 -- a letter and one more byte: a space begins the numbers, any other one spoils the line
-letter-byte : (c b : ℕ) (l : List ℕ) → (c ≡ 32 → ⊥) → meaning (c ∷ b ∷ l) ≡ pick (same b 32) (fieldsOn c [] false 0 l) none
+pub letter-byte : (c b : ℕ) (l : List ℕ) → (c ≡ 32 → ⊥) → meaning (c ∷ b ∷ l) ≡ pick (same b 32) (fieldsOn c [] false 0 l) none
 unfolding meaning lettered fieldsOn firstWord moreWords numbers
 letter-byte c b l h =
     rw (same-no h)

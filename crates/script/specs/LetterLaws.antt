@@ -2,15 +2,13 @@
 use Prim.Native.Nat.{ℕ, _^_, _<_, _≤_}
 use mathlib.Core.Path.{_≡_, refl, sym, ap, _∙_}
 use mathlib.Core.Bool.{Bool, true, false}
-use mathlib.Core.List.{[], _∷_, _++_}
+use mathlib.Core.List.{[], _∷_}
 use mathlib.Core.Option.{Option, none, some}
 use Rattle.lists.specs.Tests.{pick, both, same, less}
 use Rattle.lists.specs.TestLaws.{same-no, less-yes, less-no}
 use Rattle.script.specs.declared.Line.{Line}
-use Rattle.script.specs.declared.Fields.{Fields}
 use Rattle.script.specs.declared.Event.the-variants as event
 use Rattle.script.specs.Grammar.{oneNumber, twoNumbers, threeNumbers, fourNumbers, lineOf}
-use Rattle.script.specs.Parsing.{beforeOf, values}
 use Rattle.script.specs.Tokens.{told}
 
 -- ---- one number
@@ -111,8 +109,3 @@ four-put-wide c a b d o e h g w =
 pub four-other : (c a b d o : ℕ) → (c ≡ 80 → ⊥) → event.Malformed ≡ told (lineOf c (a ∷ b ∷ d ∷ o ∷ []))
 unfolding lineOf fourNumbers
 four-other c a b d o p = rw (same-no p) (ap told (pick-none (both (less a (2 ^ 32)) (less b (2 ^ 32)))))
-
--- ---- any count
-
-pub complete-as : (c n : ℕ) {f g : Fields} → f ≡ g → told (lineOf c (values (beforeOf f) ++ (n ∷ []))) ≡ told (lineOf c (values (beforeOf g) ++ (n ∷ [])))
-complete-as c n e = ap (λ (x : Fields). told (lineOf c (values (beforeOf x) ++ (n ∷ [])))) e

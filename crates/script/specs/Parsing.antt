@@ -11,8 +11,6 @@ use Rattle.lists.specs.Tests.{pick, maybe, same}
 use Rattle.lists.specs.Rows.{has}
 use Rattle.script.specs.declared.Line.{Line}
 use Rattle.script.specs.declared.Line.the-variants.{MergeOldest}
-use Rattle.script.specs.declared.Fields.{Fields}
-use Rattle.script.specs.declared.Fields.the-variants.{None, One, Two}
 use Rattle.script.specs.declared.Parser.{Parser}
 use Rattle.script.specs.declared.Parser.the-variants.{Start, Letter, Oldest, Guard, First, Second, Third, Fourth}
 use Rattle.script.specs.declared.Event.{Event}
@@ -33,12 +31,6 @@ pub data Before : Type 0 where
   oneBefore : ℕ → Before
   twoBefore : ℕ → ℕ → Before
   threeBefore : ℕ → ℕ → ℕ → Before
-
--- those that one more number may follow
-abbrev pub beforeOf : Fields → Before
-beforeOf None = noneBefore
-beforeOf (One a) = oneBefore a
-beforeOf (Two a b) = twoBefore a b
 
 abbrev pub values : Before → List ℕ
 values noneBefore = []

@@ -3,27 +3,24 @@ use Prim.Native.Nat.{ℕ, _+_, _-_, _*_, _<_, _≤_}
 use native.Mathlib.Omega.{arith}
 use mathlib.Core.Path.{_≡_, refl, sym, ap, _∙_}
 use mathlib.Core.Logic.{_⊎_, inl, inr, ⊎-elim}
-use mathlib.Core.Bool.{Bool, true, false}
+use mathlib.Core.Bool.{Bool, true, false, not}
 use mathlib.Core.List.{List, [], _∷_, _++_}
 use mathlib.Core.Option.{Option, none, some}
 use lib.ListN.{length, getD}
 use Rattle.lists.specs.Tests.{either, same}
-use Rattle.lists.specs.TestLaws.{cases, same-true, same-false}
+use Rattle.lists.specs.TestLaws.{cases, clash, same-true, same-false}
 use Rattle.lists.specs.Counting.{has-nil}
 use Rattle.script.specs.declared.Line.{Line}
 use Rattle.script.specs.declared.Line.the-variants.{MergeOldest}
-use Rattle.script.specs.declared.Fields.{Fields}
-use Rattle.script.specs.declared.Fields.the-variants.{None, One, Two}
 use Rattle.script.specs.declared.Parser.{Parser}
 use Rattle.script.specs.declared.Parser.the-variants.{Start, Letter, Oldest, Guard, First, Second, Third, Fourth}
 use Rattle.script.specs.declared.Event.{Event}
 use Rattle.script.specs.declared.Event.the-variants as event
-use Rattle.script.specs.declared.Parsed.{Parsed}
 use Rattle.script.specs.declared.Run.{Run}
 use Rattle.script.specs.Grammar.{isDigit, lineOf, meaning, isGuard}
-use Rattle.script.specs.Parsing.{Before, noneBefore, oneBefore, twoBefore, threeBefore, beforeOf, values, inNumber, fieldsOn, letterOn, aloneOn, started, continued, guardOn}
-use Rattle.script.specs.GrammarLaws.{digit-from, fields-five, fields-digit, fields-other, fields-blank, fields-nothing, fields-end, fields-space, fields-wide, start-space, start-nothing, start-letter, oldest-letter, other-alone, guard-letter, guard-alone, other-guard, letter-space, letter-nothing, letter-other}
-use Rattle.script.specs.Tokens.{Digits, Moves, Spells, Stops, TellsNothing, Tells, ParsesPart, cut-byte, cut-join, cut-none, goes-turns, has-byte, moves-join, moves-none, tells-join, told}
+use Rattle.script.specs.Parsing.{Before, noneBefore, oneBefore, twoBefore, threeBefore, values, inNumber, fieldsOn, letterOn, aloneOn, started, continued, guardOn}
+use Rattle.script.specs.GrammarLaws.{digit-from, fields-five, fields-digit, fields-other, fields-blank, fields-nothing, fields-end, fields-space, fields-wide, start-space, start-nothing, start-letter, oldest-letter, other-alone, guard-letter, guard-alone, other-guard, letter-space, letter-nothing, letter-other, letter-byte}
+use Rattle.script.specs.Tokens.{Digits, Moves, Spells, Stops, TellsNothing, Tells, ParsesPart, Advances, cut-byte, cut-join, cut-none, has-byte, has-join, moves-join, moves-none, tells-join, told}
 
 -- ---- a byte
 
@@ -115,18 +112,6 @@ guard-feed b e = rw e ([], record { unbroken = has-nil 10; fed = refl }, refl, r
 
 -- ---- a number
 
-pub within-none : (c : ℕ) (f : Fields) (d : Bool) (n : ℕ) → f ≡ None → First c d n ≡ inNumber c (beforeOf f) d n
-unfolding inNumber
-within-none c f d n e = rw e refl
-
-pub within-one : (c : ℕ) (f : Fields) (d : Bool) (a n : ℕ) → f ≡ One a → Second c d a n ≡ inNumber c (beforeOf f) d n
-unfolding inNumber
-within-one c f d a n e = rw e refl
-
-pub within-two : (c : ℕ) (f : Fields) (d : Bool) (a b n : ℕ) → f ≡ Two a b → Third c d a b n ≡ inNumber c (beforeOf f) d n
-unfolding inNumber
-within-two c f d a b n e = rw e refl
-
 within-started : (c : ℕ) (f : Before) (d : Bool) (n : ℕ) → started (inNumber c f d n) ≡ true
 unfolding inNumber
 within-started c noneBefore d n = refl
@@ -176,7 +161,7 @@ spells-digit {s} {i} {j} {d} {e} {n} {m} h g t =
       moves = λ c f. moves-join (h .moves c f) (digit-moves c f e m (getD s j 0) t);
     }
 
-pub field-bad : (c : ℕ) (f : Before) (d : Bool) (n b : ℕ) → (b ≡ 32 → d ≡ false) → (b ≡ 10 → d ≡ false) → Stops n b → Tells (inNumber c f d n) event.Malformed Start (b ∷ [])
+field-bad : (c : ℕ) (f : Before) (d : Bool) (n b : ℕ) → (b ≡ 32 → d ≡ false) → (b ≡ 10 → d ≡ false) → Stops n b → Tells (inNumber c f d n) event.Malformed Start (b ∷ [])
 field-bad c f d n b h g t =
     bad (inNumber c f d n) b
     (λ q. (within-continued c f d n [] ∙ ended q, within-guard c f d n []))
@@ -211,6 +196,11 @@ field-space c f g n e =
     within-moves c f g true false n 0 32 (λ q. omega arith)
     (λ rest. fields-space c (values f) n rest ∙ ap (λ (x : List ℕ). fieldsOn c x false 0 rest) (sym e))
 
+-- the line is complete
+field-feed : (c : ℕ) (f : Before) (n : ℕ) → Tells (inNumber c f true n) (told (lineOf c (values f ++ (n ∷ [])))) Start (10 ∷ [])
+field-feed c f n =
+    feed-tells (inNumber c f true n) (lineOf c (values f ++ (n ∷ []))) (within-continued c f true n [] ∙ fields-end c (values f) n) (within-guard c f true n [])
+
 -- a fifth number
 field-fifth : (c a b g n : ℕ) → Tells (inNumber c (threeBefore a b g) true n) event.Malformed Start (32 ∷ [])
 unfolding Tells continued guardOn inNumber
@@ -236,17 +226,38 @@ digits-stop h t = record { spells = h; stops = λ q. t }
 pub digits-end : {s : List ℕ} {i j : ℕ} {d e : Bool} {n m : ℕ} → Spells s i d n j e m → length s ≤ j → Digits s i d n (record { next = j; digit = e; value = m })
 digits-end h t = record { spells = h; stops = λ q. absurd (omega arith) }
 
-pub space-none : (c : ℕ) (f : Fields) (n : ℕ) → f ≡ None → Tells (inNumber c (beforeOf f) true n) event.SliceEnd (Second c false n 0) (32 ∷ [])
-unfolding inNumber
-space-none c f n e = rw e (field-space c noneBefore (oneBefore n) n refl)
+-- ---- the start of a line of numbers
 
-pub space-one : (c : ℕ) (f : Fields) (a n : ℕ) → f ≡ One a → Tells (inNumber c (beforeOf f) true n) event.SliceEnd (Third c false a n 0) (32 ∷ [])
-unfolding inNumber
-space-one c f a n e = rw e (field-space c (oneBefore a) (twoBefore a n) n refl)
+-- one parser alone has read nothing
+unstarted : (p : Parser) → true ≡ not (started p) → p ≡ Start
+unstarted Start e = refl
+unstarted (Letter c) e = clash refl e
+unstarted Oldest e = clash refl e
+unstarted Guard e = clash refl e
+unstarted (First c d n) e = clash refl e
+unstarted (Second c d a n) e = clash refl e
+unstarted (Third c d a b n) e = clash refl e
+unstarted (Fourth c d a b g n) e = clash refl e
 
-pub space-two : (c : ℕ) (f : Fields) (a b n : ℕ) → f ≡ Two a b → Tells (inNumber c (beforeOf f) true n) event.SliceEnd (Fourth c false a b n 0) (32 ∷ [])
-unfolding inNumber
-space-two c f a b n e = rw e (field-space c (twoBefore a b) (threeBefore a b n) n refl)
+letter-moves : (c b : ℕ) → 32 < c → b ≡ 32 → Moves Start (First c false 0) (c ∷ b ∷ [])
+unfolding continued guardOn isGuard same
+letter-moves c b h e =
+    record {
+      unbroken = has-join (c ∷ []) (b ∷ []) (has-byte c (λ q. omega arith)) (has-byte b (λ q. omega arith));
+      begun = refl;
+      means = λ rest. ap (λ (x : ℕ). meaning (c ∷ x ∷ rest)) e ∙ letter-byte c 32 rest (λ q. omega arith);
+      guards = λ rest. refl;
+    }
+
+-- the letter of a line of numbers, and the space after it
+pub letter-begins : {s : List ℕ} {i : ℕ} {p : Parser} → true ≡ not (started p) → i + 1 < length s → 32 < getD s i 0 → getD s (i + 1) 0 ≡ 32
+    → Advances s i p (i + 2) (First (getD s i 0) false 0)
+letter-begins {s} {i} {p} e h l q =
+    record {
+      taken = (getD s i 0 ∷ []) ++ (getD s (i + 1) 0 ∷ []);
+      cut = let z : i + 2 ≡ i + 1 + 1 = omega arith in rw z (cut-join (cut-byte s i (omega arith)) (cut-byte s (i + 1) h));
+      moves = rw (unstarted p e) (letter-moves (getD s i 0) (getD s (i + 1) 0) l q);
+    }
 
 -- ---- a turn
 
@@ -254,50 +265,46 @@ space-two c f a b n e = rw e (field-space c (twoBefore a b) (threeBefore a b n) 
 pub turn-byte : (p : Parser) {s : List ℕ} {i : ℕ} (q : Parser) (e : Event) → i < length s → Tells p e q (getD s i 0 ∷ []) → ParsesPart s i p (record { parser = q; next = i + 1; event = e })
 turn-byte p {s} {i} q e h t = record { taken = getD s i 0 ∷ []; cut = cut-byte s i h; tells = t }
 
--- a letter and the space after it, and then as within its first number
-pub letter-turn : {s : List ℕ} {i : ℕ} {r : Parsed} → i + 1 + 1 < length s → (getD s i 0 ≡ 32 → ⊥) → (getD s i 0 ≡ 10 → ⊥) → (getD s i 0 ≡ 84 → ⊥) → (getD s i 0 ≡ 71 → ⊥)
-    → getD s (i + 1) 0 ≡ 32 → ParsesPart s (i + 1 + 1) (inNumber (getD s i 0) noneBefore false 0) r → ParsesPart s i Start r
-unfolding Tells inNumber
-letter-turn {s} {i} h p q t g e x =
-    goes-turns
-    (record {
-      taken = (getD s i 0 ∷ []) ++ (getD s (i + 1) 0 ∷ []);
-      cut = cut-join (cut-byte s i (omega arith)) (cut-byte s (i + 1) (omega arith));
-      moves = moves-join (start-good (getD s i 0) p q t g) (letter-good (getD s i 0) (getD s (i + 1) 0) e);
-    })
-    x
-
 -- a number at the slice's end
-pub field-ended : (c : ℕ) (f : Before) {d : Bool} {n : ℕ} {s : List ℕ} {i : ℕ} {r : Run} {p : Parser} → Digits s i d n r
-    → p ≡ inNumber c f (r .digit) (r .value) → ParsesPart s i (inNumber c f d n) (record { parser = p; next = r .next; event = event.SliceEnd })
+pub field-ended : (c : ℕ) (f : Before) {d : Bool} {n : ℕ} {s : List ℕ} {i : ℕ} {r : Run} → Digits s i d n r
+    → ParsesPart s i (inNumber c f d n) (record { parser = inNumber c f (r .digit) (r .value); next = r .next; event = event.SliceEnd })
 unfolding Tells
-field-ended c f h e = rw e (record { taken = h .spells .taken; cut = h .spells .cut; tells = h .spells .moves c f })
+field-ended c f h = record { taken = h .spells .taken; cut = h .spells .cut; tells = h .spells .moves c f }
 
 -- a number and the byte after it
-pub field-turn : (c : ℕ) (f : Before) {d : Bool} {n : ℕ} {s : List ℕ} {i : ℕ} {run : Run} (r : Parsed) → Digits s i d n run → run .next < length s
-    → r .next ≡ run .next + 1 → Tells (inNumber c f (run .digit) (run .value)) (r .event) (r .parser) (getD s (run .next) 0 ∷ [])
-    → ParsesPart s i (inNumber c f d n) r
-field-turn c f {d} {n} {s} {i} {run} r h g e t =
+pub field-turn : (c : ℕ) (f : Before) {d : Bool} {n : ℕ} {s : List ℕ} {i : ℕ} {run : Run} (p : Parser) (e : Event) → Digits s i d n run → run .next < length s
+    → Tells (inNumber c f (run .digit) (run .value)) e p (getD s (run .next) 0 ∷ [])
+    → ParsesPart s i (inNumber c f d n) (record { parser = p; next = run .next + 1; event = e })
+field-turn c f {s = s} {run = run} p e h g t =
     record {
       taken = h .spells .taken ++ (getD s (run .next) 0 ∷ []);
-      cut = cut-join (h .spells .cut) (rw e (cut-byte s (run .next) g));
-      tells = tells-join (r .event) (r .parser) (getD s (run .next) 0 ∷ []) (h .spells .moves c f) t;
+      cut = cut-join (h .spells .cut) (cut-byte s (run .next) g);
+      tells = tells-join e p (getD s (run .next) 0 ∷ []) (h .spells .moves c f) t;
     }
 
 pub digits-from : {s : List ℕ} {i : ℕ} {d : Bool} {n : ℕ} {r : Run} → Digits s i d n r → i ≤ r .next
 digits-from h = let p = h .spells .cut .place in omega arith
 
-pub space-turn : (c : ℕ) (f : Before) (d : Bool) (n b : ℕ) (r : Parsed) → d ≡ true → b ≡ 32
-    → Tells (inNumber c f true n) (r .event) (r .parser) (32 ∷ []) → Tells (inNumber c f d n) (r .event) (r .parser) (b ∷ [])
-space-turn c f d n b r p q t = rw (p, q) t
+-- a number and the space after it
+pub field-spaced : (c : ℕ) (f g : Before) {d : Bool} {n : ℕ} {s : List ℕ} {i : ℕ} {run : Run} → Digits s i d n run → run .next < length s
+    → run .digit ≡ true → getD s (run .next) 0 ≡ 32 → values g ≡ values f ++ (run .value ∷ [])
+    → ParsesPart s i (inNumber c f d n) (record { parser = inNumber c g false 0; next = run .next + 1; event = event.SliceEnd })
+field-spaced c f g {run = run} h l p q e =
+    field-turn c f (inNumber c g false 0) event.SliceEnd h l (rw (p, q) (field-space c f g (run .value) e))
 
-pub feed-turn : (c : ℕ) (f : Before) (d : Bool) (n b : ℕ) (e : Event) → d ≡ true → b ≡ 10
-    → e ≡ told (lineOf c (values f ++ (n ∷ []))) → Tells (inNumber c f d n) e Start (b ∷ [])
-feed-turn c f d n b e p q t =
-    rw (p, q, t)
-    (feed-tells (inNumber c f true n) (lineOf c (values f ++ (n ∷ []))) (within-continued c f true n [] ∙ fields-end c (values f) n) (within-guard c f true n []))
+-- a number and the line feed after it
+pub field-fed : (c : ℕ) (f : Before) {d : Bool} {n : ℕ} {s : List ℕ} {i : ℕ} {run : Run} (e : Event) → Digits s i d n run → run .next < length s
+    → run .digit ≡ true → getD s (run .next) 0 ≡ 10 → e ≡ told (lineOf c (values f ++ (run .value ∷ [])))
+    → ParsesPart s i (inNumber c f d n) (record { parser = Start; next = run .next + 1; event = e })
+field-fed c f {run = run} e h l p q t = field-turn c f Start e h l (rw (p, q, t) (field-feed c f (run .value)))
 
--- neither a space nor a line feed follows a digit
-pub refused : (b : ℕ) (d : Bool) → ((b ≡ 32 → ⊥) × (b ≡ 10 → ⊥)) ⊎ (d ≡ false) → (b ≡ 32 → d ≡ false) × (b ≡ 10 → d ≡ false)
-refused b d (inl h) = (λ q. absurd (h .0 q), λ q. absurd (h .1 q))
-refused b d (inr h) = (λ q. h, λ q. h)
+-- a number, and neither a space nor a line feed after a digit of it
+pub field-refused : (c : ℕ) (f : Before) {d : Bool} {n : ℕ} {s : List ℕ} {i : ℕ} {run : Run} → Digits s i d n run → run .next < length s
+    → ((getD s (run .next) 0 ≡ 32 → ⊥) × (getD s (run .next) 0 ≡ 10 → ⊥)) ⊎ (run .digit ≡ false)
+    → ParsesPart s i (inNumber c f d n) (record { parser = Start; next = run .next + 1; event = event.Malformed })
+field-refused c f {s = s} {run = run} h l w =
+    field-turn c f Start event.Malformed h l
+    (field-bad c f (run .digit) (run .value) (getD s (run .next) 0)
+    (λ q. ⊎-elim (λ y. absurd (y .0 q)) (λ y. y) w)
+    (λ q. ⊎-elim (λ y. absurd (y .1 q)) (λ y. y) w)
+    (h .stops l))

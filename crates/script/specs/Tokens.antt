@@ -39,7 +39,7 @@ cut-join {s} {i} {j} {k} {a} {b} x y =
       place = let p = x .place in let q = y .place in let e : length (a ++ b) ≡ length a + length b = length-append a b in omega arith;
     }
 
-has-join : (a b : List ℕ) → has 10 a ≡ false → has 10 b ≡ false → has 10 (a ++ b) ≡ false
+pub has-join : (a b : List ℕ) → has 10 a ≡ false → has 10 b ≡ false → has 10 (a ++ b) ≡ false
 has-join a b p q = has-append 10 a b ∙ (rw p q)
 
 pub has-byte : (b : ℕ) → (b ≡ 10 → ⊥) → has 10 (b ∷ []) ≡ false
@@ -131,7 +131,7 @@ tells-join event.Malformed {p} {q} r {a} b m t = (
     on l n = (m .means l ∙ n .0, m .guards l ∙ n .1)
 tells-join event.SliceEnd r b m t = moves-join m t
 
-pub goes-turns : {s : List ℕ} {i j : ℕ} {p q : Parser} {r : Parsed} → Advances s i p j q → ParsesPart s j q r → ParsesPart s i p r
+goes-turns : {s : List ℕ} {i j : ℕ} {p q : Parser} {r : Parsed} → Advances s i p j q → ParsesPart s j q r → ParsesPart s i p r
 goes-turns {r = r} g t =
     record { taken = g .taken ++ t .taken; cut = cut-join (g .cut) (t .cut); tells = tells-join (r .event) (r .parser) (t .taken) (g .moves) (t .tells) }
 
@@ -168,11 +168,9 @@ pub after-fresh : After [] Start
 unfolding continued guardOn
 after-fresh = record { unbroken = has-nil 10; begun = refl; means = λ rest. refl; guards = λ rest. refl }
 
-pub at-start : (p : Parser) (seen : List ℕ) → p ≡ Start → After seen p → true ≡ not (filled seen)
-at-start p seen e a = ap not (sym (ap started e) ∙ a .begun)
-
-pub past-start : (p : Parser) (seen : List ℕ) → started p ≡ true → After seen p → false ≡ not (filled seen)
-past-start p seen e a = ap not (sym e ∙ a .begun)
+-- whether the parser has read something is whether bytes were seen
+pub started-told : (p : Parser) (b : Bool) → started p ≡ b → (not b ≡ not (started p)) × ((seen : List ℕ) → After seen p → not b ≡ not (filled seen))
+started-told p b e = (ap not (sym e), λ seen a. ap not (sym e ∙ a .begun))
 
 abbrev pub told : Option Line → Event
 told none = event.Malformed
@@ -185,6 +183,9 @@ moves-none p =
     nothing : (b : Bool) → b ≡ either b false
     nothing true = refl
     nothing false = refl
+
+pub goes-join : {s : List ℕ} {i j k : ℕ} {p q r : Parser} → Advances s i p j q → Advances s j q k r → Advances s i p k r
+goes-join g h = record { taken = g .taken ++ h .taken; cut = cut-join (g .cut) (h .cut); moves = moves-join (g .moves) (h .moves) }
 
 pub goes-none : (s : List ℕ) (i : ℕ) (p : Parser) → Advances s i p i p
 goes-none s i p = record { taken = []; cut = cut-none s i; moves = moves-none p }
@@ -209,8 +210,7 @@ unfolding Tells
 ended-moves {p} {q} {e} {bs} h t = subst (λ (x : Event). Tells p x q bs) h t
 
 pub goes-on : {s : List ℕ} {i j : ℕ} {p q : Parser} {r : Parsed} → Advances s i p j q → ParsesPart s j q r → r .event ≡ event.SliceEnd → Advances s i p (r .next) (r .parser)
-goes-on g t e =
-    record { taken = g .taken ++ t .taken; cut = cut-join (g .cut) (t .cut); moves = moves-join (g .moves) (ended-moves e (t .tells)) }
+goes-on g t e = goes-join g (record { taken = t .taken; cut = t .cut; moves = ended-moves e (t .tells) })
 
 pub goes-ends : {s : List ℕ} {i j : ℕ} {p q : Parser} {r : Parsed} → Advances s i p j q → ParsesPart s j q r → (r .event ≡ event.SliceEnd → ⊥)
     → (seen : List ℕ) → After seen p → Parses seen s i r

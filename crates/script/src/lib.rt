@@ -4,13 +4,13 @@ use spec::OWNERS;
 use spec::WIDE;
 ghost use mathlib.Core.Path.{_≡_};
 ghost use mathlib.Core.Bool.{true, not};
-ghost use mathlib.Core.List.{List, [], _∷_, _++_};
+ghost use mathlib.Core.List.{List, [], _∷_};
 ghost use Prim.Native.Nat.{ℕ, _+_, _*_, _^_, _<_};
 ghost use lib.ListN.{length};
 ghost use Rattle.lists.specs.Tests.{less};
 ghost use Rattle.script.specs.Grammar.{lineOf};
-ghost use Rattle.script.specs.Parsing.{threeBefore, beforeOf, values, inNumber, filled, After, Parses};
-ghost use Rattle.script.specs.Tokens.{Tells, ParsesPart, Digits, told};
+ghost use Rattle.script.specs.Parsing.{noneBefore, oneBefore, twoBefore, threeBefore, inNumber, started, filled, After, Parses};
+ghost use Rattle.script.specs.Tokens.{Advances, ParsesPart, Digits, told};
 
 // A line of a script, with its numbers.
 pub enum Line {
@@ -25,13 +25,6 @@ pub enum Line {
     Abort(u32),
     Merge(u32),
     MergeOldest,
-}
-
-// The numbers of a line before the current one.
-enum Fields {
-    None,
-    One(u64),
-    Two(u64, u64),
 }
 
 // What is kept of the current line: nothing is read; or the letter; or `T` or `G`, which have no number; or a letter, a
@@ -110,6 +103,7 @@ pub fn fresh_parser() -> Parser
 
 // Nothing of a line has been read. At the end of the input anything else is a line without its line feed, and malformed.
 pub fn at_line_start(p: Parser) -> bool
+    ensures { λ r. ⌜ r ≡ not (started p) ⌝ }
     ensures { λ r. ⌜ ((seen : List ℕ) → After seen p → r ≡ not (filled seen)) ⌝ }
 {
     match p {
@@ -222,17 +216,6 @@ fn four(letter: u8, a: u64, b: u64, c: u64, d: u64) -> Event
     Event::Line(Line::Put(a as u32, b as u32, c, d as u16))
 }
 
-// A line of numbers whose line feed was read.
-fn complete(letter: u8, before: Fields, value: u64) -> Event
-    ensures { λ r. ⌜ r ≡ told (lineOf letter (values (beforeOf before) ++ (value ∷ []))) ⌝ }
-{
-    match before {
-        Fields::None => one(letter, value),
-        Fields::One(a) => two(letter, a, value),
-        Fields::Two(a, b) => three(letter, a, b, value),
-    }
-}
-
 // The number with one more digit has 64 bits at most.
 fn room(n: u64, d: u64) -> bool
     requires { ⌜ d < 10 ⌝ }
@@ -293,99 +276,45 @@ fn digits(s: &[u8], from: usize, digit: bool, value: u64) -> Run
     }
 }
 
-// The parser within a number.
-fn in_number(letter: u8, before: Fields, digit: bool, value: u64) -> Parser
-    ensures { λ r. ⌜ r ≡ inNumber letter (beforeOf before) digit value ⌝ }
-{
-    match before {
-        Fields::None => Parser::First {
-            letter,
-            digit,
-            value,
-        },
-        Fields::One(a) => Parser::Second {
-            letter,
-            digit,
-            a,
-            value,
-        },
-        Fields::Two(a, b) => Parser::Third {
-            letter,
-            digit,
-            a,
-            b,
-            value,
-        },
-    }
-}
-
-// The space after a number: one more number is read, and there are four at most.
-fn spaced(letter: u8, before: Fields, value: u64, next: usize) -> Parsed
-    ensures { λ r. ⌜ Tells (inNumber letter (beforeOf before) true value) (r .event) (r .parser) (32 ∷ []) ⌝ }
-    ensures { λ r. ⌜ r .next ≡ next ⌝ }
-{
-    match before {
-        Fields::None => Parsed {
-            parser: Parser::Second {
-                letter,
-                digit: false,
-                a: value,
-                value: 0,
-            },
-            next,
-            event: Event::SliceEnd,
-        },
-        Fields::One(a) => Parsed {
-            parser: Parser::Third {
-                letter,
-                digit: false,
-                a,
-                b: value,
-                value: 0,
-            },
-            next,
-            event: Event::SliceEnd,
-        },
-        Fields::Two(a, b) => Parsed {
-            parser: Parser::Fourth {
-                letter,
-                digit: false,
-                a,
-                b,
-                c: value,
-                value: 0,
-            },
-            next,
-            event: Event::SliceEnd,
-        },
-    }
-}
-
-// From a place in or before a number on: to the slice's end, or past the byte that ends the number.
-fn field(s: &[u8], i: usize, letter: u8, before: Fields, digit: bool, value: u64) -> Parsed
+// From a place in or before the first number on: to the slice's end, or past the byte that ends the number. Each number of a
+// line has a function of its own, called in one place alone, so that the compiler puts all four there.
+fn first_number(s: &[u8], i: usize, letter: u8, digit: bool, value: u64) -> Parsed
     requires { ⌜ i < length (now s) ⌝ }
-    ensures { λ r. ⌜ ParsesPart (now (s .entry)) i (inNumber letter (beforeOf before) digit value) r ⌝ }
+    ensures { λ r. ⌜ ParsesPart (now (s .entry)) i (inNumber letter noneBefore digit value) r ⌝ }
     ensures { λ r. ⌜ i < r .next ⌝ }
 {
     let run = digits(s, i, digit, value);
     let next = run.next;
     if next >= s.len() {
         return Parsed {
-            parser: in_number(letter, before, run.digit, run.value),
+            parser: Parser::First {
+                letter,
+                digit: run.digit,
+                value: run.value,
+            },
             next,
             event: Event::SliceEnd,
         };
     }
-    let b = s[next];
+    let end = s[next];
     if run.digit {
-        if b == SPACE {
-            return spaced(letter, before, run.value, next + 1);
+        if end == SPACE {
+            return Parsed {
+                parser: Parser::Second {
+                    letter,
+                    digit: false,
+                    a: run.value,
+                    value: 0,
+                },
+                next: next + 1,
+                event: Event::SliceEnd,
+            };
         }
-        if b == LINE_FEED {
+        if end == LINE_FEED {
             return Parsed {
                 parser: Parser::Start,
                 next: next + 1,
-                event: complete(letter, before, run.value),
+                event: one(letter, run.value),
             };
         }
     }
@@ -396,9 +325,119 @@ fn field(s: &[u8], i: usize, letter: u8, before: Fields, digit: bool, value: u64
     }
 }
 
-// The same of the fourth number, after which a line can only end. It has a function of its own, so that the compiler still
-// puts the other, smaller one where it is called.
-fn last(s: &[u8], i: usize, letter: u8, a: u64, b: u64, c: u64, digit: bool, value: u64) -> Parsed
+// The same of the second number.
+fn second_number(s: &[u8], i: usize, letter: u8, a: u64, digit: bool, value: u64) -> Parsed
+    requires { ⌜ i < length (now s) ⌝ }
+    ensures { λ r. ⌜ ParsesPart (now (s .entry)) i (inNumber letter (oneBefore a) digit value) r ⌝ }
+    ensures { λ r. ⌜ i < r .next ⌝ }
+{
+    let run = digits(s, i, digit, value);
+    let next = run.next;
+    if next >= s.len() {
+        return Parsed {
+            parser: Parser::Second {
+                letter,
+                digit: run.digit,
+                a,
+                value: run.value,
+            },
+            next,
+            event: Event::SliceEnd,
+        };
+    }
+    let end = s[next];
+    if run.digit {
+        if end == SPACE {
+            return Parsed {
+                parser: Parser::Third {
+                    letter,
+                    digit: false,
+                    a,
+                    b: run.value,
+                    value: 0,
+                },
+                next: next + 1,
+                event: Event::SliceEnd,
+            };
+        }
+        if end == LINE_FEED {
+            return Parsed {
+                parser: Parser::Start,
+                next: next + 1,
+                event: two(letter, a, run.value),
+            };
+        }
+    }
+    Parsed {
+        parser: Parser::Start,
+        next: next + 1,
+        event: Event::Malformed,
+    }
+}
+
+// The same of the third number.
+fn third_number(s: &[u8], i: usize, letter: u8, a: u64, b: u64, digit: bool, value: u64) -> Parsed
+    requires { ⌜ i < length (now s) ⌝ }
+    ensures { λ r. ⌜ ParsesPart (now (s .entry)) i (inNumber letter (twoBefore a b) digit value) r ⌝ }
+    ensures { λ r. ⌜ i < r .next ⌝ }
+{
+    let run = digits(s, i, digit, value);
+    let next = run.next;
+    if next >= s.len() {
+        return Parsed {
+            parser: Parser::Third {
+                letter,
+                digit: run.digit,
+                a,
+                b,
+                value: run.value,
+            },
+            next,
+            event: Event::SliceEnd,
+        };
+    }
+    let end = s[next];
+    if run.digit {
+        if end == SPACE {
+            return Parsed {
+                parser: Parser::Fourth {
+                    letter,
+                    digit: false,
+                    a,
+                    b,
+                    c: run.value,
+                    value: 0,
+                },
+                next: next + 1,
+                event: Event::SliceEnd,
+            };
+        }
+        if end == LINE_FEED {
+            return Parsed {
+                parser: Parser::Start,
+                next: next + 1,
+                event: three(letter, a, b, run.value),
+            };
+        }
+    }
+    Parsed {
+        parser: Parser::Start,
+        next: next + 1,
+        event: Event::Malformed,
+    }
+}
+
+// The same of the fourth number, after which a line can only end.
+fn last_number(
+    s: &[u8],
+    i: usize,
+    letter: u8,
+    a: u64,
+    b: u64,
+    c: u64,
+    digit: bool,
+    value: u64,
+) -> Parsed
     requires { ⌜ i < length (now s) ⌝ }
     ensures { λ r. ⌜ ParsesPart (now (s .entry)) i (inNumber letter (threeBefore a b c) digit value) r ⌝ }
     ensures { λ r. ⌜ i < r .next ⌝ }
@@ -437,8 +476,7 @@ fn last(s: &[u8], i: usize, letter: u8, a: u64, b: u64, c: u64, digit: bool, val
 }
 
 // The first byte of a line. Any byte but a space, a line feed, `T` or `G` may be the letter of a line of numbers: the line's
-// end tells. If the slice has the space after it, and a byte more, the first number is read in the same turn: a line then takes
-// two turns less, which saves 2 to 14 % of all instructions.
+// end tells.
 fn start(s: &[u8], i: usize) -> Parsed
     requires { ⌜ i < length (now s) ⌝ }
     ensures { λ r. ⌜ ParsesPart (now (s .entry)) i Parser.Start r ⌝ }
@@ -473,15 +511,9 @@ fn start(s: &[u8], i: usize) -> Parsed
             event: Event::SliceEnd,
         };
     }
-    let k = i + 1;
-    if k + 1 < s.len() {
-        if s[k] == SPACE {
-            return field(s, k + 1, b, Fields::None, false, 0);
-        }
-    }
     Parsed {
         parser: Parser::Letter(b),
-        next: k,
+        next: i + 1,
         event: Event::SliceEnd,
     }
 }
@@ -553,7 +585,7 @@ fn after_guard(s: &[u8], i: usize) -> Parsed
     }
 }
 
-// One turn: the letter, the byte after it, or a number with the byte that ends it; or the three at once.
+// One turn: the letter, the byte after it, or a number with the byte that ends it.
 fn parse_part(s: &[u8], i: usize, p: Parser) -> Parsed
     requires { ⌜ i < length (now s) ⌝ }
     ensures { λ r. ⌜ ParsesPart (now (s .entry)) i p r ⌝ }
@@ -568,20 +600,20 @@ fn parse_part(s: &[u8], i: usize, p: Parser) -> Parsed
             letter,
             digit,
             value,
-        } => field(s, i, letter, Fields::None, digit, value),
+        } => first_number(s, i, letter, digit, value),
         Parser::Second {
             letter,
             digit,
             a,
             value,
-        } => field(s, i, letter, Fields::One(a), digit, value),
+        } => second_number(s, i, letter, a, digit, value),
         Parser::Third {
             letter,
             digit,
             a,
             b,
             value,
-        } => field(s, i, letter, Fields::Two(a, b), digit, value),
+        } => third_number(s, i, letter, a, b, digit, value),
         Parser::Fourth {
             letter,
             digit,
@@ -589,8 +621,42 @@ fn parse_part(s: &[u8], i: usize, p: Parser) -> Parsed
             b,
             c,
             value,
-        } => last(s, i, letter, a, b, c, digit, value),
+        } => last_number(s, i, letter, a, b, c, digit, value),
     }
+}
+
+// A parser, and the place that it goes on at.
+struct Place {
+    parser: Parser,
+    at: usize,
+}
+
+// At the start of a line whose letter, the space after it and a byte more are in the slice, the parser before the first
+// number; else the parser as it is. A line of numbers then takes two turns less. Any byte above a space passes for the letter:
+// with a number `T` and `G` say nothing either, and the line's end tells.
+fn begin_line(s: &[u8], i: usize, p: Parser) -> Place
+    ensures { λ r. ⌜ Advances (now (s .entry)) i p (r .at) (r .parser) ⌝ }
+{
+    if at_line_start(p) {
+        if i < s.len() {
+            if s.len() - i > 2 {
+                let letter = s[i];
+                if letter > SPACE {
+                    if s[i + 1] == SPACE {
+                        return Place {
+                            parser: Parser::First {
+                                letter,
+                                digit: false,
+                                value: 0,
+                            },
+                            at: i + 2,
+                        };
+                    }
+                }
+            }
+        }
+    }
+    Place { parser: p, at: i }
 }
 
 // Reads the slice from a place on up to the end of a line, or up to a byte with which no line can say anything, or up to
@@ -598,8 +664,9 @@ fn parse_part(s: &[u8], i: usize, p: Parser) -> Parsed
 pub fn parse(s: &[u8], from: usize, p: Parser) -> Parsed
     ensures { λ r. ⌜ ((seen : List ℕ) → After seen p → Parses seen (now (s .entry)) from r) ⌝ }
 {
-    let mut i = from;
-    let mut q = p;
+    let begun = begin_line(s, from, p);
+    let mut i = begun.at;
+    let mut q = begun.parser;
     while i < s.len() {
         let t = parse_part(s, i, q);
         let event = t.event;

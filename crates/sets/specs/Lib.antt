@@ -9,3 +9,4 @@ pub mod ReadLaws
 pub mod LeafLaws
 pub mod WriteLaws
 pub mod WorkerLaws
+pub mod WordLaws

@@ -1,6 +1,8 @@
--- A worker with its three sets, as the model has it, and what its methods make of it.
-use Prim.Native.Nat.{ℕ}
-use mathlib.Core.List.{List}
+-- A worker with its three sets, as the model has it, what its methods make of it, and its word.
+use Prim.Native.Nat.{ℕ, _+_, _*_, _/_, _%_, _^_}
+use mathlib.Core.List.{List, map}
+use Rattle.lists.specs.Tests.{pick, same}
+use Rattle.spec.specs.declared.Stage.{Stage}
 use Rattle.spec.specs.declared.Stage.the-variants.{Free, Open, Locked, Checked}
 use Rattle.spec.specs.Steps as model
 use Rattle.sets.specs.declared.workers.Worker.{Worker}
@@ -42,3 +44,41 @@ withReads x n = record { stage = x .stage; number = x .number; reads = n; leaves
 
 abbrev pub withWrites : Worker → ℕ → Worker
 withWrites x n = record { stage = x .stage; number = x .number; reads = x .reads; leaves = x .leaves; writes = n }
+
+-- ---- words
+
+-- the stages numbered
+abbrev pub rankOf : Stage → ℕ
+rankOf Free = 0
+rankOf Open = 1
+rankOf Locked = 2
+rankOf Checked = 3
+
+unfoldable pub stageAt : ℕ → Stage
+stageAt n = pick (same n 0) Free (pick (same n 1) Open (pick (same n 2) Locked Checked))
+
+-- a worker's word: from its lowest bits on the number, of 32, then the rank of its stage and the three counts, of 8 each
+abbrev pub packedAt : Worker → ℕ → ℕ
+packedAt x rank = x .number + 2 ^ 32 * (rank + 256 * (x .reads + 256 * (x .leaves + 256 * x .writes)))
+
+unfoldable pub packed : Worker → ℕ
+packed x = packedAt x (rankOf (x .stage))
+
+-- the worker of a word whose stage is s
+abbrev pub unpackedAt : ℕ → Stage → Worker
+unpackedAt n s =
+    record {
+      number = n % 2 ^ 32;
+      stage = s;
+      reads = n / 2 ^ 32 / 256 % 256;
+      leaves = n / 2 ^ 32 / 256 / 256 % 256;
+      writes = n / 2 ^ 32 / 256 / 256 / 256 % 256;
+    }
+
+-- any word is a worker's
+unfoldable pub unpacked : ℕ → Worker
+unpacked n = unpackedAt n (stageAt (n / 2 ^ 32 % 256))
+
+-- the workers of lent words
+unfoldable pub workersOf : List ℕ → List Worker
+workersOf ws = map unpacked ws

@@ -30,3 +30,6 @@ pub type ReadSets = [ReadSet; WORKERS];
 pub type LeafSets = [LeafSet; WORKERS];
 
 pub type WriteSets = [WriteSet; WORKERS];
+
+// All workers, a word each.
+pub type Workers = [u64; WORKERS];

@@ -1,10 +1,19 @@
 // A worker (document 01: a seat) and the stages of its transaction (a job): free, open, locked, checked, and free again.
+// The eight stand in lent words; one function gives a worker by value and one puts it.
+use crate::Workers;
 use spec::Stage;
+use spec::WIDE;
+use spec::WORKERS;
 ghost use mathlib.Core.Path.{_≡_};
-ghost use Rattle.sets.specs.Workers.{begun, atLock, atCheck, freed};
+ghost use Prim.Native.Nat.{_<_};
+ghost use lib.ListN.{length, getD, set};
+ghost use Rattle.spec.specs.Records.{standard};
+ghost use Rattle.sets.specs.Workers.{begun, atLock, atCheck, freed, rankOf, stageAt, packed, unpacked, workersOf};
 
-// The stage, the commit number once checked, and how many rows of the three sets are in use. Narrow, since all eight go by
-// value from step to step, and the number first, since fields are laid out as written: 8 bytes, where 12 else.
+// How many values a field of a worker's word can have, but the lowest one, which is 32 bits wide.
+const FIELD: u64 = 256;
+
+// The stage, the commit number once checked, and how many rows of the three sets are in use: 64 bits in all.
 pub struct Worker {
     pub number: u32,
     pub stage: Stage,
@@ -71,4 +80,120 @@ impl Worker {
         };
         self
     }
+}
+
+// The stages numbered.
+pub fn rank(s: Stage) -> u8
+    ensures { λ r. ⌜ r ≡ rankOf s ⌝ }
+{
+    match s {
+        Stage::Free => 0,
+        Stage::Open => 1,
+        Stage::Locked => 2,
+        Stage::Checked => 3,
+    }
+}
+
+// The stage of a number.
+fn stage_at(n: u64) -> Stage
+    ensures { λ r. ⌜ r ≡ stageAt n ⌝ }
+{
+    if n == 0 {
+        return Stage::Free;
+    }
+    if n == 1 {
+        return Stage::Open;
+    }
+    if n == 2 {
+        return Stage::Locked;
+    }
+    Stage::Checked
+}
+
+// A worker's word: in its lowest 32 bits the commit number, then the stage and how many reads, leaves and writes, 8 bits each.
+fn pack(x: Worker) -> u64
+    ensures { λ r. ⌜ r ≡ packed x ⌝ }
+    ensures { λ r. ⌜ unpacked r ≡ x ⌝ }
+{
+    let stage = x.stage;
+    let counts = x.reads as u64 + FIELD * (x.leaves as u64 + FIELD * x.writes as u64);
+    x.number as u64 + WIDE * (rank(stage) as u64 + FIELD * counts)
+}
+
+// The worker of a word, whatever it is.
+fn unpack(n: u64) -> Worker
+    ensures { λ r. ⌜ r ≡ unpacked n ⌝ }
+{
+    let upper = n / WIDE;
+    let counts = upper / FIELD;
+    let others = counts / FIELD;
+    let stage = stage_at(upper % FIELD);
+    Worker {
+        number: (n % WIDE) as u32,
+        stage,
+        reads: (counts % FIELD) as u8,
+        leaves: (others % FIELD) as u8,
+        writes: (others / FIELD % FIELD) as u8,
+    }
+}
+
+fn size_of(words: &[u64]) -> usize
+    ensures { λ r. ⌜ r ≡ length (now (words .entry)) ⌝ }
+{
+    words.len()
+}
+
+// All eight workers are there. Only as a slice the lent words tell their number.
+fn eight(workers: &Workers)
+    ensures { λ _. ⌜ length (workersOf (now (workers .entry))) ≡ standard .workers ⌝ }
+{
+    size_of(workers);
+}
+
+// Worker w.
+pub fn worker_at(workers: &Workers, w: usize) -> Worker
+    requires { ⌜ w < standard .workers ⌝ }
+    ensures { λ r. ⌜ r ≡ getD (workersOf (now (workers .entry))) w freed ⌝ }
+    ensures { λ _. ⌜ length (workersOf (now (workers .entry))) ≡ standard .workers ⌝ }
+{
+    eight(workers);
+    unpack(workers[w])
+}
+
+// Worker w becomes x.
+pub fn put_worker(workers: &mut Workers, w: usize, x: Worker)
+    requires { ⌜ w < standard .workers ⌝ }
+    ensures { λ _. ⌜ workersOf (now (workers .exit)) ≡ set (workersOf (now (workers .entry))) w x ⌝ }
+{
+    workers[w] = pack(x);
+}
+
+// The words of eight workers.
+pub fn pack_all(xs: [Worker; WORKERS]) -> Workers
+    ensures { λ r. ⌜ workersOf r ≡ xs ⌝ }
+{
+    let mut words = [0u64; WORKERS];
+    let mut i = 0;
+    while i < WORKERS {
+        let x = xs[i];
+        words[i] = pack(x);
+        i += 1;
+    }
+    words
+}
+
+// The workers of eight words.
+pub fn unpack_all(workers: &Workers) -> [Worker; WORKERS]
+    ensures { λ r. ⌜ r ≡ workersOf (now (workers .entry)) ⌝ }
+{
+    eight(workers);
+    let free = unpack(0);
+    let mut xs = [free; WORKERS];
+    let mut i = 0;
+    while i < WORKERS {
+        let x = unpack(workers[i]);
+        xs[i] = x;
+        i += 1;
+    }
+    xs
 }

@@ -15,7 +15,7 @@ use Rattle.spec.specs.Records.{standard}
 use Rattle.spec.specs.Refusals.{ends}
 use Rattle.spec.specs.Steps.{workerOf, isFree, isOpen, isLocked, isChecked, begin, cause, noWorker, causes, firstCause, refusal}
 use Rattle.sets.specs.declared.workers.Worker.{Worker}
-use Rattle.sets.specs.Workers.{workerIn, freed}
+use Rattle.sets.specs.Workers.{workerIn, freed, rankOf}
 use Rattle.map.specs.Views.{Lent}
 use Rattle.transactions.specs.declared.Core.{Core}
 use Rattle.transactions.specs.declared.admits.Admit.{Admit}
@@ -23,13 +23,6 @@ use Rattle.transactions.specs.declared.admits.Admit.the-variants.{Refuse
 use Rattle.transactions.specs.Answering.{cause-holds, cause-fails, front, front-none, front-free, front-wrong, front-passed}
 use Rattle.transactions.specs.Views.{Logs, stateOf}
 use Rattle.transactions.specs.ViewLaws.{worker-at}
-
--- the stages numbered
-abbrev pub rankOf : Stage → ℕ
-rankOf Free = 0
-rankOf Open = 1
-rankOf Locked = 2
-rankOf Checked = 3
 
 -- the model's test of each
 abbrev pub isAt : Stage → Stage → Bool

@@ -23,7 +23,7 @@ use Rattle.transactions.specs.Begins.{Begins}
 
 -- ---- refused
 
-pub begin-refused : (c : Core) (w : ℕ) (r : Refusal) → Barred (c .workers) w r → Begins c w (record { core = c; answer = Refused r })
+pub begin-refused : (c : Core) (w : ℕ) (r : Refusal) → Barred (c .workers) w r → Begins c w c (Refused r)
 begin-refused c w r b = record { refines-so = λ l g k. refines-refused k (b .refuses l g c refl) (b .mild) }
 
 -- ---- granted
@@ -39,7 +39,7 @@ stored-begun : (l : Lent) (g : Logs) (c : Core) (w : ℕ) → w < standard .work
 stored-begun l g c w h t =
     stored-put l g w begun (c .sizes) h t (t .map) refl (t .reads) (t .leaves) (t .writes) (λ v d. refl) begun-within (lows-kept w begun h t (inr refl))
 
-begins : (c : Core) (w : ℕ) (x : Worker) → Vacant (c .workers) w x → Begins c w (record { core = coreWith c w begun; answer = Granted })
+begins : (c : Core) (w : ℕ) (x : Worker) → Vacant (c .workers) w x → Begins c w (coreWith c w begun) Granted
 unfolding granted
 begins c w x v =
     record {
@@ -50,6 +50,7 @@ begins c w x v =
           (stored-begun l g c w (v .inside) (k .stored));
     }
 
-pub begin-granted : (c : Core) (w : ℕ) (x y : Worker) → Vacant (c .workers) w x → y ≡ begun
-    → Begins c w (record { core = coreWith c w y; answer = Granted })
-begin-granted c w x y v e = subst (λ (z : Worker). Begins c w (record { core = coreWith c w z; answer = Granted })) (sym e) (begins c w x v)
+-- y the worker after it
+pub begin-granted : (c : Core) {c' : Core} (w : ℕ) (x y : Worker) → Vacant (c .workers) w x → y ≡ begun → c' ≡ coreWith c w y → Begins c w c' Granted
+begin-granted c w x y v e q =
+    subst (λ (d : Core). Begins c w d Granted) (sym q) (subst (λ (z : Worker). Begins c w (coreWith c w z) Granted) (sym e) (begins c w x v))

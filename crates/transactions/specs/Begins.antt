@@ -5,7 +5,6 @@ use Rattle.map.specs.Views.{Lent}
 use Rattle.transactions.specs.declared.Core.{Core}
 use Rattle.transactions.specs.declared.begins.Plain.{Plain}
 use Rattle.transactions.specs.declared.begins.Plain.the-variants.{Granted, Refused}
-use Rattle.transactions.specs.declared.begins.Done.{Done}
 use Rattle.transactions.specs.Views.{Logs}
 use Rattle.transactions.specs.Ready.{Ready, Refines}
 
@@ -14,5 +13,6 @@ abbrev pub plainIn : Plain → Answer
 plainIn Granted = done
 plainIn (Refused r) = refused r
 
-pub record Begins (c : Core) (w : ℕ) (r : Done) : Type 0 where
-  pub refines-so : (l : Lent) (g : Logs) → Ready l g c → Refines l g c (begin w) l g (r .core) (plainIn (r .answer))
+-- the core before it and after it, whatever the arrays hold
+pub record Begins (c : Core) (w : ℕ) (c' : Core) (r : Plain) : Type 0 where
+  pub refines-so : (l : Lent) (g : Logs) → Ready l g c → Refines l g c (begin w) l g c' (plainIn r)

@@ -30,10 +30,10 @@ use Rattle.transactions.specs.Admits.{Entered}
 use Rattle.transactions.specs.Ready.{workerAt, Within, LowsStay, Stored, Ready}
 
 -- The rows of every worker are write sets.
-pub record Writable (ws : List WriteRows) (c : Core) : Type 0 where
-  pub set : (w : ℕ) → w < standard .workers → WriteSetOrdered (getD ws w []) (workerAt c w .writes)
+pub record Writable (ws : List WriteRows) (workers : List Worker) : Type 0 where
+  pub set : (w : ℕ) → w < standard .workers → WriteSetOrdered (getD ws w []) (getD workers w freed .writes)
 
-pub ready-writable : {l : Lent} {g : Logs} {c : Core} → Ready l g c → Writable (g .writes) c
+pub ready-writable : {l : Lent} {g : Logs} {c : Core} → Ready l g c → Writable (g .writes) (c .workers)
 unfolding workerIn
 ready-writable {l} {g} {c} k =
     record {
@@ -58,9 +58,9 @@ module _ (right : Stage → Bool) (l : Lent) (g : Logs) (c : Core) (w : ℕ) (x 
   pub within : Within x
   within = subst Within (sym (t .is)) (k .stored .counts w (t .inside))
 
-pub worker-writable : {right : Stage → Bool} {ws : List WriteRows} {c : Core} {w : ℕ} {x : Worker} → Writable ws c → Entered right (c .workers) w x
+pub worker-writable : {right : Stage → Bool} {ws : List WriteRows} {workers : List Worker} {w : ℕ} {x : Worker} → Writable ws workers → Entered right workers w x
     → WriteSetOrdered (getD ws w []) (x .writes)
-worker-writable {right} {ws} {c} {w} {x} h t = subst (λ (y : Worker). WriteSetOrdered (getD ws w []) (y .writes)) (sym (t .is)) (h .set w (t .inside))
+worker-writable {right} {ws} {workers} {w} {x} h t = subst (λ (y : Worker). WriteSetOrdered (getD ws w []) (y .writes)) (sym (t .is)) (h .set w (t .inside))
 
 -- ---- the seat put back
 

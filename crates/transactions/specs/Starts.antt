@@ -14,6 +14,7 @@ use Rattle.sets.specs.Writes.{writeWords}
 use Rattle.map.specs.declared.Sizes.{Sizes}
 use Rattle.map.specs.Views.{Lent}
 use Rattle.transactions.specs.declared.Core.{Core}
+use Rattle.transactions.specs.declared.Globals.{Globals}
 use Rattle.transactions.specs.Views.{Logs, logs, stateOf}
 use Rattle.transactions.specs.Ready.{Ready}
 
@@ -34,3 +35,6 @@ startCore z guarded = record { workers = replicate (standard .workers) freed; si
 -- the core of a guarded map, with all else as it is
 abbrev pub guardedCore : Core → Core
 guardedCore c = record { workers = c .workers; sizes = c .sizes; counters = c .counters; guarded = 1 }
+
+abbrev pub guardedGlobals : Globals → Globals
+guardedGlobals c = record { guarded = 1; sizes = c .sizes; counters = c .counters }

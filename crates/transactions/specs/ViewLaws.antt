@@ -9,10 +9,11 @@ use Rattle.spec.specs.Records.{standard}
 use Rattle.spec.specs.Steps as model
 use Rattle.spec.specs.Steps.{workerOf, freeWorker, withWorker}
 use Rattle.sets.specs.declared.workers.Worker.{Worker}
-use Rattle.sets.specs.Workers.{workerIn, freed}
+use Rattle.sets.specs.Workers.{workerIn, freed, workersOf}
 use Rattle.map.specs.Views.{Lent, mapOf}
 use Rattle.transactions.specs.declared.Core.{Core}
-use Rattle.transactions.specs.Views.{Logs, OthersSame, coreWith, modelWorker, guardedIn, stateOf, workersFrom}
+use Rattle.transactions.specs.declared.Globals.{Globals}
+use Rattle.transactions.specs.Views.{Logs, OthersSame, coreOn, coreOf, globalsIn, coreWith, modelWorker, guardedIn, stateOf, workersFrom}
 
 -- ---- workers
 
@@ -87,3 +88,13 @@ state-with l g g' c w x o =
     })
     (from-set g g' (c .workers) 0 w x (subst (OthersSame g g') (let e : w ≡ 0 + w = omega arith in e) o)
     ∙ ap (λ (n : ℕ). set (workersFrom g (c .workers) 0) w (modelWorker g' x n)) (let e : 0 + w ≡ w = omega arith in e))
+
+-- ---- lent workers
+
+-- the core by what its lent workers have become
+pub core-put : (ws : List ℕ) {xs : List Worker} (c : Globals) → workersOf ws ≡ xs → coreOf ws c ≡ coreOn xs c
+core-put ws c e = ap (λ (xs : List Worker). coreOn xs c) e
+
+-- a core taken apart, and put together again
+pub core-again : (ws : List ℕ) {d : Globals} (c : Core) → workersOf ws ≡ c .workers → d ≡ globalsIn c → coreOf ws d ≡ c
+core-again ws c e q = λ i. coreOn (e i) (q i)

@@ -1,8 +1,11 @@
 // Begin: a free worker opens a transaction.
-use crate::Core;
 use crate::admits;
 use crate::admits::Admit;
+use sets::Workers;
+use sets::workers;
 use spec::Refusal;
+ghost use Rattle.transactions.specs.declared.Globals.{Globals};
+ghost use Rattle.transactions.specs.Views.{coreOf};
 ghost use Rattle.transactions.specs.Begins.{Begins};
 
 // The answer of a step that tells nothing more.
@@ -11,37 +14,16 @@ pub enum Plain {
     Refused(Refusal),
 }
 
-// The core after such a step, and its answer.
-pub struct Done {
-    pub core: Core,
-    pub answer: Plain,
-}
-
-// Worker w opens a transaction. No array is touched.
-pub fn begin(c: Core, w: u32) -> Done
-    ensures { λ r. ⌜ Begins c w r ⌝ }
+// Worker w opens a transaction. No array is touched but the workers.
+pub fn begin(workers: &mut Workers, w: u32) -> Plain
+    ensures { λ r. ⌜ ((c : Globals) → Begins (coreOf (now (workers .entry)) c) w (coreOf (now (workers .exit)) c) r) ⌝ }
 {
-    let mut workers = c.workers;
-    let sizes = c.sizes;
-    let counters = c.counters;
     match admits::vacant(workers, w) {
-        Admit::Refused(r) => Done {
-            core: c,
-            answer: Plain::Refused(r),
-        },
+        Admit::Refused(r) => Plain::Refused(r),
         Admit::Allowed(x) => {
             let open = x.begin();
-            workers[w as usize] = open;
-            let core = Core {
-                workers,
-                sizes,
-                counters,
-                guarded: c.guarded,
-            };
-            Done {
-                core,
-                answer: Plain::Granted,
-            }
+            workers::put_worker(workers, w as usize, open);
+            Plain::Granted
         }
     }
 }

@@ -1,5 +1,5 @@
 // Merges (document 01: fold), at an address or at the oldest pending write: no worker takes part, and they are never refused.
-use crate::Core;
+use crate::Globals;
 use map::Leaves;
 use map::Records;
 use map::Slots;
@@ -7,16 +7,17 @@ use merging::merge;
 use merging::oldest;
 use sets::LeafSets;
 use sets::ReadSets;
+use sets::Workers;
 use sets::WriteSets;
 use spec::Address;
 ghost use Rattle.spec.specs.Steps as model;
 ghost use Rattle.map.specs.Views.{lent};
-ghost use Rattle.transactions.specs.Views.{logs};
+ghost use Rattle.transactions.specs.Views.{logs, coreOf};
 ghost use Rattle.transactions.specs.Ready.{Ready, Refines};
 
-// The core after a merge, and how many pending writes entered the index.
+// The globals after a merge, and how many pending writes entered the index.
 pub struct MergeDone {
-    pub core: Core,
+    pub globals: Globals,
     pub count: usize,
 }
 
@@ -28,28 +29,27 @@ pub fn merge_at(
     reads: &ReadSets,
     leafsets: &LeafSets,
     writes: &WriteSets,
-    c: Core,
+    workers: &Workers,
+    c: Globals,
     a: Address,
 ) -> MergeDone
-    requires { ⌜ Ready (lent (now rows) (now leaves) (now slots)) (logs (now reads) (now leafsets) (now writes)) c ⌝ }
+    requires { ⌜ Ready (lent (now rows) (now leaves) (now slots)) (logs (now reads) (now leafsets) (now writes)) (coreOf (now workers) c) ⌝ }
     ensures { λ r. ⌜ Refines (lent (now (rows .entry)) (now (leaves .entry)) (now (slots .entry)))
-        (logs (now (reads .entry)) (now (leafsets .entry)) (now (writes .entry))) c (model.merge a) (lent (now (rows .exit)) (now (leaves .exit)) (now (slots .exit)))
-        (logs (now (reads .entry)) (now (leafsets .entry)) (now (writes .entry))) (r .core) (model.counted (r .count)) ⌝ }
+        (logs (now (reads .entry)) (now (leafsets .entry)) (now (writes .entry))) (coreOf (now (workers .entry)) c) (model.merge a) (lent (now (rows .exit)) (now (leaves .exit)) (now (slots .exit)))
+        (logs (now (reads .entry)) (now (leafsets .entry)) (now (writes .entry))) (coreOf (now (workers .entry)) (r .globals)) (model.counted (r .count)) ⌝ }
 {
-    let workers = c.workers;
     let sizes = c.sizes;
     let counters = c.counters;
     let r = merge::merge(rows, leaves, slots, sizes, counters, a);
     let z = r.sizes;
     let k = r.counters;
-    let core = Core {
-        workers,
+    let globals = Globals {
         sizes: z,
         counters: k,
         guarded: c.guarded,
     };
     MergeDone {
-        core,
+        globals,
         count: r.count,
     }
 }
@@ -63,13 +63,14 @@ pub fn merge_oldest(
     reads: &ReadSets,
     leafsets: &LeafSets,
     writes: &WriteSets,
-    c: Core,
+    workers: &Workers,
+    c: Globals,
 ) -> MergeDone
-    requires { ⌜ Ready (lent (now rows) (now leaves) (now slots)) (logs (now reads) (now leafsets) (now writes)) c ⌝ }
+    requires { ⌜ Ready (lent (now rows) (now leaves) (now slots)) (logs (now reads) (now leafsets) (now writes)) (coreOf (now workers) c) ⌝ }
     ensures { λ r. ⌜ Refines (lent (now (rows .entry)) (now (leaves .entry)) (now (slots .entry)))
-        (logs (now (reads .entry)) (now (leafsets .entry)) (now (writes .entry))) c model.mergeOldest (lent (now (rows .exit)) (now (leaves .exit)) (now (slots .exit)))
-        (logs (now (reads .entry)) (now (leafsets .entry)) (now (writes .entry))) (r .core) (model.counted (r .count)) ⌝ }
+        (logs (now (reads .entry)) (now (leafsets .entry)) (now (writes .entry))) (coreOf (now (workers .entry)) c) model.mergeOldest (lent (now (rows .exit)) (now (leaves .exit)) (now (slots .exit)))
+        (logs (now (reads .entry)) (now (leafsets .entry)) (now (writes .entry))) (coreOf (now (workers .entry)) (r .globals)) (model.counted (r .count)) ⌝ }
 {
     let a = oldest::oldest_waiting(slots);
-    merge_at(rows, leaves, slots, reads, leafsets, writes, c, a)
+    merge_at(rows, leaves, slots, reads, leafsets, writes, workers, c, a)
 }

@@ -32,26 +32,26 @@ after-guard-requires c κs = search needs
 enum-known-p-2 : tie.Need-enum-known-p-2
 enum-known-p-2 c = search needs
 
-field-requires : tie.Need-field-requires
-field-requires c κs = search needs
+first-number-requires : tie.Need-first-number-requires
+first-number-requires c κs = search needs
 
 enum-known-p-3 : tie.Need-enum-known-p-3
 enum-known-p-3 c = search needs
 
-field-requires-2 : tie.Need-field-requires-2
-field-requires-2 c κs = search needs
+second-number-requires : tie.Need-second-number-requires
+second-number-requires c κs = search needs
 
 enum-known-p-4 : tie.Need-enum-known-p-4
 enum-known-p-4 c = search needs
 
-field-requires-3 : tie.Need-field-requires-3
-field-requires-3 c κs = search needs
+third-number-requires : tie.Need-third-number-requires
+third-number-requires c κs = search needs
 
 enum-known-p-5 : tie.Need-enum-known-p-5
 enum-known-p-5 c = search needs
 
-last-requires : tie.Need-last-requires
-last-requires c κs = search needs
+last-number-requires : tie.Need-last-number-requires
+last-number-requires c κs = search needs
 
 returns : tie.Need-returns
 returns c = (turns-as (c .before .enum-told .given .1) (c .start .ensures .0), c .start .ensures .1)
@@ -67,19 +67,19 @@ returns-4 c = (turns-as (c .before .enum-told3 .given .1) (c .after-guard .ensur
 
 returns-5 : tie.Need-returns-5
 unfolding inNumber
-returns-5 c = (turns-as (c .before .before .p2 .given .1) (c .field .ensures .0), c .field .ensures .1)
+returns-5 c = (turns-as (c .before .before .p2 .given .1) (c .first-number .ensures .0), c .first-number .ensures .1)
 
 returns-6 : tie.Need-returns-6
 unfolding inNumber
-returns-6 c = (turns-as (c .before .before .p3 .given .1) (c .field2 .ensures .0), c .field2 .ensures .1)
+returns-6 c = (turns-as (c .before .before .p3 .given .1) (c .second-number .ensures .0), c .second-number .ensures .1)
 
 returns-7 : tie.Need-returns-7
 unfolding inNumber
-returns-7 c = (turns-as (c .before .before .p4 .given .1) (c .field3 .ensures .0), c .field3 .ensures .1)
+returns-7 c = (turns-as (c .before .before .p4 .given .1) (c .third-number .ensures .0), c .third-number .ensures .1)
 
 returns-8 : tie.Need-returns-8
 unfolding inNumber
-returns-8 c = (turns-as (c .before .before .p5 .given .1) (c .last .ensures .0), c .last .ensures .1)
+returns-8 c = (turns-as (c .before .before .p5 .given .1) (c .last-number .ensures .0), c .last-number .ensures .1)
 
 pub parse-part-spec : {M : Type 1} → statement M
 parse-part-spec =
@@ -94,13 +94,13 @@ parse-part-spec =
     enum-told-3
     after-guard-requires
     enum-known-p-2
-    field-requires
+    first-number-requires
     enum-known-p-3
-    field-requires-2
+    second-number-requires
     enum-known-p-4
-    field-requires-3
+    third-number-requires
     enum-known-p-5
-    last-requires
+    last-number-requires
     returns
     returns-2
     returns-3

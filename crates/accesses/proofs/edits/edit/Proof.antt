@@ -2,6 +2,7 @@
 use mathlib.Core.Path.{subst}
 use Rattle.spec.specs.Steps.{isOpen}
 use Rattle.transactions.specs.Admits.{Admitted}
+use Rattle.transactions.specs.ViewLaws.{core-put}
 use Rattle.transactions.specs.CoreLaws.{worker-writable}
 use Rattle.accesses.specs.Edits.{room-here, edit-refused, edit-full, edit-granted}
 use borrow.Author.Needs.{needs}
@@ -38,7 +39,7 @@ full-requires c κs =
 returns : tie.Need-returns
 returns c =
     let x = c .before .before .before .before .before in
-    edit-full (subst (Admitted isOpen _ _) (x .x .given .1) (x .before .before .«open» .ensures)) (c .before .full .ensures) (c .if1 .taken)
+    λ k. edit-full (subst (Admitted isOpen _ _) (x .x .given .1) (x .before .before .«open» .ensures)) (c .before .full .ensures) (c .if1 .taken)
 
 mul-put-write : tie.Need-mul-put-write
 mul-put-write c = search needs
@@ -57,25 +58,25 @@ put-write-requires c κs =
       room-here _ _ _ _ (c .before .before .full .ensures) (c .before .if1 .left),
     )
 
-cast-t29 : tie.Need-cast-t29
-cast-t29 c = search needs
+cast-t26 : tie.Need-cast-t26
+cast-t26 c = search needs
 
-with-worker-requires : tie.Need-with-worker-requires
-with-worker-requires c κs =
-    let x = c .before .before .before .before .before .before .before in
+put-worker-requires : tie.Need-put-worker-requires
+put-worker-requires c κs =
+    let x = c .before .before .before .before .before .before .before .before in
     let e = subst (Admitted isOpen _ _) (x .x .given .1) (x .before .before .«open» .ensures) in
     e .inside
 
 returns-2 : tie.Need-returns-2
-returns-2 c = edit-refused (subst (Admitted isOpen _ _) (c .before .r .given .1) (c .before .before .before .«open» .ensures))
+returns-2 c = λ k. edit-refused (subst (Admitted isOpen _ _) (c .before .r .given .1) (c .before .before .before .«open» .ensures))
 
 returns-3 : tie.Need-returns-3
 returns-3 c =
-    let p = c .before in
+    let p = c .before .before in
     let i = p .before .before in
     let x = i .before .before .before .before .before in
-    edit-granted (subst (Admitted isOpen _ _) (x .x .given .1) (x .before .before .«open» .ensures)) (i .before .full .ensures) (i .if1 .left)
-    (p .put-write .ensures) (c .with-worker .ensures)
+    λ k. edit-granted (subst (Admitted isOpen _ _) (x .x .given .1) (x .before .before .«open» .ensures)) (i .before .full .ensures) (i .if1 .left)
+    (p .put-write .ensures) (core-put _ k (c .put-worker .ensures))
 
 pub edit-spec : {M : Type 1} → statement M
 edit-spec =
@@ -92,7 +93,7 @@ edit-spec =
     mul-put-write
     index-1-put-write
     put-write-requires
-    cast-t29
-    with-worker-requires
+    cast-t26
+    put-worker-requires
     returns-2
     returns-3)

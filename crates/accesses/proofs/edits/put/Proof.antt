@@ -5,10 +5,10 @@ use Rattle.accesses.proofs.edits.put.Statement.{statement}
 use Rattle.accesses.proofs.edits.put.Tie as tie
 
 edit-requires : tie.Need-edit-requires
-edit-requires c κs = ready-writable (c .before .pre)
+edit-requires c κs = ready-writable (c .before .before .pre)
 
 returns : tie.Need-returns
-returns c = let s = c .before .before in put-refines _ _ (s .fits .owner .fits) (c .edit .ensures) (s .pre)
+returns c = let s = c .before .before .before in put-refines _ _ (s .fits .owner .fits) (c .edit .ensures _) (s .pre)
 
 pub put-spec : {M : Type 1} → statement M
 put-spec = tie.close (tie.spec edit-requires returns)

@@ -5,10 +5,10 @@ use Rattle.accesses.proofs.edits.remove.Statement.{statement}
 use Rattle.accesses.proofs.edits.remove.Tie as tie
 
 edit-requires : tie.Need-edit-requires
-edit-requires c κs = ready-writable (c .before .pre)
+edit-requires c κs = ready-writable (c .before .before .pre)
 
 returns : tie.Need-returns
-returns c = remove-refines (c .edit .ensures) (c .before .before .pre)
+returns c = remove-refines (c .edit .ensures _) (c .before .before .before .pre)
 
 pub remove-spec : {M : Type 1} → statement M
 remove-spec = tie.close (tie.spec edit-requires returns)

@@ -1,4 +1,5 @@
 -- `reads::read_current` meets its contract: the log is full, or it has the current record.
+use Rattle.transactions.specs.ViewLaws.{core-put}
 use Rattle.accesses.specs.ReadSteps.{read-full, read-logged}
 use borrow.Author.Needs.{needs}
 use Rattle.accesses.proofs.reads.read_current.Statement.{statement}
@@ -22,11 +23,11 @@ take-requires c κs =
     let p = s .pre .0 in
     (p .reads .at _ (s .pre .1 .inside), (p .records, (p .entries, c .before .if1 .left)))
 
-cast-t24 : tie.Need-cast-t24
-cast-t24 c = search needs
+cast-t22 : tie.Need-cast-t22
+cast-t22 c = search needs
 
-with-worker-requires : tie.Need-with-worker-requires
-with-worker-requires c κs = c .before .before .before .before .before .before .pre .1 .inside
+put-worker-requires : tie.Need-put-worker-requires
+put-worker-requires c κs = c .before .before .before .before .before .before .before .pre .1 .inside
 
 shown-requires : tie.Need-shown-requires
 shown-requires c κs = search needs
@@ -34,9 +35,9 @@ shown-requires c κs = search needs
 returns-2 : tie.Need-returns-2
 returns-2 c =
     let w = c .before .before in
-    let t = w .before .before in
+    let t = w .before .before .before in
     let e = t .before .before in
-    read-logged (e .before .before .before .pre .1) (e .if1 .left) (t .take .ensures) (w .with-worker .ensures) (c .shown .ensures)
+    read-logged (e .before .before .before .pre .1) (e .if1 .left) (t .take .ensures) (core-put _ _ (w .put-worker .ensures)) (c .shown .ensures)
 
 pub read-current-spec : {M : Type 1} → statement M
 read-current-spec =
@@ -47,7 +48,7 @@ read-current-spec =
     mul-take
     index-1-take
     take-requires
-    cast-t24
-    with-worker-requires
+    cast-t22
+    put-worker-requires
     shown-requires
     returns-2)

@@ -50,7 +50,7 @@ enum-told-2 c = search needs
 
 read-current-requires : tie.Need-read-current-requires
 read-current-requires c κs =
-    let x = c .before .before .before .before .before .before .before in
+    let x = c .before .before .before .before .before .before .before .before in
     let o = x .before .before in
     (o .before .before .pre .loggable, subst (Admitted isOpen _ _) (x .x .given .1) (o .«open» .ensures))
 
@@ -72,7 +72,7 @@ returns-3 c =
 
 returns-4 : tie.Need-returns-4
 returns-4 c =
-    let e = c .before .before in
+    let e = c .before .before .before in
     read-nothing (e .enum-told2 .given .1) (e .before .before .find-write .ensures) (c .read-current .ensures)
 
 pub tell-spec : {M : Type 1} → statement M

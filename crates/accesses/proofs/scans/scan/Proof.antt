@@ -4,6 +4,7 @@ use mathlib.Core.Path.{subst}
 use borrow.Author.Needs.{needs}
 use Rattle.spec.specs.Steps.{isOpen}
 use Rattle.transactions.specs.Admits.{Admitted}
+use Rattle.transactions.specs.ViewLaws.{core-put}
 use Rattle.ranges.specs.Plans.{Plans}
 use Rattle.ranges.specs.PlanLaws.{planned}
 use Rattle.accesses.specs.ScanCauses.{planning}
@@ -89,9 +90,9 @@ carry-out-requires c κs =
     let p = subst (Plans _ _ _ _ _ _ _ _ _) (a .t .given .1) (m .measure .ensures) in
     (planning (s .pre) e, (planned p, (s .pre .stored .reads .at _ (e .inside), s .pre .stored .leaves .at _ (e .inside))))
 
-with-worker-requires : tie.Need-with-worker-requires
-with-worker-requires c κs =
-    let a = c .before .before .before .before .before .before .before .before .before .before .before .before .before .before in
+put-worker-requires : tie.Need-put-worker-requires
+put-worker-requires c κs =
+    let a = c .before .before .before .before .before .before .before .before .before .before .before .before .before .before .before in
     let x = a .before .before .before .before .before in
     let e = subst (Admitted isOpen _ _) (x .x .given .1) (x .before .before .«open» .ensures) in
     e .inside
@@ -112,24 +113,24 @@ returns-2 c =
     (subst (Plans _ _ _ _ _ _ _ _ _) (c .before .r2 .given .1) (m .measure .ensures))
 
 same-length : tie.Need-same-length
-same-length c = c .before .before .before .before .before .before .before .carry-out .ensures .fills .beyond .addresses .size
+same-length c = c .before .before .before .before .before .before .before .before .carry-out .ensures .fills .beyond .addresses .size
 
 same-length-2 : tie.Need-same-length-2
-same-length-2 c = c .before .before .before .before .before .before .before .carry-out .ensures .fills .beyond .values .size
+same-length-2 c = c .before .before .before .before .before .before .before .before .carry-out .ensures .fills .beyond .values .size
 
 same-length-3 : tie.Need-same-length-3
-same-length-3 c = c .before .before .before .before .before .before .before .carry-out .ensures .fills .beyond .owners .size
+same-length-3 c = c .before .before .before .before .before .before .before .before .carry-out .ensures .fills .beyond .owners .size
 
 returns-3 : tie.Need-returns-3
 returns-3 c =
-    let f = c .before .before .before .before .before .before .before in
+    let f = c .before .before .before .before .before .before .before .before in
     let a = f .before .before .before .before .before .before .before .before in
     let m = a .before .before in
     let x = m .before .before .before in
     let o = x .before .before in
     let s = o .before .before .before .before .before .before in
     scans-granted _ _ _ (s .pre) (subst (Admitted isOpen _ _) (x .x .given .1) (o .«open» .ensures))
-    (subst (Plans _ _ _ _ _ _ _ _ _) (a .t .given .1) (m .measure .ensures)) (f .carry-out .ensures) (c .with-worker .ensures)
+    (subst (Plans _ _ _ _ _ _ _ _ _) (a .t .given .1) (m .measure .ensures)) (f .carry-out .ensures) (core-put _ _ (c .put-worker .ensures))
 
 pub scan-spec : {M : Type 1} → statement M
 scan-spec =
@@ -150,7 +151,7 @@ scan-spec =
     mul-carry-out-3
     index-1-carry-out-3
     carry-out-requires
-    with-worker-requires
+    put-worker-requires
     returns
     returns-2
     same-length

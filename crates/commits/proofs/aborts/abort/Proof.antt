@@ -18,21 +18,17 @@ enum-told c = search needs
 
 drop-transaction-requires : tie.Need-drop-transaction-requires
 drop-transaction-requires c κs =
-    let t = c .before .before in
-    let k = t .before .before .before .before .pre in
-    let e = subst (Admitted anyStage _ _) (t .enum-told .given .1) (t .before .before .busy .ensures) in
+    let k = c .before .before .before .before .before .before .before .pre in
+    let e = subst (Admitted anyStage _ _) (c .before .before .before .enum-told .given .1) (c .before .before .before .before .before .busy .ensures) in
     (k .stored .map, (e .inside, ready-writable k .set _ (e .inside)))
 
 returns : tie.Need-returns
-returns c =
-    let b = c .before .before .before in
-    abort-refused _ (b .before .before .pre) _ (subst (Admitted anyStage _ _) (c .before .r .given .1) (b .busy .ensures))
+returns c = abort-refused _ (c .before .before .before .before .before .pre) _ (subst (Admitted anyStage _ _) (c .before .r .given .1) (c .before .before .before .busy .ensures))
 
 returns-2 : tie.Need-returns-2
 returns-2 c =
-    let t = c .before .before .before in
-    abort-granted _ (t .before .before .before .before .pre) _
-    (subst (Admitted anyStage _ _) (t .enum-told .given .1) (t .before .before .busy .ensures))
+    abort-granted _ (c .before .before .before .before .before .before .before .before .pre) _
+    (subst (Admitted anyStage _ _) (c .before .before .before .before .enum-told .given .1) (c .before .before .before .before .before .before .busy .ensures))
     (c .drop-transaction .ensures)
 
 pub abort-spec : {M : Type 1} → statement M

@@ -19,24 +19,26 @@ enum-told c = search needs
 
 install-transaction-requires : tie.Need-install-transaction-requires
 install-transaction-requires c κs =
-    let t = c .before .before in
-    let k = t .before .before .before .before .pre in
-    let e = subst (Admitted isChecked _ _) (t .enum-told .given .1) (t .before .before .checked .ensures) in
+    let k = c .before .before .before .before .before .before .before .pre in
+    let e = subst (Admitted isChecked _ _) (c .before .before .before .enum-told .given .1) (c .before .before .before .before .before .checked .ensures) in
     (k .stored .map, (e .inside, (ready-writable k .set _ (e .inside), (install-can _ k _ e, install-fits k))))
 
 returns : tie.Need-returns
-returns c =
-    let b = c .before .before .before in
-    install-refused _ (b .before .before .pre) _ (subst (Admitted isChecked _ _) (c .before .r .given .1) (b .checked .ensures))
+returns c = install-refused _ (c .before .before .before .before .before .pre) _ (subst (Admitted isChecked _ _) (c .before .r .given .1) (c .before .before .before .checked .ensures))
 
 returns-2 : tie.Need-returns-2
 returns-2 c =
-    let t = c .before .before .before in
-    install-granted _ (t .before .before .before .before .pre) _
-    (subst (Admitted isChecked _ _) (t .enum-told .given .1) (t .before .before .checked .ensures))
+    install-granted _ (c .before .before .before .before .before .before .before .before .pre) _
+    (subst (Admitted isChecked _ _) (c .before .before .before .before .enum-told .given .1) (c .before .before .before .before .before .before .checked .ensures))
     (c .install-transaction .ensures)
 
 pub install-spec : {M : Type 1} → statement M
 install-spec =
     tie.close
-    (tie.spec checked-requires enum-known-r enum-told install-transaction-requires returns returns-2)
+    (tie.spec
+    checked-requires
+    enum-known-r
+    enum-told
+    install-transaction-requires
+    returns
+    returns-2)

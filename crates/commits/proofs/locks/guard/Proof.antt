@@ -3,7 +3,6 @@ use Rattle.commits.specs.Locks.{guard-unguarded, guard-judged}
 use borrow.Author.Needs.{needs}
 use Rattle.commits.proofs.locks.guard.Statement.{statement}
 use Rattle.commits.proofs.locks.guard.Tie as tie
-use Rattle.guards.proofs.judge.Reads as judge-reads
 
 mul-judge : tie.Need-mul-judge
 mul-judge c = search needs

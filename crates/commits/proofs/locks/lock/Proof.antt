@@ -19,8 +19,9 @@ enum-known-x c = search needs
 
 guard-requires : tie.Need-guard-requires
 guard-requires c κs =
-    let e = subst (Admitted isOpen _ _) (c .before .before .x .given .1) (c .before .before .before .before .open .ensures) in
-    (e .inside, guardable _ (c .before .before .before .before .before .before .pre) _ e)
+    let x = c .before .before in
+    let e = subst (Admitted isOpen _ _) (x .x .given .1) (x .before .before .open .ensures) in
+    (e .inside, guardable _ (x .before .before .before .before .pre) _ e)
 
 enum-known-r-2 : tie.Need-enum-known-r-2
 enum-known-r-2 c = search needs
@@ -30,23 +31,24 @@ enum-told c = search needs
 
 lock-open-requires : tie.Need-lock-open-requires
 lock-open-requires c κs =
-    let k = c .before .before .before .before .before .before .before .before .before .before .before .pre in
-    let e = subst (Admitted isOpen _ _) (c .before .before .before .before .before .before .before .x .given .1) (c .before .before .before .before .before .before .before .before .before .open .ensures) in
+    let x = c .before .before .before .before .before .before .before .before in
+    let k = x .before .before .before .before .pre in
+    let e = subst (Admitted isOpen _ _) (x .x .given .1) (x .before .before .open .ensures) in
     (k .stored .map, (e .inside, ready-writable k .set _ (e .inside)))
 
 returns : tie.Need-returns
-returns c =
-    lock-refused _ (c .before .before .before .before .before .pre) _ (subst (Admitted isOpen _ _) (c .before .r .given .1) (c .before .before .before .open .ensures))
+returns c = lock-refused _ (c .before .before .before .before .before .pre) _ (subst (Admitted isOpen _ _) (c .before .r .given .1) (c .before .before .before .open .ensures))
 
 returns-2 : tie.Need-returns-2
 returns-2 c =
-    let e = subst (Admitted isOpen _ _) (c .before .before .before .before .before .before .x .given .1) (c .before .before .before .before .before .before .before .before .open .ensures) in
-    lock-barred _ (c .before .before .before .before .before .before .before .before .before .before .pre) _ e _ _ (c .before .r2 .given .1) (c .before .before .before .guard .ensures)
+    let x = c .before .before .before .before .before .before in
+    lock-barred _ (x .before .before .before .before .pre) _ (subst (Admitted isOpen _ _) (x .x .given .1) (x .before .before .open .ensures)) _ _ (c .before .r2 .given .1) (c .before .before .before .guard .ensures)
 
 returns-3 : tie.Need-returns-3
 returns-3 c =
-    let e = subst (Admitted isOpen _ _) (c .before .before .before .before .before .before .before .before .x .given .1) (c .before .before .before .before .before .before .before .before .before .before .open .ensures) in
-    lock-refines _ (c .before .before .before .before .before .before .before .before .before .before .before .before .pre) _ e _ (c .before .before .before .enum-told .given .1) (c .before .before .before .before .before .guard .ensures) _ (c .lock-open .ensures)
+    let x = c .before .before .before .before .before .before .before .before .before in
+    lock-refines _ (x .before .before .before .before .pre) _ (subst (Admitted isOpen _ _) (x .x .given .1) (x .before .before .open .ensures)) _
+    (c .before .before .before .before .enum-told .given .1) (c .before .before .before .before .before .before .guard .ensures) _ (c .lock-open .ensures)
 
 pub lock-spec : {M : Type 1} → statement M
 lock-spec =

@@ -1,17 +1,14 @@
 -- `locks::lock_open` meets its contract: refused by 9, 10 or 11, or the write set is locked.
 use mathlib.Core.Path.{sym, _∙_}
-use Rattle.map.specs.AddressCounts.{counted}
-use Rattle.commits.specs.Commits.{writing}
-use Rattle.commits.specs.Locks.{tested-can, worker-fits, locks-refused, locks-granted}
 use borrow.Author.Needs.{needs}
+use Rattle.map.specs.AddressCounts.{counted}
+use Rattle.commits.specs.Commits.{writing, set-of}
+use Rattle.commits.specs.Locks.{tested-can, worker-fits, locks-refused, locks-granted}
 use Rattle.commits.proofs.locks.lock_open.Statement.{statement}
 use Rattle.commits.proofs.locks.lock_open.Tie as tie
 
-mul-x : tie.Need-mul-x
-mul-x c = search needs
-
-array-copy-out-x : tie.Need-array-copy-out-x
-array-copy-out-x c = search needs
+worker-at-requires : tie.Need-worker-at-requires
+worker-at-requires c κs = search needs
 
 cast-n : tie.Need-cast-n
 cast-n c = search needs
@@ -24,38 +21,36 @@ index-1-lock-tests c = search needs
 
 lock-tests-requires : tie.Need-lock-tests-requires
 lock-tests-requires c κs =
-    let s = c .before .before .before .before .before .before .before in
-    (counted (s .pre .0 .tables), (s .pre .0 .tables .entries-are, s .pre .1 .1))
+    let p = c .before .before .before .before .before .before .before .pre in
+    (counted (p .0 .tables), (p .0 .tables .entries-are, set-of (c .before .before .before .worker-at .ensures .0) (p .1 .1)))
 
 refused-requires : tie.Need-refused-requires
 refused-requires c κs = search needs
 
 returns : tie.Need-returns
 returns c =
-    locks-refused _ _ _ _ _ (c .before .before .lock-tests .ensures) (sym (c .before .refused .ensures) ∙ c .if1 .taken)
+    locks-refused _ _ _ _ _ _ (c .before .before .before .before .before .before .worker-at .ensures .0) (c .before .before .lock-tests .ensures)
+    (sym (c .before .refused .ensures) ∙ c .if1 .taken)
 
 mul-lock-all : tie.Need-mul-lock-all
-mul-lock-all c =
-    let e = c .before .before in
-    let h = e .before .before .before .before .before .before .before .before .before .before .pre .1 .0 in
-    search needs
+mul-lock-all c = search needs
 
 index-1-lock-all : tie.Need-index-1-lock-all
-index-1-lock-all c =
-    let e = c .before .before in
-    e .before .before .before .before .before .before .before .before .before .before .pre .1 .0
+index-1-lock-all c = search needs
 
 lock-all-requires : tie.Need-lock-all-requires
 lock-all-requires c κs =
     let e = c .before .before .before in
     let t = e .before .before in
-    let s = t .before .before .before .before .before .before .before .before in (
-      s .pre .0,
+    let x = t .before .before .before .before in
+    let p = x .before .before .before .before .pre in
+    let o = set-of (x .worker-at .ensures .0) (p .1 .1) in (
+      p .0,
       (
-        writing (s .pre .1 .1),
+        writing o,
         (
-          worker-fits _ (s .pre .1 .0),
-          tested-can _ _ _ _ _ _ _ _ (t .lock-tests .ensures) (s .pre .1 .1 .rising) (sym (e .before .refused .ensures) ∙ e .if1 .left),
+          worker-fits _ (p .1 .0),
+          tested-can _ _ _ _ _ _ _ _ (t .lock-tests .ensures) (o .rising) (sym (e .before .refused .ensures) ∙ e .if1 .left),
         ),
       ),
     )
@@ -63,31 +58,23 @@ lock-all-requires c κs =
 lock-requires : tie.Need-lock-requires
 lock-requires c κs = search needs
 
-mul-workers : tie.Need-mul-workers
-mul-workers c =
-    let e = c .before .before .before .before .before in
-    let h = e .before .before .before .before .before .before .before .before .before .before .pre .1 .0 in
-    search needs
-
-array-set-from-workers : tie.Need-array-set-from-workers
-array-set-from-workers c =
-    let e = c .before .before .before .before .before in
-    e .before .before .before .before .before .before .before .before .before .before .pre .1 .0
+put-worker-requires : tie.Need-put-worker-requires
+put-worker-requires c κs = c .before .before .before .before .before .before .before .before .before .before .before .before .before .before .before .before .pre .1 .0
 
 returns-2 : tie.Need-returns-2
 returns-2 c =
-    let e = c .before .before .before .before .before in
-    let t = e .before .before in
-    let s = t .before .before .before .before .before .before .before .before in
-    locks-granted _ _ _ _ _ _ _ _ (s .pre .1 .0) (t .lock-tests .ensures) (sym (e .before .refused .ensures) ∙ e .if1 .left)
-    (c .lock .ensures) (c .before .lock-all .ensures)
+    locks-granted _ _ _ _ _ _ _ _ _
+    (c .before .before .before .before .before .before .before .before .before .before .before .before .before .before .before .before .before .pre .1 .0)
+    (c .before .before .before .before .before .before .before .before .before .before .before .before .before .worker-at .ensures .0)
+    (c .before .before .before .before .before .before .before .before .before .lock-tests .ensures)
+    (sym (c .before .before .before .before .before .before .before .before .refused .ensures) ∙ c .before .before .before .before .before .before .before .if1 .left)
+    (c .before .before .lock .ensures) (c .before .before .before .lock-all .ensures) (c .put-worker .ensures)
 
 pub lock-open-spec : {M : Type 1} → statement M
 lock-open-spec =
     tie.close
     (tie.spec
-    mul-x
-    array-copy-out-x
+    worker-at-requires
     cast-n
     mul-lock-tests
     index-1-lock-tests
@@ -98,6 +85,5 @@ lock-open-spec =
     index-1-lock-all
     lock-all-requires
     lock-requires
-    mul-workers
-    array-set-from-workers
+    put-worker-requires
     returns-2)

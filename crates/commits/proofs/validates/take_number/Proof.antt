@@ -16,15 +16,15 @@ cast-check c = search needs
 check-requires : tie.Need-check-requires
 check-requires c κs = search needs
 
-mul-workers : tie.Need-mul-workers
-mul-workers c = search needs
-
-array-set-from-workers : tie.Need-array-set-from-workers
-array-set-from-workers c = search needs
+put-worker-requires : tie.Need-put-worker-requires
+put-worker-requires c κs = search needs
 
 returns-2 : tie.Need-returns-2
-returns-2 c = number-taken _ _ _ _ _ _ (c .before .before .before .if1 .left) (c .before .before .take-number .ensures) (c .before .check .ensures)
+returns-2 c =
+    number-taken _ _ _ _ _ _ (c .before .before .before .before .before .before .if1 .left) (c .before .before .before .before .before .take-number .ensures)
+    (c .before .before .before .before .check .ensures) (c .before .before .put-worker .ensures)
 
 pub take-number-spec : {M : Type 1} → statement M
 take-number-spec =
-    tie.close (tie.spec returns take-number-requires cast-check check-requires mul-workers array-set-from-workers returns-2)
+    tie.close
+    (tie.spec returns take-number-requires cast-check check-requires put-worker-requires returns-2)

@@ -18,96 +18,68 @@ enum-known-x : tie.Need-enum-known-x
 enum-known-x c = search needs
 
 mul-judge : tie.Need-mul-judge
-mul-judge c =
-    let x = c .before .before .before in
-    let t = subst (Admitted isLocked _ _) (x .x .given .1) (x .before .before .locked .ensures) in
-    let h = t .inside in
-    search needs
+mul-judge c = search needs
 
 index-1-judge : tie.Need-index-1-judge
 index-1-judge c =
     let x = c .before .before .before in
-    let t = subst (Admitted isLocked _ _) (x .x .given .1) (x .before .before .locked .ensures) in
-    t .inside
+    (subst (Admitted isLocked _ _) (x .x .given .1) (x .before .before .locked .ensures)) .inside
 
 mul-judge-2 : tie.Need-mul-judge-2
-mul-judge-2 c =
-    let x = c .before .before .before .before in
-    let t = subst (Admitted isLocked _ _) (x .x .given .1) (x .before .before .locked .ensures) in
-    let h = t .inside in
-    search needs
+mul-judge-2 c = search needs
 
 index-1-judge-2 : tie.Need-index-1-judge-2
 index-1-judge-2 c =
     let x = c .before .before .before .before in
-    let t = subst (Admitted isLocked _ _) (x .x .given .1) (x .before .before .locked .ensures) in
-    t .inside
+    (subst (Admitted isLocked _ _) (x .x .given .1) (x .before .before .locked .ensures)) .inside
 
 mul-judge-3 : tie.Need-mul-judge-3
-mul-judge-3 c =
-    let x = c .before .before .before .before .before in
-    let t = subst (Admitted isLocked _ _) (x .x .given .1) (x .before .before .locked .ensures) in
-    let h = t .inside in
-    search needs
+mul-judge-3 c = search needs
 
 index-1-judge-3 : tie.Need-index-1-judge-3
 index-1-judge-3 c =
     let x = c .before .before .before .before .before in
-    let t = subst (Admitted isLocked _ _) (x .x .given .1) (x .before .before .locked .ensures) in
-    t .inside
+    (subst (Admitted isLocked _ _) (x .x .given .1) (x .before .before .locked .ensures)) .inside
 
 judge-requires : tie.Need-judge-requires
 judge-requires c κs =
     let x = c .before .before .before .before .before .before in
-    let o = x .before .before in
-    let s = o .before .before .before in
-    examinable _ (s .pre) _ (subst (Admitted isLocked _ _) (x .x .given .1) (o .locked .ensures))
+    examinable _ (x .before .before .before .before .before .pre) _ (subst (Admitted isLocked _ _) (x .x .given .1) (x .before .before .locked .ensures))
 
 enum-known-said : tie.Need-enum-known-said
 enum-known-said c = search needs
 
 drop-transaction-requires : tie.Need-drop-transaction-requires
 drop-transaction-requires c κs =
-    let j = c .before .before .before .before .before in
-    let x = j .before .before .before .before .before .before .before in
-    let o = x .before .before in
-    let s = o .before .before .before in
-    let t = subst (Admitted isLocked _ _) (x .x .given .1) (o .locked .ensures) in
-    (s .pre .stored .map, (t .inside, ready-writable (s .pre) .set _ (t .inside)))
+    let x = c .before .before .before .before .before .before .before .before .before .before .before .before .before in
+    let k = x .before .before .before .before .before .pre in
+    let t = subst (Admitted isLocked _ _) (x .x .given .1) (x .before .before .locked .ensures) in
+    (k .stored .map, (t .inside, ready-writable k .set _ (t .inside)))
 
 enum-told : tie.Need-enum-told
 enum-told c = search needs
 
 take-number-requires : tie.Need-take-number-requires
 take-number-requires c κs =
-    let x = c .before .before .before .before .before .before .before .before .before in
-    let t = subst (Admitted isLocked _ _) (x .x .given .1) (x .before .before .locked .ensures) in
-    t .inside
+    let x = c .before .before .before .before .before .before .before .before .before .before in
+    (subst (Admitted isLocked _ _) (x .x .given .1) (x .before .before .locked .ensures)) .inside
 
 returns : tie.Need-returns
-returns c =
-    let o = c .before .before .before in
-    let s = o .before .before .before in
-    validate-refused _ (s .pre) _ (subst (Admitted isLocked _ _) (c .before .r .given .1) (o .locked .ensures))
+returns c = validate-refused _ (c .before .before .before .before .before .before .pre) _ (subst (Admitted isLocked _ _) (c .before .r .given .1) (c .before .before .before .locked .ensures))
 
 returns-2 : tie.Need-returns-2
 returns-2 c =
-    let d = c .before .before .before .before in
-    let j = d .before .before in
-    let x = j .before .before .before .before .before .before .before in
-    let o = x .before .before in
-    let s = o .before .before .before in
-    validate-ended _ (s .pre) _ (subst (Admitted isLocked _ _) (x .x .given .1) (o .locked .ensures)) _ _
-    (d .said .given .1) (j .judge .ensures) (c .drop-transaction .ensures)
+    validate-ended _ (c .before .before .before .before .before .before .before .before .before .before .before .before .before .before .before .before .before .before .before .pre) _
+    (subst (Admitted isLocked _ _) (c .before .before .before .before .before .before .before .before .before .before .before .before .before .before .x .given .1)
+    (c .before .before .before .before .before .before .before .before .before .before .before .before .before .before .before .before .locked .ensures)) _ _
+    (c .before .before .before .before .before .said .given .1) (c .before .before .before .before .before .before .before .judge .ensures) (c .drop-transaction .ensures)
 
 returns-3 : tie.Need-returns-3
 returns-3 c =
-    let j = c .before .before .before in
+    let j = c .before .before .before .before in
     let x = j .before .before .before .before .before .before .before in
-    let o = x .before .before in
-    let s = o .before .before .before in
-    validate-passed _ (s .pre) _ (subst (Admitted isLocked _ _) (x .x .given .1) (o .locked .ensures)) _ _
-    (c .before .enum-told .given .1) (j .judge .ensures) (c .take-number .ensures)
+    validate-passed _ (x .before .before .before .before .before .pre) _ (subst (Admitted isLocked _ _) (x .x .given .1) (x .before .before .locked .ensures)) _ _
+    (c .before .before .enum-told .given .1) (j .judge .ensures) (c .take-number .ensures)
 
 pub validate-spec : {M : Type 1} → statement M
 validate-spec =

@@ -1,5 +1,8 @@
 -- `session::run_guard` meets its contract, by whether the line is the first.
 use borrow.Author.Needs.{needs}
+use mathlib.Core.Path.{ap}
+use Rattle.transactions.specs.declared.Globals.{Globals}
+use Rattle.transactions.specs.Views.{coreOf}
 use Rattle.console.specs.SessionLaws.{guard-first, begins-guarded, guard-misplaced}
 use Rattle.console.proofs.session.run_guard.Statement.{statement}
 use Rattle.console.proofs.session.run_guard.Tie as tie
@@ -14,7 +17,7 @@ same-length : tie.Need-same-length
 same-length c = search needs
 
 returns : tie.Need-returns
-returns c = guard-first (c .before .before .before .before .before .if1 .taken) (begins-guarded (c .before .before .before .before .guarded .ensures) (c .before .before .put-guarded .ensures))
+returns c = λ ws. guard-first (c .before .before .before .before .before .if1 .taken) (begins-guarded (ap (λ (k : Globals). coreOf ws k) (c .before .before .before .before .guarded .ensures)) (c .before .before .put-guarded .ensures))
 
 end-malformed-requires : tie.Need-end-malformed-requires
 end-malformed-requires c κs = search needs
@@ -23,7 +26,7 @@ same-length-2 : tie.Need-same-length-2
 same-length-2 c = search needs
 
 returns-2 : tie.Need-returns-2
-returns-2 c = guard-misplaced (c .before .before .before .before .if1 .left) (c .before .before .end-malformed .ensures)
+returns-2 c = λ ws. guard-misplaced (c .before .before .before .before .if1 .left) (c .before .before .end-malformed .ensures ws)
 
 pub run-guard-spec : {M : Type 1} → statement M
 run-guard-spec =

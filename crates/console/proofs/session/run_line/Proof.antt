@@ -1,91 +1,79 @@
 -- `session::run_line` meets its contract, event by event.
 use borrow.Author.Needs.{needs}
 use native.Mathlib.Omega.{arith}
-use Rattle.lists.specs.TextLaws.{wrote-length}
-use Rattle.console.specs.SessionLaws.{goes-true, guard-length}
+use Rattle.transactions.specs.StartLaws.{guarded-fresh}
+use Rattle.console.specs.SessionLaws.{goes-true}
 use Rattle.console.specs.Places.{places-fit}
 use Rattle.console.specs.RunLineLaws.{turn-ended, turn-malformed, turn-guard, turn-line}
-use Rattle.transactions.specs.StartLaws.{guarded-fresh}
 use Rattle.console.proofs.session.run_line.Statement.{statement}
 use Rattle.console.proofs.session.run_line.Tie as tie
 
 parse-requires : tie.Need-parse-requires
-parse-requires c κs = tt
+parse-requires c κs = search needs
 
 enum-known-event : tie.Need-enum-known-event
 enum-known-event c = search needs
 
 op-of-requires : tie.Need-op-of-requires
-op-of-requires c κs = tt
+op-of-requires c κs = search needs
 
 perform-requires : tie.Need-perform-requires
-perform-requires c κs = c .before .before .before .before .before .before .before .before .before .before .before .before .before .before .before .before .before .pre .0
+perform-requires c κs = search needs
 
 letter-of-requires : tie.Need-letter-of-requires
-letter-of-requires c κs = tt
+letter-of-requires c κs = search needs
 
 write-reply-requires : tie.Need-write-reply-requires
 write-reply-requires c κs =
-    let s = c .before .before .before .before .before .before .before .before .before .before .before .before .before .before .before .before .before .before .before .before .before .before .before .before in
-    let g = goes-true _ _ _ _ _ (s .pre .1 .1) in (
-      g .2,
-      places-fit (c .before .before .before .before .before .before .before .op-of .ensures) (c .before .before .before .before .before .before .before .before .before .before .before .before .before .before .before .before .perform-arg .given .0 .1) (c .before .before .before .before .before .before .before .before .before .before .before .before .before .before .before .perform-arg2 .given .0 .1) (c .before .before .before .before .before .before .before .before .before .before .before .before .before .before .perform-arg3 .given .0 .1) (c .before .before .before .before .before .before .perform .ensures),
-    )
+    let g = goes-true _ _ _ _ _ (c .before .before .before .before .before .before .before .before .before .before .before .before .before .before .before .before .before .before .before .before .before .before .before .before .before .pre .1 .1) in
+    (g .2, places-fit (c .before .before .before .before .before .before .before .op-of .ensures) (c .before .before .before .before .before .before .before .before .before .before .before .before .before .before .before .before .before .perform-arg .given .0 .1) (c .before .before .before .before .before .before .before .before .before .before .before .before .before .before .before .before .perform-arg2 .given .0 .1) (c .before .before .before .before .before .before .before .before .before .before .before .before .before .before .before .perform-arg3 .given .0 .1) (c .before .before .before .before .before .before .perform .ensures))
 
 enum-told : tie.Need-enum-told
 enum-told c = search needs
 
 run-guard-requires : tie.Need-run-guard-requires
-run-guard-requires c κs =
-    let s = c .before .before .before .before .before .before .before in
-    goes-true _ _ _ _ _ (s .pre .1 .1) .2
+run-guard-requires c κs = goes-true _ _ _ _ _ (c .before .before .before .before .before .before .before .pre .1 .1) .2
 
 enum-told-2 : tie.Need-enum-told-2
 enum-told-2 c = search needs
 
 end-malformed-requires : tie.Need-end-malformed-requires
 end-malformed-requires c κs =
-    let s = c .before .before .before .before .before .before .before in
-    let g = goes-true _ _ _ _ _ (s .pre .1 .1) in
+    let g = goes-true _ _ _ _ _ (c .before .before .before .before .before .before .before .pre .1 .1) in
     omega (arith, g .2)
 
 enum-told-3 : tie.Need-enum-told-3
 enum-told-3 c = search needs
 
 same-length : tie.Need-same-length
-same-length c = wrote-length (c .before .before .write-reply .ensures .wrote)
+same-length c = search needs
 
 returns : tie.Need-returns
 returns c =
-    let s = c .before .before .before .before .before .before .before .before .before .before .before .before .before .before .before .before .before .before .before .before .before .before .before .before .before .before .before in
-    let g = goes-true _ _ _ _ _ (s .pre .1 .1) in
-    turn-line _ _ _ _ _ _ (g .0) (g .1) (s .pre .1 .0) (c .before .before .before .before .before .before .before .before .before .before .before .before .before .before .before .before .before .before .before .before .before .before .before .parse .ensures)
-    (c .before .before .before .before .before .before .before .before .before .before .before .before .before .before .before .before .before .before .before .before .before .event .given .1) (c .before .before .before .before .before .before .before .before .before .before .op-of .ensures) (c .before .before .before .before .before .before .before .before .before .before .before .before .before .before .before .before .before .before .before .perform-arg .given .0 .1) (c .before .before .before .before .before .before .before .before .before .before .before .before .before .before .before .before .before .before .perform-arg2 .given .0 .1) (c .before .before .before .before .before .before .before .before .before .before .before .before .before .before .before .before .before .perform-arg3 .given .0 .1) (c .before .before .before .before .before .before .before .before .before .perform .ensures)
+    let g = goes-true _ _ _ _ _ (c .before .before .before .before .before .before .before .before .before .before .before .before .before .before .before .before .before .before .before .before .before .before .before .before .before .before .before .before .pre .1 .1) in
+    turn-line _ _ _ _ _ _ (g .0) (g .1) (c .before .before .before .before .before .before .before .before .before .before .before .before .before .before .before .before .before .before .before .before .before .before .before .before .before .before .before .before .pre .1 .0) (c .before .before .before .before .before .before .before .before .before .before .before .before .before .before .before .before .before .before .before .before .before .before .before .before .parse .ensures) (c .before .before .before .before .before .before .before .before .before .before .before .before .before .before .before .before .before .before .before .before .before .before .event .given .1) (c .before .before .before .before .before .before .before .before .before .before .op-of .ensures) (c .before .before .before .before .before .before .before .before .before .before .before .before .before .before .before .before .before .before .before .before .perform-arg .given .0 .1) (c .before .before .before .before .before .before .before .before .before .before .before .before .before .before .before .before .before .before .before .perform-arg2 .given .0 .1) (c .before .before .before .before .before .before .before .before .before .before .before .before .before .before .before .before .before .before .perform-arg3 .given .0 .1) (c .before .before .before .before .before .before .before .before .before .perform .ensures)
     (c .before .before .before .before .before .before .before .letter-of .ensures) (c .before .before .write-reply .ensures)
 
 same-length-2 : tie.Need-same-length-2
-same-length-2 c = guard-length (c .before .before .run-guard .ensures)
+same-length-2 c = search needs
 
 returns-2 : tie.Need-returns-2
 returns-2 c =
-    let s = c .before .before .before .before .before .before .before .before .before .before in
-    let g = goes-true _ _ _ _ _ (s .pre .1 .1) in
-    turn-guard _ _ _ _ _ _ (g .0) (g .1) (s .pre .1 .0) (c .before .before .before .before .before .before .parse .ensures) (s .pre .0) (λ e. guarded-fresh (s .pre .0) (s .pre .1 .0 .opening e)) (c .before .before .before .before .enum-told .given .1) (c .before .before .run-guard .ensures)
+    let g = goes-true _ _ _ _ _ (c .before .before .before .before .before .before .before .before .before .before .pre .1 .1) in
+    turn-guard _ _ _ _ _ _ (g .0) (g .1) (c .before .before .before .before .before .before .before .before .before .before .pre .1 .0) (c .before .before .before .before .before .before .parse .ensures) (c .before .before .before .before .before .before .before .before .before .before .pre .0) (λ e. guarded-fresh (c .before .before .before .before .before .before .before .before .before .before .pre .0) (c .before .before .before .before .before .before .before .before .before .before .pre .1 .0 .opening e)) (c .before .before .before .before .enum-told .given .1) (c .before .before .run-guard .ensures _)
 
 same-length-3 : tie.Need-same-length-3
-same-length-3 c = wrote-length (c .before .before .end-malformed .ensures .wrote)
+same-length-3 c = search needs
 
 returns-3 : tie.Need-returns-3
 returns-3 c =
-    let s = c .before .before .before .before .before .before .before .before .before .before in
-    let g = goes-true _ _ _ _ _ (s .pre .1 .1) in
-    turn-malformed _ _ _ _ _ _ (g .0) (g .1) (s .pre .1 .0) (c .before .before .before .before .before .before .parse .ensures) (s .pre .0) (c .before .before .before .before .enum-told2 .given .1) (c .before .before .end-malformed .ensures)
+    let g = goes-true _ _ _ _ _ (c .before .before .before .before .before .before .before .before .before .before .pre .1 .1) in
+    turn-malformed _ _ _ _ _ _ (g .0) (g .1) (c .before .before .before .before .before .before .before .before .before .before .pre .1 .0) (c .before .before .before .before .before .before .parse .ensures) (c .before .before .before .before .before .before .before .before .before .before .pre .0) (c .before .before .before .before .enum-told2 .given .1) (c .before .before .end-malformed .ensures _)
 
 returns-4 : tie.Need-returns-4
 returns-4 c =
-    let s = c .before .before .before .before .before .before in
-    let g = goes-true _ _ _ _ _ (s .pre .1 .1) in
-    turn-ended _ _ _ _ _ _ (g .0) (g .1) (s .pre .1 .0) (c .before .before .parse .ensures) (s .pre .0) (omega (arith, g .2)) (c .enum-told3 .given .1)
+    let g = goes-true _ _ _ _ _ (c .before .before .before .before .before .before .pre .1 .1) in
+    turn-ended _ _ _ _ _ _ (g .0) (g .1) (c .before .before .before .before .before .before .pre .1 .0) (c .before .before .parse .ensures) (c .before .before .before .before .before .before .pre .0) (omega (arith, g .2)) (c .enum-told3 .given .1)
 
 pub run-line-spec : {M : Type 1} → statement M
 run-line-spec =

@@ -1,28 +1,28 @@
 -- `steps::of_read` meets its contract: by what the answer is.
-use Rattle.engine.specs.PerformLaws.{read-is}
 use borrow.Author.Needs.{needs}
+use mathlib.Core.Path.{sym, ap}
+use Rattle.engine.specs.Performs.{readReply}
 use Rattle.engine.proofs.steps.of_read.Statement.{statement}
 use Rattle.engine.proofs.steps.of_read.Tie as tie
 
-enum-known-answer : tie.Need-enum-known-answer
-enum-known-answer c = search needs
+enum-known-a : tie.Need-enum-known-a
+enum-known-a c = search needs
 
-enum-known-answer-2 : tie.Need-enum-known-answer-2
-enum-known-answer-2 c = search needs
+enum-known-a-2 : tie.Need-enum-known-a-2
+enum-known-a-2 c = search needs
 
-enum-known-answer-3 : tie.Need-enum-known-answer-3
-enum-known-answer-3 c = search needs
+enum-known-a-3 : tie.Need-enum-known-a-3
+enum-known-a-3 c = search needs
 
 returns : tie.Need-returns
-returns c = read-is (c .before .before .before .before .args .d) (c .before .answer .given .1)
+returns c = ap readReply (sym (c .before .a .given .1))
 
 returns-2 : tie.Need-returns-2
-returns-2 c = read-is (c .before .before .before .before .args .d) (c .before .answer2 .given .1)
+returns-2 c = ap readReply (sym (c .before .a2 .given .1))
 
 returns-3 : tie.Need-returns-3
-returns-3 c = read-is (c .before .before .before .before .args .d) (c .before .answer3 .given .1)
+returns-3 c = ap readReply (sym (c .before .a3 .given .1))
 
 pub of-read-spec : {M : Type 1} → statement M
 of-read-spec =
-    tie.close
-    (tie.spec enum-known-answer enum-known-answer-2 enum-known-answer-3 returns returns-2 returns-3)
+    tie.close (tie.spec enum-known-a enum-known-a-2 enum-known-a-3 returns returns-2 returns-3)

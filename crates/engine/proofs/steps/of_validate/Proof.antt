@@ -1,6 +1,6 @@
 -- `steps::of_validate` meets its contract: by what the answer is.
-use Rattle.engine.specs.PerformLaws.{validate-is}
 use borrow.Author.Needs.{needs}
+use Rattle.engine.specs.PerformLaws.{validate-is}
 use Rattle.engine.proofs.steps.of_validate.Statement.{statement}
 use Rattle.engine.proofs.steps.of_validate.Tie as tie
 

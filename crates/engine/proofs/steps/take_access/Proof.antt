@@ -1,7 +1,7 @@
 -- `steps::take_access` meets its contract: the promise of the entry that it calls, under the operation's name.
+use borrow.Author.Needs.{needs}
 use mathlib.Core.Path.{refl}
 use Rattle.engine.specs.PerformLaws.{accesses, quiet-plain, quiet-read, performs-quiet, performs-scan}
-use borrow.Author.Needs.{needs}
 use Rattle.engine.proofs.steps.take_access.Statement.{statement}
 use Rattle.engine.proofs.steps.take_access.Tie as tie
 
@@ -42,7 +42,7 @@ of-plain-requires-2 : tie.Need-of-plain-requires-2
 of-plain-requires-2 c κs = search needs
 
 returns : tie.Need-returns
-returns c = performs-quiet _ (quiet-read _ (c .before .read .result) (λ b. refl) (accesses (c .before .before .before .before .before .before .before .before .before .before .before .args .w) (c .before .before .before .before .before .before .x .given .1)) (c .of-read .ensures) (c .before .read .ensures))
+returns c = performs-quiet _ (quiet-read _ (c .before .read .result) (λ b. refl) (accesses (c .before .before .before .before .before .before .before .before .before .before .before .before .args .w) (c .before .before .before .before .before .before .before .x .given .1)) (c .of-read .ensures) (c .before .read .ensures))
 
 same-length : tie.Need-same-length
 same-length c = search needs
@@ -54,16 +54,13 @@ same-length-3 : tie.Need-same-length-3
 same-length-3 c = search needs
 
 returns-2 : tie.Need-returns-2
-returns-2 c =
-    let s = c .before .before .before .before .before .before .before in
-    let x = s .before .before .before .before .before .before .before .before in
-    performs-scan (s .scan .result) (accesses (x .before .before .before .before .before .args .w) (x .x2 .given .1)) (c .of-scan .ensures) (s .scan .ensures)
+returns-2 c = performs-scan (c .before .before .before .before .before .before .before .scan .result) (accesses (c .before .before .before .before .before .before .before .before .before .before .before .before .before .before .before .before .before .before .before .before .before .args .w) (c .before .before .before .before .before .before .before .before .before .before .before .before .before .before .before .before .x2 .given .1)) (c .of-scan .ensures) (c .before .before .before .before .before .before .before .scan .ensures)
 
 returns-3 : tie.Need-returns-3
-returns-3 c = performs-quiet _ (quiet-plain _ (c .before .put .result) (λ b. refl) (accesses (c .before .before .before .before .before .before .before .before .before .before .before .args .w) (c .before .before .before .before .before .before .x3 .given .1)) (c .of-plain .ensures) (c .before .put .ensures))
+returns-3 c = performs-quiet _ (quiet-plain _ (c .before .put .result) (λ b. refl) (accesses (c .before .before .before .before .before .before .before .before .before .before .before .before .args .w) (c .before .before .before .before .before .before .before .x3 .given .1)) (c .of-plain .ensures) (c .before .put .ensures))
 
 returns-4 : tie.Need-returns-4
-returns-4 c = performs-quiet _ (quiet-plain _ (c .before .remove .result) (λ b. refl) (accesses (c .before .before .before .before .before .before .before .before .before .before .before .args .w) (c .before .before .before .before .before .before .x4 .given .1)) (c .of-plain2 .ensures) (c .before .remove .ensures))
+returns-4 c = performs-quiet _ (quiet-plain _ (c .before .remove .result) (λ b. refl) (accesses (c .before .before .before .before .before .before .before .before .before .before .before .before .args .w) (c .before .before .before .before .before .before .before .x4 .given .1)) (c .of-plain2 .ensures) (c .before .remove .ensures))
 
 pub take-access-spec : {M : Type 1} → statement M
 take-access-spec =

@@ -1,7 +1,7 @@
 -- `steps::take_ending` meets its contract: the promise of the entry that it calls, under the operation's name.
-use mathlib.Core.Path.{refl}
-use Rattle.engine.specs.PerformLaws.{ending-is, quiet-plain, quiet-validate}
 use borrow.Author.Needs.{needs}
+use mathlib.Core.Path.{refl}
+use Rattle.engine.specs.PerformLaws.{ending-is, quiet-plain, quiet-validate, quiet-outcome}
 use Rattle.engine.proofs.steps.take_ending.Statement.{statement}
 use Rattle.engine.proofs.steps.take_ending.Tie as tie
 
@@ -11,8 +11,8 @@ enum-told c = search needs
 lock-requires : tie.Need-lock-requires
 lock-requires c κs = search needs
 
-of-plain-requires : tie.Need-of-plain-requires
-of-plain-requires c κs = search needs
+of-done-requires : tie.Need-of-done-requires
+of-done-requires c κs = search needs
 
 enum-told-2 : tie.Need-enum-told-2
 enum-told-2 c = search needs
@@ -29,8 +29,8 @@ enum-told-3 c = search needs
 install-requires : tie.Need-install-requires
 install-requires c κs = search needs
 
-of-plain-requires-2 : tie.Need-of-plain-requires-2
-of-plain-requires-2 c κs = search needs
+of-done-requires-2 : tie.Need-of-done-requires-2
+of-done-requires-2 c κs = search needs
 
 enum-told-4 : tie.Need-enum-told-4
 enum-told-4 c = search needs
@@ -38,20 +38,20 @@ enum-told-4 c = search needs
 abort-requires : tie.Need-abort-requires
 abort-requires c κs = search needs
 
-of-plain-requires-3 : tie.Need-of-plain-requires-3
-of-plain-requires-3 c κs = search needs
+of-done-requires-3 : tie.Need-of-done-requires-3
+of-done-requires-3 c κs = search needs
 
 returns : tie.Need-returns
-returns c = quiet-plain _ (c .before .lock .result) (λ b. refl) (ending-is (c .before .before .before .before .before .before .args .w) (c .before .before .before .before .enum-told .given .1)) (c .of-plain .ensures) (c .before .lock .ensures)
+returns c = quiet-outcome _ (c .of-done .ensures) (quiet-plain _ (c .before .lock .result .answer) (λ b. refl) (ending-is (c .before .before .before .before .before .before .before .args .w) (c .before .before .before .before .before .enum-told .given .1)) refl (c .before .lock .ensures))
 
 returns-2 : tie.Need-returns-2
-returns-2 c = quiet-validate _ (c .before .validate .result) (λ b. refl) (ending-is (c .before .before .before .before .before .before .args .w) (c .before .before .before .before .enum-told2 .given .1)) (c .of-validate .ensures) (c .before .validate .ensures)
+returns-2 c = quiet-outcome _ (c .of-validate .ensures) (quiet-validate _ (c .before .validate .result .answer) (λ b. refl) (ending-is (c .before .before .before .before .before .before .before .args .w) (c .before .before .before .before .before .enum-told2 .given .1)) refl (c .before .validate .ensures))
 
 returns-3 : tie.Need-returns-3
-returns-3 c = quiet-plain _ (c .before .install .result) (λ b. refl) (ending-is (c .before .before .before .before .before .before .args .w) (c .before .before .before .before .enum-told3 .given .1)) (c .of-plain2 .ensures) (c .before .install .ensures)
+returns-3 c = quiet-outcome _ (c .of-done2 .ensures) (quiet-plain _ (c .before .install .result .answer) (λ b. refl) (ending-is (c .before .before .before .before .before .before .before .args .w) (c .before .before .before .before .before .enum-told3 .given .1)) refl (c .before .install .ensures))
 
 returns-4 : tie.Need-returns-4
-returns-4 c = quiet-plain _ (c .before .abort .result) (λ b. refl) (ending-is (c .before .before .before .before .before .before .args .w) (c .before .before .before .before .enum-told4 .given .1)) (c .of-plain3 .ensures) (c .before .abort .ensures)
+returns-4 c = quiet-outcome _ (c .of-done3 .ensures) (quiet-plain _ (c .before .abort .result .answer) (λ b. refl) (ending-is (c .before .before .before .before .before .before .before .args .w) (c .before .before .before .before .before .enum-told4 .given .1)) refl (c .before .abort .ensures))
 
 pub take-ending-spec : {M : Type 1} → statement M
 take-ending-spec =
@@ -59,16 +59,16 @@ take-ending-spec =
     (tie.spec
     enum-told
     lock-requires
-    of-plain-requires
+    of-done-requires
     enum-told-2
     validate-requires
     of-validate-requires
     enum-told-3
     install-requires
-    of-plain-requires-2
+    of-done-requires-2
     enum-told-4
     abort-requires
-    of-plain-requires-3
+    of-done-requires-3
     returns
     returns-2
     returns-3

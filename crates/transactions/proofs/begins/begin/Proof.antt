@@ -1,7 +1,8 @@
-use mathlib.Core.Path.{subst}
 use borrow.Author.Needs.{needs}
-use Rattle.transactions.specs.BeginLaws.{begin-refused, begin-granted}
+use mathlib.Core.Path.{subst}
 use Rattle.transactions.specs.Admits.{Begun}
+use Rattle.transactions.specs.BeginLaws.{begin-refused, begin-granted}
+use Rattle.transactions.specs.ViewLaws.{core-put}
 use Rattle.transactions.proofs.begins.begin.Statement.{statement}
 use Rattle.transactions.proofs.begins.begin.Tie as tie
 
@@ -17,18 +18,14 @@ enum-known-x c = search needs
 begin-requires : tie.Need-begin-requires
 begin-requires c κs = search needs
 
-mul-workers : tie.Need-mul-workers
-mul-workers c = search needs
-
-array-set-from-workers : tie.Need-array-set-from-workers
-array-set-from-workers c = let v = subst (Begun _ _) (c .before .before .x .given .1) (c .before .before .before .before .vacant .ensures) in v .inside
+put-worker-requires : tie.Need-put-worker-requires
+put-worker-requires c κs = subst (Begun _ _) (c .before .before .before .x .given .1) (c .before .before .before .before .before .vacant .ensures) .inside
 
 returns : tie.Need-returns
-returns c = begin-refused _ _ _ (subst (Begun _ _) (c .before .r .given .1) (c .before .before .before .vacant .ensures))
+returns c = λ k. begin-refused _ _ _ (subst (Begun _ _) (c .before .r .given .1) (c .before .before .before .vacant .ensures))
 
 returns-2 : tie.Need-returns-2
-returns-2 c =
-    begin-granted _ _ _ _ (subst (Begun _ _) (c .before .before .x .given .1) (c .before .before .before .before .vacant .ensures)) (c .begin .ensures)
+returns-2 c = λ k. begin-granted _ _ _ _ (subst (Begun _ _) (c .before .before .before .before .x .given .1) (c .before .before .before .before .before .before .vacant .ensures)) (c .before .before .begin .ensures) (core-put _ k (c .put-worker .ensures))
 
 pub begin-spec : {M : Type 1} → statement M
 begin-spec =
@@ -38,7 +35,6 @@ begin-spec =
     enum-known-r
     enum-known-x
     begin-requires
-    mul-workers
-    array-set-from-workers
+    put-worker-requires
     returns
     returns-2)

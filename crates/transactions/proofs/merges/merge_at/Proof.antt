@@ -3,10 +3,10 @@ use Rattle.transactions.proofs.merges.merge_at.Statement.{statement}
 use Rattle.transactions.proofs.merges.merge_at.Tie as tie
 
 merge-requires : tie.Need-merge-requires
-merge-requires c κs = (c .before .before .before .before .before .before .pre .stored .map, version-room (c .before .before .before .before .before .before .pre))
+merge-requires c κs = (c .before .before .before .before .before .pre .stored .map, version-room (c .before .before .before .before .before .pre))
 
 returns : tie.Need-returns
-returns c = merge-refines (c .before .before .before .before .before .before .before .before .before .pre) (c .before .before .merge .ensures)
+returns c = merge-refines (c .before .before .before .before .before .before .before .before .pre) (c .before .before .merge .ensures)
 
 pub merge-at-spec : {M : Type 1} → statement M
 merge-at-spec = tie.close (tie.spec merge-requires returns)

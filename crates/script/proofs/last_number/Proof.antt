@@ -1,21 +1,18 @@
--- `script::last` meets its contract: the run of digits, and then whether the byte after it ends the line.
+-- `script::last_number` meets its contract: the run of digits, and then whether the byte after it ends the line.
 use native.Mathlib.Omega.{arith}
 use mathlib.Core.Logic.{⊎-elim}
-use mathlib.Core.Path.{refl}
 use borrow.Author.Needs.{needs}
 use Rattle.script.specs.Parsing.{threeBefore, inNumber}
-use Rattle.script.specs.TokenLaws.{field-ended, field-turn, digits-from, feed-turn, last-bad}
-use Rattle.script.proofs.last.Statement.{statement}
-use Rattle.script.proofs.last.Tie as tie
+use Rattle.script.specs.TokenLaws.{field-ended, field-turn, field-fed, digits-from, last-bad}
+use Rattle.script.proofs.last_number.Statement.{statement}
+use Rattle.script.proofs.last_number.Tie as tie
 
 digits-requires : tie.Need-digits-requires
 digits-requires c κs = search needs
 
 returns : tie.Need-returns
 unfolding inNumber
-returns c =
-    let x = c .before .before .before .args in
-    (field-ended (x .letter) (threeBefore (x .a) (x .b) (x .c)) (c .before .digits .ensures) refl, omega arith)
+returns c = (field-ended _ (threeBefore _ _ _) (c .before .digits .ensures), omega arith)
 
 shared-slice-read-end : tie.Need-shared-slice-read-end
 shared-slice-read-end c = search needs
@@ -29,7 +26,7 @@ four-requires c κs = search needs
 returns-2 : tie.Need-returns-2
 returns-2 c =
     let d = c .before .before .before .before .before .digits .ensures in
-    (field-turn _ _ _ d (c .before .before .before .before .if1 .left) refl (feed-turn _ _ _ _ _ _ (c .before .before .if2 .taken) (c .before .if3 .taken) (c .four .ensures)), omega (arith, digits-from d))
+    (field-fed _ (threeBefore _ _ _) _ d (c .before .before .before .before .if1 .left) (c .before .before .if2 .taken) (c .before .if3 .taken) (c .four .ensures), omega (arith, digits-from d))
 
 add-t12 : tie.Need-add-t12
 add-t12 c = search needs
@@ -37,13 +34,13 @@ add-t12 c = search needs
 returns-3 : tie.Need-returns-3
 returns-3 c =
     let d = c .before .before .before .digits .ensures in (
-      field-turn _ _ _ d (c .before .before .if1 .left) refl
+      field-turn _ _ _ _ d (c .before .before .if1 .left)
           (last-bad _ _ _ _ _ _ _ (λ q. ⊎-elim (λ w. absurd (w .1 .left q)) (λ w. w .left) (c .if2 .came)) (d .stops (c .before .before .if1 .left))),
       omega (arith, digits-from d),
     )
 
-pub last-spec : {M : Type 1} → statement M
-last-spec =
+pub last-number-spec : {M : Type 1} → statement M
+last-number-spec =
     tie.close
     (tie.spec
     digits-requires

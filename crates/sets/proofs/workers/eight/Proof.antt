@@ -1,0 +1,14 @@
+use mathlib.Core.Path.{_∙_}
+use borrow.Author.Needs.{needs}
+use Rattle.sets.specs.WordLaws.{workers-length}
+use Rattle.sets.proofs.workers.eight.Statement.{statement}
+use Rattle.sets.proofs.workers.eight.Tie as tie
+
+size-of-requires : tie.Need-size-of-requires
+size-of-requires c κs = search needs
+
+returns : tie.Need-returns
+returns c = workers-length _ ∙ (search needs)
+
+pub eight-spec : {M : Type 1} → statement M
+eight-spec = tie.close (tie.spec size-of-requires returns)

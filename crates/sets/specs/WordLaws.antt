@@ -1,0 +1,130 @@
+-- The laws of workers in words: a worker put is the worker found, and the others stay.
+use Prim.Native.Nat.{ℕ, suc, _+_, _/_, _%_, _^_, _<_, _≤_}
+use native.Mathlib.Nat.{not-suc-le-zero}
+use native.Mathlib.Omega.{arith}
+use mathlib.Core.Path.{_≡_, refl, sym, ap, _∙_, subst}
+use mathlib.Core.Logic.{⊎-elim}
+use mathlib.Core.List.{List, [], _∷_, map}
+use lib.ListN.{length, getD, set, length-map, List·getD-map, length-set}
+use lib.Seq.{getD-set-same, getD-set-other}
+use Rattle.lists.specs.Mapped.{mapped-set}
+use Rattle.lists.specs.Tests.{same}
+use Rattle.lists.specs.TestLaws.{cases, same-no, same-true, same-false}
+use Rattle.spec.specs.declared.Stage.{Stage}
+use Rattle.spec.specs.declared.Stage.the-variants.{Free, Open, Locked, Checked}
+use Rattle.sets.specs.declared.workers.Worker.{Worker}
+use Rattle.sets.specs.Workers.{freed, rankOf, stageAt, packedAt, packed, unpackedAt, unpacked, workersOf}
+
+rank-small : (s : Stage) → rankOf s < 256
+rank-small Free = omega arith
+rank-small Open = omega arith
+rank-small Locked = omega arith
+rank-small Checked = omega arith
+
+rank-stage : (s : Stage) → stageAt (rankOf s) ≡ s
+unfolding stageAt same
+rank-stage Free = refl
+rank-stage Open = refl
+rank-stage Locked = refl
+rank-stage Checked = refl
+
+-- ---- the code's stages and sums
+
+pub stage-is : {n m : ℕ} {s : Stage} → n ≡ m → s ≡ stageAt m → s ≡ stageAt n
+stage-is e q = q ∙ ap stageAt (sym e)
+
+pub stage-checked : {n : ℕ} → (n ≡ 0 → ⊥) → (n ≡ 1 → ⊥) → (n ≡ 2 → ⊥) → Checked ≡ stageAt n
+unfolding stageAt
+stage-checked f g h = sym (rw (same-no f, same-no g, same-no h))
+
+pub unpack-is : (n : ℕ) {s : Stage} → s ≡ stageAt (n / 2 ^ 32 % 256) → unpackedAt n s ≡ unpacked n
+unfolding unpacked
+unpack-is n e = ap (unpackedAt n) e
+
+pub pack-is : (x : Worker) {r : ℕ} → r ≡ rankOf (x .stage) → packedAt x r ≡ packed x
+unfolding packed
+pack-is x e = ap (packedAt x) e
+
+-- ---- there and back
+
+-- The fields of a worker have their bits.
+pub record Narrow (x : Worker) : Type 0 where
+  pub number : x .number < 2 ^ 32
+  pub reads : x .reads < 256
+  pub leaves : x .leaves < 256
+  pub writes : x .writes < 256
+
+pub unpack-pack : (x : Worker) → Narrow x → unpacked (packed x) ≡ x
+unfolding packed unpacked
+unpack-pack x h =
+    λ i. record { number = number i; stage = (ap stageAt stage ∙ rank-stage (x .stage)) i; reads = reads i; leaves = leaves i; writes = writes i }
+  where
+    number : packed x % 2 ^ 32 ≡ x .number
+    number = let a = h .number in omega arith
+
+    stage : packed x / 2 ^ 32 % 256 ≡ rankOf (x .stage)
+    stage = let a = h .number in let b = rank-small (x .stage) in omega arith
+
+    reads : packed x / 2 ^ 32 / 256 % 256 ≡ x .reads
+    reads = let a = h .number in let b = rank-small (x .stage) in let c = h .reads in omega arith
+
+    leaves : packed x / 2 ^ 32 / 256 / 256 % 256 ≡ x .leaves
+    leaves = let a = h .number in let b = rank-small (x .stage) in let c = h .reads in let d = h .leaves in omega arith
+
+    writes : packed x / 2 ^ 32 / 256 / 256 / 256 % 256 ≡ x .writes
+    writes = let a = h .number in let b = rank-small (x .stage) in let c = h .reads in let d = h .leaves in let e = h .writes in omega arith
+
+-- ---- the workers of lent words
+
+pub workers-length : (ws : List ℕ) → length (workersOf ws) ≡ length ws
+unfolding workersOf
+workers-length ws = length-map ws unpacked
+
+-- worker w put
+pub workers-put : (ws : List ℕ) (w n : ℕ) {x : Worker} → unpacked n ≡ x → workersOf (set ws w n) ≡ set (workersOf ws) w x
+unfolding workersOf
+workers-put ws w n e = mapped-set unpacked ws w n ∙ ap (set (map unpacked ws) w) e
+
+freed-word : unpacked 0 ≡ freed
+unfolding unpacked stageAt same
+freed-word = refl
+
+-- worker w of a word
+pub worker-of : (ws : List ℕ) (w : ℕ) → unpacked (getD ws w 0) ≡ getD (workersOf ws) w freed
+unfolding workersOf
+worker-of ws w = sym (ap (getD (map unpacked ws) w) (sym freed-word) ∙ List·getD-map unpacked ws w 0)
+
+-- ---- workers copied place by place
+
+-- The first n places of xs, which has so many, are those of ys.
+pub record Copied (xs ys : List Worker) (size n : ℕ) : Type 0 where
+  pub size-is : length xs ≡ size
+  pub same-at : (i : ℕ) → i < n → getD xs i freed ≡ getD ys i freed
+
+pub copied-none : {xs ys : List Worker} {size : ℕ} → length xs ≡ size → Copied xs ys size 0
+copied-none e = record { size-is = e; same-at = λ i h. absurd (not-suc-le-zero h) }
+
+-- one place more
+pub copied-more : {xs ys zs : List Worker} {size n : ℕ} {x : Worker} → Copied xs ys size n → n < size → x ≡ getD ys n freed → zs ≡ set xs n x → Copied zs ys size (n + 1)
+copied-more {xs} {ys} {zs} {size} {n} {x} c l e q =
+    subst (λ (us : List Worker). Copied us ys size (n + 1)) (sym q) (record { size-is = length-set xs n x ∙ c .size-is; same-at = places })
+  where
+    places : (i : ℕ) → i < n + 1 → getD (set xs n x) i freed ≡ getD ys i freed
+    places i k =
+        ⊎-elim
+        (λ t. ap (λ (j : ℕ). getD (set xs n x) j freed) (same-true i n t) ∙ getD-set-same xs n x freed (subst (λ (m : ℕ). n < m) (sym (c .size-is)) l)
+        ∙ e ∙ ap (λ (j : ℕ). getD ys j freed) (sym (same-true i n t)))
+        (λ f. getD-set-other xs n i x freed (same-false i n f) ∙ c .same-at i (let q = same-false i n f in omega (arith, k)))
+        (cases (same i n))
+
+all-same : (xs ys : List Worker) → length xs ≡ length ys → ((i : ℕ) → i < length xs → getD xs i freed ≡ getD ys i freed) → xs ≡ ys
+all-same [] [] e h = refl
+all-same [] (y ∷ ys) e h = absurd (let z : ⊥ = omega (arith, e) in z)
+all-same (x ∷ xs) [] e h = absurd (let z : ⊥ = omega (arith, e) in z)
+all-same (x ∷ xs) (y ∷ ys) e h =
+    λ i. h 0 (omega arith) i ∷ all-same xs ys (let z : length xs ≡ length ys = omega (arith, e) in z) (λ j l. h (suc j) (omega (arith, l))) i
+
+-- all places
+pub copied-all : {xs ys : List Worker} {size n : ℕ} → Copied xs ys size n → length ys ≡ size → size ≤ n → xs ≡ ys
+copied-all {xs} {ys} {size} {n} c e l =
+    all-same xs ys (c .size-is ∙ sym e) (λ i h. c .same-at i (let q = c .size-is in omega (arith, h, l)))

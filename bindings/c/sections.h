@@ -49,7 +49,7 @@
 #define SECTIONS_FILE_LIMIT SECTIONS_FILE_BYTES(SECTIONS_MAP_LIMIT)
 
 /* How many words an array of the map has: its rows, by the words of a row. */
-#define SECTIONS_CORE ((SECTIONS_SEATS + 2) * 5)
+#define SECTIONS_GLOBALS 8
 #define SECTIONS_EXPORTING 3
 #define SECTIONS_EXPORTED (SECTIONS_MAP_LIMIT * 3)
 #define SECTIONS_RECORDS (SECTIONS_MAP_LIMIT * 4)
@@ -61,7 +61,7 @@
 
 /* The second and third are the map's export: its numbers, and its records. */
 struct sections {
-    uint64_t core[SECTIONS_CORE];
+    uint64_t globals[SECTIONS_GLOBALS];
     uint64_t exporting[SECTIONS_EXPORTING];
     uint64_t exported[SECTIONS_EXPORTED];
     uint64_t records[SECTIONS_RECORDS];
@@ -70,6 +70,7 @@ struct sections {
     uint64_t reads[SECTIONS_READS];
     uint64_t marks[SECTIONS_MARKS];
     uint64_t writes[SECTIONS_WRITES];
+    uint64_t seats[SECTIONS_SEATS];
 };
 
 /* ---- Answers. */
@@ -318,26 +319,28 @@ struct sections_ran {
 extern "C" {
 #endif
 
-void sections_fresh(uint64_t core[], uint64_t exporting[], uint64_t records[], uint64_t leaves[], uint64_t slots[],
-                    uint64_t reads[], uint64_t marks[], uint64_t writes[], bool guarded);
+void sections_fresh(uint64_t globals[], uint64_t exporting[], uint64_t records[], uint64_t leaves[], uint64_t slots[],
+                    uint64_t reads[], uint64_t marks[], uint64_t writes[], uint64_t seats[], bool guarded);
 
 void sections_step(uint64_t answer[], uint32_t *addresses, size_t address_places, uint64_t *values, size_t value_places,
-                   uint16_t *owners, size_t owner_places, uint64_t core[], uint64_t records[], uint64_t leaves[],
-                   uint64_t slots[], uint64_t reads[], uint64_t marks[], uint64_t writes[], const uint64_t step[]);
+                   uint16_t *owners, size_t owner_places, uint64_t globals[], uint64_t records[], uint64_t leaves[],
+                   uint64_t slots[], uint64_t reads[], uint64_t marks[], uint64_t writes[], uint64_t seats[],
+                   const uint64_t step[]);
 
 uint64_t sections_replay(uint64_t counts[], uint64_t *out, size_t out_places, uint32_t *addresses, size_t address_places,
                          uint64_t *values, size_t value_places, uint16_t *owners, size_t owner_places, uint8_t *bytes,
-                         size_t byte_places, uint64_t core[], uint64_t exporting[], uint64_t exported[],
+                         size_t byte_places, uint64_t globals[], uint64_t exporting[], uint64_t exported[],
                          uint64_t records[], uint64_t leaves[], uint64_t slots[], uint64_t reads[], uint64_t marks[],
-                         uint64_t writes[], const uint64_t *steps, size_t step_words, bool guarded);
+                         uint64_t writes[], uint64_t seats[], const uint64_t *steps, size_t step_words, bool guarded);
 
-bool sections_next(uint64_t found[], const uint64_t core[], const uint64_t records[], const uint64_t leaves[],
+bool sections_next(uint64_t found[], const uint64_t globals[], const uint64_t records[], const uint64_t leaves[],
                    const uint64_t slots[], const uint64_t reads[], const uint64_t marks[], const uint64_t writes[],
-                   uint64_t from);
+                   const uint64_t seats[], uint64_t from);
 
-void sections_open_export(uint64_t answer[], uint64_t exporting[], uint64_t exported[], const uint64_t core[],
+void sections_open_export(uint64_t answer[], uint64_t exporting[], uint64_t exported[], const uint64_t globals[],
                           const uint64_t records[], const uint64_t leaves[], const uint64_t slots[],
-                          const uint64_t reads[], const uint64_t marks[], const uint64_t writes[]);
+                          const uint64_t reads[], const uint64_t marks[], const uint64_t writes[],
+                          const uint64_t seats[]);
 
 void sections_portion(uint64_t answer[], uint32_t *addresses, size_t address_places, uint64_t *values,
                       size_t value_places, uint16_t *owners, size_t owner_places, uint64_t exporting[],
@@ -352,21 +355,22 @@ void sections_close_export(uint64_t answer[], uint64_t exporting[]);
 }
 #endif
 
-#define SECTIONS_ROWS(map) (map)->records, (map)->leaves, (map)->slots, (map)->reads, (map)->marks, (map)->writes
-#define SECTIONS_ARRAYS(map) (map)->core, SECTIONS_ROWS(map)
+#define SECTIONS_ROWS(map) \
+    (map)->records, (map)->leaves, (map)->slots, (map)->reads, (map)->marks, (map)->writes, (map)->seats
+#define SECTIONS_ARRAYS(map) (map)->globals, SECTIONS_ROWS(map)
 
 /* ---- Steps. */
 
 /* Makes it a fresh map, whatever it held. Values may be any numbers, and sections may overlap. */
 static inline void sections_init(struct sections *map)
 {
-    sections_fresh(map->core, map->exporting, SECTIONS_ROWS(map), false);
+    sections_fresh(map->globals, map->exporting, SECTIONS_ROWS(map), false);
 }
 
 /* Makes it a fresh guarded map, whatever it held. */
 static inline void sections_init_guarded(struct sections *map)
 {
-    sections_fresh(map->core, map->exporting, SECTIONS_ROWS(map), true);
+    sections_fresh(map->globals, map->exporting, SECTIONS_ROWS(map), true);
 }
 
 struct sections_answer {
@@ -573,7 +577,7 @@ static inline struct sections_ran sections_run(struct sections *map, const struc
     struct sections_buffers lent = sections_lent(buffers, &spare);
     uint64_t stop = sections_replay(counts, answer_places ? answers : &word, answer_places, lent.addresses,
                                     lent.address_places, lent.values, lent.value_places, lent.owners, lent.owner_places,
-                                    byte_places ? bytes : &byte, byte_places, map->core, map->exporting, map->exported,
+                                    byte_places ? bytes : &byte, byte_places, map->globals, map->exporting, map->exported,
                                     SECTIONS_ROWS(map), count ? steps->words : none.words,
                                     count * SECTIONS_CODE_WORDS, guarded);
     struct sections_ran ran = {(enum sections_stop)stop, (size_t)counts[0], (size_t)counts[1]};

@@ -18,7 +18,7 @@ pub const WRITE_LIMIT: usize = 16;
 pub const LONGEST: u64 = 65_536;
 
 /// How many words a row of each array has.
-const CORE_WORDS: usize = 5;
+const GLOBAL_WORDS: usize = 8;
 const RECORD_WORDS: usize = 4;
 const LEAF_WORDS: usize = 4;
 const SLOT_WORDS: usize = 9;
@@ -28,13 +28,14 @@ const WRITE_WORDS: usize = 4;
 const EXPORT_WORDS: usize = 3;
 const EXPORTED_WORDS: usize = 3;
 
-pub type Core = [[u64; CORE_WORDS]; SEATS + 2];
+pub type Globals = [u64; GLOBAL_WORDS];
 pub type Records = [[u64; RECORD_WORDS]; MAP_LIMIT];
 pub type Leaves = [[u64; LEAF_WORDS]; MAP_LIMIT + 1];
 pub type Slots = [[u64; SLOT_WORDS]; SLOTS + FILTER_ROWS + BITMAP_ROWS];
 pub type Reads = [[[u64; READ_WORDS]; READ_LIMIT]; SEATS];
 pub type Marks = [[[u64; MARK_WORDS]; MARK_LIMIT]; SEATS];
 pub type Writes = [[[u64; WRITE_WORDS]; WRITE_LIMIT]; SEATS];
+pub type Seats = [u64; SEATS];
 
 /// Request 107's: the numbers of an export, and a row for each of its records.
 pub type Export = [u64; EXPORT_WORDS];
@@ -60,7 +61,7 @@ pub const PORTION: u64 = 7;
 /// that they are as its last call left them, always holds.
 #[derive(Clone)]
 pub struct Map {
-    core: Core,
+    globals: Globals,
     export: Export,
     exported: Exported,
     records: Records,
@@ -69,11 +70,12 @@ pub struct Map {
     reads: Reads,
     marks: Marks,
     writes: Writes,
+    seats: Seats,
 }
 
 extern "C" {
     fn sections_fresh(
-        core: &mut Core,
+        globals: &mut Globals,
         export: &mut Export,
         records: &mut Records,
         leaves: &mut Leaves,
@@ -81,6 +83,7 @@ extern "C" {
         reads: &mut Reads,
         marks: &mut Marks,
         writes: &mut Writes,
+        seats: &mut Seats,
         guarded: bool,
     );
 
@@ -92,13 +95,14 @@ extern "C" {
         value_places: usize,
         owners: *mut u16,
         owner_places: usize,
-        core: &mut Core,
+        globals: &mut Globals,
         records: &mut Records,
         leaves: &mut Leaves,
         slots: &mut Slots,
         reads: &mut Reads,
         marks: &mut Marks,
         writes: &mut Writes,
+        seats: &mut Seats,
         step: &Code,
     );
 
@@ -114,7 +118,7 @@ extern "C" {
         owner_places: usize,
         bytes: *mut u8,
         byte_places: usize,
-        core: &mut Core,
+        globals: &mut Globals,
         export: &mut Export,
         exported: &mut Exported,
         records: &mut Records,
@@ -123,6 +127,7 @@ extern "C" {
         reads: &mut Reads,
         marks: &mut Marks,
         writes: &mut Writes,
+        seats: &mut Seats,
         steps: *const u64,
         step_words: usize,
         guarded: bool,
@@ -130,13 +135,14 @@ extern "C" {
 
     fn sections_next(
         found: &mut Found,
-        core: &Core,
+        globals: &Globals,
         records: &Records,
         leaves: &Leaves,
         slots: &Slots,
         reads: &Reads,
         marks: &Marks,
         writes: &Writes,
+        seats: &Seats,
         from: u64,
     ) -> bool;
 
@@ -144,13 +150,14 @@ extern "C" {
         answer: &mut Words,
         export: &mut Export,
         exported: &mut Exported,
-        core: &Core,
+        globals: &Globals,
         records: &Records,
         leaves: &Leaves,
         slots: &Slots,
         reads: &Reads,
         marks: &Marks,
         writes: &Writes,
+        seats: &Seats,
     );
 
     fn sections_portion(
@@ -179,7 +186,7 @@ extern "C" {
 /// Not a map yet.
 fn blank() -> Box<Map> {
     Box::new(Map {
-        core: [[0; CORE_WORDS]; SEATS + 2],
+        globals: [0; GLOBAL_WORDS],
         export: [0; EXPORT_WORDS],
         exported: [[0; EXPORTED_WORDS]; MAP_LIMIT],
         records: [[0; RECORD_WORDS]; MAP_LIMIT],
@@ -188,6 +195,7 @@ fn blank() -> Box<Map> {
         reads: [[[0; READ_WORDS]; READ_LIMIT]; SEATS],
         marks: [[[0; MARK_WORDS]; MARK_LIMIT]; SEATS],
         writes: [[[0; WRITE_WORDS]; WRITE_LIMIT]; SEATS],
+        seats: [0; SEATS],
     })
 }
 
@@ -197,7 +205,7 @@ pub fn fresh(guarded: bool) -> Box<Map> {
     // SAFETY: the types are those of the library, which asks nothing of what they hold.
     unsafe {
         sections_fresh(
-            &mut x.core,
+            &mut x.globals,
             &mut x.export,
             &mut x.records,
             &mut x.leaves,
@@ -205,6 +213,7 @@ pub fn fresh(guarded: bool) -> Box<Map> {
             &mut x.reads,
             &mut x.marks,
             &mut x.writes,
+            &mut x.seats,
             guarded,
         );
     }
@@ -230,13 +239,14 @@ pub fn step(
             values.len(),
             owners.as_mut_ptr(),
             owners.len(),
-            &mut x.core,
+            &mut x.globals,
             &mut x.records,
             &mut x.leaves,
             &mut x.slots,
             &mut x.reads,
             &mut x.marks,
             &mut x.writes,
+            &mut x.seats,
             code,
         );
     }
@@ -280,7 +290,7 @@ pub fn replay(
             owners.len(),
             bytes.as_mut_ptr(),
             bytes.len(),
-            &mut x.core,
+            &mut x.globals,
             &mut x.export,
             &mut x.exported,
             &mut x.records,
@@ -289,6 +299,7 @@ pub fn replay(
             &mut x.reads,
             &mut x.marks,
             &mut x.writes,
+            &mut x.seats,
             steps.as_ptr(),
             steps.len(),
             guarded,
@@ -304,8 +315,8 @@ pub fn next(x: &Map, from: u64) -> Option<Found> {
     // SAFETY: the arrays are as the last call left them.
     let there = unsafe {
         sections_next(
-            &mut found, &x.core, &x.records, &x.leaves, &x.slots, &x.reads, &x.marks, &x.writes,
-            from,
+            &mut found, &x.globals, &x.records, &x.leaves, &x.slots, &x.reads, &x.marks, &x.writes,
+            &x.seats, from,
         )
     };
     there.then_some(found)
@@ -320,13 +331,14 @@ pub fn open_export(x: &mut Map) -> Words {
             &mut answer,
             &mut x.export,
             &mut x.exported,
-            &x.core,
+            &x.globals,
             &x.records,
             &x.leaves,
             &x.slots,
             &x.reads,
             &x.marks,
             &x.writes,
+            &x.seats,
         );
     }
     answer

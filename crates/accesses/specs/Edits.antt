@@ -29,7 +29,7 @@ use Rattle.sets.specs.Writes.{WriteRows, writeOf, foundIn, writeIn, writesOf, P
 use Rattle.sets.specs.SetLaws.{each-set, other-set, length-rows}
 use Rattle.sets.specs.WriteLaws.{put-kind, deletion-kind, room-found}
 use Rattle.map.specs.Views.{Lent}
-use Rattle.transactions.specs.declared.Core.{Core}
+use Rattle.transactions.specs.Cores.{Core}
 use Rattle.transactions.specs.declared.begins.Plain.{Plain}
 use Rattle.transactions.specs.declared.begins.Plain.the-variants.{Granted, Refused}
 use Rattle.transactions.specs.Answering.{Yields, yields-granted, cause-holds, cause-fails, front, front-first}

@@ -34,7 +34,7 @@ use Rattle.sets.specs.Writes.{WriteRows, foundIn, writesIn}
 use Rattle.sets.specs.SetLaws.{each-set, other-set, length-rows}
 use Rattle.queries.specs.QueryViews.{Examines}
 use Rattle.map.specs.Views.{leavesIn, byColumns, SlotRows, RecordRows, Lent}
-use Rattle.transactions.specs.declared.Core.{Core}
+use Rattle.transactions.specs.Cores.{Core}
 use Rattle.accesses.specs.declared.reads.ReadAnswer.{ReadAnswer}
 use Rattle.accesses.specs.declared.reads.ReadAnswer.the-variants.{Value, Absent, Refused}
 use Rattle.accesses.specs.declared.reads.Taken.{Taken}

@@ -32,7 +32,7 @@ use Rattle.ranges.specs.Parts.{length-walk}
 use Rattle.ranges.specs.Walks.{seenFrom, ownFrom, rest}
 use Rattle.ranges.specs.Scanning.{span, across, seenIn}
 use Rattle.ranges.specs.Plans.{Planning, shownOf, Measured, Declined, backward, full, short, Passed}
-use Rattle.transactions.specs.declared.Core.{Core}
+use Rattle.transactions.specs.Cores.{Core}
 use Rattle.transactions.specs.Answering.{cause-holds, cause-fails, front, front-first}
 use Rattle.transactions.specs.Admits.{Turned, Entered}
 use Rattle.transactions.specs.Views.{Logs, stateOf}

@@ -5,7 +5,7 @@ use Rattle.spec.specs.declared.Refusal.{Refusal}
 use Rattle.spec.specs.Steps.{listed, scan, isOpen}
 use Rattle.sets.specs.declared.workers.Worker.{Worker}
 use Rattle.map.specs.Views.{Lent}
-use Rattle.transactions.specs.declared.Core.{Core}
+use Rattle.transactions.specs.Cores.{Core}
 use Rattle.accesses.specs.declared.scans.ScanAnswer.the-variants.{Count, Refused}
 use Rattle.ranges.specs.declared.plans.Task.{Task}
 use Rattle.ranges.specs.declared.plans.Done.{Done}

@@ -38,7 +38,7 @@ use Rattle.ranges.specs.Buffers.{Buffers, placesOf, rowsIn}
 use Rattle.ranges.specs.Scanning.{span, across, seenIn, lowIn, marked}
 use Rattle.ranges.specs.LogLaws.{scan-remembered}
 use Rattle.ranges.specs.Plans.{scanMade, Carried}
-use Rattle.transactions.specs.declared.Core.{Core}
+use Rattle.transactions.specs.Cores.{Core}
 use Rattle.transactions.specs.Answering.{yields-granted}
 use Rattle.transactions.specs.Admits.{Entered}
 use Rattle.transactions.specs.Views.{Logs, logs, modelWorker, stateOf, coreWith, OthersSame}

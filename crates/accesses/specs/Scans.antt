@@ -2,7 +2,7 @@
 use Prim.Native.Nat.{ℕ}
 use Rattle.spec.specs.Steps.{Answer, listed, refused, scan}
 use Rattle.map.specs.Views.{Lent}
-use Rattle.transactions.specs.declared.Core.{Core}
+use Rattle.transactions.specs.Cores.{Core}
 use Rattle.accesses.specs.declared.scans.ScanAnswer.{ScanAnswer}
 use Rattle.accesses.specs.declared.scans.ScanAnswer.the-variants.{Count, Refused}
 use Rattle.ranges.specs.Buffers.{Buffers, placesOf, rowsIn, Beyond}

@@ -8,7 +8,7 @@ use Rattle.spec.specs.Steps.{State, Answer, fresh, final, history, next, answer
 use Rattle.spec.specs.Claim.{SerialRun}
 use Rattle.serial.specs.Theorem.{theorem}
 use Rattle.map.specs.Views.{Lent, mapOf}
-use Rattle.transactions.specs.declared.Core.{Core}
+use Rattle.transactions.specs.Cores.{Core}
 use Rattle.transactions.specs.Views.{Logs, stateOf}
 use Rattle.transactions.specs.Ready.{Ready}
 use Rattle.transactions.specs.Starts.{Fresh}

@@ -9,12 +9,12 @@ use Rattle.spec.specs.Maps.{contents}
 use Rattle.spec.specs.Steps.{fresh, final, history, Event, stepsOf}
 use Rattle.spec.specs.Claim.{SerialRun}
 use Rattle.map.specs.Views.{Lent, mapOf}
-use Rattle.transactions.specs.declared.Core.{Core}
+use Rattle.transactions.specs.Cores.{Core}
 use Rattle.transactions.specs.Views.{Logs, stateOf}
 use Rattle.transactions.specs.Ready.{Ready}
 use Rattle.ranges.specs.Buffers.{Buffers, placesOf}
 use Rattle.engine.specs.declared.steps.Op.{Op}
-use Rattle.engine.specs.declared.cores.Performed.{Performed}
+use Rattle.engine.specs.Performs.{Performed}
 use Rattle.engine.specs.Performs.{stepIn, replyIn, Performs}
 
 -- The step that a call takes, with the lengths of the buffers lent to it, and the answer that it gives, with what it left in them.

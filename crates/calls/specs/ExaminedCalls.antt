@@ -14,7 +14,7 @@ use Rattle.spec.specs.Examined.{takesOut}
 use Rattle.laws.specs.WorkerLaws.{standard-settings}
 use Rattle.limits.specs.WorstLookups.{worst-look-up}
 use Rattle.map.specs.Views.{Lent, mapOf}
-use Rattle.transactions.specs.declared.Core.{Core}
+use Rattle.transactions.specs.Cores.{Core}
 use Rattle.transactions.specs.Views.{Logs}
 use Rattle.transactions.specs.Starts.{Fresh}
 use Rattle.calls.specs.Calls.{Calls, SerialCalls}

@@ -8,7 +8,7 @@ use Rattle.spec.specs.Maps.{MapState, contents}
 use Rattle.spec.specs.Steps.{State, Step, fresh, final, Event, stepsOf}
 use Rattle.serial.specs.NoOverlaps.{no-overlap-standard}
 use Rattle.map.specs.Views.{Lent, mapOf}
-use Rattle.transactions.specs.declared.Core.{Core}
+use Rattle.transactions.specs.Cores.{Core}
 use Rattle.transactions.specs.Views.{Logs, stateOf}
 use Rattle.transactions.specs.Starts.{Fresh}
 use Rattle.calls.specs.Calls.{Calls}

@@ -12,7 +12,7 @@ use Rattle.spec.specs.Waiting.{waitsSince, oldestMerges, TakenWithin}
 use Rattle.laws.specs.WorkerLaws.{standard-settings}
 use Rattle.limits.specs.BoundedWaiting.{bounded-waiting}
 use Rattle.map.specs.Views.{Lent, mapOf}
-use Rattle.transactions.specs.declared.Core.{Core}
+use Rattle.transactions.specs.Cores.{Core}
 use Rattle.transactions.specs.Views.{Logs, stateOf}
 use Rattle.transactions.specs.Starts.{Fresh}
 use Rattle.calls.specs.Calls.{Calls}

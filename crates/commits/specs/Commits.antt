@@ -24,7 +24,7 @@ use Rattle.map.specs.Views.{Lent, mapOf}
 use Rattle.map.specs.Parts.{installCounted}
 use Rattle.map.specs.Entries.{MapBecomes}
 use Rattle.map.specs.WriteWalks.{Writing}
-use Rattle.transactions.specs.declared.Core.{Core}
+use Rattle.transactions.specs.Cores.{Core}
 use Rattle.transactions.specs.Views.{Logs, logs, modelWorker, workersFrom, guardedIn, stateOf, withBoth}
 use Rattle.transactions.specs.ViewLaws.{worker-at, same-logs, state-with}
 use Rattle.transactions.specs.Ready.{workerAt, Within, Stored}

@@ -21,7 +21,7 @@ use Rattle.sets.specs.Reads.{ReadRows}
 use Rattle.sets.specs.Leaves.{LeafSetRows}
 use Rattle.sets.specs.Writes.{WriteRows, writesIn}
 use Rattle.map.specs.Views.{slotsIn, Lent}
-use Rattle.transactions.specs.declared.Core.{Core}
+use Rattle.transactions.specs.Cores.{Core}
 use Rattle.transactions.specs.declared.begins.Plain.the-variants.{Granted, Refused}
 use Rattle.transactions.specs.Answering.{front, yields-granted}
 use Rattle.transactions.specs.Admits.{anyStage, Turned, Entered}

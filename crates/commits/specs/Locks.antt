@@ -39,7 +39,7 @@ use Rattle.guards.specs.declared.Judged.{Judged}
 use Rattle.guards.specs.declared.Judged.the-variants.{Passed}
 use Rattle.guards.specs.declared.Judged.the-variants as guarded
 use Rattle.guards.specs.Judging.{judgedIn, guardCauses, Guardable}
-use Rattle.transactions.specs.declared.Core.{Core}
+use Rattle.transactions.specs.Cores.{Core}
 use Rattle.transactions.specs.declared.begins.Plain.{Plain}
 use Rattle.transactions.specs.declared.begins.Plain.the-variants.{Granted, Refused}
 use Rattle.transactions.specs.Answering.{front, front-first, cause-holds, cause-fails, yields-granted, yields-refused}

@@ -29,7 +29,7 @@ use Rattle.sets.specs.declared.leaves.LoggedLeaf.{LoggedLeaf}
 use Rattle.sets.specs.Reads.{ReadRows, recordIn, readsOf, noRead, ReadSetHeld, GivesRead}
 use Rattle.sets.specs.Leaves.{LeafSetRows, versionsOf, lowsOf, LeafSetHeld, GivesLeaf}
 use Rattle.sets.specs.Writes.{WriteRows, writesOf, WriteSetOrdered}
-use Rattle.transactions.specs.declared.Core.{Core}
+use Rattle.transactions.specs.Cores.{Core}
 use Rattle.commits.specs.declared.validates.Verdict.{Verdict}
 use Rattle.commits.specs.declared.validates.Verdict.the-variants as verdict
 use Rattle.commits.specs.declared.validates.Verdict.the-variants.{Passed}

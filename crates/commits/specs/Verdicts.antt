@@ -29,7 +29,7 @@ use Rattle.sets.specs.Writes.{WriteRows, writesIn}
 use Rattle.map.specs.declared.Sizes.{Sizes}
 use Rattle.map.specs.Views.{slotsIn, mapOf, Lent}
 use Rattle.queries.specs.PhantomViews.{phantomAt, Owns}
-use Rattle.transactions.specs.declared.Core.{Core}
+use Rattle.transactions.specs.Cores.{Core}
 use Rattle.commits.specs.declared.validates.Verdict.{Verdict}
 use Rattle.commits.specs.declared.validates.Verdict.the-variants as verdict
 use Rattle.commits.specs.declared.validates.Verdict.the-variants.{Passed}

@@ -13,7 +13,7 @@ use Rattle.script.specs.GrammarLaws.{guard-letter}
 use Rattle.script.specs.Parsing.{Whole, SaysNothing}
 use Rattle.answers.specs.Output.{guardedAnswer, malformedLine}
 use Rattle.console.specs.Program.{writtenFrom, startsGuarded, output}
-use Rattle.console.specs.ProgramLaws.{told, clear-last, from-clear, from-whole, from-spoiled, step-no-guard, starts-whole, starts-spoiled, output-unguarded, output-guarded}
+use Rattle.console.specs.ProgramLaws.{told, from-clear, from-whole, from-spoiled, step-no-guard, starts-whole, starts-spoiled, output-unguarded, output-guarded}
 use Rattle.console.specs.Sessions.{dueFor}
 
 -- the current line goes on

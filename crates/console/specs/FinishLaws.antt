@@ -9,19 +9,16 @@ use Rattle.lists.specs.Tests.{pick}
 use Rattle.lists.specs.Rows.{Row, has}
 use Rattle.lists.specs.Texts.{Wrote}
 use Rattle.lists.specs.TextLaws.{wrote-join}
-use Rattle.spec.specs.Records.{standard, Record}
+use Rattle.spec.specs.Records.{Record}
 use Rattle.spec.specs.Maps.{contents}
 use Rattle.map.specs.Views.{Lent}
 use Rattle.queries.specs.Contents.{allRecords}
 use Rattle.transactions.specs.Views.{Logs, stateOf}
-use Rattle.transactions.specs.Ready.{Ready}
-use Rattle.transactions.specs.declared.Core.{Core}
 use Rattle.script.specs.Parsing.{filled, After}
 use Rattle.answers.specs.Output.{field, endLine, malformedLine}
-use Rattle.console.specs.declared.session.Session.{Session}
 use Rattle.console.specs.Program.{writtenFrom, startsGuarded}
 use Rattle.console.specs.ProgramLaws.{starts-clear}
-use Rattle.console.specs.Sessions.{Started, dueFor, due}
+use Rattle.console.specs.Sessions.{Standing, Started, dueFor, due}
 use Rattle.console.specs.DueLaws.{due-unguarded}
 use Rattle.console.specs.Closings.{triplesFor, TriplesPut}
 use Rattle.console.specs.Finishes.{Finishes}
@@ -35,7 +32,7 @@ unfolding endLine
 end-wrote {rs} {old} {a} {b} {new} {at} {i} {j} {k} {n} e x y z =
     subst (λ (m : ℕ). Wrote old at ((69 ∷ field m) ++ triplesFor rs ++ (10 ∷ [])) new k) e (wrote-join (wrote-join x (y .wrote)) z)
 
-module _ (l : Lent) (g : Logs) (x : Session) (old : List ℕ) where
+module _ (l : Lent) (g : Logs) (x : Standing) (old : List ℕ) where
   pub finish-stopped : x .stopped ≡ true → x .at ≤ length old → Finishes l g x old old (x .at)
   unfolding due
   finish-stopped e h =

@@ -6,13 +6,12 @@ use mathlib.Core.List.{List}
 use lib.ListN.{length}
 use Rattle.spec.specs.Steps as model
 use Rattle.spec.specs.Steps.{shortest}
-use Rattle.transactions.specs.declared.Core.{Core}
+use Rattle.transactions.specs.Cores.{Core}
 use Rattle.map.specs.Views.{Lent}
 use Rattle.transactions.specs.Views.{Logs, stateOf}
 use Rattle.ranges.specs.Buffers.{Buffers, buffers, placesOf}
 use Rattle.engine.specs.declared.steps.Op.{Op}
-use Rattle.engine.specs.declared.cores.Performed.{Performed}
-use Rattle.engine.specs.Performs.{stepIn, placesIn, Performs}
+use Rattle.engine.specs.Performs.{stepIn, placesIn, Performed, Performs}
 use Rattle.engine.specs.Listings as listings
 use Rattle.script.specs.declared.Line.{Line}
 use Rattle.script.specs.Grammar.{stepOf}

@@ -15,13 +15,12 @@ use Rattle.lists.specs.TextLaws.{wrote-length}
 use Rattle.spec.specs.Records.{standard}
 use Rattle.spec.specs.Steps.{State, fresh, answer, next}
 use Rattle.map.specs.Views.{Lent}
-use Rattle.transactions.specs.declared.Core.{Core}
+use Rattle.transactions.specs.Cores.{Core}
 use Rattle.transactions.specs.Views.{Logs, stateOf}
 use Rattle.transactions.specs.Ready.{Ready}
 use Rattle.ranges.specs.Buffers.{Buffers, buffers}
 use Rattle.engine.specs.declared.steps.Op.{Op}
-use Rattle.engine.specs.declared.cores.Performed.{Performed}
-use Rattle.engine.specs.Performs.{Performs}
+use Rattle.engine.specs.Performs.{Performed, Performs}
 use Rattle.script.specs.declared.Line.{Line}
 use Rattle.script.specs.declared.Parser.{Parser}
 use Rattle.script.specs.declared.Parser.the-variants.{Start}
@@ -32,12 +31,11 @@ use Rattle.script.specs.Grammar.{letterOf, stepOf, guardLine}
 use Rattle.script.specs.Parsing.{After, Whole, Says, Parses}
 use Rattle.script.specs.Tokens.{after-fresh}
 use Rattle.answers.specs.Output.{answerText, guardedAnswer, malformedLine}
-use Rattle.console.specs.declared.session.Session.{Session}
 use Rattle.console.specs.Program.{places, answerLine, writtenFrom}
 use Rattle.console.specs.ProgramLaws.{clear-last}
 use Rattle.console.specs.Replies.{Asks, replyText, Replies}
 use Rattle.transactions.specs.Starts.{guardedCore}
-use Rattle.console.specs.Sessions.{Started, dueFor, due, RunsLine, EndsMalformed, BeginsGuarded, RunsGuard}
+use Rattle.console.specs.Sessions.{Standing, Started, dueFor, due, RunsLine, EndsMalformed, BeginsGuarded, RunsGuard}
 use Rattle.console.specs.DueLaws.{due-clear, due-line, due-malformed, due-spoiled, due-guarded, due-misplaced}
 use Rattle.console.specs.Places.{step-is}
 
@@ -57,7 +55,7 @@ taken-some seen [] l h w =
     h
 taken-some seen (b ∷ taken) l h w = omega arith
 
-module _ (l : Lent) (g : Logs) (x : Session) (input old : List ℕ) (t : Parsed) (f : x .stopped ≡ false) (n : x .next < length input)
+module _ (l : Lent) (g : Logs) (x : Standing) (input old : List ℕ) (t : Parsed) (f : x .stopped ≡ false) (n : x .next < length input)
     (k : Started l g x) (p : (seen : List ℕ) → After seen (x .parser) → Parses seen input (x .next) t) where
   -- what is due, in terms of the bytes taken
   due-is : (seen : List ℕ) (a : After seen (x .parser)) (future : List ℕ)
@@ -112,12 +110,12 @@ module _ (l : Lent) (g : Logs) (x : Session) (input old : List ℕ) (t : Parsed)
       }
 
   -- `?` is due
-  ends-malformed : {new : List ℕ} {y : Session} → Ready l g (x .core) → EndsMalformed x (t .parser) (t .next) old new y → t .parser ≡ Start
+  ends-malformed : {new : List ℕ} {y : Standing} → Ready l g (x .core) → EndsMalformed x (t .parser) (t .next) old new y → t .parser ≡ Start
       → ((seen : List ℕ) (a : After seen (x .parser)) (rest : List ℕ) → dueFor (stateOf l g (x .core)) (x .first) seen (p seen a .taken ++ rest) ≡ malformedLine)
       → RunsLine l g x input old l g y new
   unfolding due
   ends-malformed {new} {y} r m e d =
-      subst (λ (z : Session). RunsLine l g x input old l g z new) (sym (m .after))
+      subst (λ (z : Standing). RunsLine l g x input old l g z new) (sym (m .after))
       (record {
         feeds =
             record {
@@ -144,7 +142,7 @@ module _ (l : Lent) (g : Logs) (x : Session) (input old : List ℕ) (t : Parsed)
       w = m .wrote
 
   -- a malformed line
-  pub turn-malformed : {new : List ℕ} {y : Session} → Ready l g (x .core) → t .event ≡ event.Malformed
+  pub turn-malformed : {new : List ℕ} {y : Standing} → Ready l g (x .core) → t .event ≡ event.Malformed
       → EndsMalformed x (t .parser) (t .next) old new y → RunsLine l g x input old l g y new
   unfolding Says
   turn-malformed r e m = ends-malformed r m (says-as event.Malformed e (k .seen) (k .after) .1) nothing
@@ -158,11 +156,11 @@ module _ (l : Lent) (g : Logs) (x : Session) (input old : List ℕ) (t : Parsed)
           (says-as event.Malformed e seen a .0)
 
   -- the first line is G
-  turn-opening : {new : List ℕ} {y : Session} → Ready l g (guardedCore (x .core)) → stateOf l g (guardedCore (x .core)) ≡ fresh standard true
+  turn-opening : {new : List ℕ} {y : Standing} → Ready l g (guardedCore (x .core)) → stateOf l g (guardedCore (x .core)) ≡ fresh standard true
       → x .first ≡ true → t .event ≡ event.Guard → BeginsGuarded x (t .parser) (t .next) old new y → RunsLine l g x input old l g y new
   unfolding Says due dueFor
   turn-opening {new} {y} r q b e m =
-      subst (λ (z : Session). RunsLine l g x input old l g z new) (sym (m .after))
+      subst (λ (z : Standing). RunsLine l g x input old l g z new) (sym (m .after))
       (record {
         feeds =
             record {
@@ -194,7 +192,7 @@ module _ (l : Lent) (g : Logs) (x : Session) (input old : List ℕ) (t : Parsed)
       w = m .wrote
 
   -- a line G, the first or another one
-  pub turn-guard : {new : List ℕ} {y : Session} → Ready l g (x .core)
+  pub turn-guard : {new : List ℕ} {y : Standing} → Ready l g (x .core)
       → (x .first ≡ true → Ready l g (guardedCore (x .core)) × (stateOf l g (guardedCore (x .core)) ≡ fresh standard true))
       → t .event ≡ event.Guard → RunsGuard x (t .parser) (t .next) old new y → RunsLine l g x input old l g y new
   unfolding Says

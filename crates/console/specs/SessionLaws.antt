@@ -1,27 +1,23 @@
 -- When a session goes on.
 use Prim.Native.Nat.{ℕ, _+_, _<_, _≤_}
-use mathlib.Core.Path.{_≡_, refl, sym, ap, _∙_, subst}
+use mathlib.Core.Path.{_≡_, refl, sym, ap, _∙_}
 use mathlib.Core.Bool.{Bool, true, false, not}
 use Rattle.lists.specs.Tests.{both, less, atMost}
 use Rattle.lists.specs.TestLaws.{clash, less-yes, less-no, less-true, atMost-yes, atMost-no, atMost-true}
 use Rattle.console.specs.Program.{longestLine}
 use Rattle.transactions.specs.Starts.{guardedCore}
-use Rattle.sets.specs.Workers.{workersOf}
-use Rattle.console.specs.Sessions.{sessionOf, progressIn, canGoOn, Runs, Continues, Feeds, Started, due, EndsMalformed, BeginsGuarded, RunsGuard}
+use Rattle.console.specs.Sessions.{Standing, canGoOn, Continues, Feeds, Started, due, EndsMalformed, BeginsGuarded, RunsGuard}
 use native.Mathlib.Omega.{arith}
 use mathlib.Core.List.{List, [], _++_, append-assoc}
 use lib.ListN.{length}
 use Rattle.lists.specs.Texts.{Wrote}
 use Rattle.lists.specs.TextLaws.{wrote-join}
 use Rattle.map.specs.Views.{Lent}
-use Rattle.transactions.specs.declared.Core.{Core}
-use Rattle.transactions.specs.declared.Globals.{Globals}
-use Rattle.transactions.specs.Views.{Logs, stateOf, coreOn, coreOf, globalsIn}
+use Rattle.transactions.specs.Cores.{Core}
+use Rattle.transactions.specs.Views.{Logs, stateOf}
 use Rattle.transactions.specs.Ready.{Ready}
 use Rattle.script.specs.declared.Parser.{Parser}
 use Rattle.answers.specs.Output.{guardedAnswer}
-use Rattle.console.specs.declared.session.Session.{Session}
-use Rattle.console.specs.declared.session.Progress.{Progress}
 
 second-no : (s b d : Bool) → b ≡ false → false ≡ both (not s) (both b d)
 second-no true b d e = refl
@@ -62,7 +58,8 @@ module _ (s : Bool) (n z a r : ℕ) where
 
 -- ---- laws
 
-feeds-none : {l : Lent} {g : Logs} {x : Session} (input : List ℕ) {old : List ℕ}
+-- nothing run yet
+pub feeds-none : {l : Lent} {g : Logs} {x : Standing} (input : List ℕ) {old : List ℕ}
     → Ready l g (x .core) → Started l g x → x .at ≤ length old → Feeds l g x input old l g x old
 feeds-none input r s h =
     record {
@@ -80,7 +77,7 @@ feeds-none input r s h =
           };
     }
 
-pub feeds-join : {l l' l'' : Lent} {g g' g'' : Logs} {x y z : Session} {input old mid new : List ℕ}
+pub feeds-join : {l l' l'' : Lent} {g g' g'' : Logs} {x y z : Standing} {input old mid new : List ℕ}
     → Feeds l g x input old l' g' y mid → Feeds l' g' y input mid l'' g'' z new → Feeds l g x input old l'' g'' z new
 feeds-join {l} {l'} {l''} {g} {g'} {g''} {x} {y} {z} {input} {old} {mid} {new} a b =
     record {
@@ -107,38 +104,14 @@ feeds-join {l} {l'} {l''} {g} {g'} {g''} {x} {y} {z} {input} {old} {mid} {new} a
 
 -- ---- the line G
 
-module _ {x y : Session} {p : Parser} {n : ℕ} {old new : List ℕ} where
+module _ {x y : Standing} {p : Parser} {n : ℕ} {old new : List ℕ} where
   pub guard-first : x .first ≡ true → BeginsGuarded x p n old new y → RunsGuard x p n old new y
   guard-first e b = record { begins = λ q. b; ends = λ q. clash e q }
 
   pub guard-misplaced : x .first ≡ false → EndsMalformed x p n old new y → RunsGuard x p n old new y
   guard-misplaced e b = record { begins = λ q. clash q e; ends = λ q. b }
 
-pub begins-guarded : {x : Session} {p : Parser} {n : ℕ} {old new : List ℕ} {c : Core} {at : ℕ} → c ≡ guardedCore (x .core) → Wrote old (x .at) guardedAnswer new at
+pub begins-guarded : {x : Standing} {p : Parser} {n : ℕ} {old new : List ℕ} {c : Core} {at : ℕ} → c ≡ guardedCore (x .core) → Wrote old (x .at) guardedAnswer new at
     → BeginsGuarded x p n old new (record { core = c; parser = p; next = n; at = at; stopped = false; first = false })
 begins-guarded {p = p} {n} {at = at} e w =
     record { wrote = w; after = ap (λ (k : Core). record { core = k; parser = p; next = n; at = at; stopped = false; first = false }) e }
-
--- ---- a session whose workers are lent
-
-pub session-again : (ws : List ℕ) {y : Progress} (x : Session) → workersOf ws ≡ x .core .workers → y ≡ progressIn x → sessionOf ws y ≡ x
-session-again ws {y} x e q =
-    λ i. record { core = coreOn (e i) (q i .globals); parser = q i .parser; next = q i .next; at = q i .at; stopped = q i .stopped; first = q i .first }
-
-pub session-is : (ws : List ℕ) {c : Core} (x : Progress) → c ≡ coreOf ws (x .globals)
-    → record { core = c; parser = x .parser; next = x .next; at = x .at; stopped = x .stopped; first = x .first } ≡ sessionOf ws x
-session-is ws x e = ap (λ (k : Core). record { core = k; parser = x .parser; next = x .next; at = x .at; stopped = x .stopped; first = x .first }) e
-
-pub progress-is : {d : Globals} (x : Session) → d ≡ globalsIn (x .core)
-    → record { globals = d; parser = x .parser; next = x .next; at = x .at; stopped = x .stopped; first = x .first } ≡ progressIn x
-progress-is x e = ap (λ (k : Globals). record { globals = k; parser = x .parser; next = x .next; at = x .at; stopped = x .stopped; first = x .first }) e
-
--- nothing run yet
-pub feeds-lent : {l : Lent} {g : Logs} {x y : Session} (input : List ℕ) {old : List ℕ} → y ≡ x → Ready l g (x .core) → Started l g x → x .at ≤ length old
-    → Feeds l g y input old l g y old
-feeds-lent {l} {g} input {old} e r s h = subst (λ (z : Session). Feeds l g z input old l g z old) (sym e) (feeds-none input r s h)
-
-pub runs-as : {l l' : Lent} {g g' : Logs} {x x' y y' : Session} {input old new : List ℕ} → x' ≡ x → y ≡ y' → Runs l g x' input old l' g' y' new
-    → Runs l g x input old l' g' y new
-runs-as {l} {l'} {g} {g'} {x} {x'} {y} {y'} {input} {old} {new} e q r =
-    subst (λ (z : Session). Runs l g z input old l' g' y new) e (subst (λ (z : Session). Runs l g x' input old l' g' z new) (sym q) r)

@@ -6,6 +6,7 @@ use map::Slots;
 use queries::Next;
 use sets::LeafSets;
 use sets::ReadSets;
+use sets::Workers;
 use sets::WriteSets;
 use spec::ADDRESSES;
 use spec::OWNERS;
@@ -16,11 +17,11 @@ ghost use Rattle.spec.specs.Records.{standard};
 ghost use Rattle.map.specs.Parts.{RecordsHeld, SlotsHeld};
 ghost use Rattle.map.specs.Views.{lent};
 ghost use Rattle.queries.specs.Contents.{allRecords};
-ghost use Rattle.transactions.specs.Views.{logs};
+ghost use Rattle.transactions.specs.Views.{logs, coreOf};
 ghost use Rattle.transactions.specs.Ready.{Ready};
 ghost use Rattle.answers.specs.Output.{endLine};
 ghost use Rattle.console.specs.Closings.{TriplesPut};
-ghost use Rattle.console.specs.Sessions.{Started};
+ghost use Rattle.console.specs.Sessions.{sessionOf, Started};
 ghost use Rattle.console.specs.Finishes.{longestEnd, Finishes};
 
 // The triples of all records, by rising address.
@@ -72,20 +73,21 @@ pub fn finish(
     reads: &ReadSets,
     leafsets: &LeafSets,
     writes: &WriteSets,
+    workers: &Workers,
     x: Session,
 ) -> usize
-    requires { ⌜ Ready (lent (now rows) (now leaves) (now slots)) (logs (now reads) (now leafsets) (now writes)) (x .core) ⌝ }
-    requires { ⌜ Started (lent (now rows) (now leaves) (now slots)) (logs (now reads) (now leafsets) (now writes)) x ⌝ }
+    requires { ⌜ Ready (lent (now rows) (now leaves) (now slots)) (logs (now reads) (now leafsets) (now writes)) (coreOf (now workers) (x .globals)) ⌝ }
+    requires { ⌜ Started (lent (now rows) (now leaves) (now slots)) (logs (now reads) (now leafsets) (now writes)) (sessionOf (now workers) x) ⌝ }
     requires { ⌜ x .at + longestEnd ≤ length (now out) ⌝ }
-    ensures { λ r. ⌜ Finishes (lent (now (rows .entry)) (now (leaves .entry)) (now (slots .entry))) (logs (now (reads .entry)) (now (leafsets .entry)) (now (writes .entry))) x (now (out .entry)) (now (out .exit)) r ⌝ }
+    ensures { λ r. ⌜ Finishes (lent (now (rows .entry)) (now (leaves .entry)) (now (slots .entry))) (logs (now (reads .entry)) (now (leafsets .entry)) (now (writes .entry))) (sessionOf (now (workers .entry)) x) (now (out .entry)) (now (out .exit)) r ⌝ }
 {
     if x.stopped {
         return x.at;
     }
     let parser = x.parser;
     if script::at_line_start(parser) {
-        let core = x.core;
-        let sizes = core.sizes;
+        let globals = x.globals;
+        let sizes = globals.sizes;
         return put_contents(out, x.at, rows, slots, sizes.records);
     }
     answers::put_malformed(out, x.at)

@@ -12,10 +12,7 @@ use sets::LeafSets;
 use sets::ReadSets;
 use sets::Workers;
 use sets::WriteSets;
-use sets::workers;
-use transactions::Core;
 use transactions::Globals;
-use transactions::cores;
 use transactions::starts;
 ghost use mathlib.Core.Path.{_≡_};
 ghost use mathlib.Core.Bool.{true};
@@ -27,30 +24,21 @@ ghost use Rattle.transactions.specs.Views.{logs, coreOf};
 ghost use Rattle.transactions.specs.Ready.{Ready};
 ghost use Rattle.transactions.specs.Starts.{guardedGlobals};
 ghost use Rattle.console.specs.Program.{longestLine};
-ghost use Rattle.console.specs.Sessions.{progressIn, sessionOf, Started, canGoOn, EndsMalformed, RunsGuard, RunsLine, Runs, Begins, withPlaces};
+ghost use Rattle.console.specs.Sessions.{sessionOf, Started, canGoOn, EndsMalformed, RunsGuard, RunsLine, Runs, Begins, withPlaces};
 
 // The longest line that is written: a letter, two numbers, a scan's triples and a line feed.
 const LONGEST_LINE: usize = 44 + 63 * SCAN_PLACES;
 
-// What is kept from input to input: the engine's core, the parser, the place in the input, the place in the output, whether a
-// malformed line has ended the script, and whether the first line has not been read through, so that it may be `G`.
+// What is kept from line to line, beside the lent arrays: the engine's globals, the parser, the place in the input, the place
+// in the output, whether a malformed line has ended the script, and whether the first line has not been read through, so that
+// it may be `G`.
 pub struct Session {
-    pub core: Core,
+    pub globals: Globals,
     pub parser: Parser,
     pub next: usize,
     pub at: usize,
     pub stopped: bool,
     pub first: bool,
-}
-
-// The same from line to line, where the workers are lent.
-struct Progress {
-    globals: Globals,
-    parser: Parser,
-    next: usize,
-    at: usize,
-    stopped: bool,
-    first: bool,
 }
 
 // A session with a fresh map that is not guarded, whatever the arrays held.
@@ -61,13 +49,14 @@ pub fn fresh_session(
     reads: &mut ReadSets,
     leafsets: &mut LeafSets,
     writes: &mut WriteSets,
+    workers: &mut Workers,
 ) -> Session
-    ensures { λ r. ⌜ Begins (lent (now (rows .exit)) (now (leaves .exit)) (now (slots .exit))) (logs (now (reads .exit)) (now (leafsets .exit)) (now (writes .exit))) r ⌝ }
+    ensures { λ r. ⌜ Begins (lent (now (rows .exit)) (now (leaves .exit)) (now (slots .exit))) (logs (now (reads .exit)) (now (leafsets .exit)) (now (writes .exit))) (sessionOf (now (workers .exit)) r) ⌝ }
 {
-    let core = starts::fresh_state(rows, leaves, slots, reads, leafsets, writes, false);
+    let globals = starts::fresh_state(rows, leaves, slots, reads, leafsets, writes, workers, false);
     let parser = script::fresh_parser();
     Session {
-        core,
+        globals,
         parser,
         next: 0,
         at: 0,
@@ -80,10 +69,10 @@ pub fn fresh_session(
 pub fn at_places(x: Session, next: usize, at: usize) -> Session
     ensures { λ r. ⌜ r ≡ withPlaces x next at ⌝ }
 {
-    let core = x.core;
+    let globals = x.globals;
     let parser = x.parser;
     Session {
-        core,
+        globals,
         parser,
         next,
         at,
@@ -111,40 +100,6 @@ fn can_go_on(stopped: bool, next: usize, size: usize, at: usize, room: usize) ->
     true
 }
 
-// All of a session but its workers.
-fn progress_of(x: Session) -> Progress
-    ensures { λ r. ⌜ r ≡ progressIn x ⌝ }
-{
-    let core = x.core;
-    let globals = cores::globals_of(core);
-    let parser = x.parser;
-    Progress {
-        globals,
-        parser,
-        next: x.next,
-        at: x.at,
-        stopped: x.stopped,
-        first: x.first,
-    }
-}
-
-// The session of lent workers and the rest.
-fn session_of(workers: &Workers, x: Progress) -> Session
-    ensures { λ r. ⌜ r ≡ sessionOf (now (workers .entry)) x ⌝ }
-{
-    let globals = x.globals;
-    let core = cores::core_of(workers, globals);
-    let parser = x.parser;
-    Session {
-        core,
-        parser,
-        next: x.next,
-        at: x.at,
-        stopped: x.stopped,
-        first: x.first,
-    }
-}
-
 // The globals of a guarded map.
 fn guarded(c: Globals) -> Globals
     ensures { λ r. ⌜ r ≡ guardedGlobals c ⌝ }
@@ -159,13 +114,13 @@ fn guarded(c: Globals) -> Globals
 }
 
 // A malformed line ends the script.
-fn end_malformed(out: &mut [u8], x: Progress, parser: Parser, next: usize) -> Progress
+fn end_malformed(out: &mut [u8], x: Session, parser: Parser, next: usize) -> Session
     requires { ⌜ x .at + 2 ≤ length (now out) ⌝ }
     ensures { λ r. ⌜ ((ws : List ℕ) → EndsMalformed (sessionOf ws x) parser next (now (out .entry)) (now (out .exit)) (sessionOf ws r)) ⌝ }
 {
     let globals = x.globals;
     let at = answers::put_malformed(out, x.at);
-    Progress {
+    Session {
         globals,
         parser,
         next,
@@ -176,14 +131,14 @@ fn end_malformed(out: &mut [u8], x: Progress, parser: Parser, next: usize) -> Pr
 }
 
 // The line `G`: as the first one it makes the map, on which nothing was run, a guarded one. Any other is malformed.
-fn run_guard(out: &mut [u8], x: Progress, parser: Parser, next: usize) -> Progress
+fn run_guard(out: &mut [u8], x: Session, parser: Parser, next: usize) -> Session
     requires { ⌜ x .at + longestLine ≤ length (now out) ⌝ }
     ensures { λ r. ⌜ ((ws : List ℕ) → RunsGuard (sessionOf ws x) parser next (now (out .entry)) (now (out .exit)) (sessionOf ws r)) ⌝ }
 {
     if x.first {
         let globals = guarded(x.globals);
         let at = answers::put_guarded(out, x.at);
-        return Progress {
+        return Session {
             globals,
             parser,
             next,
@@ -210,8 +165,8 @@ fn run_line(
     writes: &mut WriteSets,
     workers: &mut Workers,
     input: &[u8],
-    x: Progress,
-) -> Progress
+    x: Session,
+) -> Session
     requires { ⌜ Ready (lent (now rows) (now leaves) (now slots)) (logs (now reads) (now leafsets) (now writes)) (coreOf (now workers) (x .globals)) ⌝ }
     requires { ⌜ Started (lent (now rows) (now leaves) (now slots)) (logs (now reads) (now leafsets) (now writes)) (sessionOf (now workers) x) ⌝ }
     requires { ⌜ canGoOn (x .stopped) (x .next) (length (now input)) (x .at) (length (now out)) ≡ true ⌝ }
@@ -245,7 +200,7 @@ fn run_line(
             let then = done.globals;
             let letter = lines::letter_of(l);
             let at = replies::write_reply(out, x.at, addresses, values, owners, letter, reply);
-            Progress {
+            Session {
                 globals: then,
                 parser: after,
                 next,
@@ -256,7 +211,7 @@ fn run_line(
         }
         Event::Guard => run_guard(out, x, after, next),
         Event::Malformed => end_malformed(out, x, after, next),
-        Event::SliceEnd => Progress {
+        Event::SliceEnd => Session {
             globals,
             parser: after,
             next,
@@ -277,23 +232,21 @@ pub fn feed(
     reads: &mut ReadSets,
     leafsets: &mut LeafSets,
     writes: &mut WriteSets,
+    workers: &mut Workers,
     input: &[u8],
     start: Session,
 ) -> Session
-    requires { ⌜ Ready (lent (now rows) (now leaves) (now slots)) (logs (now reads) (now leafsets) (now writes)) (start .core) ⌝ }
-    requires { ⌜ Started (lent (now rows) (now leaves) (now slots)) (logs (now reads) (now leafsets) (now writes)) start ⌝ }
+    requires { ⌜ Ready (lent (now rows) (now leaves) (now slots)) (logs (now reads) (now leafsets) (now writes)) (coreOf (now workers) (start .globals)) ⌝ }
+    requires { ⌜ Started (lent (now rows) (now leaves) (now slots)) (logs (now reads) (now leafsets) (now writes)) (sessionOf (now workers) start) ⌝ }
     requires { ⌜ start .at ≤ length (now out) ⌝ }
     ensures { λ r. ⌜ Runs (lent (now (rows .entry)) (now (leaves .entry)) (now (slots .entry)))
-        (logs (now (reads .entry)) (now (leafsets .entry)) (now (writes .entry))) start (now (input .entry)) (now (out .entry))
-        (lent (now (rows .exit)) (now (leaves .exit)) (now (slots .exit))) (logs (now (reads .exit)) (now (leafsets .exit)) (now (writes .exit))) r (now (out .exit)) ⌝ }
+        (logs (now (reads .entry)) (now (leafsets .entry)) (now (writes .entry))) (sessionOf (now (workers .entry)) start) (now (input .entry)) (now (out .entry))
+        (lent (now (rows .exit)) (now (leaves .exit)) (now (slots .exit))) (logs (now (reads .exit)) (now (leafsets .exit)) (now (writes .exit))) (sessionOf (now (workers .exit)) r) (now (out .exit)) ⌝ }
 {
     let mut addresses = [0u32; SCAN_PLACES];
     let mut values = [0u64; SCAN_PLACES];
     let mut owners = [0u16; SCAN_PLACES];
-    let core = start.core;
-    let seats = core.workers;
-    let mut workers = workers::pack_all(seats);
-    let mut x = progress_of(start);
+    let mut x = start;
     while can_go_on(x.stopped, x.next, input.len(), x.at, out.len()) {
         x = run_line(
             out,
@@ -306,10 +259,10 @@ pub fn feed(
             reads,
             leafsets,
             writes,
-            &mut workers,
+            workers,
             input,
             x,
         );
     }
-    session_of(&workers, x)
+    x
 }

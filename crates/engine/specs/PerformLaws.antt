@@ -5,8 +5,7 @@ use mathlib.Core.List.{List}
 use Rattle.spec.specs.Steps as model
 use Rattle.spec.specs.Steps.{Places, Step, Answer}
 use Rattle.map.specs.Views.{Lent}
-use Rattle.transactions.specs.declared.Core.{Core}
-use Rattle.transactions.specs.declared.Globals.{Globals}
+use Rattle.transactions.specs.Cores.{Core}
 use Rattle.transactions.specs.declared.begins.Plain.{Plain}
 use Rattle.transactions.specs.declared.begins.Plain.the-variants as plain
 use Rattle.accesses.specs.declared.reads.ReadAnswer.{ReadAnswer}
@@ -25,18 +24,15 @@ use Rattle.engine.specs.declared.steps.Op.the-variants as op
 use Rattle.engine.specs.declared.steps.Reply.{Reply}
 use Rattle.engine.specs.declared.steps.Reply.the-variants as reply
 use Rattle.engine.specs.declared.steps.Outcome.{Outcome}
-use Rattle.engine.specs.declared.cores.Performed.{Performed}
 use Rattle.transactions.specs.Begins.{plainIn}
 use Rattle.accesses.specs.Answers.{readAnswer}
 use Rattle.ranges.specs.Buffers.{Buffers, placesOf, Beyond}
 use Rattle.ranges.specs.BufferLaws.{beyond-refl}
 use Rattle.accesses.specs.Scans.{scanIn, places, Scans}
 use Rattle.commits.specs.Answers.{validateIn}
-use Rattle.sets.specs.Workers.{workersOf}
-use Rattle.transactions.specs.Views.{Logs, coreOf, globalsIn}
-use Rattle.transactions.specs.ViewLaws.{core-again}
-use Rattle.transactions.specs.Ready.{Ready, Refines}
-use Rattle.engine.specs.Performs.{Performs, Quiet, ofDone, ofValidate, performedOf, placesIn, plainReply, readReply, replyIn, scanReply, stepIn, validateReply}
+use Rattle.transactions.specs.Views.{Logs}
+use Rattle.transactions.specs.Ready.{Refines}
+use Rattle.engine.specs.Performs.{Performed, Performs, Quiet, ofDone, ofValidate, performedOf, placesIn, plainReply, readReply, replyIn, scanReply, stepIn, validateReply}
 
 -- ---- the outcome, once the answer is known
 
@@ -151,15 +147,3 @@ performs-scan {l} {g} {g'} {c} {k} {o} {u} {w} {lo} {hi} {b} {b'} p e f h =
       refines = subst (λ (x : Answer). Refines l g c (model.scan w lo hi (placesOf b)) l g' k x) (sym (scan-answer p b')) (h .refines);
       beyond = subst (λ (n : ℕ). Beyond n b b') (sym (scan-places p)) (h .beyond);
     }))
-
--- ---- a core by value, whose workers are lent for one step
-
-module _ {l : Lent} {g : Logs} {c : Core} (ws : List ℕ) {d : Globals} (e : workersOf ws ≡ c .workers) (q : d ≡ globalsIn c) where
-  pub ready-lent : Ready l g c → Ready l g (coreOf ws d)
-  ready-lent k = subst (Ready l g) (sym (core-again ws c e q)) k
-
-  pub performs-core : {l' : Lent} {g' : Logs} {k : Core} {o : Op} {b b' : Buffers} (vs : List ℕ) (r : Outcome) → k ≡ coreOf vs (r .globals)
-      → Performs l g (coreOf ws d) o b l' g' b' (performedOf vs r) → Performs l g c o b l' g' b' (record { core = k; reply = r .reply })
-  performs-core {l'} {g'} {k} {o} {b} {b'} vs r f h =
-      subst (λ (x : Core). Performs l g c o b l' g' b' (record { core = x; reply = r .reply })) (sym f)
-      (subst (λ (x : Core). Performs l g x o b l' g' b' (performedOf vs r)) (core-again ws c e q) h)

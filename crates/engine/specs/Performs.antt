@@ -6,7 +6,7 @@ use mathlib.Core.Option.{none, some}
 use Rattle.spec.specs.Steps as model
 use Rattle.spec.specs.Steps.{Places, Step, Answer}
 use Rattle.map.specs.Views.{Lent}
-use Rattle.transactions.specs.declared.Core.{Core}
+use Rattle.transactions.specs.Cores.{Core}
 use Rattle.transactions.specs.declared.begins.Plain.{Plain}
 use Rattle.transactions.specs.declared.begins.Plain.the-variants as plain
 use Rattle.accesses.specs.declared.reads.ReadAnswer.{ReadAnswer}
@@ -27,7 +27,6 @@ use Rattle.engine.specs.declared.steps.Op.the-variants as op
 use Rattle.engine.specs.declared.steps.Reply.{Reply}
 use Rattle.engine.specs.declared.steps.Reply.the-variants as reply
 use Rattle.engine.specs.declared.steps.Outcome.{Outcome}
-use Rattle.engine.specs.declared.cores.Performed.{Performed}
 use Rattle.ranges.specs.Buffers.{Buffers, placesOf, rowsIn, Beyond}
 use Rattle.accesses.specs.Scans.{places}
 use Rattle.transactions.specs.Views.{Logs, coreOf}
@@ -66,6 +65,11 @@ placesIn (reply.Listed n) = n
 placesIn (reply.Numbered n) = 0
 placesIn (reply.Counted n) = 0
 placesIn (reply.Refused r) = 0
+
+-- The core after a step, and its answer.
+pub record Performed : Type 0 where
+  pub core : Core
+  pub reply : Reply
 
 -- an outcome, with the core of the lent workers
 abbrev pub performedOf : List ℕ → Outcome → Performed

@@ -17,6 +17,7 @@ use sets::LeafSets;
 use sets::READ_WORDS;
 use sets::ReadSets;
 use sets::WRITE_WORDS;
+use sets::Workers;
 use sets::WriteSets;
 use spec::LEAF_SET_LIMIT;
 use spec::MAP_LIMIT;
@@ -27,9 +28,9 @@ ghost use Prim.Native.Nat.{_≤_};
 ghost use mathlib.Core.Path.{_≡_};
 ghost use lib.ListN.{length};
 ghost use Rattle.map.specs.Views.{lent};
-ghost use Rattle.transactions.specs.Views.{logs};
+ghost use Rattle.transactions.specs.Views.{logs, coreOf};
 ghost use Rattle.transactions.specs.Ready.{Ready};
-ghost use Rattle.console.specs.Sessions.{Started};
+ghost use Rattle.console.specs.Sessions.{sessionOf, Started};
 ghost use Rattle.console.specs.Finishes.{longestEnd};
 ghost use Rattle.mapscript.specs.Works.{WorkReady, Next};
 
@@ -112,10 +113,11 @@ fn advance(
     reads: &mut ReadSets,
     leafsets: &mut LeafSets,
     writes: &mut WriteSets,
+    workers: &mut Workers,
     w: Work,
 ) -> Work
-    requires { ⌜ WorkReady (lent (now rows) (now leaves) (now slots)) (logs (now reads) (now leafsets) (now writes)) w (length (now input)) ⌝ }
-    ensures { λ r. ⌜ WorkReady (lent (now (rows .exit)) (now (leaves .exit)) (now (slots .exit))) (logs (now (reads .exit)) (now (leafsets .exit)) (now (writes .exit))) r (length (now (input .exit))) ⌝ }
+    requires { ⌜ WorkReady (lent (now rows) (now leaves) (now slots)) (logs (now reads) (now leafsets) (now writes)) (now workers) w (length (now input)) ⌝ }
+    ensures { λ r. ⌜ WorkReady (lent (now (rows .exit)) (now (leaves .exit)) (now (slots .exit))) (logs (now (reads .exit)) (now (leafsets .exit)) (now (writes .exit))) (now (workers .exit)) r (length (now (input .exit))) ⌝ }
 {
     let x = w.session;
     let count = w.count;
@@ -130,6 +132,7 @@ fn advance(
         reads,
         leafsets,
         writes,
+        workers,
         &input[..count],
         x,
     );
@@ -145,17 +148,28 @@ fn close(
     reads: &ReadSets,
     leafsets: &LeafSets,
     writes: &WriteSets,
+    workers: &Workers,
     w: Work,
 )
-    requires { ⌜ Ready (lent (now rows) (now leaves) (now slots)) (logs (now reads) (now leafsets) (now writes)) (w .session .core) ⌝ }
-    requires { ⌜ Started (lent (now rows) (now leaves) (now slots)) (logs (now reads) (now leafsets) (now writes)) (w .session) ⌝ }
+    requires { ⌜ Ready (lent (now rows) (now leaves) (now slots)) (logs (now reads) (now leafsets) (now writes)) (coreOf (now workers) (w .session .globals)) ⌝ }
+    requires { ⌜ Started (lent (now rows) (now leaves) (now slots)) (logs (now reads) (now leafsets) (now writes)) (sessionOf (now workers) (w .session)) ⌝ }
     requires { ⌜ (w .session .at ≡ 0) × (longestEnd ≤ length (now out)) ⌝ }
 {
     if w.failed {
         return;
     }
     let x = w.session;
-    let last = closing::finish(out, rows, leaves, slots, reads, leafsets, writes, x);
+    let last = closing::finish(
+        out,
+        rows,
+        leaves,
+        slots,
+        reads,
+        leafsets,
+        writes,
+        workers,
+        x,
+    );
     write_first(out, last);
 }
 
@@ -168,6 +182,7 @@ fn main() {
     let mut reads = [[[0u64; READ_WORDS]; READ_LIMIT]; WORKERS];
     let mut leafsets = [[[0u64; LEAF_SET_WORDS]; LEAF_SET_LIMIT]; WORKERS];
     let mut writes = [[[0u64; WRITE_WORDS]; WRITE_LIMIT]; WORKERS];
+    let mut workers = [0u64; WORKERS];
     let start = session::fresh_session(
         &mut rows,
         &mut leaves,
@@ -175,6 +190,7 @@ fn main() {
         &mut reads,
         &mut leafsets,
         &mut writes,
+        &mut workers,
     );
     let mut w = Work {
         session: start,
@@ -194,6 +210,7 @@ fn main() {
             &mut reads,
             &mut leafsets,
             &mut writes,
+            &mut workers,
             w,
         );
         turns -= 1;
@@ -206,6 +223,7 @@ fn main() {
         &reads,
         &leafsets,
         &writes,
+        &workers,
         w,
     );
 }

@@ -13,11 +13,10 @@ use Rattle.ranges.specs.Buffers.{placesOf}
 use Rattle.exports.specs.Exporting.{ExportedRows, Space}
 use Rattle.transactions.specs.Views.{Logs}
 use Rattle.calls.specs.GuardedCalls.{reached-apart}
-use Rattle.replay.specs.declared.runs.Replayed.{Replayed}
-use Rattle.replay.specs.Replays.{runOf, Replays}
+use Rattle.replay.specs.Replays.{ReplayEnd, runOf, Replays}
 use Rattle.replay.specs.LoopLaws.{requestsOf, ran-final}
 
-pub replay-apart : {words : List ℕ} {s : Space} {out : List ℕ} {l : Lent} {g : Logs} {xs : ExportedRows} {s' : Space} {out' : List ℕ} {r : Replayed}
+pub replay-apart : {words : List ℕ} {s : Space} {out : List ℕ} {l : Lent} {g : Logs} {xs : ExportedRows} {s' : Space} {out' : List ℕ} {r : ReplayEnd}
     → Replays true words s out l g xs s' out' r → NoOverlap standard (contents (mapOf l (r .core .sizes)))
 replay-apart {words} {s} {out} {l} {g} {r = r} h =
     reached-apart l g (r .core) (jobSteps (requestsOf (runOf true words s out .told)))

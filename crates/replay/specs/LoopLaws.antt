@@ -22,14 +22,13 @@ use Rattle.map.specs.Views.{Lent}
 use Rattle.ranges.specs.Buffers.{placesOf}
 use Rattle.exports.specs.declared.Export.{Export}
 use Rattle.exports.specs.Exporting.{ExportedRows, exportIn, ExportHeld, Space}
-use Rattle.transactions.specs.declared.Core.{Core}
+use Rattle.transactions.specs.Cores.{Core}
 use Rattle.transactions.specs.Views.{Logs, guardedIn, stateOf}
 use Rattle.transactions.specs.Starts.{Fresh}
 use Rattle.codes.specs.declared.Code.{Code}
 use Rattle.replay.specs.declared.stops.Stop.{Stop}
 use Rattle.replay.specs.declared.stops.Stop.the-variants as stop
-use Rattle.replay.specs.declared.runs.Replayed.{Replayed}
-use Rattle.replay.specs.Replays.{Asked, asked, Ran, ended, followedBy, stepWords, codeOf, longestAnswer, toldWords, ran, allWords, leftIn, addressesBy, valuesBy, ownersBy, filedBy, SpaceBecomes, Whole, whole, exportingIn, WholeReady, runOf, leftBy, Replays}
+use Rattle.replay.specs.Replays.{ReplayEnd, Asked, asked, Ran, ended, followedBy, stepWords, codeOf, longestAnswer, toldWords, ran, allWords, leftIn, addressesBy, valuesBy, ownersBy, filedBy, SpaceBecomes, Whole, whole, exportingIn, WholeReady, runOf, leftBy, Replays}
 use Rattle.replay.specs.RunLaws.{codeAt, wordsFrom, drop-code, ranWith, allFollowedBy, chained, tally, TakesCode}
 
 -- ---- a run is the model's
@@ -232,7 +231,7 @@ core-guarded f = ap (λ (σ : State). σ .guarded) (f .state)
 pub fresh-as : {l : Lent} {g : Logs} {b : Bool} {c : Core} → Fresh l g b c → Fresh l g (guardedIn (c .guarded)) c
 fresh-as {l} {g} {c = c} f = subst (λ (x : Bool). Fresh l g x c) (sym (core-guarded f)) f
 
-pub replays-as : {l l' : Lent} {g g' : Logs} {xs : ExportedRows} {x : Bool} {c : Core} {words : List ℕ} {s s' : Space} {out out' : List ℕ} {r : Replayed} → Fresh l g x c
+pub replays-as : {l l' : Lent} {g g' : Logs} {xs : ExportedRows} {x : Bool} {c : Core} {words : List ℕ} {s s' : Space} {out out' : List ℕ} {r : ReplayEnd} → Fresh l g x c
     → Replays (guardedIn (c .guarded)) words s out l' g' xs s' out' r → Replays x words s out l' g' xs s' out' r
 replays-as {l' = l'} {g' = g'} {xs = xs} {words = words} {s} {s'} {out} {out'} {r} f =
     subst (λ (y : Bool). Replays y words s out l' g' xs s' out' r) (core-guarded f)

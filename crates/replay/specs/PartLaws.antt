@@ -5,11 +5,11 @@ use Rattle.spec.specs.Steps.{Places, shortest, listed, Answer}
 use Rattle.map.specs.Views.{Lent}
 use Rattle.ranges.specs.Buffers.{Buffers, placesOf, Beyond, Lends, firstOf}
 use Rattle.ranges.specs.FirstPlaces.{first-places, behind, behind-first, behind-others, beyond-part, rows-part}
-use Rattle.transactions.specs.declared.Core.{Core}
+use Rattle.transactions.specs.Cores.{Core}
 use Rattle.transactions.specs.Views.{Logs, stateOf}
 use Rattle.transactions.specs.Ready.{Refines}
 use Rattle.engine.specs.declared.steps.Op.{Op}
-use Rattle.engine.specs.declared.cores.Performed.{Performed}
+use Rattle.engine.specs.Performs.{Performed}
 use Rattle.engine.specs.declared.steps.Reply.{Reply}
 use Rattle.engine.specs.declared.steps.Reply.the-variants as reply
 use Rattle.engine.specs.Listings.{places-fit}

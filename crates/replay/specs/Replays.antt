@@ -19,8 +19,8 @@ use Rattle.map.specs.Views.{Lent, mapOf}
 use Rattle.ranges.specs.Buffers.{placesOf}
 use Rattle.exports.specs.declared.Export.{Export}
 use Rattle.exports.specs.Exporting.{ExportedRows, exportIn, ExportHeld, Space, exportStepIn}
-use Rattle.transactions.specs.declared.Core.{Core}
-use Rattle.transactions.specs.Views.{Logs, stateOf}
+use Rattle.transactions.specs.Cores.{Core}
+use Rattle.transactions.specs.Views.{Logs, stateOf, coreOf}
 use Rattle.transactions.specs.Ready.{Ready}
 use Rattle.engine.specs.Performs.{stepIn}
 use Rattle.codes.specs.declared.Code.{Code}
@@ -181,13 +181,25 @@ pub record WholeReady (h : Whole) : Type 0 where
 abbrev pub runOf : Bool → List ℕ → Space → List ℕ → Ran
 runOf guarded words s out = ran (placesOf (s .portion)) (length (s .bytes)) (startingAt (fresh standard guarded)) (length out) words
 
+-- The core and the export's numbers after the steps, how many were taken, how many words were written, and why no more.
+pub record ReplayEnd : Type 0 where
+  pub core : Core
+  pub export : Export
+  pub taken : ℕ
+  pub written : ℕ
+  pub stop : Stop
+
+abbrev pub replayEndOf : List ℕ → Replayed → ReplayEnd
+replayEndOf ws r =
+    record { core = coreOf ws (r .globals); export = r .export; taken = r .taken; written = r .written; stop = r .stop }
+
 -- what a run left: the arrays, with the core and the export's numbers of its outcome
-abbrev pub leftBy : Lent → Logs → ExportedRows → Replayed → Whole
+abbrev pub leftBy : Lent → Logs → ExportedRows → ReplayEnd → Whole
 leftBy l g xs r = whole l g (r .core) xs (r .export)
 
 -- Whether the map is guarded, the words of the steps, the lent space and the answer buffer before, the arrays, the space, the
 -- answer buffer and the outcome after.
-pub record Replays (guarded : Bool) (words : List ℕ) (s : Space) (out : List ℕ) (l : Lent) (g : Logs) (xs : ExportedRows) (s' : Space) (out' : List ℕ) (r : Replayed) : Type 0 where
+pub record Replays (guarded : Bool) (words : List ℕ) (s : Space) (out : List ℕ) (l : Lent) (g : Logs) (xs : ExportedRows) (s' : Space) (out' : List ℕ) (r : ReplayEnd) : Type 0 where
   pub ready : WholeReady (leftBy l g xs r)
   -- the steps that the run takes are taken, and why no more
   pub after : exportingIn (leftBy l g xs r) ≡ runOf guarded words s out .after

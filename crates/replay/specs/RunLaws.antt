@@ -24,11 +24,11 @@ use Rattle.exports.specs.declared.ExportDone.{ExportDone}
 use Rattle.exports.specs.declared.ops.ExportOp.{ExportOp}
 use Rattle.exports.specs.declared.ops.ExportOp.the-variants.{Open, Portion, File, Close}
 use Rattle.exports.specs.Exporting.{ExportedRows, exportIn, ExportHeld, Space, space, exportAnswerIn, placesWritten, bytesWritten, placesWanted, bytesWanted, ExportStepped, exportStepIn, LendsTo}
-use Rattle.transactions.specs.declared.Core.{Core}
+use Rattle.transactions.specs.Cores.{Core}
 use Rattle.transactions.specs.Views.{Logs, stateOf}
 use Rattle.transactions.specs.Ready.{Ready}
 use Rattle.engine.specs.declared.steps.Op.{Op}
-use Rattle.engine.specs.declared.cores.Performed.{Performed}
+use Rattle.engine.specs.Performs.{Performed}
 use Rattle.engine.specs.Performs.{stepIn, replyIn}
 use Rattle.codes.specs.declared.Code.{Code}
 use Rattle.codes.specs.declared.decodes.Decoded.{Decoded}

@@ -24,8 +24,7 @@ use Rattle.calls.specs.CallLaws.{map-in}
 use Rattle.codes.specs.Codes.{placesLent, decodedScan, decodedPut, decodedAccess, decoded, decodedNumbered, listedWords, wordsOf}
 use Rattle.codes.specs.ExportCodes.{decodedPortion, decodedFile, decodedExport, exportWords}
 use Rattle.replay.specs.declared.stops.Stop.the-variants as stop
-use Rattle.replay.specs.declared.runs.Replayed.{Replayed}
-use Rattle.replay.specs.Replays.{asked, Ran, ran, toldWords, allWords, Replays}
+use Rattle.replay.specs.Replays.{ReplayEnd, asked, Ran, ran, toldWords, allWords, Replays}
 use Rattle.replay.specs.LoopLaws.{requestsOf, ran-final}
 
 -- ---- steps in coded form
@@ -57,7 +56,7 @@ codesFor (exporting s ∷ rs) = exportCode s ++ codesFor rs
 -- ---- what is said of a row
 
 -- The outcome of a replay is the row's: every step is taken, the answers are written, the contents are left.
-pub record Shows (x : List Exchange) (rs : List (Row Record)) (out : List ℕ) (l : Lent) (out' : List ℕ) (r : Replayed) : Type 0 where
+pub record Shows (x : List Exchange) (rs : List (Row Record)) (out : List ℕ) (l : Lent) (out' : List ℕ) (r : ReplayEnd) : Type 0 where
   pub complete : r .stop ≡ stop.Complete
   pub answers : Wrote out 0 (allWords x) out' (r .written)
   pub same-contents : contents (mapOf l (r .core .sizes)) ≡ rs
@@ -72,7 +71,7 @@ bytes = 64
 -- of every replay of these steps with so many places, so many bytes and so much room
 abbrev pub AllShow : Bool → List Exchange → List (Row Record) → Type 0
 AllShow b x rs =
-    (s : Space) (out : List ℕ) (l : Lent) (g : Logs) (xs : ExportedRows) (s' : Space) (out' : List ℕ) (r : Replayed)
+    (s : Space) (out : List ℕ) (l : Lent) (g : Logs) (xs : ExportedRows) (s' : Space) (out' : List ℕ) (r : ReplayEnd)
     → placesOf (s .portion) ≡ wide → length (s .bytes) ≡ bytes → length out ≡ room → Replays b (codesFor (requestsOf x)) s out l g xs s' out' r
     → Shows x rs out l out' r
 

@@ -4,10 +4,10 @@ use mathlib.Core.Path.{_≡_, refl, sym, _∙_, subst}
 use Rattle.spec.specs.Steps.{Places, places}
 use Rattle.map.specs.Views.{Lent}
 use Rattle.ranges.specs.Buffers.{Buffers, placesOf}
-use Rattle.transactions.specs.declared.Core.{Core}
+use Rattle.transactions.specs.Cores.{Core}
 use Rattle.transactions.specs.Views.{Logs}
 use Rattle.engine.specs.declared.steps.Op.{Op}
-use Rattle.engine.specs.declared.cores.Performed.{Performed}
+use Rattle.engine.specs.Performs.{Performed}
 use Rattle.codes.specs.declared.Code.{Code}
 use Rattle.codes.specs.declared.Coded.{Coded}
 use Rattle.codes.specs.declared.decodes.Decoded.{Decoded}

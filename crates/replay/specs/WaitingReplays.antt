@@ -15,11 +15,10 @@ use Rattle.ranges.specs.Buffers.{placesOf}
 use Rattle.exports.specs.Exporting.{ExportedRows, Space}
 use Rattle.transactions.specs.Views.{Logs, stateOf}
 use Rattle.calls.specs.WaitingCalls.{reached-waiting}
-use Rattle.replay.specs.declared.runs.Replayed.{Replayed}
-use Rattle.replay.specs.Replays.{runOf, Replays}
+use Rattle.replay.specs.Replays.{ReplayEnd, runOf, Replays}
 use Rattle.replay.specs.LoopLaws.{requestsOf, ran-final}
 
-pub replay-waiting : {x : Bool} {words : List ℕ} {s : Space} {out : List ℕ} {l : Lent} {g : Logs} {xs : ExportedRows} {s' : Space} {out' : List ℕ} {r : Replayed}
+pub replay-waiting : {x : Bool} {words : List ℕ} {s : Space} {out : List ℕ} {l : Lent} {g : Logs} {xs : ExportedRows} {s' : Space} {out' : List ℕ} {r : ReplayEnd}
     → Replays x words s out l g xs s' out' r
     → (k t : ℕ) → waitsSince (mapOf l (r .core .sizes)) k ≡ some t → (ts : List Step) → standard .waitingLimit ≤ oldestMerges ts
     → TakenWithin (stateOf l g (r .core)) k (standard .waitingLimit) ts

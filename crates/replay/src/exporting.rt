@@ -20,7 +20,7 @@ ghost use Rattle.map.specs.Parts.{RecordsHeld, SlotsHeld};
 ghost use Rattle.queries.specs.Contents.{allRecords};
 ghost use Rattle.ranges.specs.Buffers.{buffers};
 ghost use Rattle.exports.specs.Exporting.{ExportHeld, space};
-ghost use Rattle.transactions.specs.declared.Core.{Core};
+ghost use Rattle.transactions.specs.Cores.{Core};
 ghost use Rattle.transactions.specs.Views.{Logs};
 ghost use Rattle.transactions.specs.Ready.{Ready};
 ghost use Rattle.replay.specs.Replays.{whole};

@@ -11,13 +11,14 @@ use map::Records;
 use map::Slots;
 use sets::LeafSets;
 use sets::ReadSets;
+use sets::Workers;
 use sets::WriteSets;
-use transactions::Core;
+use transactions::Globals;
 ghost use mathlib.Core.List.{List};
 ghost use Prim.Native.Nat.{ℕ, _<_, _≤_};
 ghost use lib.ListN.{length};
 ghost use Rattle.map.specs.Views.{lent};
-ghost use Rattle.transactions.specs.Views.{logs};
+ghost use Rattle.transactions.specs.Views.{logs, coreOf};
 ghost use Rattle.transactions.specs.Ready.{Ready};
 ghost use Rattle.ranges.specs.Buffers.{buffers};
 ghost use Rattle.exports.specs.declared.Export.{Export};
@@ -25,9 +26,9 @@ ghost use Rattle.exports.specs.Exporting.{ExportedRows, ExportHeld, space};
 ghost use Rattle.replay.specs.Replays.{whole};
 ghost use Rattle.replay.specs.RunLaws.{TakesCode};
 
-// After the code: the core, the place after the answers, and whether it was taken (complete).
+// After the code: the globals, the place after the answers, and whether it was taken (complete).
 pub struct AfterJob {
-    pub core: Core,
+    pub globals: Globals,
     pub at: usize,
     pub stop: Stop,
 }
@@ -44,18 +45,19 @@ pub fn take_job(
     reads: &mut ReadSets,
     leafsets: &mut LeafSets,
     writes: &mut WriteSets,
-    c: Core,
+    workers: &mut Workers,
+    c: Globals,
     k: Code,
     at: usize,
 ) -> AfterJob
-    requires { ⌜ Ready (lent (now rows) (now leaves) (now slots)) (logs (now reads) (now leafsets) (now writes)) c ⌝ }
+    requires { ⌜ Ready (lent (now rows) (now leaves) (now slots)) (logs (now reads) (now leafsets) (now writes)) (coreOf (now workers) c) ⌝ }
     requires { ⌜ (at ≤ length (now out)) × (k .kind < 11) ⌝ }
     ensures { λ r. ⌜ ((xs : ExportedRows) (x : Export) (bs : List ℕ) → ExportHeld x → TakesCode
         (whole (lent (now (rows .entry)) (now (leaves .entry)) (now (slots .entry)))
-        (logs (now (reads .entry)) (now (leafsets .entry)) (now (writes .entry))) c xs x) k
+        (logs (now (reads .entry)) (now (leafsets .entry)) (now (writes .entry))) (coreOf (now (workers .entry)) c) xs x) k
         (space (buffers (now (addresses .entry)) (now (values .entry)) (now (owners .entry))) bs) (now (out .entry)) at
         (whole (lent (now (rows .exit)) (now (leaves .exit)) (now (slots .exit)))
-        (logs (now (reads .exit)) (now (leafsets .exit)) (now (writes .exit))) (r .core) xs x)
+        (logs (now (reads .exit)) (now (leafsets .exit)) (now (writes .exit))) (coreOf (now (workers .exit)) (r .globals)) xs x)
         (space (buffers (now (addresses .exit)) (now (values .exit)) (now (owners .exit))) bs) (now (out .exit)) (r .at) (r .stop)) ⌝ }
 {
     let d = decodes::decode(k, addresses.len(), values.len(), owners.len());
@@ -63,7 +65,7 @@ pub fn take_job(
         Decoded::Meant(op, m, n, q) => {
             if !stops::fits(out.len() - at, m, n, q) {
                 return AfterJob {
-                    core: c,
+                    globals: c,
                     at,
                     stop: Stop::Full,
                 };
@@ -78,23 +80,24 @@ pub fn take_job(
                 reads,
                 leafsets,
                 writes,
+                workers,
                 c,
                 op,
                 m,
                 n,
                 q,
             );
-            let core = p.core;
+            let globals = p.globals;
             let reply = p.reply;
             let next = words::put_answer_words(out, at, addresses, values, owners, reply);
             AfterJob {
-                core,
+                globals,
                 at: next,
                 stop: Stop::Complete,
             }
         }
         Decoded::Meaningless => AfterJob {
-            core: c,
+            globals: c,
             at,
             stop: Stop::Meaningless,
         },

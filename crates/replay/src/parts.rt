@@ -1,19 +1,21 @@
 // A step with a part of the lent scan buffers.
-use engine::cores;
-use engine::cores::Performed;
+use engine::steps;
 use engine::steps::Op;
+use engine::steps::Outcome;
 use map::Leaves;
 use map::Records;
 use map::Slots;
 use sets::LeafSets;
 use sets::ReadSets;
+use sets::Workers;
 use sets::WriteSets;
-use transactions::Core;
+use transactions::Globals;
 ghost use Rattle.spec.specs.Steps.{places};
 ghost use Rattle.map.specs.Views.{lent};
-ghost use Rattle.transactions.specs.Views.{logs};
+ghost use Rattle.transactions.specs.Views.{logs, coreOf};
 ghost use Rattle.transactions.specs.Ready.{Ready};
 ghost use Rattle.ranges.specs.Buffers.{buffers, placesOf, Lends};
+ghost use Rattle.engine.specs.Performs.{performedOf};
 ghost use Rattle.replay.specs.CodedSteps.{PerformsFirst};
 
 // Performs a step with the first m places of the address buffer, the first n of the value buffer and the first q of the owner
@@ -28,21 +30,22 @@ pub fn perform_first(
     reads: &mut ReadSets,
     leafsets: &mut LeafSets,
     writes: &mut WriteSets,
-    c: Core,
+    workers: &mut Workers,
+    c: Globals,
     op: Op,
     m: usize,
     n: usize,
     q: usize,
-) -> Performed
-    requires { ⌜ Ready (lent (now rows) (now leaves) (now slots)) (logs (now reads) (now leafsets) (now writes)) c ⌝ }
+) -> Outcome
+    requires { ⌜ Ready (lent (now rows) (now leaves) (now slots)) (logs (now reads) (now leafsets) (now writes)) (coreOf (now workers) c) ⌝ }
     requires { ⌜ Lends (placesOf (buffers (now addresses) (now values) (now owners))) (places m n q) ⌝ }
     ensures { λ r. ⌜ PerformsFirst (lent (now (rows .entry)) (now (leaves .entry)) (now (slots .entry)))
-        (logs (now (reads .entry)) (now (leafsets .entry)) (now (writes .entry))) c op (places m n q)
+        (logs (now (reads .entry)) (now (leafsets .entry)) (now (writes .entry))) (coreOf (now (workers .entry)) c) op (places m n q)
         (buffers (now (addresses .entry)) (now (values .entry)) (now (owners .entry)))
         (lent (now (rows .exit)) (now (leaves .exit)) (now (slots .exit))) (logs (now (reads .exit)) (now (leafsets .exit)) (now (writes .exit)))
-        (buffers (now (addresses .exit)) (now (values .exit)) (now (owners .exit))) r ⌝ }
+        (buffers (now (addresses .exit)) (now (values .exit)) (now (owners .exit))) (performedOf (now (workers .exit)) r) ⌝ }
 {
-    cores::perform_core(
+    steps::perform(
         &mut addresses[..m],
         &mut values[..n],
         &mut owners[..q],
@@ -52,6 +55,7 @@ pub fn perform_first(
         reads,
         leafsets,
         writes,
+        workers,
         c,
         op,
     )

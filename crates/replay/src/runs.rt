@@ -12,36 +12,37 @@ use map::Records;
 use map::Slots;
 use sets::LeafSets;
 use sets::ReadSets;
+use sets::Workers;
 use sets::WriteSets;
-use transactions::Core;
+use transactions::Globals;
 use transactions::starts;
 ghost use mathlib.Core.Path.{_≡_};
 ghost use mathlib.Core.Option.{none};
 ghost use Prim.Native.Nat.{_+_, _*_, _%_, _^_, _<_, _≤_};
 ghost use lib.ListN.{length};
 ghost use Rattle.map.specs.Views.{lent};
-ghost use Rattle.transactions.specs.Views.{logs, guardedIn};
+ghost use Rattle.transactions.specs.Views.{logs, coreOf, guardedIn};
 ghost use Rattle.transactions.specs.Ready.{Ready};
 ghost use Rattle.transactions.specs.Starts.{Fresh};
 ghost use Rattle.ranges.specs.Buffers.{buffers};
 ghost use Rattle.exports.specs.Exporting.{exportIn, ExportHeld, space};
-ghost use Rattle.replay.specs.Replays.{stepWords, whole, Replays};
+ghost use Rattle.replay.specs.Replays.{stepWords, whole, replayEndOf, Replays};
 ghost use Rattle.replay.specs.RunLaws.{codeAt, TakesCode};
 ghost use Rattle.replay.specs.LoopLaws.{restStop};
 
-// The core and the export's numbers after the steps, how many were taken, how many words of answers were written, and why no
+// The globals and the export's numbers after the steps, how many were taken, how many words of answers were written, and why no
 // more.
 pub struct Replayed {
-    pub core: Core,
+    pub globals: Globals,
     pub export: Export,
     pub taken: usize,
     pub written: usize,
     pub stop: Stop,
 }
 
-// After one code: the core and the export's numbers, the place after the answers, and whether it was taken (complete).
+// After one code: the globals and the export's numbers, the place after the answers, and whether it was taken (complete).
 struct AfterCode {
-    core: Core,
+    globals: Globals,
     export: Export,
     at: usize,
     stop: Stop,
@@ -77,19 +78,20 @@ fn take_code(
     reads: &mut ReadSets,
     leafsets: &mut LeafSets,
     writes: &mut WriteSets,
+    workers: &mut Workers,
     exported: &mut Exported,
-    c: Core,
+    c: Globals,
     x: Export,
     k: Code,
     at: usize,
 ) -> AfterCode
-    requires { ⌜ Ready (lent (now rows) (now leaves) (now slots)) (logs (now reads) (now leafsets) (now writes)) c ⌝ }
+    requires { ⌜ Ready (lent (now rows) (now leaves) (now slots)) (logs (now reads) (now leafsets) (now writes)) (coreOf (now workers) c) ⌝ }
     requires { ⌜ (at ≤ length (now out)) × ExportHeld x ⌝ }
     ensures { λ r. ⌜ TakesCode (whole (lent (now (rows .entry)) (now (leaves .entry)) (now (slots .entry)))
-        (logs (now (reads .entry)) (now (leafsets .entry)) (now (writes .entry))) c (now (exported .entry)) x) k
+        (logs (now (reads .entry)) (now (leafsets .entry)) (now (writes .entry))) (coreOf (now (workers .entry)) c) (now (exported .entry)) x) k
         (space (buffers (now (addresses .entry)) (now (values .entry)) (now (owners .entry))) (now (bytes .entry))) (now (out .entry)) at
         (whole (lent (now (rows .exit)) (now (leaves .exit)) (now (slots .exit)))
-        (logs (now (reads .exit)) (now (leafsets .exit)) (now (writes .exit))) (r .core) (now (exported .exit)) (r .export))
+        (logs (now (reads .exit)) (now (leafsets .exit)) (now (writes .exit))) (coreOf (now (workers .exit)) (r .globals)) (now (exported .exit)) (r .export))
         (space (buffers (now (addresses .exit)) (now (values .exit)) (now (owners .exit))) (now (bytes .exit))) (now (out .exit)) (r .at) (r .stop) ⌝ }
 {
     if k.kind < FIRST_EXPORT {
@@ -104,14 +106,15 @@ fn take_code(
             reads,
             leafsets,
             writes,
+            workers,
             c,
             k,
             at,
         );
-        let core = t.core;
+        let globals = t.globals;
         let stop = t.stop;
         return AfterCode {
-            core,
+            globals,
             export: x,
             at: t.at,
             stop,
@@ -135,7 +138,7 @@ fn take_code(
     let export = t.export;
     let stop = t.stop;
     AfterCode {
-        core: c,
+        globals: c,
         export,
         at: t.at,
         stop,
@@ -165,20 +168,21 @@ fn take_all(
     reads: &mut ReadSets,
     leafsets: &mut LeafSets,
     writes: &mut WriteSets,
+    workers: &mut Workers,
     exported: &mut Exported,
     steps: &[u64],
-    start: Core,
+    start: Globals,
     first: Export,
 ) -> Replayed
-    requires { ⌜ Fresh (lent (now rows) (now leaves) (now slots)) (logs (now reads) (now leafsets) (now writes)) (guardedIn (start .guarded)) start ⌝ }
+    requires { ⌜ Fresh (lent (now rows) (now leaves) (now slots)) (logs (now reads) (now leafsets) (now writes)) (guardedIn (start .guarded)) (coreOf (now workers) start) ⌝ }
     requires { ⌜ (exportIn (now exported) first ≡ none) × ExportHeld first ⌝ }
     ensures { λ r. ⌜ Replays (guardedIn (start .guarded)) (now (steps .entry))
         (space (buffers (now (addresses .entry)) (now (values .entry)) (now (owners .entry))) (now (bytes .entry))) (now (out .entry))
         (lent (now (rows .exit)) (now (leaves .exit)) (now (slots .exit))) (logs (now (reads .exit)) (now (leafsets .exit)) (now (writes .exit))) (now (exported .exit))
-        (space (buffers (now (addresses .exit)) (now (values .exit)) (now (owners .exit))) (now (bytes .exit))) (now (out .exit)) r ⌝ }
+        (space (buffers (now (addresses .exit)) (now (values .exit)) (now (owners .exit))) (now (bytes .exit))) (now (out .exit)) (replayEndOf (now (workers .exit)) r) ⌝ }
 {
     let count = steps.len() / STEP_WORDS;
-    let mut core = start;
+    let mut globals = start;
     let mut export = first;
     let mut at = 0;
     let mut i = 0;
@@ -196,25 +200,26 @@ fn take_all(
             reads,
             leafsets,
             writes,
+            workers,
             exported,
-            core,
+            globals,
             export,
             k,
             at,
         );
         let stop = t.stop;
-        let after = t.core;
+        let after = t.globals;
         let exporting = t.export;
         match stop {
             Stop::Complete => {
-                core = after;
+                globals = after;
                 export = exporting;
                 at = t.at;
                 i += 1;
             }
             Stop::Meaningless => {
                 return Replayed {
-                    core: after,
+                    globals: after,
                     export: exporting,
                     taken: i,
                     written: t.at,
@@ -223,7 +228,7 @@ fn take_all(
             }
             Stop::Full => {
                 return Replayed {
-                    core: after,
+                    globals: after,
                     export: exporting,
                     taken: i,
                     written: t.at,
@@ -234,7 +239,7 @@ fn take_all(
     }
     let stop = last_stop(steps);
     Replayed {
-        core,
+        globals,
         export,
         taken: i,
         written: at,
@@ -256,6 +261,7 @@ pub fn replay(
     reads: &mut ReadSets,
     leafsets: &mut LeafSets,
     writes: &mut WriteSets,
+    workers: &mut Workers,
     exported: &mut Exported,
     steps: &[u64],
     guarded: bool,
@@ -263,9 +269,18 @@ pub fn replay(
     ensures { λ r. ⌜ Replays guarded (now (steps .entry))
         (space (buffers (now (addresses .entry)) (now (values .entry)) (now (owners .entry))) (now (bytes .entry))) (now (out .entry))
         (lent (now (rows .exit)) (now (leaves .exit)) (now (slots .exit))) (logs (now (reads .exit)) (now (leafsets .exit)) (now (writes .exit))) (now (exported .exit))
-        (space (buffers (now (addresses .exit)) (now (values .exit)) (now (owners .exit))) (now (bytes .exit))) (now (out .exit)) r ⌝ }
+        (space (buffers (now (addresses .exit)) (now (values .exit)) (now (owners .exit))) (now (bytes .exit))) (now (out .exit)) (replayEndOf (now (workers .exit)) r) ⌝ }
 {
-    let start = starts::fresh_state(rows, leaves, slots, reads, leafsets, writes, guarded);
+    let start = starts::fresh_state(
+        rows,
+        leaves,
+        slots,
+        reads,
+        leafsets,
+        writes,
+        workers,
+        guarded,
+    );
     let first = exports::no_export();
     take_all(
         out,
@@ -279,6 +294,7 @@ pub fn replay(
         reads,
         leafsets,
         writes,
+        workers,
         exported,
         steps,
         start,

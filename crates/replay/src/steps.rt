@@ -10,17 +10,18 @@ use map::Records;
 use map::Slots;
 use sets::LeafSets;
 use sets::ReadSets;
+use sets::Workers;
 use sets::WriteSets;
-use transactions::Core;
+use transactions::Globals;
 ghost use Rattle.map.specs.Views.{lent};
-ghost use Rattle.transactions.specs.Views.{logs};
+ghost use Rattle.transactions.specs.Views.{logs, coreOf};
 ghost use Rattle.transactions.specs.Ready.{Ready};
 ghost use Rattle.ranges.specs.Buffers.{buffers};
-ghost use Rattle.replay.specs.CodedSteps.{CodedStep};
+ghost use Rattle.replay.specs.CodedSteps.{stepEndOf, CodedStep};
 
-// The core after a step, and its answer.
+// The globals after a step, and its answer.
 pub struct Stepped {
-    pub core: Core,
+    pub globals: Globals,
     pub answer: Coded,
 }
 
@@ -36,15 +37,16 @@ pub fn step(
     reads: &mut ReadSets,
     leafsets: &mut LeafSets,
     writes: &mut WriteSets,
-    c: Core,
+    workers: &mut Workers,
+    c: Globals,
     k: Code,
 ) -> Stepped
-    requires { ⌜ Ready (lent (now rows) (now leaves) (now slots)) (logs (now reads) (now leafsets) (now writes)) c ⌝ }
+    requires { ⌜ Ready (lent (now rows) (now leaves) (now slots)) (logs (now reads) (now leafsets) (now writes)) (coreOf (now workers) c) ⌝ }
     ensures { λ r. ⌜ CodedStep (lent (now (rows .entry)) (now (leaves .entry)) (now (slots .entry)))
-        (logs (now (reads .entry)) (now (leafsets .entry)) (now (writes .entry))) c k
+        (logs (now (reads .entry)) (now (leafsets .entry)) (now (writes .entry))) (coreOf (now (workers .entry)) c) k
         (buffers (now (addresses .entry)) (now (values .entry)) (now (owners .entry)))
         (lent (now (rows .exit)) (now (leaves .exit)) (now (slots .exit))) (logs (now (reads .exit)) (now (leafsets .exit)) (now (writes .exit)))
-        (buffers (now (addresses .exit)) (now (values .exit)) (now (owners .exit))) r ⌝ }
+        (buffers (now (addresses .exit)) (now (values .exit)) (now (owners .exit))) (stepEndOf (now (workers .exit)) r) ⌝ }
 {
     let d = decodes::decode(k, addresses.len(), values.len(), owners.len());
     match d {
@@ -59,20 +61,21 @@ pub fn step(
                 reads,
                 leafsets,
                 writes,
+                workers,
                 c,
                 op,
                 m,
                 n,
                 q,
             );
-            let core = p.core;
+            let globals = p.globals;
             let reply = p.reply;
             let answer = words::encode(reply);
-            Stepped { core, answer }
+            Stepped { globals, answer }
         }
         Decoded::Meaningless => {
             let answer = words::no_meaning();
-            Stepped { core: c, answer }
+            Stepped { globals: c, answer }
         }
     }
 }

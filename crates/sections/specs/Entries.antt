@@ -21,13 +21,11 @@ use Rattle.codes.specs.declared.Code.{Code}
 use Rattle.codes.specs.declared.Coded.{Coded}
 use Rattle.codes.specs.Codes.{codedAs}
 use Rattle.codes.specs.ExportCodes.{exportCodedOf}
-use Rattle.replay.specs.declared.steps.Stepped.{Stepped}
 use Rattle.replay.specs.declared.stops.Stop.{Stop}
 use Rattle.replay.specs.declared.stops.Stop.the-variants.{Complete, Meaningless, Full}
-use Rattle.replay.specs.declared.runs.Replayed.{Replayed}
-use Rattle.replay.specs.CodedSteps.{CodedStep}
-use Rattle.replay.specs.Replays.{codeOf}
-use Rattle.sections.specs.Saved.{savedCore, savedExport}
+use Rattle.replay.specs.CodedSteps.{StepEnd, CodedStep}
+use Rattle.replay.specs.Replays.{codeOf, ReplayEnd}
+use Rattle.sections.specs.Saved.{savedGlobals, savedCore, savedExport}
 
 -- ---- a step
 
@@ -39,13 +37,13 @@ codeIn ws = codeOf (getD ws 0 0) (getD ws 1 0) (getD ws 2 0) (getD ws 3 0) (getD
 abbrev pub codedIn : List ℕ → Coded
 codedIn ws = codedAs (getD ws 0 0) (getD ws 1 0) (getD ws 2 0) (getD ws 3 0) (getD ws 4 0)
 
-abbrev pub steppedIn : List (List ℕ) → List ℕ → Stepped
-steppedIn core answer = record { core = savedCore core; answer = codedIn answer }
+abbrev pub steppedIn : List ℕ → List ℕ → List ℕ → StepEnd
+steppedIn workers globals answer = record { core = savedCore workers globals; answer = codedIn answer }
 
--- a coded step, from the core in the rows to the core in the rows
-pub record StepEntry (l : Lent) (g : Logs) (core : List (List ℕ)) (k : Code) (b : Buffers) (l' : Lent) (g' : Logs) (core' : List (List ℕ)) (b' : Buffers) (answer : List ℕ) : Type 0 where
-  pub ready : Ready l' g' (savedCore core')
-  pub step : CodedStep l g (savedCore core) k b l' g' b' (steppedIn core' answer)
+-- a coded step, from the words of workers and globals to those after it
+pub record StepEntry (l : Lent) (g : Logs) (workers globals : List ℕ) (k : Code) (b : Buffers) (l' : Lent) (g' : Logs) (workers' globals' : List ℕ) (b' : Buffers) (answer : List ℕ) : Type 0 where
+  pub ready : Ready l' g' (savedCore workers' globals')
+  pub step : CodedStep l g (savedCore workers globals) k b l' g' b' (steppedIn workers' globals' answer)
 
 -- ---- a list of steps
 
@@ -61,24 +59,24 @@ pub record CountsAre (ws : List ℕ) (taken written : ℕ) : Type 0 where
   pub taken-is : getD ws 0 0 ≡ taken
   pub written-is : getD ws 1 0 ≡ written
 
-abbrev pub replayedIn : List (List ℕ) → List ℕ → List ℕ → ℕ → Replayed
-replayedIn core export counts n =
-    record { core = savedCore core; export = savedExport export; taken = getD counts 0 0; written = getD counts 1 0; stop = stopOf n }
+abbrev pub replayedIn : List ℕ → List ℕ → List ℕ → List ℕ → ℕ → ReplayEnd
+replayedIn workers globals export counts n =
+    record { core = savedCore workers globals; export = savedExport export; taken = getD counts 0 0; written = getD counts 1 0; stop = stopOf n }
 
 -- ---- the contents, one after the other
 
 -- what the map holds
-abbrev pub contentsIn : Lent → List (List ℕ) → List (Row Record)
-contentsIn l core = contents (mapOf l (savedCore core .sizes))
+abbrev pub contentsIn : Lent → List ℕ → List (Row Record)
+contentsIn l globals = contents (mapOf l (savedGlobals globals .sizes))
 
 -- a record in four words: address, value, owner, serial number
 abbrev pub recordWords : Row Record → List ℕ
 recordWords r = r .key ∷ r .item .payload .value ∷ r .item .payload .owner ∷ r .item .commit ∷ []
 
 -- the first record of the contents from an address on, in words that it leaves if there is none
-pub record NextRecord (l : Lent) (core : List (List ℕ)) (from : ℕ) (old new : List ℕ) (r : Bool) : Type 0 where
-  pub there : r ≡ present (firstFrom from (contentsIn l core))
-  pub words : new ≡ maybe (firstFrom from (contentsIn l core)) old recordWords
+pub record NextRecord (l : Lent) (globals : List ℕ) (from : ℕ) (old new : List ℕ) (r : Bool) : Type 0 where
+  pub there : r ≡ present (firstFrom from (contentsIn l globals))
+  pub words : new ≡ maybe (firstFrom from (contentsIn l globals)) old recordWords
 
 -- ---- an export beside the map
 

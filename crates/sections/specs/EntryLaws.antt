@@ -1,15 +1,14 @@
 -- From what the Rattle functions promise to what the entries promise.
-use Prim.Native.Nat.{ℕ, _%_, _≤_}
+use Prim.Native.Nat.{ℕ, _%_}
 use mathlib.Core.Path.{_≡_, refl, sym, ap, _∙_, subst}
 use mathlib.Core.Bool.{Bool, true, false}
 use mathlib.Core.List.{List, [], _∷_}
 use mathlib.Core.Option.{Option, none, some}
-use lib.ListN.{length}
 use Rattle.lists.specs.Tests.{same, maybe, present}
 use Rattle.lists.specs.Rows.{Row, row}
 use Rattle.spec.specs.declared.PayloadWords.{PayloadWords}
 use Rattle.spec.specs.Payloads.{owners}
-use Rattle.spec.specs.Records.{standard, Record}
+use Rattle.spec.specs.Records.{Record}
 use Rattle.spec.specs.Steps.{places}
 use Rattle.spec.specs.Leaves.{Leaf}
 use Rattle.spec.specs.Maps.{contents}
@@ -20,8 +19,9 @@ use Rattle.map.specs.Views.{recordFrom, RecordRows, SlotRows, Lent, mapOf}
 use Rattle.queries.specs.QueryViews.{mapWith}
 use Rattle.queries.specs.NextViews.{nextIn, Follows}
 use Rattle.queries.specs.Contents.{firstFrom, allRecords}
-use Rattle.transactions.specs.declared.Core.{Core}
-use Rattle.transactions.specs.Views.{Logs}
+use Rattle.transactions.specs.Cores.{Core}
+use Rattle.transactions.specs.declared.Globals.{Globals}
+use Rattle.transactions.specs.Views.{Logs, coreOf}
 use Rattle.transactions.specs.Ready.{Ready}
 use Rattle.transactions.specs.Starts.{Fresh}
 use Rattle.ranges.specs.Buffers.{Buffers, placesOf}
@@ -36,45 +36,44 @@ use Rattle.replay.specs.declared.steps.Stepped.{Stepped}
 use Rattle.replay.specs.declared.stops.Stop.{Stop}
 use Rattle.replay.specs.declared.stops.Stop.the-variants as stop
 use Rattle.replay.specs.declared.runs.Replayed.{Replayed}
-use Rattle.replay.specs.CodedSteps.{CodedStep}
-use Rattle.replay.specs.Replays.{Replays}
-use Rattle.sections.specs.Saved.{savedCore, savedExport}
+use Rattle.replay.specs.CodedSteps.{StepEnd, stepEndOf, CodedStep}
+use Rattle.replay.specs.Replays.{replayEndOf, Replays}
+use Rattle.sections.specs.Saved.{savedGlobals, savedCore, savedExport}
 use Rattle.sections.specs.Entries.{codedIn, steppedIn, StepEntry, stopNumber, stopOf, CountsAre, replayedIn, contentsIn, recordWords, NextRecord, DoneIn, ExportEntry}
 
--- ---- the core in the rows
+-- ---- the core in the words
 
-pub fresh-saved : {l : Lent} {g : Logs} {b : Bool} {c : Core} (core : List (List ℕ)) → Fresh l g b c → savedCore core ≡ c → Fresh l g b (savedCore core)
-fresh-saved {l} {g} {b} core h e = subst (Fresh l g b) (sym e) h
+pub fresh-saved : {l : Lent} {g : Logs} {b : Bool} {c : Globals} (workers globals : List ℕ) → Fresh l g b (coreOf workers c) → savedGlobals globals ≡ c
+    → Fresh l g b (savedCore workers globals)
+fresh-saved {l} {g} {b} workers globals h e = subst (λ (x : Globals). Fresh l g b (coreOf workers x)) (sym e) h
 
-pub ready-loaded : {l : Lent} {g : Logs} {c : Core} (core : List (List ℕ)) → c ≡ savedCore core → Ready l g (savedCore core) → Ready l g c
-ready-loaded {l} {g} core e h = subst (Ready l g) (sym e) h
+pub ready-loaded : {l : Lent} {g : Logs} {c : Globals} (workers globals : List ℕ) → c ≡ savedGlobals globals → Ready l g (savedCore workers globals)
+    → Ready l g (coreOf workers c)
+ready-loaded {l} {g} workers globals e h = subst (λ (x : Globals). Ready l g (coreOf workers x)) (sym e) h
 
 -- ---- a step
 
-module _ {l l' : Lent} {g g' : Logs} {c : Core} {k : Code} {b b' : Buffers} {r : Stepped} (h : Ready l g c) (s : CodedStep l g c k b l' g' b' r) where
+module _ {l l' : Lent} {g g' : Logs} {c : Core} {k : Code} {b b' : Buffers} {r : StepEnd} (h : Ready l g c) (s : CodedStep l g c k b l' g' b' r) where
   ready-by : (d : Decoded) → decoded (placesOf b) k ≡ d → Ready l' g' (r .core)
   ready-by (Meant o m n q) e = s .meant o (places m n q) e .performs .performs .refines .ready
   ready-by Meaningless e =
       let u = s .meaningless e in
-      subst (λ (x : Stepped). Ready l' g' (x .core)) (sym (u .outcome))
+      subst (λ (x : StepEnd). Ready l' g' (x .core)) (sym (u .outcome))
       (subst (λ (y : Logs). Ready l' y c) (sym (u .logs)) (subst (λ (x : Lent). Ready x g c) (sym (u .map)) h))
 
   steps-ready : Ready l' g' (r .core)
   steps-ready = ready-by (decoded (placesOf b) k) refl
 
-  pub steps-workers : length (r .core .workers) ≡ standard .workers
-  steps-workers = steps-ready .stored .workers
-
-pub step-entry : {l l' : Lent} {g g' : Logs} {c : Core} {j k : Code} {b b' : Buffers} {answer : List ℕ} {core core' : List (List ℕ)} (r : Stepped)
-    → c ≡ savedCore core → j ≡ k → Ready l g (savedCore core) → CodedStep l g c j b l' g' b' r → savedCore core' ≡ r .core → codedIn answer ≡ r .answer
-    → StepEntry l g core k b l' g' core' b' answer
-step-entry {l} {l'} {g} {g'} {c} {j} {k} {b} {b'} {answer} {core} {core'} r e f h s p q =
+pub step-entry : {l l' : Lent} {g g' : Logs} {c : Globals} {j k : Code} {b b' : Buffers} (workers globals workers' globals' answer : List ℕ) (r : Stepped)
+    → c ≡ savedGlobals globals → j ≡ k → Ready l g (savedCore workers globals) → CodedStep l g (coreOf workers c) j b l' g' b' (stepEndOf workers' r)
+    → savedGlobals globals' ≡ r .globals → codedIn answer ≡ r .answer → StepEntry l g workers globals k b l' g' workers' globals' b' answer
+step-entry {l} {l'} {g} {g'} {c} {j} {k} {b} {b'} workers globals workers' globals' answer r e f h s p q =
     record {
-      ready = subst (Ready l' g') (sym p) (steps-ready (ready-loaded core e h) s);
+      ready = subst (λ (x : Globals). Ready l' g' (coreOf workers' x)) (sym p) (steps-ready (ready-loaded workers globals e h) s);
       step =
-          subst (λ (x : Code). CodedStep l g (savedCore core) x b l' g' b' (steppedIn core' answer)) f
-          (subst (λ (x : Core). CodedStep l g x j b l' g' b' (steppedIn core' answer)) e
-          (subst (λ (x : Stepped). CodedStep l g c j b l' g' b' x) (λ i. record { core = sym p i; answer = sym q i }) s));
+          subst (λ (x : Code). CodedStep l g (savedCore workers globals) x b l' g' b' (steppedIn workers' globals' answer)) f
+          (subst (λ (x : Globals). CodedStep l g (coreOf workers x) j b l' g' b' (steppedIn workers' globals' answer)) e
+          (subst (λ (x : StepEnd). CodedStep l g (coreOf workers c) j b l' g' b' x) (λ i. record { core = coreOf workers' (sym p i); answer = sym q i }) s));
     }
 
 -- ---- a list of steps
@@ -85,14 +84,14 @@ stop-back stop.Complete = refl
 stop-back stop.Meaningless = refl
 stop-back stop.Full = refl
 
-pub replayed : {guarded : Bool} {words : List ℕ} {s s' : Space} {out out' : List ℕ} {l : Lent} {g : Logs} {xs : ExportedRows} (core : List (List ℕ)) (export counts : List ℕ) (n : ℕ) (r : Replayed)
-    → Replays guarded words s out l g xs s' out' r → savedCore core ≡ r .core → savedExport export ≡ r .export
+pub replayed : {guarded : Bool} {words : List ℕ} {s s' : Space} {out out' : List ℕ} {l : Lent} {g : Logs} {xs : ExportedRows} (workers globals export counts : List ℕ) (n : ℕ) (r : Replayed)
+    → Replays guarded words s out l g xs s' out' (replayEndOf workers r) → savedGlobals globals ≡ r .globals → savedExport export ≡ r .export
     → CountsAre counts (r .taken) (r .written) → n ≡ stopNumber (r .stop)
-    → Replays guarded words s out l g xs s' out' (replayedIn core export counts n)
-replayed {guarded} {words} {s} {s'} {out} {out'} {l} {g} {xs} core export counts n r h e x f q =
+    → Replays guarded words s out l g xs s' out' (replayedIn workers globals export counts n)
+replayed {guarded} {words} {s} {s'} {out} {out'} {l} {g} {xs} workers globals export counts n r h e x f q =
     subst (Replays guarded words s out l g xs s' out')
     (λ i. record {
-      core = sym e i;
+      core = coreOf workers (sym e i);
       export = sym x i;
       taken = sym (f .taken-is) i;
       written = sym (f .written-is) i;
@@ -102,20 +101,20 @@ replayed {guarded} {words} {s} {s'} {out} {out'} {l} {g} {xs} core export counts
 
 -- ---- the contents
 
-module _ (l : Lent) (core : List (List ℕ)) {c : Core} {from : ℕ} {r : Next} (e : c ≡ savedCore core)
+module _ (l : Lent) (globals : List ℕ) {c : Globals} {from : ℕ} {r : Next} (e : c ≡ savedGlobals globals)
     (h : Follows (l .rows) (c .sizes .records) (l .slots) from r) where
-  first-is : nextIn r ≡ firstFrom from (contentsIn l core)
-  first-is = h .next-is (mapOf l (c .sizes) .leaves) ∙ ap (λ (x : Core). firstFrom from (contents (mapOf l (x .sizes)))) e
+  first-is : nextIn r ≡ firstFrom from (contentsIn l globals)
+  first-is = h .next-is (mapOf l (c .sizes) .leaves) ∙ ap (λ (x : Globals). firstFrom from (contents (mapOf l (x .sizes)))) e
 
-  next-record : (old : List ℕ) (o : Option (Row Record)) → nextIn r ≡ o → NextRecord l core from old (maybe o old recordWords) (present o)
+  next-record : (old : List ℕ) (o : Option (Row Record)) → nextIn r ≡ o → NextRecord l globals from old (maybe o old recordWords) (present o)
   next-record old o q =
-      let p : o ≡ firstFrom from (contentsIn l core) = sym q ∙ first-is in
+      let p : o ≡ firstFrom from (contentsIn l globals) = sym q ∙ first-is in
       record { there = ap present p; words = ap (λ (x : Option (Row Record)). maybe x old recordWords) p }
 
-  pub next-record-one : {old : List ℕ} {a : ℕ} {v : PayloadWords} {n : ℕ} → r ≡ At a v n → NextRecord l core from old (a ∷ v .value ∷ v .owner % owners ∷ n ∷ []) true
+  pub next-record-one : {old : List ℕ} {a : ℕ} {v : PayloadWords} {n : ℕ} → r ≡ At a v n → NextRecord l globals from old (a ∷ v .value ∷ v .owner % owners ∷ n ∷ []) true
   next-record-one {old} {a} {v} {n} q = next-record old (some (row a (recordFrom v n))) (ap nextIn q)
 
-  pub next-record-none : {old : List ℕ} → r ≡ Done → NextRecord l core from old old false
+  pub next-record-none : {old : List ℕ} → r ≡ Done → NextRecord l globals from old old false
   next-record-none {old} q = next-record old none (ap nextIn q)
 
 -- ---- an export
@@ -141,9 +140,9 @@ module _ {step : model.ExportStep} {rows rows' : ExportedRows} {s s' : Space} {w
       }
 
   -- leaves play no part in the contents
-  pub contents-entry : (records : RecordRows) (slots : SlotRows) (core : List (List ℕ)) (ls : List Leaf) {c : Core} → c ≡ savedCore core
+  pub contents-entry : (records : RecordRows) (slots : SlotRows) (globals : List ℕ) (ls : List Leaf) {c : Globals} → c ≡ savedGlobals globals
       → ExportEntry (allRecords records (c .sizes .records) slots) step rows words s rows' words' s' told
-      → ExportEntry (contents (mapWith records (savedCore core .sizes .records) slots ls)) step rows words s rows' words' s' told
+      → ExportEntry (contents (mapWith records (savedGlobals globals .sizes .records) slots ls)) step rows words s rows' words' s' told
   unfolding contents
-  contents-entry records slots core ls e h =
-      subst (λ (k : Core). ExportEntry (contents (mapWith records (k .sizes .records) slots ls)) step rows words s rows' words' s' told) e h
+  contents-entry records slots globals ls e h =
+      subst (λ (k : Globals). ExportEntry (contents (mapWith records (k .sizes .records) slots ls)) step rows words s rows' words' s' told) e h

@@ -1,10 +1,10 @@
 // The map for programs in other languages, as a static library. All state lies in arrays that the caller lends: the engine's
-// six of rows, the core (`saved::Saved`), and of an export (request 107) its numbers (`saved::ExportWords`) and its records
-// (`exports::Exported`). The caller keeps them as the last call left them, and begins with `sections_fresh`.
+// six of rows and its workers, the globals (`saved::GlobalWords`), and of an export (request 107) its numbers
+// (`saved::ExportWords`) and its records (`exports::Exported`). The caller keeps them as the last call left them, and begins with `sections_fresh`.
 mod saved;
 
 use crate::saved::ExportWords;
-use crate::saved::Saved;
+use crate::saved::GlobalWords;
 use codes::Code;
 use codes::Coded;
 use codes::StepWords;
@@ -20,6 +20,7 @@ use replay::steps;
 use replay::stops::Stop;
 use sets::LeafSets;
 use sets::ReadSets;
+use sets::Workers;
 use sets::WriteSets;
 use spec::OWNERS;
 use transactions::starts;
@@ -59,7 +60,7 @@ pub type FoundWords = [u64; FOUND_WORDS];
 // Makes the arrays a fresh map, guarded or not (request 102), with no export open, whatever they hold.
 #[no_mangle]
 pub extern "C" fn sections_fresh(
-    core: &mut Saved,
+    globals: &mut GlobalWords,
     export: &mut ExportWords,
     rows: &mut Records,
     leaves: &mut Leaves,
@@ -67,13 +68,23 @@ pub extern "C" fn sections_fresh(
     reads: &mut ReadSets,
     leafsets: &mut LeafSets,
     writes: &mut WriteSets,
+    workers: &mut Workers,
     guarded: bool,
 )
-    ensures { λ _. ⌜ Fresh (lent (now (rows .exit)) (now (leaves .exit)) (now (slots .exit))) (logs (now (reads .exit)) (now (leafsets .exit)) (now (writes .exit))) guarded (savedCore (now (core .exit))) ⌝ }
+    ensures { λ _. ⌜ Fresh (lent (now (rows .exit)) (now (leaves .exit)) (now (slots .exit))) (logs (now (reads .exit)) (now (leafsets .exit)) (now (writes .exit))) guarded (savedCore (now (workers .exit)) (now (globals .exit))) ⌝ }
     ensures { λ _. ⌜ ((rows : ExportedRows) → exportIn rows (savedExport (now (export .exit))) ≡ none) × ExportHeld (savedExport (now (export .exit))) ⌝ }
 {
-    let c = starts::fresh_state(rows, leaves, slots, reads, leafsets, writes, guarded);
-    saved::store(core, c);
+    let c = starts::fresh_state(
+        rows,
+        leaves,
+        slots,
+        reads,
+        leafsets,
+        writes,
+        workers,
+        guarded,
+    );
+    saved::store(globals, c);
     let x = exports::no_export();
     saved::store_export(export, x);
 }
@@ -107,22 +118,23 @@ pub extern "C" fn sections_step(
     addresses: &mut [u32],
     values: &mut [u64],
     owners: &mut [u16],
-    core: &mut Saved,
+    globals: &mut GlobalWords,
     rows: &mut Records,
     leaves: &mut Leaves,
     slots: &mut Slots,
     reads: &mut ReadSets,
     leafsets: &mut LeafSets,
     writes: &mut WriteSets,
+    workers: &mut Workers,
     step: &StepWords,
 )
-    requires { ⌜ Ready (lent (now rows) (now leaves) (now slots)) (logs (now reads) (now leafsets) (now writes)) (savedCore (now core)) ⌝ }
+    requires { ⌜ Ready (lent (now rows) (now leaves) (now slots)) (logs (now reads) (now leafsets) (now writes)) (savedCore (now workers) (now globals)) ⌝ }
     ensures { λ _. ⌜ StepEntry (lent (now (rows .entry)) (now (leaves .entry)) (now (slots .entry)))
-        (logs (now (reads .entry)) (now (leafsets .entry)) (now (writes .entry))) (now (core .entry)) (codeIn (now (step .entry))) (buffers (now (addresses .entry)) (now (values .entry)) (now (owners .entry)))
-        (lent (now (rows .exit)) (now (leaves .exit)) (now (slots .exit))) (logs (now (reads .exit)) (now (leafsets .exit)) (now (writes .exit))) (now (core .exit))
+        (logs (now (reads .entry)) (now (leafsets .entry)) (now (writes .entry))) (now (workers .entry)) (now (globals .entry)) (codeIn (now (step .entry))) (buffers (now (addresses .entry)) (now (values .entry)) (now (owners .entry)))
+        (lent (now (rows .exit)) (now (leaves .exit)) (now (slots .exit))) (logs (now (reads .exit)) (now (leafsets .exit)) (now (writes .exit))) (now (workers .exit)) (now (globals .exit))
         (buffers (now (addresses .exit)) (now (values .exit)) (now (owners .exit))) (now (answer .exit)) ⌝ }
 {
-    let c = saved::load(core);
+    let c = saved::load(globals);
     let k = code_in(step);
     let s = steps::step(
         addresses,
@@ -134,12 +146,13 @@ pub extern "C" fn sections_step(
         reads,
         leafsets,
         writes,
+        workers,
         c,
         k,
     );
-    let next = s.core;
+    let next = s.globals;
     let told = s.answer;
-    saved::store(core, next);
+    saved::store(globals, next);
     put_answer(answer, told);
 }
 
@@ -171,7 +184,7 @@ pub extern "C" fn sections_replay(
     values: &mut [u64],
     owners: &mut [u16],
     bytes: &mut [u8],
-    core: &mut Saved,
+    globals: &mut GlobalWords,
     export: &mut ExportWords,
     exported: &mut Exported,
     rows: &mut Records,
@@ -180,6 +193,7 @@ pub extern "C" fn sections_replay(
     reads: &mut ReadSets,
     leafsets: &mut LeafSets,
     writes: &mut WriteSets,
+    workers: &mut Workers,
     steps: &[u64],
     guarded: bool,
 ) -> u64
@@ -187,7 +201,7 @@ pub extern "C" fn sections_replay(
         (space (buffers (now (addresses .entry)) (now (values .entry)) (now (owners .entry))) (now (bytes .entry))) (now (out .entry))
         (lent (now (rows .exit)) (now (leaves .exit)) (now (slots .exit))) (logs (now (reads .exit)) (now (leafsets .exit)) (now (writes .exit))) (now (exported .exit))
         (space (buffers (now (addresses .exit)) (now (values .exit)) (now (owners .exit))) (now (bytes .exit))) (now (out .exit))
-        (replayedIn (now (core .exit)) (now (export .exit)) (now (counts .exit)) r) ⌝ }
+        (replayedIn (now (workers .exit)) (now (globals .exit)) (now (export .exit)) (now (counts .exit)) r) ⌝ }
 {
     let p = runs::replay(
         out,
@@ -201,14 +215,15 @@ pub extern "C" fn sections_replay(
         reads,
         leafsets,
         writes,
+        workers,
         exported,
         steps,
         guarded,
     );
-    let c = p.core;
+    let c = p.globals;
     let x = p.export;
     let stop = p.stop;
-    saved::store(core, c);
+    saved::store(globals, c);
     saved::store_export(export, x);
     put_counts(counts, p.taken, p.written);
     stop_number(stop)
@@ -219,19 +234,20 @@ pub extern "C" fn sections_replay(
 #[no_mangle]
 pub extern "C" fn sections_next(
     found: &mut FoundWords,
-    core: &Saved,
+    globals: &GlobalWords,
     rows: &Records,
     leaves: &Leaves,
     slots: &Slots,
     reads: &ReadSets,
     leafsets: &LeafSets,
     writes: &WriteSets,
+    workers: &Workers,
     from: u64,
 ) -> bool
-    requires { ⌜ Ready (lent (now rows) (now leaves) (now slots)) (logs (now reads) (now leafsets) (now writes)) (savedCore (now core)) ⌝ }
-    ensures { λ r. ⌜ NextRecord (lent (now (rows .entry)) (now (leaves .entry)) (now (slots .entry))) (now (core .entry)) from (now (found .entry)) (now (found .exit)) r ⌝ }
+    requires { ⌜ Ready (lent (now rows) (now leaves) (now slots)) (logs (now reads) (now leafsets) (now writes)) (savedCore (now workers) (now globals)) ⌝ }
+    ensures { λ r. ⌜ NextRecord (lent (now (rows .entry)) (now (leaves .entry)) (now (slots .entry))) (now (globals .entry)) from (now (found .entry)) (now (found .exit)) r ⌝ }
 {
-    let c = saved::load(core);
+    let c = saved::load(globals);
     let sizes = c.sizes;
     let next = queries::next_record(rows, slots, sizes.records, from);
     match next {
@@ -270,20 +286,21 @@ pub extern "C" fn sections_open_export(
     answer: &mut AnswerWords,
     export: &mut ExportWords,
     exported: &mut Exported,
-    core: &Saved,
+    globals: &GlobalWords,
     rows: &Records,
     leaves: &Leaves,
     slots: &Slots,
     reads: &ReadSets,
     leafsets: &LeafSets,
     writes: &WriteSets,
+    workers: &Workers,
 )
-    requires { ⌜ Ready (lent (now rows) (now leaves) (now slots)) (logs (now reads) (now leafsets) (now writes)) (savedCore (now core)) ⌝ }
+    requires { ⌜ Ready (lent (now rows) (now leaves) (now slots)) (logs (now reads) (now leafsets) (now writes)) (savedCore (now workers) (now globals)) ⌝ }
     requires { ⌜ ExportHeld (savedExport (now export)) ⌝ }
-    ensures { λ _. ⌜ ((s : Space) → ExportEntry (contentsIn (lent (now (rows .entry)) (now (leaves .entry)) (now (slots .entry))) (now (core .entry))) model.openExport
+    ensures { λ _. ⌜ ((s : Space) → ExportEntry (contentsIn (lent (now (rows .entry)) (now (leaves .entry)) (now (slots .entry))) (now (globals .entry))) model.openExport
         (now (exported .entry)) (now (export .entry)) s (now (exported .exit)) (now (export .exit)) s (now (answer .exit))) ⌝ }
 {
-    let c = saved::load(core);
+    let c = saved::load(globals);
     let sizes = c.sizes;
     let x = saved::load_export(export);
     let d = exports::open_export(exported, rows, slots, sizes.records, x);

@@ -1,15 +1,12 @@
 -- The laws of workers in words: a worker put is the worker found, and the others stay.
-use Prim.Native.Nat.{ℕ, suc, _+_, _/_, _%_, _^_, _<_, _≤_}
-use native.Mathlib.Nat.{not-suc-le-zero}
+use Prim.Native.Nat.{ℕ, zero, suc, _/_, _%_, _^_, _<_}
 use native.Mathlib.Omega.{arith}
-use mathlib.Core.Path.{_≡_, refl, sym, ap, _∙_, subst}
-use mathlib.Core.Logic.{⊎-elim}
-use mathlib.Core.List.{List, [], _∷_, map}
-use lib.ListN.{length, getD, set, length-map, List·getD-map, length-set}
-use lib.Seq.{getD-set-same, getD-set-other}
+use mathlib.Core.Path.{_≡_, refl, sym, ap, _∙_}
+use mathlib.Core.List.{List, _∷_, map}
+use lib.ListN.{length, getD, set, replicate, length-map, List·getD-map}
 use Rattle.lists.specs.Mapped.{mapped-set}
 use Rattle.lists.specs.Tests.{same}
-use Rattle.lists.specs.TestLaws.{cases, same-no, same-true, same-false}
+use Rattle.lists.specs.TestLaws.{same-no}
 use Rattle.spec.specs.declared.Stage.{Stage}
 use Rattle.spec.specs.declared.Stage.the-variants.{Free, Open, Locked, Checked}
 use Rattle.sets.specs.declared.workers.Worker.{Worker}
@@ -94,37 +91,8 @@ pub worker-of : (ws : List ℕ) (w : ℕ) → unpacked (getD ws w 0) ≡ getD (w
 unfolding workersOf
 worker-of ws w = sym (ap (getD (map unpacked ws) w) (sym freed-word) ∙ List·getD-map unpacked ws w 0)
 
--- ---- workers copied place by place
-
--- The first n places of xs, which has so many, are those of ys.
-pub record Copied (xs ys : List Worker) (size n : ℕ) : Type 0 where
-  pub size-is : length xs ≡ size
-  pub same-at : (i : ℕ) → i < n → getD xs i freed ≡ getD ys i freed
-
-pub copied-none : {xs ys : List Worker} {size : ℕ} → length xs ≡ size → Copied xs ys size 0
-copied-none e = record { size-is = e; same-at = λ i h. absurd (not-suc-le-zero h) }
-
--- one place more
-pub copied-more : {xs ys zs : List Worker} {size n : ℕ} {x : Worker} → Copied xs ys size n → n < size → x ≡ getD ys n freed → zs ≡ set xs n x → Copied zs ys size (n + 1)
-copied-more {xs} {ys} {zs} {size} {n} {x} c l e q =
-    subst (λ (us : List Worker). Copied us ys size (n + 1)) (sym q) (record { size-is = length-set xs n x ∙ c .size-is; same-at = places })
-  where
-    places : (i : ℕ) → i < n + 1 → getD (set xs n x) i freed ≡ getD ys i freed
-    places i k =
-        ⊎-elim
-        (λ t. ap (λ (j : ℕ). getD (set xs n x) j freed) (same-true i n t) ∙ getD-set-same xs n x freed (subst (λ (m : ℕ). n < m) (sym (c .size-is)) l)
-        ∙ e ∙ ap (λ (j : ℕ). getD ys j freed) (sym (same-true i n t)))
-        (λ f. getD-set-other xs n i x freed (same-false i n f) ∙ c .same-at i (let q = same-false i n f in omega (arith, k)))
-        (cases (same i n))
-
-all-same : (xs ys : List Worker) → length xs ≡ length ys → ((i : ℕ) → i < length xs → getD xs i freed ≡ getD ys i freed) → xs ≡ ys
-all-same [] [] e h = refl
-all-same [] (y ∷ ys) e h = absurd (let z : ⊥ = omega (arith, e) in z)
-all-same (x ∷ xs) [] e h = absurd (let z : ⊥ = omega (arith, e) in z)
-all-same (x ∷ xs) (y ∷ ys) e h =
-    λ i. h 0 (omega arith) i ∷ all-same xs ys (let z : length xs ≡ length ys = omega (arith, e) in z) (λ j l. h (suc j) (omega (arith, l))) i
-
--- all places
-pub copied-all : {xs ys : List Worker} {size n : ℕ} → Copied xs ys size n → length ys ≡ size → size ≤ n → xs ≡ ys
-copied-all {xs} {ys} {size} {n} c e l =
-    all-same xs ys (c .size-is ∙ sym e) (λ i h. c .same-at i (let q = c .size-is in omega (arith, h, l)))
+-- free workers
+pub workers-free : (n : ℕ) → workersOf (replicate n 0) ≡ replicate n freed
+unfolding workersOf
+workers-free zero = refl
+workers-free (suc n) = λ i. freed-word i ∷ workers-free n i

@@ -3,7 +3,6 @@
 use crate::Workers;
 use spec::Stage;
 use spec::WIDE;
-use spec::WORKERS;
 ghost use mathlib.Core.Path.{_≡_};
 ghost use Prim.Native.Nat.{_<_};
 ghost use lib.ListN.{length, getD, set};
@@ -166,34 +165,4 @@ pub fn put_worker(workers: &mut Workers, w: usize, x: Worker)
     ensures { λ _. ⌜ workersOf (now (workers .exit)) ≡ set (workersOf (now (workers .entry))) w x ⌝ }
 {
     workers[w] = pack(x);
-}
-
-// The words of eight workers.
-pub fn pack_all(xs: [Worker; WORKERS]) -> Workers
-    ensures { λ r. ⌜ workersOf r ≡ xs ⌝ }
-{
-    let mut words = [0u64; WORKERS];
-    let mut i = 0;
-    while i < WORKERS {
-        let x = xs[i];
-        words[i] = pack(x);
-        i += 1;
-    }
-    words
-}
-
-// The workers of eight words.
-pub fn unpack_all(workers: &Workers) -> [Worker; WORKERS]
-    ensures { λ r. ⌜ r ≡ workersOf (now (workers .entry)) ⌝ }
-{
-    eight(workers);
-    let free = unpack(0);
-    let mut xs = [free; WORKERS];
-    let mut i = 0;
-    while i < WORKERS {
-        let x = unpack(workers[i]);
-        xs[i] = x;
-        i += 1;
-    }
-    xs
 }

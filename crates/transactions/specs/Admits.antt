@@ -17,7 +17,7 @@ use Rattle.spec.specs.Steps.{workerOf, isFree, isOpen, isLocked, isChecked, beg
 use Rattle.sets.specs.declared.workers.Worker.{Worker}
 use Rattle.sets.specs.Workers.{workerIn, freed, rankOf}
 use Rattle.map.specs.Views.{Lent}
-use Rattle.transactions.specs.declared.Core.{Core}
+use Rattle.transactions.specs.Cores.{Core}
 use Rattle.transactions.specs.declared.admits.Admit.{Admit}
 use Rattle.transactions.specs.declared.admits.Admit.the-variants.{Refused, Allowed}
 use Rattle.transactions.specs.Answering.{cause-holds, cause-fails, front, front-none, front-free, front-wrong, front-passed}

@@ -10,7 +10,7 @@ use Rattle.sets.specs.declared.workers.Worker.{Worker}
 use Rattle.sets.specs.Workers.{begun}
 use Rattle.sets.specs.WorkerLaws.{begin-in}
 use Rattle.map.specs.Views.{Lent}
-use Rattle.transactions.specs.declared.Core.{Core}
+use Rattle.transactions.specs.Cores.{Core}
 use Rattle.transactions.specs.declared.begins.Plain.the-variants.{Granted, Refused}
 use Rattle.transactions.specs.Answering.{yields-granted}
 use Rattle.transactions.specs.Admits.{Barred, Vacant}

@@ -2,7 +2,7 @@
 use Prim.Native.Nat.{ℕ}
 use Rattle.spec.specs.Steps.{begin, Answer, done, refused}
 use Rattle.map.specs.Views.{Lent}
-use Rattle.transactions.specs.declared.Core.{Core}
+use Rattle.transactions.specs.Cores.{Core}
 use Rattle.transactions.specs.declared.begins.Plain.{Plain}
 use Rattle.transactions.specs.declared.begins.Plain.the-variants.{Granted, Refused}
 use Rattle.transactions.specs.Views.{Logs}

@@ -23,7 +23,7 @@ use Rattle.sets.specs.Writes.{WriteRows, WritesHeld, WriteSetOrdered}
 use Rattle.map.specs.declared.Sizes.{Sizes}
 use Rattle.map.specs.Views.{Lent, mapOf}
 use Rattle.map.specs.MapHeld as map
-use Rattle.transactions.specs.declared.Core.{Core}
+use Rattle.transactions.specs.Cores.{Core}
 use Rattle.transactions.specs.Views.{Logs, logs, modelWorker, stateOf, coreWith, withBoth}
 use Rattle.transactions.specs.ViewLaws.{worker-at}
 use Rattle.transactions.specs.Admits.{Entered}

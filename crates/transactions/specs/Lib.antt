@@ -1,3 +1,4 @@
+pub mod Cores
 pub mod Answering
 pub mod Views
 pub mod ViewLaws

@@ -25,7 +25,7 @@ use Rattle.lists.specs.Ascending.{mem-getD}
 use Rattle.map.specs.Views.{Lent, mapOf}
 use Rattle.merging.specs.declared.merge.Merged.{Merged}
 use Rattle.merging.specs.Merges.{Merges}
-use Rattle.transactions.specs.declared.Core.{Core}
+use Rattle.transactions.specs.Cores.{Core}
 use Rattle.transactions.specs.Answering.{yields-granted}
 use Rattle.transactions.specs.Views.{Logs, guardedIn, stateOf}
 use Rattle.transactions.specs.ViewLaws.{worker-at}

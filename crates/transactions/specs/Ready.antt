@@ -17,7 +17,7 @@ use Rattle.sets.specs.Leaves.{LeafSetRows, LeavesHeld, versionsOf, lowsOf}
 use Rattle.sets.specs.Writes.{WritesHeld}
 use Rattle.map.specs.Views.{Lent, mapOf}
 use Rattle.map.specs.MapHeld as map
-use Rattle.transactions.specs.declared.Core.{Core}
+use Rattle.transactions.specs.Cores.{Core}
 use Rattle.transactions.specs.Views.{Logs, stateOf}
 
 abbrev pub workerAt : Core → ℕ → Worker

@@ -9,7 +9,7 @@ use Rattle.limits.specs.Invariant.{Kept}
 use Rattle.limits.specs.Keeping.{next-kept}
 use Rattle.limits.specs.LoggedVersions.{LoggedOld, next-logged}
 use Rattle.map.specs.Views.{Lent}
-use Rattle.transactions.specs.declared.Core.{Core}
+use Rattle.transactions.specs.Cores.{Core}
 use Rattle.transactions.specs.Views.{Logs, stateOf}
 use Rattle.transactions.specs.Answering.{Yields, yields-refused}
 use Rattle.transactions.specs.Ready.{Ready, Refines, Stored}

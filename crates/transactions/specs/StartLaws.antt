@@ -17,13 +17,15 @@ use Rattle.sets.specs.ReadLaws.{reads-zero, flag-back}
 use Rattle.sets.specs.LeafLaws.{leaves-zero}
 use Rattle.sets.specs.WriteLaws.{writes-zero}
 use Rattle.sets.specs.WorkerLaws.{free-in}
+use Rattle.sets.specs.WordLaws.{workers-free}
 use Rattle.map.specs.declared.Sizes.{Sizes}
 use Rattle.map.specs.Views.{Lent}
 use Rattle.map.specs.Entries.{MapBecomes}
-use Rattle.transactions.specs.declared.Core.{Core}
-use Rattle.transactions.specs.Views.{Logs, modelWorker, workersFrom, stateOf}
+use Rattle.transactions.specs.Cores.{Core}
+use Rattle.transactions.specs.Views.{Logs, modelWorker, workersFrom, stateOf, coreOf}
+use Rattle.transactions.specs.ViewLaws.{core-put}
 use Rattle.transactions.specs.Ready.{workerAt, Within, Stored, Ready}
-use Rattle.transactions.specs.Starts.{Fresh, noLogs, startCore, guardedCore}
+use Rattle.transactions.specs.Starts.{Fresh, noLogs, startGlobals, startCore, guardedCore}
 
 free-worker : (g : Logs) (w : ℕ) → modelWorker g freed w ≡ freeWorker
 free-worker g w = free-in (g .reads) (g .leaves) (g .writes) w
@@ -65,8 +67,8 @@ module _ (l : Lent) (z : Sizes) (guarded : Bool) (b : MapBecomes l z 0 freshMap)
         lows = λ w h i j. no-leaf w i j;
       }
 
-  pub fresh-start : Fresh l noLogs guarded (startCore z guarded)
-  fresh-start =
+  fresh-core : Fresh l noLogs guarded (startCore z guarded)
+  fresh-core =
       record {
         ready =
             record {
@@ -76,6 +78,9 @@ module _ (l : Lent) (z : Sizes) (guarded : Bool) (b : MapBecomes l z 0 freshMap)
             };
         state = fresh-state;
       }
+
+  pub fresh-start : Fresh l noLogs guarded (coreOf (replicate (standard .workers) 0) (startGlobals z guarded))
+  fresh-start = subst (Fresh l noLogs guarded) (sym (core-put _ (startGlobals z guarded) (workers-free (standard .workers)))) fresh-core
 
 -- ---- the map is guarded from here on
 

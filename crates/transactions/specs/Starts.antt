@@ -13,9 +13,9 @@ use Rattle.sets.specs.Leaves.{leafSetWords}
 use Rattle.sets.specs.Writes.{writeWords}
 use Rattle.map.specs.declared.Sizes.{Sizes}
 use Rattle.map.specs.Views.{Lent}
-use Rattle.transactions.specs.declared.Core.{Core}
+use Rattle.transactions.specs.Cores.{Core}
 use Rattle.transactions.specs.declared.Globals.{Globals}
-use Rattle.transactions.specs.Views.{Logs, logs, stateOf}
+use Rattle.transactions.specs.Views.{Logs, logs, stateOf, coreOn}
 use Rattle.transactions.specs.Ready.{Ready}
 
 pub record Fresh (l : Lent) (g : Logs) (guarded : Bool) (c : Core) : Type 0 where
@@ -29,8 +29,12 @@ zeros limit words = replicate (standard .workers) (replicate limit (replicate wo
 abbrev pub noLogs : Logs
 noLogs = logs (zeros (standard .readLimit) readWords) (zeros (standard .leafSetLimit) leafSetWords) (zeros (standard .writeLimit) writeWords)
 
+abbrev pub startGlobals : Sizes → Bool → Globals
+startGlobals z guarded = record { sizes = z; counters = record { number = 0; version = 0; installs = 0 }; guarded = boolByte guarded }
+
+-- every worker is free
 abbrev pub startCore : Sizes → Bool → Core
-startCore z guarded = record { workers = replicate (standard .workers) freed; sizes = z; counters = record { number = 0; version = 0; installs = 0 }; guarded = boolByte guarded }
+startCore z guarded = coreOn (replicate (standard .workers) freed) (startGlobals z guarded)
 
 -- the core of a guarded map, with all else as it is
 abbrev pub guardedCore : Core → Core

@@ -11,9 +11,9 @@ use Rattle.spec.specs.Steps.{workerOf, freeWorker, withWorker}
 use Rattle.sets.specs.declared.workers.Worker.{Worker}
 use Rattle.sets.specs.Workers.{workerIn, freed, workersOf}
 use Rattle.map.specs.Views.{Lent, mapOf}
-use Rattle.transactions.specs.declared.Core.{Core}
+use Rattle.transactions.specs.Cores.{Core}
 use Rattle.transactions.specs.declared.Globals.{Globals}
-use Rattle.transactions.specs.Views.{Logs, OthersSame, coreOn, coreOf, globalsIn, coreWith, modelWorker, guardedIn, stateOf, workersFrom}
+use Rattle.transactions.specs.Views.{Logs, OthersSame, coreOn, coreOf, coreWith, modelWorker, guardedIn, stateOf, workersFrom}
 
 -- ---- workers
 
@@ -94,7 +94,3 @@ state-with l g g' c w x o =
 -- the core by what its lent workers have become
 pub core-put : (ws : List ℕ) {xs : List Worker} (c : Globals) → workersOf ws ≡ xs → coreOf ws c ≡ coreOn xs c
 core-put ws c e = ap (λ (xs : List Worker). coreOn xs c) e
-
--- a core taken apart, and put together again
-pub core-again : (ws : List ℕ) {d : Globals} (c : Core) → workersOf ws ≡ c .workers → d ≡ globalsIn c → coreOf ws d ≡ c
-core-again ws c e q = λ i. coreOn (e i) (q i)

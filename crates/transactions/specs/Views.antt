@@ -15,7 +15,7 @@ use Rattle.sets.specs.Leaves.{LeafSetRows, versionsIn, scansIn}
 use Rattle.sets.specs.Writes.{WriteRows, writesIn}
 use Rattle.map.specs.declared.Sizes.{Sizes}
 use Rattle.map.specs.Views.{Lent, mapOf}
-use Rattle.transactions.specs.declared.Core.{Core}
+use Rattle.transactions.specs.Cores.{Core}
 use Rattle.transactions.specs.declared.Globals.{Globals}
 
 -- All workers' read sets, leaf sets and write sets.
@@ -51,15 +51,12 @@ stateOf l g c =
       workers = workersFrom g (c .workers) 0;
     }
 
--- the core of the workers and the globals, of lent workers, and the globals of a core
+-- the core of the workers and the globals, and of lent workers
 abbrev pub coreOn : List Worker → Globals → Core
 coreOn xs c = record { workers = xs; sizes = c .sizes; counters = c .counters; guarded = c .guarded }
 
 abbrev pub coreOf : List ℕ → Globals → Core
 coreOf ws c = coreOn (workersOf ws) c
-
-abbrev pub globalsIn : Core → Globals
-globalsIn c = record { guarded = c .guarded; sizes = c .sizes; counters = c .counters }
 
 -- the core with another worker, and with other sizes
 abbrev pub coreWith : Core → ℕ → Worker → Core

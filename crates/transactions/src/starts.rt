@@ -1,5 +1,5 @@
 // A fresh map in any lent arrays, with every worker free.
-use crate::Core;
+use crate::Globals;
 use counters::Counters;
 use map::Leaves;
 use map::Records;
@@ -10,15 +10,14 @@ use sets::LeafSets;
 use sets::READ_WORDS;
 use sets::ReadSets;
 use sets::WRITE_WORDS;
+use sets::Workers;
 use sets::WriteSets;
-use sets::workers::Worker;
 use spec::LEAF_SET_LIMIT;
 use spec::READ_LIMIT;
-use spec::Stage;
 use spec::WORKERS;
 use spec::WRITE_LIMIT;
 ghost use Rattle.map.specs.Views.{lent};
-ghost use Rattle.transactions.specs.Views.{logs};
+ghost use Rattle.transactions.specs.Views.{logs, coreOf};
 ghost use Rattle.transactions.specs.Starts.{Fresh};
 
 // Empties the arrays. Whatever they held, the state is document 01's fresh map, guarded or not.
@@ -29,9 +28,10 @@ pub fn fresh_state(
     reads: &mut ReadSets,
     leafsets: &mut LeafSets,
     writes: &mut WriteSets,
+    workers: &mut Workers,
     guarded: bool,
-) -> Core
-    ensures { λ r. ⌜ Fresh (lent (now (rows .exit)) (now (leaves .exit)) (now (slots .exit))) (logs (now (reads .exit)) (now (leafsets .exit)) (now (writes .exit))) guarded r ⌝ }
+) -> Globals
+    ensures { λ r. ⌜ Fresh (lent (now (rows .exit)) (now (leaves .exit)) (now (slots .exit))) (logs (now (reads .exit)) (now (leafsets .exit)) (now (writes .exit))) guarded (coreOf (now (workers .exit)) r) ⌝ }
 {
     let sizes = entries::fresh_map(rows, leaves, slots);
     let no_read = [0u64; READ_WORDS];
@@ -43,21 +43,14 @@ pub fn fresh_state(
     let no_write = [0u64; WRITE_WORDS];
     let no_writes = [no_write; WRITE_LIMIT];
     *writes = [no_writes; WORKERS];
-    let free = Worker {
-        stage: Stage::Free,
-        number: 0,
-        reads: 0,
-        leaves: 0,
-        writes: 0,
-    };
-    let workers = [free; WORKERS];
+    // Word 0 is a free worker.
+    *workers = [0u64; WORKERS];
     let counters = Counters {
         number: 0,
         version: 0,
         installs: 0,
     };
-    Core {
-        workers,
+    Globals {
         sizes,
         counters,
         guarded: guarded as u64,

@@ -363,15 +363,16 @@ fn numbers(text: &str) -> Vec<usize> {
 /// Document 01's limits stand in the lengths of the arrays.
 #[test]
 fn header_has_the_limits_of_the_code() {
-    let [_, _, exported, records, _, slots, reads, marks, writes] = &arrays()[..] else {
+    let [_, _, exported, records, _, slots, reads, marks, writes, seats] = &arrays()[..] else {
         panic!("the library has other arrays");
     };
     assert_eq!(exported.dimensions()[0], records.dimensions()[0]);
+    assert_eq!(reads.dimensions()[0], seats.dimensions()[0]);
     let longest = crates().constant("LONGEST").expect("the longest section");
     let step = library("sections_step").parameters;
     let (first, last) = (&step[0], step.last().expect("a step has a code"));
     let limits = [
-        ("SECTIONS_SEATS", reads.dimensions()[0]),
+        ("SECTIONS_SEATS", seats.dimensions()[0]),
         ("SECTIONS_MAP_LIMIT", records.dimensions()[0]),
         ("SECTIONS_SLOT_COUNT", crates().constant("SLOTS").expect("the slots")),
         ("SECTIONS_READ_LIMIT", reads.dimensions()[1]),
@@ -384,7 +385,10 @@ fn header_has_the_limits_of_the_code() {
         // By request 107: 4 and 4 bytes, then 4 and 10 for each record.
         ("SECTIONS_FILE_LIMIT", 4 + 4 + (4 + 10) * exported.dimensions()[0]),
         ("SECTIONS_FILE_BYTES(0)", 8),
-        ("SECTIONS_SLOT_COUNT + SECTIONS_FILTER_ROWS + SECTIONS_BITMAP_ROWS", slots.dimensions()[0]),
+        (
+            "SECTIONS_SLOT_COUNT + SECTIONS_FILTER_ROWS + SECTIONS_BITMAP_ROWS",
+            slots.dimensions()[0],
+        ),
     ];
     let lines: String =
         limits.iter().map(|(name, _)| format!("printf(\"%d\\n\", {name});\n")).collect();

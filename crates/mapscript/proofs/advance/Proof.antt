@@ -14,16 +14,16 @@ same-length : tie.Need-same-length
 same-length c = search needs
 
 returns : tie.Need-returns
-returns c = let s = c .before .before .before .before .before .before .before .before .before in holds-next (s .pre .ready) (s .pre .started) (c .before .before .read-more .ensures)
+returns c = let s = c .before .before .before .before .before .before .before .before .before .pre in holds-next (s .ready) (s .started) (c .before .before .read-more .ensures)
 
 slice-reshare-prefix-feed : tie.Need-slice-reshare-prefix-feed
-slice-reshare-prefix-feed c = c .before .before .before .before .before .before .before .before .before .before .before .before .pre .count-fits
+slice-reshare-prefix-feed c = c .before .before .before .before .before .before .before .before .before .before .before .before .before .pre .count-fits
 
 slice-aggregate-feed : tie.Need-slice-aggregate-feed
-slice-aggregate-feed c = sym (length-take-le _ _ (c .before .before .before .before .before .before .before .before .before .before .before .before .before .pre .count-fits))
+slice-aggregate-feed c = sym (length-take-le _ _ (c .before .before .before .before .before .before .before .before .before .before .before .before .before .before .pre .count-fits))
 
 feed-requires : tie.Need-feed-requires
-feed-requires c κs = let s = c .before .before .before .before .before .before .before .before .before .before .before .before .before in (s .pre .ready, (s .pre .started, (let e = s .pre .written in omega (arith, e))))
+feed-requires c κs = let s = c .before .before .before .before .before .before .before .before .before .before .before .before .before .before .pre in (s .ready, (s .started, (let e = s .written in omega (arith, e))))
 
 settle-requires : tie.Need-settle-requires
 settle-requires c κs = c .before .before .before .feed .ensures .feeds .room
@@ -35,7 +35,7 @@ same-length-3 : tie.Need-same-length-3
 same-length-3 c = c .before .before .before .before .feed .ensures .feeds .size
 
 returns-2 : tie.Need-returns-2
-returns-2 c = let f = c .before .before .before .before .feed .ensures .feeds in holds-next (f .ready) (f .started) (next-within (c .settle .ensures) (c .before .before .before .before .before .before .before .before .before .before .before .before .before .before .before .before .before .before .pre .count-fits))
+returns-2 c = let f = c .before .before .before .before .feed .ensures .feeds in holds-next (f .ready) (f .started) (next-within (c .settle .ensures) (c .before .before .before .before .before .before .before .before .before .before .before .before .before .before .before .before .before .before .before .pre .count-fits))
 
 pub advance-spec : {M : Type 1} → statement M
 advance-spec =

@@ -9,12 +9,12 @@ use Rattle.mapscript.proofs.main.Statement.{statement}
 use Rattle.mapscript.proofs.main.Tie as tie
 
 abbrev Inv-loop : tie.InvT-loop
-Inv-loop input₀ out₀ rows₀ leaves₀ slots₀ reads₀ leafsets₀ writes₀ w₀ turns₀ input out rows leaves slots reads leafsets writes w turns =
-    WorkReady (lent rows leaves slots) (logs reads leafsets writes) w (length input)
+Inv-loop input₀ out₀ rows₀ leaves₀ slots₀ reads₀ leafsets₀ writes₀ workers₀ w₀ turns₀ input out rows leaves slots reads leafsets writes workers w turns =
+    WorkReady (lent rows leaves slots) (logs reads leafsets writes) workers w (length input)
     × (65536 ≡ length out) × (65536 ≡ length input)
 
 abbrev μ-loop : tie.MeasureT-loop
-μ-loop input₀ out₀ rows₀ leaves₀ slots₀ reads₀ leafsets₀ writes₀ w₀ turns₀ input out rows leaves slots reads leafsets writes w turns =
+μ-loop input₀ out₀ rows₀ leaves₀ slots₀ reads₀ leafsets₀ writes₀ workers₀ w₀ turns₀ input out rows leaves slots reads leafsets writes workers w turns =
     turns
 
 large-buffer-requires : tie.Need-large-buffer-requires Inv-loop μ-loop
@@ -27,7 +27,7 @@ fresh-session-requires : tie.Need-fresh-session-requires Inv-loop μ-loop
 fresh-session-requires c κs = tt
 
 loop-holds : tie.Need-loop-holds Inv-loop μ-loop
-loop-holds c = (holds-start _ (c .fresh-session .ensures) refl refl, c .before .before .before .before .before .before .before .large-buffer2 .ensures, c .before .before .before .before .before .before .before .before .large-buffer .ensures)
+loop-holds c = (holds-start _ (c .fresh-session .ensures) refl refl, c .before .before .before .before .before .before .before .before .large-buffer2 .ensures, c .before .before .before .before .before .before .before .before .before .large-buffer .ensures)
 
 slice-aggregate-advance : tie.Need-slice-aggregate-advance Inv-loop μ-loop
 slice-aggregate-advance c = c .before .before .before .loop .inv .2
@@ -36,13 +36,13 @@ slice-aggregate-advance-2 : tie.Need-slice-aggregate-advance-2 Inv-loop μ-loop
 slice-aggregate-advance-2 c = c .before .before .before .before .loop .inv .1
 
 advance-requires : tie.Need-advance-requires Inv-loop μ-loop
-advance-requires c κs = c .before .before .before .before .before .before .before .before .before .before .loop .inv .0
+advance-requires c κs = c .before .before .before .before .before .before .before .before .before .before .before .loop .inv .0
 
 sub-turns : tie.Need-sub-turns Inv-loop μ-loop
-sub-turns c = omega (arith, c .before .before .before .before .before .before .before .before .before .before .before .before .loop-test .taken)
+sub-turns c = omega (arith, c .before .before .before .before .before .before .before .before .before .before .before .before .before .loop-test .taken)
 
 loop-less : tie.Need-loop-less Inv-loop μ-loop
-loop-less c = omega (arith, c .before .before .before .before .before .before .before .before .before .before .before .before .loop-test .taken)
+loop-less c = omega (arith, c .before .before .before .before .before .before .before .before .before .before .before .before .before .loop-test .taken)
 
 loop-again : tie.Need-loop-again Inv-loop μ-loop
 loop-again c = (c .before .before .advance .ensures, sym (c .out2 .given), sym (c .before .input2 .given))
@@ -52,7 +52,7 @@ slice-aggregate-close c = c .before .before .loop .inv .1
 
 close-requires : tie.Need-close-requires Inv-loop μ-loop
 close-requires c κs =
-    let i = c .before .before .before .before .before .before .before .before .loop .inv in
+    let i = c .before .before .before .before .before .before .before .before .before .loop .inv in
     (i .0 .ready, (i .0 .started, (i .0 .written, omega (arith, i .1))))
 
 returns : tie.Need-returns Inv-loop μ-loop

@@ -1,6 +1,6 @@
--- `sections_fresh` meets its contract: the fresh core and no export, in the words.
-use Rattle.sections.specs.EntryLaws.{fresh-saved, none-saved}
+-- `sections_fresh` meets its contract: the fresh globals and no export, in the words.
 use borrow.Author.Needs.{needs}
+use Rattle.sections.specs.EntryLaws.{fresh-saved, none-saved}
 use Rattle.sections.proofs.sections_fresh.Statement.{statement}
 use Rattle.sections.proofs.sections_fresh.Tie as tie
 
@@ -17,9 +17,7 @@ store-export-requires : tie.Need-store-export-requires
 store-export-requires c κs = search needs
 
 returns : tie.Need-returns
-returns c =
-    let s = c .before .before .before in
-    (fresh-saved _ (s .before .before .fresh-state .ensures) (s .store .ensures), none-saved _ (c .before .before .no-export .ensures) (c .store-export .ensures))
+returns c = (fresh-saved _ _ (c .before .before .before .before .before .fresh-state .ensures) (c .before .before .before .store .ensures), none-saved _ (c .before .before .no-export .ensures) (c .store-export .ensures))
 
 pub sections-fresh-spec : {M : Type 1} → statement M
 sections-fresh-spec =

@@ -1,6 +1,6 @@
 -- `sections_next` meets its contract: the first record, or none.
-use Rattle.sections.specs.EntryLaws.{ready-loaded, next-record-one, next-record-none}
 use borrow.Author.Needs.{needs}
+use Rattle.sections.specs.EntryLaws.{ready-loaded, next-record-one, next-record-none}
 use Rattle.map.specs.Parts.{records-held, slots-held}
 use Rattle.sections.proofs.sections_next.Statement.{statement}
 use Rattle.sections.proofs.sections_next.Tie as tie
@@ -10,14 +10,14 @@ load-requires c κs = search needs
 
 next-record-requires : tie.Need-next-record-requires
 next-record-requires c κs =
-    let t = ready-loaded _ (c .before .load .ensures) (c .before .before .pre) .stored .map .tables in
+    let t = ready-loaded _ _ (c .before .load .ensures) (c .before .before .pre) .stored .map .tables in
     (records-held t, slots-held t)
 
 enum-known-next : tie.Need-enum-known-next
 enum-known-next c = search needs
 
-cast-t18 : tie.Need-cast-t18
-cast-t18 c = search needs
+cast-t19 : tie.Need-cast-t19
+cast-t19 c = search needs
 
 enum-told : tie.Need-enum-told
 enum-told c = search needs
@@ -35,7 +35,7 @@ sections-next-spec =
     load-requires
     next-record-requires
     enum-known-next
-    cast-t18
+    cast-t19
     enum-told
     returns
     returns-2)

@@ -1,8 +1,8 @@
 -- `sections_open_export` meets its contract: `exports::open_export`, of the contents of the map.
+use borrow.Author.Needs.{needs}
 use Rattle.queries.specs.ContentsLaws.{records-fit}
 use Rattle.sections.specs.EntryLaws.{ready-loaded, held-loaded, export-entry, contents-entry}
 use Rattle.map.specs.Parts.{records-held, slots-held}
-use borrow.Author.Needs.{needs}
 use Rattle.sections.proofs.sections_open_export.Statement.{statement}
 use Rattle.sections.proofs.sections_open_export.Tie as tie
 
@@ -14,19 +14,16 @@ load-export-requires c κs = search needs
 
 open-export-requires : tie.Need-open-export-requires
 open-export-requires c κs =
-    let p = c .before .before .before .before .before .pre in
-    let h = ready-loaded _ (c .before .before .before .before .load .ensures) (p .0) in
+    let h = ready-loaded _ _ (c .before .before .before .before .load .ensures) (c .before .before .before .before .before .pre .0) in
     let t = h .stored .map .tables in
-    (records-held t, (slots-held t, (records-fit (h .stored .map), held-loaded _ (c .before .load-export .ensures) (p .1))))
+    (records-held t, (slots-held t, (records-fit (h .stored .map), held-loaded _ (c .before .load-export .ensures) (c .before .before .before .before .before .pre .1))))
 
 put-done-requires : tie.Need-put-done-requires
 put-done-requires c κs = search needs
 
 returns : tie.Need-returns
 returns c =
-    let d = c .before .before .before in
-    let x = d .before .before in
-    λ s. contents-entry _ _ _ _ (x .before .before .before .load .ensures) (export-entry (d .open-export .result) (x .load-export .ensures) (d .open-export .ensures s) (c .put-done .ensures))
+    λ s. contents-entry _ _ _ _ (c .before .before .before .before .before .before .before .before .load .ensures) (export-entry (c .before .before .before .open-export .result) (c .before .before .before .before .before .load-export .ensures) (c .before .before .before .open-export .ensures s) (c .put-done .ensures))
 
 pub sections-open-export-spec : {M : Type 1} → statement M
 sections-open-export-spec =

@@ -1,6 +1,6 @@
 -- `sections_replay` meets its contract: `runs::replay`, its outcome in the words.
-use Rattle.sections.specs.EntryLaws.{replayed}
 use borrow.Author.Needs.{needs}
+use Rattle.sections.specs.EntryLaws.{replayed}
 use Rattle.sections.proofs.sections_replay.Statement.{statement}
 use Rattle.sections.proofs.sections_replay.Tie as tie
 
@@ -35,7 +35,7 @@ same-length-5 : tie.Need-same-length-5
 same-length-5 c = search needs
 
 returns : tie.Need-returns
-returns c = replayed _ _ _ _ (c .before .before .before .before .before .before .before .before .before .before .before .before .before .before .before .before .before .before .before .replay .result) (c .before .before .before .before .before .before .before .before .before .before .before .before .before .before .before .before .before .before .before .replay .ensures) (c .before .before .before .before .before .store .ensures) (c .before .before .before .store-export .ensures) (c .before .put-counts .ensures) (c .stop-number .ensures)
+returns c = replayed _ _ _ _ _ (c .before .before .before .before .before .before .before .before .before .before .before .before .before .before .before .before .before .before .before .replay .result) (c .before .before .before .before .before .before .before .before .before .before .before .before .before .before .before .before .before .before .before .replay .ensures) (c .before .before .before .before .before .store .ensures) (c .before .before .before .store-export .ensures) (c .before .put-counts .ensures) (c .stop-number .ensures)
 
 pub sections-replay-spec : {M : Type 1} → statement M
 sections-replay-spec =

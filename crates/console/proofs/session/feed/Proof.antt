@@ -3,26 +3,20 @@ use mathlib.Core.Path.{sym, _∙_}
 use Rattle.map.specs.Views.{lent}
 use Rattle.transactions.specs.Views.{logs}
 use Rattle.console.specs.Sessions.{sessionOf, Feeds, left}
-use Rattle.console.specs.SessionLaws.{session-again, feeds-lent, feeds-join, runs-as}
+use Rattle.console.specs.SessionLaws.{feeds-none, feeds-join}
 use Rattle.console.proofs.session.feed.Statement.{statement}
 use Rattle.console.proofs.session.feed.Tie as tie
 
 abbrev Inv-loop : tie.InvT-loop
-Inv-loop out₀ rows₀ leaves₀ slots₀ reads₀ leafsets₀ writes₀ input addresses₀ values₀ owners₀ workers₀ x₀ out rows leaves slots reads leafsets writes addresses values owners workers x =
+Inv-loop out₀ rows₀ leaves₀ slots₀ reads₀ leafsets₀ writes₀ workers₀ input addresses₀ values₀ owners₀ x₀ out rows leaves slots reads leafsets writes workers addresses values owners x =
     Feeds (lent rows₀ leaves₀ slots₀) (logs reads₀ leafsets₀ writes₀) (sessionOf workers₀ x₀) input out₀ (lent rows leaves slots) (logs reads leafsets writes) (sessionOf workers x) out
 
 abbrev μ-loop : tie.MeasureT-loop
-μ-loop out₀ rows₀ leaves₀ slots₀ reads₀ leafsets₀ writes₀ input addresses₀ values₀ owners₀ workers₀ x₀ out rows leaves slots reads leafsets writes addresses values owners workers x =
+μ-loop out₀ rows₀ leaves₀ slots₀ reads₀ leafsets₀ writes₀ workers₀ input addresses₀ values₀ owners₀ x₀ out rows leaves slots reads leafsets writes workers addresses values owners x =
     left input (sessionOf workers x)
 
-pack-all-requires : tie.Need-pack-all-requires Inv-loop μ-loop
-pack-all-requires c κs = tt
-
-progress-of-requires : tie.Need-progress-of-requires Inv-loop μ-loop
-progress-of-requires c κs = tt
-
 loop-holds : tie.Need-loop-holds Inv-loop μ-loop
-loop-holds c = feeds-lent _ (session-again _ (c .before .before .before .before .before .before .args .start) (c .before .pack-all .ensures) (c .progress-of .ensures)) (c .before .before .before .before .before .before .pre .0) (c .before .before .before .before .before .before .pre .1 .0) (c .before .before .before .before .before .before .pre .1 .1)
+loop-holds c = let p = c .before .before .pre in feeds-none _ (p .0) (p .1 .0) (p .1 .1)
 
 can-go-on-requires : tie.Need-can-go-on-requires Inv-loop μ-loop
 can-go-on-requires c κs = tt
@@ -38,16 +32,11 @@ loop-less c = c .before .before .run-line .ensures .fewer
 loop-again : tie.Need-loop-again Inv-loop μ-loop
 loop-again c = feeds-join (c .before .before .before .before .before .before .before .before .before .before .before .before .before .before .before .before .loop .inv) (c .before .before .run-line .ensures .feeds)
 
-session-of-requires : tie.Need-session-of-requires Inv-loop μ-loop
-session-of-requires c κs = tt
-
 same-length : tie.Need-same-length Inv-loop μ-loop
-same-length c = c .before .before .before .before .loop .inv .size
+same-length c = c .before .before .loop .inv .size
 
 returns : tie.Need-returns Inv-loop μ-loop
-returns c =
-    runs-as (session-again _ (c .before .before .before .before .before .before .before .before .before .before .before .args .start) (c .before .before .before .before .before .before .pack-all .ensures) (c .before .before .before .before .before .progress-of .ensures)) (c .session-of .ensures)
-    (record { feeds = c .before .before .before .before .loop .inv; ends = sym (c .before .before .before .can-go-on .ensures) ∙ c .before .before .if1 .left })
+returns c = record { feeds = c .before .before .loop .inv; ends = sym (c .before .can-go-on .ensures) ∙ c .if1 .left }
 
 pub feed-spec : {M : Type 1} → statement M
 feed-spec =
@@ -55,13 +44,10 @@ feed-spec =
     (tie.spec
     Inv-loop
     μ-loop
-    pack-all-requires
-    progress-of-requires
     loop-holds
     can-go-on-requires
     run-line-requires
     loop-less
     loop-again
-    session-of-requires
     same-length
     returns)

@@ -6,26 +6,26 @@ use borrow.Author.Needs.{needs}
 use Rattle.replay.proofs.parts.perform_first.Statement.{statement}
 use Rattle.replay.proofs.parts.perform_first.Tie as tie
 
-slice-relend-prefix-perform-core : tie.Need-slice-relend-prefix-perform-core
-slice-relend-prefix-perform-core c = search needs
+slice-relend-prefix-perform : tie.Need-slice-relend-prefix-perform
+slice-relend-prefix-perform c = search needs
 
-slice-aggregate-perform-core : tie.Need-slice-aggregate-perform-core
-slice-aggregate-perform-core c = sym (length-take-le _ _ (c .before .before .before .before .pre .1 .addresses))
+slice-aggregate-perform : tie.Need-slice-aggregate-perform
+slice-aggregate-perform c = sym (length-take-le _ _ (c .before .before .before .before .pre .1 .addresses))
 
-slice-relend-prefix-perform-core-2 : tie.Need-slice-relend-prefix-perform-core-2
-slice-relend-prefix-perform-core-2 c = search needs
+slice-relend-prefix-perform-2 : tie.Need-slice-relend-prefix-perform-2
+slice-relend-prefix-perform-2 c = search needs
 
-slice-aggregate-perform-core-2 : tie.Need-slice-aggregate-perform-core-2
-slice-aggregate-perform-core-2 c = sym (length-take-le _ _ (c .before .before .before .before .before .pre .1 .values))
+slice-aggregate-perform-2 : tie.Need-slice-aggregate-perform-2
+slice-aggregate-perform-2 c = sym (length-take-le _ _ (c .before .before .before .before .before .pre .1 .values))
 
-slice-relend-prefix-perform-core-3 : tie.Need-slice-relend-prefix-perform-core-3
-slice-relend-prefix-perform-core-3 c = search needs
+slice-relend-prefix-perform-3 : tie.Need-slice-relend-prefix-perform-3
+slice-relend-prefix-perform-3 c = search needs
 
-slice-aggregate-perform-core-3 : tie.Need-slice-aggregate-perform-core-3
-slice-aggregate-perform-core-3 c = sym (length-take-le _ _ (c .before .before .before .before .before .before .pre .1 .owners))
+slice-aggregate-perform-3 : tie.Need-slice-aggregate-perform-3
+slice-aggregate-perform-3 c = sym (length-take-le _ _ (c .before .before .before .before .before .before .pre .1 .owners))
 
-perform-core-requires : tie.Need-perform-core-requires
-perform-core-requires c κs = search needs
+perform-requires : tie.Need-perform-requires
+perform-requires c κs = search needs
 
 same-length : tie.Need-same-length
 same-length c = search needs
@@ -37,19 +37,19 @@ same-length-3 : tie.Need-same-length-3
 same-length-3 c = search needs
 
 returns : tie.Need-returns
-returns c = performs-first _ _ (c .before .before .before .before .before .before .before .before .before .before .before .before .before .before .before .before .before .before .before .pre .1) (c .before .before .before .before .before .before .perform-core .ensures)
+returns c = performs-first _ _ (c .before .before .before .before .before .before .before .before .before .before .before .before .before .before .before .before .before .before .before .before .pre .1) (c .before .before .before .before .before .before .perform .ensures)
 
 pub perform-first-spec : {M : Type 1} → statement M
 perform-first-spec =
     tie.close
     (tie.spec
-    slice-relend-prefix-perform-core
-    slice-aggregate-perform-core
-    slice-relend-prefix-perform-core-2
-    slice-aggregate-perform-core-2
-    slice-relend-prefix-perform-core-3
-    slice-aggregate-perform-core-3
-    perform-core-requires
+    slice-relend-prefix-perform
+    slice-aggregate-perform
+    slice-relend-prefix-perform-2
+    slice-aggregate-perform-2
+    slice-relend-prefix-perform-3
+    slice-aggregate-perform-3
+    perform-requires
     same-length
     same-length-2
     same-length-3

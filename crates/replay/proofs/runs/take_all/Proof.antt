@@ -7,7 +7,7 @@ use Rattle.spec.specs.Steps.{Places}
 use Rattle.map.specs.Views.{lent}
 use Rattle.ranges.specs.Buffers.{buffers}
 use Rattle.exports.specs.Exporting.{space}
-use Rattle.transactions.specs.Views.{logs, guardedIn}
+use Rattle.transactions.specs.Views.{logs, coreOf, guardedIn}
 use Rattle.replay.specs.declared.stops.Stop.the-variants as stop
 use Rattle.replay.specs.Replays.{whole}
 use Rattle.replay.specs.LoopLaws.{Replaying, replaying-start, replaying-on, replaying-at, replaying-out, replaying-places, replaying-bytes, code-out, code-places, code-bytes, takes-as, replays-stop, replays-end}
@@ -15,11 +15,11 @@ use Rattle.replay.proofs.runs.take_all.Statement.{statement}
 use Rattle.replay.proofs.runs.take_all.Tie as tie
 
 abbrev Inv-loop : tie.InvT-loop
-Inv-loop out₀ addresses₀ values₀ owners₀ bytes₀ rows₀ leaves₀ slots₀ reads₀ leafsets₀ writes₀ exported₀ steps count core₀ export₀ at₀ i₀ out addresses values owners bytes rows leaves slots reads leafsets writes exported core export at i =
-    Replaying (guardedIn (core₀ .guarded)) steps (space (buffers addresses₀ values₀ owners₀) bytes₀) out₀ (whole (lent rows leaves slots) (logs reads leafsets writes) core exported export) (space (buffers addresses values owners) bytes) out at i
+Inv-loop out₀ addresses₀ values₀ owners₀ bytes₀ rows₀ leaves₀ slots₀ reads₀ leafsets₀ writes₀ workers₀ exported₀ steps count globals₀ export₀ at₀ i₀ out addresses values owners bytes rows leaves slots reads leafsets writes workers exported globals export at i =
+    Replaying (guardedIn (globals₀ .guarded)) steps (space (buffers addresses₀ values₀ owners₀) bytes₀) out₀ (whole (lent rows leaves slots) (logs reads leafsets writes) (coreOf workers globals) exported export) (space (buffers addresses values owners) bytes) out at i
 
 abbrev μ-loop : tie.MeasureT-loop
-μ-loop out₀ addresses₀ values₀ owners₀ bytes₀ rows₀ leaves₀ slots₀ reads₀ leafsets₀ writes₀ exported₀ steps count core₀ export₀ at₀ i₀ out addresses values owners bytes rows leaves slots reads leafsets writes exported core export at i =
+μ-loop out₀ addresses₀ values₀ owners₀ bytes₀ rows₀ leaves₀ slots₀ reads₀ leafsets₀ writes₀ workers₀ exported₀ steps count globals₀ export₀ at₀ i₀ out addresses values owners bytes rows leaves slots reads leafsets writes workers exported globals export at i =
     count - i
 
 loop-holds : tie.Need-loop-holds Inv-loop μ-loop
@@ -29,61 +29,61 @@ code-at-requires : tie.Need-code-at-requires Inv-loop μ-loop
 code-at-requires c κs = omega (arith, c .loop-test .taken)
 
 take-code-requires : tie.Need-take-code-requires Inv-loop μ-loop
-take-code-requires c κs = ((c .before .before .before .before .before .before .before .before .before .before .before .before .before .before .loop .inv) .ready .engine, (replaying-at (c .before .before .before .before .before .before .before .before .before .before .before .before .before .before .loop .inv), (c .before .before .before .before .before .before .before .before .before .before .before .before .before .before .loop .inv) .ready .export))
+take-code-requires c κs = ((c .before .before .before .before .before .before .before .before .before .before .before .before .before .before .before .loop .inv) .ready .engine, (replaying-at (c .before .before .before .before .before .before .before .before .before .before .before .before .before .before .before .loop .inv), (c .before .before .before .before .before .before .before .before .before .before .before .before .before .before .before .loop .inv) .ready .export))
 
 enum-told : tie.Need-enum-told Inv-loop μ-loop
 enum-told c = search needs
 
 add-i : tie.Need-add-i Inv-loop μ-loop
-add-i c = omega (arith, c .before .before .before .before .before .before .before .before .before .before .before .before .before .before .before .before .before .before .before .before .before .before .before .before .before .before .before .code-at .ensures .1)
+add-i c = omega (arith, c .before .before .before .before .before .before .before .before .before .before .before .before .before .before .before .before .before .before .before .before .before .before .before .before .before .before .before .before .code-at .ensures .1)
 
 loop-less : tie.Need-loop-less Inv-loop μ-loop
-loop-less c = omega (arith, c .before .before .before .before .before .before .before .before .before .before .before .before .before .before .before .before .before .before .before .before .before .before .before .before .before .before .before .before .loop-test .taken)
+loop-less c = omega (arith, c .before .before .before .before .before .before .before .before .before .before .before .before .before .before .before .before .before .before .before .before .before .before .before .before .before .before .before .before .before .loop-test .taken)
 
 loop-again : tie.Need-loop-again Inv-loop μ-loop
-loop-again c = replaying-on (c .before .before .before .before .before .before .before .before .before .before .before .before .before .before .before .before .before .before .before .before .before .before .before .before .before .before .before .before .before .loop .inv) (takes-as (c .before .before .before .before .before .before .before .before .before .before .before .before .before .before .take-code .ensures) (c .before .before .before .before .before .before .before .before .before .before .before .before .before .before .before .before .before .before .before .before .before .before .before .before .before .before .before .code-at .ensures .0)) (omega (arith, c .before .before .before .before .before .before .before .before .before .before .before .before .before .before .before .before .before .before .before .before .before .before .before .before .before .before .before .before .loop-test .taken)) (c .enum-told .given .1)
+loop-again c = replaying-on (c .before .before .before .before .before .before .before .before .before .before .before .before .before .before .before .before .before .before .before .before .before .before .before .before .before .before .before .before .before .before .loop .inv) (takes-as (c .before .before .before .before .before .before .before .before .before .before .before .before .before .before .take-code .ensures) (c .before .before .before .before .before .before .before .before .before .before .before .before .before .before .before .before .before .before .before .before .before .before .before .before .before .before .before .before .code-at .ensures .0)) (omega (arith, c .before .before .before .before .before .before .before .before .before .before .before .before .before .before .before .before .before .before .before .before .before .before .before .before .before .before .before .before .before .loop-test .taken)) (c .enum-told .given .1)
 
 enum-told-2 : tie.Need-enum-told-2 Inv-loop μ-loop
 enum-told-2 c = search needs
 
 same-length : tie.Need-same-length Inv-loop μ-loop
-same-length c = code-out (c .before .before .before .before .before .before .before .before .before .before .before .before .before .before .take-code .ensures) ∙ replaying-out (c .before .before .before .before .before .before .before .before .before .before .before .before .before .before .before .before .before .before .before .before .before .before .before .before .before .before .before .before .before .loop .inv)
+same-length c = code-out (c .before .before .before .before .before .before .before .before .before .before .before .before .before .before .take-code .ensures) ∙ replaying-out (c .before .before .before .before .before .before .before .before .before .before .before .before .before .before .before .before .before .before .before .before .before .before .before .before .before .before .before .before .before .before .loop .inv)
 
 same-length-2 : tie.Need-same-length-2 Inv-loop μ-loop
-same-length-2 c = ap (λ (m : Places). m .addresses) (code-places (c .before .before .before .before .before .before .before .before .before .before .before .before .before .before .take-code .ensures) ∙ replaying-places (c .before .before .before .before .before .before .before .before .before .before .before .before .before .before .before .before .before .before .before .before .before .before .before .before .before .before .before .before .before .loop .inv))
+same-length-2 c = ap (λ (m : Places). m .addresses) (code-places (c .before .before .before .before .before .before .before .before .before .before .before .before .before .before .take-code .ensures) ∙ replaying-places (c .before .before .before .before .before .before .before .before .before .before .before .before .before .before .before .before .before .before .before .before .before .before .before .before .before .before .before .before .before .before .loop .inv))
 
 same-length-3 : tie.Need-same-length-3 Inv-loop μ-loop
-same-length-3 c = ap (λ (m : Places). m .values) (code-places (c .before .before .before .before .before .before .before .before .before .before .before .before .before .before .take-code .ensures) ∙ replaying-places (c .before .before .before .before .before .before .before .before .before .before .before .before .before .before .before .before .before .before .before .before .before .before .before .before .before .before .before .before .before .loop .inv))
+same-length-3 c = ap (λ (m : Places). m .values) (code-places (c .before .before .before .before .before .before .before .before .before .before .before .before .before .before .take-code .ensures) ∙ replaying-places (c .before .before .before .before .before .before .before .before .before .before .before .before .before .before .before .before .before .before .before .before .before .before .before .before .before .before .before .before .before .before .loop .inv))
 
 same-length-4 : tie.Need-same-length-4 Inv-loop μ-loop
-same-length-4 c = ap (λ (m : Places). m .owners) (code-places (c .before .before .before .before .before .before .before .before .before .before .before .before .before .before .take-code .ensures) ∙ replaying-places (c .before .before .before .before .before .before .before .before .before .before .before .before .before .before .before .before .before .before .before .before .before .before .before .before .before .before .before .before .before .loop .inv))
+same-length-4 c = ap (λ (m : Places). m .owners) (code-places (c .before .before .before .before .before .before .before .before .before .before .before .before .before .before .take-code .ensures) ∙ replaying-places (c .before .before .before .before .before .before .before .before .before .before .before .before .before .before .before .before .before .before .before .before .before .before .before .before .before .before .before .before .before .before .loop .inv))
 
 same-length-5 : tie.Need-same-length-5 Inv-loop μ-loop
-same-length-5 c = code-bytes (c .before .before .before .before .before .before .before .before .before .before .before .before .before .before .take-code .ensures) ∙ replaying-bytes (c .before .before .before .before .before .before .before .before .before .before .before .before .before .before .before .before .before .before .before .before .before .before .before .before .before .before .before .before .before .loop .inv)
+same-length-5 c = code-bytes (c .before .before .before .before .before .before .before .before .before .before .before .before .before .before .take-code .ensures) ∙ replaying-bytes (c .before .before .before .before .before .before .before .before .before .before .before .before .before .before .before .before .before .before .before .before .before .before .before .before .before .before .before .before .before .before .loop .inv)
 
 returns : tie.Need-returns Inv-loop μ-loop
-returns c = replays-stop (c .before .before .before .before .before .before .before .before .before .before .before .before .before .before .before .before .before .before .before .before .before .before .before .before .before .before .before .before .before .loop .inv) (takes-as (c .before .before .before .before .before .before .before .before .before .before .before .before .before .before .take-code .ensures) (c .before .before .before .before .before .before .before .before .before .before .before .before .before .before .before .before .before .before .before .before .before .before .before .before .before .before .before .code-at .ensures .0)) (omega (arith, c .before .before .before .before .before .before .before .before .before .before .before .before .before .before .before .before .before .before .before .before .before .before .before .before .before .before .before .before .loop-test .taken)) stop.Meaningless (c .enum-told2 .given .1) refl (λ r ξ. refl)
+returns c = replays-stop (c .before .before .before .before .before .before .before .before .before .before .before .before .before .before .before .before .before .before .before .before .before .before .before .before .before .before .before .before .before .before .loop .inv) (takes-as (c .before .before .before .before .before .before .before .before .before .before .before .before .before .before .take-code .ensures) (c .before .before .before .before .before .before .before .before .before .before .before .before .before .before .before .before .before .before .before .before .before .before .before .before .before .before .before .before .code-at .ensures .0)) (omega (arith, c .before .before .before .before .before .before .before .before .before .before .before .before .before .before .before .before .before .before .before .before .before .before .before .before .before .before .before .before .before .loop-test .taken)) stop.Meaningless (c .enum-told2 .given .1) refl (λ r ξ. refl)
 
 enum-told-3 : tie.Need-enum-told-3 Inv-loop μ-loop
 enum-told-3 c = search needs
 
 same-length-6 : tie.Need-same-length-6 Inv-loop μ-loop
-same-length-6 c = code-out (c .before .before .before .before .before .before .before .before .before .before .before .before .before .before .take-code .ensures) ∙ replaying-out (c .before .before .before .before .before .before .before .before .before .before .before .before .before .before .before .before .before .before .before .before .before .before .before .before .before .before .before .before .before .loop .inv)
+same-length-6 c = code-out (c .before .before .before .before .before .before .before .before .before .before .before .before .before .before .take-code .ensures) ∙ replaying-out (c .before .before .before .before .before .before .before .before .before .before .before .before .before .before .before .before .before .before .before .before .before .before .before .before .before .before .before .before .before .before .loop .inv)
 
 same-length-7 : tie.Need-same-length-7 Inv-loop μ-loop
-same-length-7 c = ap (λ (m : Places). m .addresses) (code-places (c .before .before .before .before .before .before .before .before .before .before .before .before .before .before .take-code .ensures) ∙ replaying-places (c .before .before .before .before .before .before .before .before .before .before .before .before .before .before .before .before .before .before .before .before .before .before .before .before .before .before .before .before .before .loop .inv))
+same-length-7 c = ap (λ (m : Places). m .addresses) (code-places (c .before .before .before .before .before .before .before .before .before .before .before .before .before .before .take-code .ensures) ∙ replaying-places (c .before .before .before .before .before .before .before .before .before .before .before .before .before .before .before .before .before .before .before .before .before .before .before .before .before .before .before .before .before .before .loop .inv))
 
 same-length-8 : tie.Need-same-length-8 Inv-loop μ-loop
-same-length-8 c = ap (λ (m : Places). m .values) (code-places (c .before .before .before .before .before .before .before .before .before .before .before .before .before .before .take-code .ensures) ∙ replaying-places (c .before .before .before .before .before .before .before .before .before .before .before .before .before .before .before .before .before .before .before .before .before .before .before .before .before .before .before .before .before .loop .inv))
+same-length-8 c = ap (λ (m : Places). m .values) (code-places (c .before .before .before .before .before .before .before .before .before .before .before .before .before .before .take-code .ensures) ∙ replaying-places (c .before .before .before .before .before .before .before .before .before .before .before .before .before .before .before .before .before .before .before .before .before .before .before .before .before .before .before .before .before .before .loop .inv))
 
 same-length-9 : tie.Need-same-length-9 Inv-loop μ-loop
-same-length-9 c = ap (λ (m : Places). m .owners) (code-places (c .before .before .before .before .before .before .before .before .before .before .before .before .before .before .take-code .ensures) ∙ replaying-places (c .before .before .before .before .before .before .before .before .before .before .before .before .before .before .before .before .before .before .before .before .before .before .before .before .before .before .before .before .before .loop .inv))
+same-length-9 c = ap (λ (m : Places). m .owners) (code-places (c .before .before .before .before .before .before .before .before .before .before .before .before .before .before .take-code .ensures) ∙ replaying-places (c .before .before .before .before .before .before .before .before .before .before .before .before .before .before .before .before .before .before .before .before .before .before .before .before .before .before .before .before .before .before .loop .inv))
 
 same-length-10 : tie.Need-same-length-10 Inv-loop μ-loop
-same-length-10 c = code-bytes (c .before .before .before .before .before .before .before .before .before .before .before .before .before .before .take-code .ensures) ∙ replaying-bytes (c .before .before .before .before .before .before .before .before .before .before .before .before .before .before .before .before .before .before .before .before .before .before .before .before .before .before .before .before .before .loop .inv)
+same-length-10 c = code-bytes (c .before .before .before .before .before .before .before .before .before .before .before .before .before .before .take-code .ensures) ∙ replaying-bytes (c .before .before .before .before .before .before .before .before .before .before .before .before .before .before .before .before .before .before .before .before .before .before .before .before .before .before .before .before .before .before .loop .inv)
 
 returns-2 : tie.Need-returns-2 Inv-loop μ-loop
-returns-2 c = replays-stop (c .before .before .before .before .before .before .before .before .before .before .before .before .before .before .before .before .before .before .before .before .before .before .before .before .before .before .before .before .before .loop .inv) (takes-as (c .before .before .before .before .before .before .before .before .before .before .before .before .before .before .take-code .ensures) (c .before .before .before .before .before .before .before .before .before .before .before .before .before .before .before .before .before .before .before .before .before .before .before .before .before .before .before .code-at .ensures .0)) (omega (arith, c .before .before .before .before .before .before .before .before .before .before .before .before .before .before .before .before .before .before .before .before .before .before .before .before .before .before .before .before .loop-test .taken)) stop.Full (c .enum-told3 .given .1) refl (λ r ξ. refl)
+returns-2 c = replays-stop (c .before .before .before .before .before .before .before .before .before .before .before .before .before .before .before .before .before .before .before .before .before .before .before .before .before .before .before .before .before .before .loop .inv) (takes-as (c .before .before .before .before .before .before .before .before .before .before .before .before .before .before .take-code .ensures) (c .before .before .before .before .before .before .before .before .before .before .before .before .before .before .before .before .before .before .before .before .before .before .before .before .before .before .before .before .code-at .ensures .0)) (omega (arith, c .before .before .before .before .before .before .before .before .before .before .before .before .before .before .before .before .before .before .before .before .before .before .before .before .before .before .before .before .before .loop-test .taken)) stop.Full (c .enum-told3 .given .1) refl (λ r ξ. refl)
 
 last-stop-requires : tie.Need-last-stop-requires Inv-loop μ-loop
 last-stop-requires c κs = tt

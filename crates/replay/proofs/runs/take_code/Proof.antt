@@ -6,7 +6,7 @@ use Rattle.replay.proofs.runs.take_code.Statement.{statement}
 use Rattle.replay.proofs.runs.take_code.Tie as tie
 
 take-job-requires : tie.Need-take-job-requires
-take-job-requires c κs = (c .before .before .before .before .before .before .before .before .before .before .before .before .before .before .before .before .before .pre .0, (c .before .before .before .before .before .before .before .before .before .before .before .before .before .before .before .before .before .pre .1 .0, c .before .before .before .before .before .before .before .before .before .before .if1 .taken))
+take-job-requires c κs = (c .before .before .before .before .before .before .before .before .before .before .before .before .before .before .before .before .before .before .pre .0, (c .before .before .before .before .before .before .before .before .before .before .before .before .before .before .before .before .before .before .pre .1 .0, c .before .before .before .before .before .before .before .before .before .before .before .if1 .taken))
 
 same-length : tie.Need-same-length
 same-length c = search needs
@@ -21,7 +21,7 @@ same-length-4 : tie.Need-same-length-4
 same-length-4 c = search needs
 
 returns : tie.Need-returns
-returns c = c .before .before .before .before .before .before .before .before .before .take-job .ensures _ _ _ (c .before .before .before .before .before .before .before .before .before .before .before .before .before .before .before .before .before .before .before .before .before .before .before .before .before .before .before .pre .1 .1)
+returns c = c .before .before .before .before .before .before .before .before .before .take-job .ensures _ _ _ (c .before .before .before .before .before .before .before .before .before .before .before .before .before .before .before .before .before .before .before .before .before .before .before .before .before .before .before .before .pre .1 .1)
 
 take-export-requires : tie.Need-take-export-requires
 take-export-requires c κs = let t = c .before .before .before .before .before .before .before .before .before .before .before .before .before .before .before .before .pre .0 .stored .map .tables in (records-held t, (slots-held t, ((records-fit (c .before .before .before .before .before .before .before .before .before .before .before .before .before .before .before .before .pre .0 .stored .map), c .before .before .before .before .before .before .before .before .before .before .before .before .before .before .before .before .pre .1 .1), (c .before .before .before .before .before .before .before .before .before .before .before .before .before .before .before .before .pre .1 .0, c .before .before .before .before .before .before .before .before .before .if1 .left))))

@@ -1,6 +1,7 @@
 -- `steps::step` meets its contract: what its code means is done, or nothing.
 use Rattle.codes.specs.CodeLaws.{meant-lends}
 use Rattle.replay.specs.StepLaws.{step-meant, step-meaningless}
+use Rattle.engine.specs.Performs.{performedOf}
 use borrow.Author.Needs.{needs}
 use Rattle.replay.proofs.steps.step.Statement.{statement}
 use Rattle.replay.proofs.steps.step.Tie as tie
@@ -12,7 +13,7 @@ enum-known-d : tie.Need-enum-known-d
 enum-known-d c = search needs
 
 perform-first-requires : tie.Need-perform-first-requires
-perform-first-requires c κs = (c .before .before .before .before .before .before .before .before .before .before .before .before .before .before .before .before .pre, meant-lends _ _ (c .before .before .before .before .before .before .before .before .before .before .before .before .decode .ensures) (c .before .before .before .before .before .before .before .before .before .before .d .given .1))
+perform-first-requires c κs = (c .before .before .before .before .before .before .before .before .before .before .before .before .before .before .before .before .before .pre, meant-lends _ _ (c .before .before .before .before .before .before .before .before .before .before .before .before .before .decode .ensures) (c .before .before .before .before .before .before .before .before .before .before .before .d .given .1))
 
 encode-requires : tie.Need-encode-requires
 encode-requires c κs = search needs
@@ -33,7 +34,7 @@ same-length-3 : tie.Need-same-length-3
 same-length-3 c = search needs
 
 returns : tie.Need-returns
-returns c = step-meant (c .before .before .before .before .before .before .before .before .perform-first .result) (c .before .before .before .before .before .before .before .before .before .before .before .before .before .before .before .before .before .before .before .before .before .decode .ensures) (c .before .before .before .before .before .before .before .before .before .before .before .before .before .before .before .before .before .before .before .d .given .1) (c .before .before .before .before .before .before .before .before .perform-first .ensures) (c .encode .ensures)
+returns c = step-meant (performedOf _ (c .before .before .before .before .before .before .before .before .perform-first .result)) (c .before .before .before .before .before .before .before .before .before .before .before .before .before .before .before .before .before .before .before .before .before .before .decode .ensures) (c .before .before .before .before .before .before .before .before .before .before .before .before .before .before .before .before .before .before .before .before .d .given .1) (c .before .before .before .before .before .before .before .before .perform-first .ensures) (c .encode .ensures)
 
 returns-2 : tie.Need-returns-2
 returns-2 c = step-meaningless (c .before .before .before .decode .ensures) (c .before .enum-told .given .1) (c .no-meaning .ensures)

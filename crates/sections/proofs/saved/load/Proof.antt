@@ -1,54 +1,62 @@
--- `saved::load` meets its contract: the rows, one after the other.
-use Rattle.sections.specs.SavedLaws.{core-read}
+-- `saved::load` meets its contract: the words, one after the other.
 use borrow.Author.Needs.{needs}
+use Rattle.sections.specs.SavedLaws.{globals-read}
 use Rattle.sections.proofs.saved.load.Statement.{statement}
 use Rattle.sections.proofs.saved.load.Tie as tie
 
-workers-in-requires : tie.Need-workers-in-requires
-workers-in-requires c κs = search needs
+element-copy-out-size : tie.Need-element-copy-out-size
+element-copy-out-size c = search needs
 
-element-copy-out-sizes-in : tie.Need-element-copy-out-sizes-in
-element-copy-out-sizes-in c = search needs
+size-requires : tie.Need-size-requires
+size-requires c κs = search needs
 
-sizes-in-requires : tie.Need-sizes-in-requires
-sizes-in-requires c κs = search needs
+element-copy-out-size-2 : tie.Need-element-copy-out-size-2
+element-copy-out-size-2 c = search needs
 
-add-row : tie.Need-add-row
-add-row c = search needs
+size-requires-2 : tie.Need-size-requires-2
+size-requires-2 c κs = search needs
 
-mul-row : tie.Need-mul-row
-mul-row c = search needs
+element-copy-out-size-3 : tie.Need-element-copy-out-size-3
+element-copy-out-size-3 c = search needs
 
-element-copy-out-row : tie.Need-element-copy-out-row
-element-copy-out-row c = search needs
+size-requires-3 : tie.Need-size-requires-3
+size-requires-3 c κs = search needs
 
-array-read-t15 : tie.Need-array-read-t15
-array-read-t15 c = search needs
+element-copy-out-size-4 : tie.Need-element-copy-out-size-4
+element-copy-out-size-4 c = search needs
 
-array-read-t18 : tie.Need-array-read-t18
-array-read-t18 c = search needs
+size-requires-4 : tie.Need-size-requires-4
+size-requires-4 c κs = search needs
 
-array-read-t21 : tie.Need-array-read-t21
-array-read-t21 c = search needs
+element-copy-out-t10 : tie.Need-element-copy-out-t10
+element-copy-out-t10 c = search needs
 
-array-read-t15-2 : tie.Need-array-read-t15-2
-array-read-t15-2 c = search needs
+element-copy-out-t21 : tie.Need-element-copy-out-t21
+element-copy-out-t21 c = search needs
+
+element-copy-out-t24 : tie.Need-element-copy-out-t24
+element-copy-out-t24 c = search needs
+
+element-copy-out-t10-2 : tie.Need-element-copy-out-t10-2
+element-copy-out-t10-2 c = search needs
 
 returns : tie.Need-returns
-returns c = core-read _ (c .before .before .before .workers-in .ensures) (c .before .sizes-in .ensures)
+returns c = globals-read _ (c .before .before .before .before .before .before .before .before .before .before .size .ensures) (c .before .before .before .before .before .before .before .before .size2 .ensures) (c .before .before .before .before .before .before .size3 .ensures) (c .before .before .before .before .size4 .ensures)
 
 pub load-spec : {M : Type 1} → statement M
 load-spec =
     tie.close
     (tie.spec
-    workers-in-requires
-    element-copy-out-sizes-in
-    sizes-in-requires
-    add-row
-    mul-row
-    element-copy-out-row
-    array-read-t15
-    array-read-t18
-    array-read-t21
-    array-read-t15-2
+    element-copy-out-size
+    size-requires
+    element-copy-out-size-2
+    size-requires-2
+    element-copy-out-size-3
+    size-requires-3
+    element-copy-out-size-4
+    size-requires-4
+    element-copy-out-t10
+    element-copy-out-t21
+    element-copy-out-t24
+    element-copy-out-t10-2
     returns)

@@ -19,88 +19,126 @@ use sets::ReadSets;
 use sets::WRITE_WORDS;
 use sets::Workers;
 use sets::WriteSets;
+use shell::Work;
 use spec::LEAF_SET_LIMIT;
 use spec::MAP_LIMIT;
 use spec::READ_LIMIT;
 use spec::WORKERS;
 use spec::WRITE_LIMIT;
-ghost use Prim.Native.Nat.{_≤_};
+ghost use Prim.Native.Nat.{_≤_, _<_, _+_, _^_};
 ghost use mathlib.Core.Path.{_≡_};
-ghost use lib.ListN.{length};
+ghost use mathlib.Core.Bool.{true};
+ghost use lib.ListN.{length, take};
+ghost use Rattle.libc.specs.Io.{Moved};
 ghost use Rattle.map.specs.Views.{lent};
-ghost use Rattle.transactions.specs.Views.{logs, coreOf};
-ghost use Rattle.transactions.specs.Ready.{Ready};
-ghost use Rattle.console.specs.Sessions.{sessionOf, Started};
+ghost use Rattle.transactions.specs.Views.{logs};
 ghost use Rattle.console.specs.Finishes.{longestEnd};
-ghost use Rattle.mapscript.specs.Works.{WorkReady, Next};
+ghost use Rattle.shell.specs.Works.{Stands, Rests, Countable, Reads, Owed, ReadDone, WriteDone, Turns};
 
-// The session, how many bytes of input there are, whether to go on, and whether a read or a write failed.
-struct Work {
-    session: Session,
-    count: usize,
-    going: bool,
-    failed: bool,
-}
+// Turns of a buffer's bytes each, so that two numbers of 64 bits count all that is read and written.
+const MOST_TURNS: u64 = u64::MAX / 65536;
 
-// Reads the next bytes of the input. At its end there is nothing to go on with.
-fn read_more(input: &mut [u8], x: Session) -> Work
-    ensures { λ r. ⌜ Next x (length (now (input .exit))) r ⌝ }
+// Asks the system for more input. The arrays are lent for the contract alone: it says when there is something to ask for.
+fn read_next(
+    input: &mut [u8],
+    rows: &Records,
+    leaves: &Leaves,
+    slots: &Slots,
+    reads: &ReadSets,
+    leafsets: &LeafSets,
+    writes: &WriteSets,
+    workers: &Workers,
+    w: Work,
+) -> isize
+    requires { ⌜ Reads (lent (now rows) (now leaves) (now slots)) (logs (now reads) (now leafsets) (now writes)) (now workers) (now input) w ⌝ }
+    ensures { λ r. ⌜ Moved (length (now (input .entry))) r ⌝ }
 {
-    let got = libc::read(STDIN_FILENO, input);
-    let y = session::at_places(x, 0, 0);
-    if got < 0 {
-        return Work {
-            session: y,
-            count: 0,
-            going: false,
-            failed: true,
-        };
-    }
-    if got == 0 {
-        return Work {
-            session: y,
-            count: 0,
-            going: false,
-            failed: false,
-        };
-    }
-    let count = io::count(got, input);
-    Work {
-        session: y,
-        count,
-        going: true,
-        failed: false,
-    }
+    libc::read(STDIN_FILENO, input)
 }
 
-// Writes the first bytes of the output.
-fn write_first(out: &[u8], n: usize) -> bool
+// Asks the system to write the first n bytes. The arrays are lent for the contract alone: it says that these bytes are due.
+fn write_due(
+    out: &[u8],
+    n: usize,
+    rows: &Records,
+    leaves: &Leaves,
+    slots: &Slots,
+    reads: &ReadSets,
+    leafsets: &LeafSets,
+    writes: &WriteSets,
+    workers: &Workers,
+    input: &[u8],
+    w: Work,
+) -> bool
     requires { ⌜ n ≤ length (now out) ⌝ }
+    requires { ⌜ Owed (lent (now rows) (now leaves) (now slots)) (logs (now reads) (now leafsets) (now writes)) (now workers) (now input) w (take n (now out)) ⌝ }
 {
     io::write_all(STDOUT_FILENO, &out[..n])
 }
 
-// After the lines that had room: whatever is due for them is written, before anything else is read or run.
-fn settle(out: &[u8], x: Session, count: usize) -> Work
-    requires { ⌜ x .at ≤ length (now out) ⌝ }
-    ensures { λ r. ⌜ Next x count r ⌝ }
+// Reads the next bytes of the input. At its end there is nothing to go on with.
+fn read_more(
+    input: &mut [u8],
+    rows: &Records,
+    leaves: &Leaves,
+    slots: &Slots,
+    reads: &ReadSets,
+    leafsets: &LeafSets,
+    writes: &WriteSets,
+    workers: &Workers,
+    w: Work,
+) -> Work
+    requires { ⌜ Reads (lent (now rows) (now leaves) (now slots)) (logs (now reads) (now leafsets) (now writes)) (now workers) (now input) w ⌝ }
+    requires { ⌜ Countable w (length (now input)) ⌝ }
+    ensures { λ r. ⌜ ReadDone w (length (now (input .exit))) r ⌝ }
 {
-    let written = write_first(out, x.at);
-    let y = session::at_places(x, x.next, 0);
-    if !written {
-        return Work {
-            session: y,
-            count,
-            going: false,
-            failed: true,
-        };
-    }
-    Work {
-        session: y,
-        count,
-        going: !x.stopped,
-        failed: false,
-    }
+    let got = read_next(
+        input,
+        rows,
+        leaves,
+        slots,
+        reads,
+        leafsets,
+        writes,
+        workers,
+        w,
+    );
+    shell::after_read(got, input, w)
+}
+
+// After the lines that had room: whatever is due for them is written, before anything else is read or run.
+fn settle(
+    out: &[u8],
+    rows: &Records,
+    leaves: &Leaves,
+    slots: &Slots,
+    reads: &ReadSets,
+    leafsets: &LeafSets,
+    writes: &WriteSets,
+    workers: &Workers,
+    input: &[u8],
+    w: Work,
+) -> Work
+    requires { ⌜ Stands (lent (now rows) (now leaves) (now slots)) (logs (now reads) (now leafsets) (now writes)) (now workers) (now input) (take (w .session .at) (now out)) w ⌝ }
+    requires { ⌜ (w .going ≡ true) × (w .session .at ≤ length (now out)) × (w .told + w .session .at < 2 ^ 64) ⌝ }
+    ensures { λ r. ⌜ WriteDone w r ⌝ }
+{
+    let x = w.session;
+    let n = x.at;
+    let written = write_due(
+        out,
+        n,
+        rows,
+        leaves,
+        slots,
+        reads,
+        leafsets,
+        writes,
+        workers,
+        input,
+        w,
+    );
+    shell::after_write(w, written)
 }
 
 // One turn: more input, or the lines of what there is.
@@ -116,13 +154,29 @@ fn advance(
     workers: &mut Workers,
     w: Work,
 ) -> Work
-    requires { ⌜ WorkReady (lent (now rows) (now leaves) (now slots)) (logs (now reads) (now leafsets) (now writes)) (now workers) w (length (now input)) ⌝ }
-    ensures { λ r. ⌜ WorkReady (lent (now (rows .exit)) (now (leaves .exit)) (now (slots .exit))) (logs (now (reads .exit)) (now (leafsets .exit)) (now (writes .exit))) (now (workers .exit)) r (length (now (input .exit))) ⌝ }
+    requires { ⌜ Rests (lent (now rows) (now leaves) (now slots)) (logs (now reads) (now leafsets) (now writes)) (now workers) (now input) w ⌝ }
+    requires { ⌜ (w .going ≡ true) × Countable w (length (now input)) × (w .told + length (now out) < 2 ^ 64) ⌝ }
+    ensures { λ r. ⌜ Turns (lent (now (rows .entry)) (now (leaves .entry)) (now (slots .entry)))
+        (logs (now (reads .entry)) (now (leafsets .entry)) (now (writes .entry))) (now (workers .entry)) (now (input .entry)) (now (out .entry)) w
+        (lent (now (rows .exit)) (now (leaves .exit)) (now (slots .exit))) (logs (now (reads .exit)) (now (leafsets .exit)) (now (writes .exit)))
+        (now (workers .exit)) (now (input .exit)) (now (out .exit)) r ⌝ }
+    ensures { λ r. ⌜ Rests (lent (now (rows .exit)) (now (leaves .exit)) (now (slots .exit))) (logs (now (reads .exit)) (now (leafsets .exit)) (now (writes .exit)))
+        (now (workers .exit)) (now (input .exit)) r ⌝ }
 {
     let x = w.session;
     let count = w.count;
     if count <= x.next {
-        return read_more(input, x);
+        return read_more(
+            input,
+            rows,
+            leaves,
+            slots,
+            reads,
+            leafsets,
+            writes,
+            workers,
+            w,
+        );
     }
     let y = session::feed(
         out,
@@ -136,10 +190,29 @@ fn advance(
         &input[..count],
         x,
     );
-    settle(out, y, count)
+    let run = Work {
+        session: y,
+        count,
+        going: w.going,
+        failed: w.failed,
+        fed: w.fed,
+        told: w.told,
+    };
+    settle(
+        out,
+        rows,
+        leaves,
+        slots,
+        reads,
+        leafsets,
+        writes,
+        workers,
+        input,
+        run,
+    )
 }
 
-// The end: the last line, unless a read or a write failed.
+// The end: the last line, unless a read or a write failed, or the turns were used up before the input was.
 fn close(
     out: &mut [u8],
     rows: &Records,
@@ -149,13 +222,16 @@ fn close(
     leafsets: &LeafSets,
     writes: &WriteSets,
     workers: &Workers,
+    input: &[u8],
     w: Work,
 )
-    requires { ⌜ Ready (lent (now rows) (now leaves) (now slots)) (logs (now reads) (now leafsets) (now writes)) (coreOf (now workers) (w .session .globals)) ⌝ }
-    requires { ⌜ Started (lent (now rows) (now leaves) (now slots)) (logs (now reads) (now leafsets) (now writes)) (sessionOf (now workers) (w .session)) ⌝ }
-    requires { ⌜ (w .session .at ≡ 0) × (longestEnd ≤ length (now out)) ⌝ }
+    requires { ⌜ Rests (lent (now rows) (now leaves) (now slots)) (logs (now reads) (now leafsets) (now writes)) (now workers) (now input) w ⌝ }
+    requires { ⌜ longestEnd ≤ length (now out) ⌝ }
 {
     if w.failed {
+        return;
+    }
+    if w.going {
         return;
     }
     let x = w.session;
@@ -170,7 +246,19 @@ fn close(
         workers,
         x,
     );
-    write_first(out, last);
+    write_due(
+        out,
+        last,
+        rows,
+        leaves,
+        slots,
+        reads,
+        leafsets,
+        writes,
+        workers,
+        input,
+        w,
+    );
 }
 
 fn main() {
@@ -197,9 +285,11 @@ fn main() {
         count: 0,
         going: true,
         failed: false,
+        fed: 0,
+        told: 0,
     };
-    // A proved loop ends: it counts its turns down from a number that no run uses up.
-    let mut turns = u64::MAX;
+    // A proved loop ends: it counts its turns down from a number that no run uses up, and by which the bytes can be counted.
+    let mut turns = MOST_TURNS;
     while turns > 0 && w.going {
         w = advance(
             &mut input,
@@ -224,6 +314,7 @@ fn main() {
         &leafsets,
         &writes,
         &workers,
+        &input,
         w,
     );
 }

@@ -1,41 +1,54 @@
--- `advance` meets its contract: what is kept from turn to turn holds again.
+-- `advance` meets its contract: a turn is a read, or the lines of what there is and a write, and between two turns nothing waits.
 use borrow.Author.Needs.{needs}
 use native.Mathlib.Omega.{arith}
 use mathlib.Core.Path.{sym}
 use lib.Seq.{length-take-le}
-use Rattle.mapscript.specs.Works.{holds-next, next-within}
+use Rattle.shell.specs.WorkLaws.{stands-run, turn-read, turn-run, rests-turned, rests-settled}
 use Rattle.mapscript.proofs.advance.Statement.{statement}
 use Rattle.mapscript.proofs.advance.Tie as tie
 
 read-more-requires : tie.Need-read-more-requires
-read-more-requires c κs = tt
+read-more-requires c κs =
+    let s = c .before .before .before .before .before .before .before .before .before .before .before .before .before .pre in
+    (record { rests = s .0; used = c .before .before .before .before .before .before .before .before .if1 .taken; goes = s .1 .0 }, s .1 .1)
 
 same-length : tie.Need-same-length
 same-length c = search needs
 
 returns : tie.Need-returns
-returns c = let s = c .before .before .before .before .before .before .before .before .before .pre in holds-next (s .ready) (s .started) (c .before .before .read-more .ensures)
+returns c =
+    let s = c .before .before .before .before .before .before .before .before .before .before .before .before .before .before .before .before .pre in
+    let d = c .before .before .read-more .ensures in
+    let u = c .before .before .before .before .before .before .before .before .before .before .before .if1 .taken in
+    (turn-read u d, rests-turned _ (record { rests = s .0; used = u; goes = s .1 .0 }) d)
 
 slice-reshare-prefix-feed : tie.Need-slice-reshare-prefix-feed
-slice-reshare-prefix-feed c = c .before .before .before .before .before .before .before .before .before .before .before .before .before .pre .count-fits
+slice-reshare-prefix-feed c = c .before .before .before .before .before .before .before .before .before .before .before .before .before .pre .0 .stands .count-fits
 
 slice-aggregate-feed : tie.Need-slice-aggregate-feed
-slice-aggregate-feed c = sym (length-take-le _ _ (c .before .before .before .before .before .before .before .before .before .before .before .before .before .before .pre .count-fits))
+slice-aggregate-feed c = sym (length-take-le _ _ (c .before .before .before .before .before .before .before .before .before .before .before .before .before .before .pre .0 .stands .count-fits))
 
 feed-requires : tie.Need-feed-requires
-feed-requires c κs = let s = c .before .before .before .before .before .before .before .before .before .before .before .before .before .before .pre in (s .ready, (s .started, (let e = s .written in omega (arith, e))))
+feed-requires c κs = let s = c .before .before .before .before .before .before .before .before .before .before .before .before .before .before .pre .0 .stands in (s .ready, (s .started, (let e = s .waits in omega (arith, e))))
 
 settle-requires : tie.Need-settle-requires
-settle-requires c κs = c .before .before .before .feed .ensures .feeds .room
+settle-requires c κs =
+    let s = c .before .before .before .before .before .before .before .before .before .before .before .before .before .before .before .before .before .before .before .before .before .before .before .before .before .before .pre in
+    let f = c .before .before .before .before .before .before .before .before .before .before .before .feed .ensures in
+    (stands-run (s .0 .stands) f, (s .1 .0, f .feeds .room, let e = f .feeds .room in let k = f .feeds .size in omega (arith, s .1 .2, e, k)))
 
 same-length-2 : tie.Need-same-length-2
 same-length-2 c = search needs
 
 same-length-3 : tie.Need-same-length-3
-same-length-3 c = c .before .before .before .before .feed .ensures .feeds .size
+same-length-3 c = c .before .before .before .before .before .before .before .before .before .before .before .before .feed .ensures .feeds .size
 
 returns-2 : tie.Need-returns-2
-returns-2 c = let f = c .before .before .before .before .feed .ensures .feeds in holds-next (f .ready) (f .started) (next-within (c .settle .ensures) (c .before .before .before .before .before .before .before .before .before .before .before .before .before .before .before .before .before .before .before .pre .count-fits))
+returns-2 c =
+    let s = c .before .before .before .before .before .before .before .before .before .before .before .before .before .before .before .before .before .before .before .before .before .before .before .before .before .before .before .pre in
+    let f = c .before .before .before .before .before .before .before .before .before .before .before .before .feed .ensures in
+    let d = c .settle .ensures in
+    (turn-run (c .before .before .before .before .before .before .before .before .before .before .before .before .before .before .before .before .before .before .before .before .before .before .if1 .left) f d, rests-settled (stands-run (s .0 .stands) f) d)
 
 pub advance-spec : {M : Type 1} → statement M
 advance-spec =

@@ -1,17 +1,20 @@
--- `main` is safe and ends. The invariant: what is kept from turn to turn holds; the measure: the turns left.
+-- `main` is safe and ends, and each part of its run goes on from the one before. The invariant: between two turns nothing waits,
+-- and the bytes of the turns left can be counted. The measure: the turns left.
 use native.Mathlib.Omega.{arith}
+use Prim.Native.Nat.{_+_, _*_, _^_, _<_}
 use mathlib.Core.Path.{_≡_, refl, sym}
 use lib.ListN.{length}
 use Rattle.map.specs.Views.{lent}
 use Rattle.transactions.specs.Views.{logs}
-use Rattle.mapscript.specs.Works.{WorkReady, holds-start}
+use Rattle.shell.specs.Works.{Rests}
+use Rattle.shell.specs.WorkLaws.{rests-start, turn-grows}
 use Rattle.mapscript.proofs.main.Statement.{statement}
 use Rattle.mapscript.proofs.main.Tie as tie
 
 abbrev Inv-loop : tie.InvT-loop
 Inv-loop input₀ out₀ rows₀ leaves₀ slots₀ reads₀ leafsets₀ writes₀ workers₀ w₀ turns₀ input out rows leaves slots reads leafsets writes workers w turns =
-    WorkReady (lent rows leaves slots) (logs reads leafsets writes) workers w (length input)
-    × (65536 ≡ length out) × (65536 ≡ length input)
+    Rests (lent rows leaves slots) (logs reads leafsets writes) workers input w
+    × (65536 ≡ length out) × (65536 ≡ length input) × (w .fed + 65536 * turns < 2 ^ 64) × (w .told + 65536 * turns < 2 ^ 64)
 
 abbrev μ-loop : tie.MeasureT-loop
 μ-loop input₀ out₀ rows₀ leaves₀ slots₀ reads₀ leafsets₀ writes₀ workers₀ w₀ turns₀ input out rows leaves slots reads leafsets writes workers w turns =
@@ -27,7 +30,7 @@ fresh-session-requires : tie.Need-fresh-session-requires Inv-loop μ-loop
 fresh-session-requires c κs = tt
 
 loop-holds : tie.Need-loop-holds Inv-loop μ-loop
-loop-holds c = (holds-start _ (c .fresh-session .ensures) refl refl, c .before .before .before .before .before .before .before .before .large-buffer2 .ensures, c .before .before .before .before .before .before .before .before .before .large-buffer .ensures)
+loop-holds c = (rests-start _ (c .fresh-session .ensures), c .before .before .before .before .before .before .before .before .large-buffer2 .ensures, c .before .before .before .before .before .before .before .before .before .large-buffer .ensures, omega arith, omega arith)
 
 slice-aggregate-advance : tie.Need-slice-aggregate-advance Inv-loop μ-loop
 slice-aggregate-advance c = c .before .before .before .loop .inv .2
@@ -36,7 +39,14 @@ slice-aggregate-advance-2 : tie.Need-slice-aggregate-advance-2 Inv-loop μ-loop
 slice-aggregate-advance-2 c = c .before .before .before .before .loop .inv .1
 
 advance-requires : tie.Need-advance-requires Inv-loop μ-loop
-advance-requires c κs = c .before .before .before .before .before .before .before .before .before .before .before .loop .inv .0
+advance-requires c κs =
+    let i = c .before .before .before .before .before .before .before .before .before .before .before .loop .inv in
+    let some = c .before .before .before .before .before .before .before .before .before .before .loop-test .taken in
+    let long = i .2 in
+    let room = i .1 in
+    let fed = i .3 in
+    let told = i .4 in
+    (i .0, (c .before .before .before .before .before .before .before .before .before .if1 .taken, record { fed = omega arith; told = omega arith }, omega arith))
 
 sub-turns : tie.Need-sub-turns Inv-loop μ-loop
 sub-turns c = omega (arith, c .before .before .before .before .before .before .before .before .before .before .before .before .before .loop-test .taken)
@@ -45,15 +55,24 @@ loop-less : tie.Need-loop-less Inv-loop μ-loop
 loop-less c = omega (arith, c .before .before .before .before .before .before .before .before .before .before .before .before .before .loop-test .taken)
 
 loop-again : tie.Need-loop-again Inv-loop μ-loop
-loop-again c = (c .before .before .advance .ensures, sym (c .out2 .given), sym (c .before .input2 .given))
+loop-again c =
+    let i = c .before .before .before .before .before .before .before .before .before .before .before .before .before .before .loop .inv in
+    let some = c .before .before .before .before .before .before .before .before .before .before .before .before .before .loop-test .taken in
+    let grown = turn-grows (c .before .before .advance .ensures .0) in
+    let long = c .before .input2 .given in
+    let room = i .1 in
+    let fed = i .3 in
+    let told = i .4 in
+    (c .before .before .advance .ensures .1, sym (c .out2 .given), sym (c .before .input2 .given), omega (arith, grown .fed), omega (arith, grown .told))
 
 slice-aggregate-close : tie.Need-slice-aggregate-close Inv-loop μ-loop
 slice-aggregate-close c = c .before .before .loop .inv .1
 
+slice-aggregate-close-2 : tie.Need-slice-aggregate-close-2 Inv-loop μ-loop
+slice-aggregate-close-2 c = c .before .before .before .before .before .before .before .before .before .before .loop .inv .2
+
 close-requires : tie.Need-close-requires Inv-loop μ-loop
-close-requires c κs =
-    let i = c .before .before .before .before .before .before .before .before .before .loop .inv in
-    (i .0 .ready, (i .0 .started, (i .0 .written, omega (arith, i .1))))
+close-requires c κs = let i = c .before .before .before .before .before .before .before .before .before .before .loop .inv in (i .0, omega (arith, i .1))
 
 returns : tie.Need-returns Inv-loop μ-loop
 returns c = tt
@@ -75,5 +94,6 @@ main-spec =
     loop-less
     loop-again
     slice-aggregate-close
+    slice-aggregate-close-2
     close-requires
     returns)

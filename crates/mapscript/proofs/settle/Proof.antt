@@ -1,21 +1,19 @@
--- `settle` meets its contract: the session is as before, but for its output, which is written.
+-- `settle` meets its contract: the bytes that wait are due, and after the write they are told.
 use borrow.Author.Needs.{needs}
-use native.Mathlib.Nat.{le-refl}
-use Rattle.mapscript.specs.Works.{keeps-written}
+use Rattle.shell.specs.WorkLaws.{owed-waiting}
 use Rattle.mapscript.proofs.settle.Statement.{statement}
 use Rattle.mapscript.proofs.settle.Tie as tie
 
-write-first-requires : tie.Need-write-first-requires
-write-first-requires c κs = search needs
+write-due-requires : tie.Need-write-due-requires
+write-due-requires c κs =
+    let s = c .before .before .before in
+    (s .pre .1 .1, owed-waiting (s .pre .0) (s .pre .1 .0))
 
-at-places-requires : tie.Need-at-places-requires
-at-places-requires c κs = search needs
+after-write-requires : tie.Need-after-write-requires
+after-write-requires c κs = search needs
 
 returns : tie.Need-returns
-returns c = record { keeps = keeps-written _ (c .before .at-places .ensures); fits = le-refl _ }
-
-returns-2 : tie.Need-returns-2
-returns-2 c = record { keeps = keeps-written _ (c .before .before .at-places .ensures); fits = le-refl _ }
+returns c = record { written = c .before .write-due .result; after = c .after-write .ensures }
 
 pub settle-spec : {M : Type 1} → statement M
-settle-spec = tie.close (tie.spec write-first-requires at-places-requires returns returns-2)
+settle-spec = tie.close (tie.spec write-due-requires after-write-requires returns)

@@ -12,12 +12,8 @@ use Rattle.lists.specs.TestLaws.{cases, clash, less-false, less-yes, less-no, a
 use Rattle.lists.specs.Ascending.{Ascends, ascends-at, ascends-drop, ascends-mem, mem-getD, mem-drop}
 use Rattle.spec.specs.Records.{Settings, standard}
 use Rattle.spec.specs.Leaves.{Leaf, leafFrom, live, runs, cuts, starts, newLows, freshLeaves, versionsTaken}
+use Rattle.spec.specs.GoodSettings.{GoodCut}
 use Rattle.laws.specs.LeafParts.{LowsFrom, Above, Apart, live-nil, live-cons, not-live, lows-weaken}
-
--- Settings under which a cut leaves no run without an address.
-pub record GoodCut (s : Settings) : Type 0 where
-  pub positive : 1 ≤ s .run
-  pub smaller : s .run < s .leafLimit
 
 pub standard-cut : GoodCut standard
 standard-cut = record { positive = omega arith; smaller = omega arith }

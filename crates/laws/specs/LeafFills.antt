@@ -16,7 +16,7 @@ use Rattle.lists.specs.Memberships.{same-sym, member-has, different-length}
 use Rattle.spec.specs.Records.{Settings}
 use Rattle.spec.specs.Leaves.{Leaf, firstLeaf, versionAt, live, settle, versionsTaken}
 use Rattle.laws.specs.LeafParts.{Apart, live-nil, live-later, live-left, live-right, live-parts, not-live, apart-right, apart-cross}
-use Rattle.laws.specs.LeafCuts.{GoodCut}
+use Rattle.spec.specs.GoodSettings.{GoodCut}
 use Rattle.laws.specs.LeafVersions.{GoodLeaves}
 use Rattle.laws.specs.LeafSwaps.{Swap, swap-leaves}
 use Rattle.laws.specs.SettleLaws.{InLeaf, Settled, Holding, by-key, by-neighbour, settle-settled}

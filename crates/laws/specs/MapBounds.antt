@@ -23,7 +23,7 @@ use Rattle.spec.specs.Leaves.{Leaf, versionAt, settle}
 use Rattle.spec.specs.Slots.{slotCount, Slot, Pending, Content, isIdle, entries, contentOf}
 use Rattle.spec.specs.Maps.{MapState, freshMap, waitingWith, addressesWith, withoutLock, each, withSlots, lockAll, unlockAll, installAll, mergesAt, merging, mergeEntry, recordsIn, settleMap, mergeAll, mergeAt}
 use Rattle.laws.specs.SlotLaws.{Good, fresh-good, present-content, keys-differ}
-use Rattle.laws.specs.LeafCuts.{GoodCut}
+use Rattle.spec.specs.GoodSettings.{GoodCut}
 use Rattle.laws.specs.LeafLaws.{GoodLeaves, fresh-leaves}
 use Rattle.laws.specs.SettleLaws.{records-in-leaf}
 use Rattle.laws.specs.LeafFills.{Filled, fresh-filled, settle-filled, leaf-count}

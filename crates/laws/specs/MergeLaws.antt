@@ -20,7 +20,7 @@ use Rattle.laws.specs.SlotCounts.{Good}
 use Rattle.laws.specs.SlotLaws.{Room, enter-good, said, said-pending, said-holder, said-kind, content-said}
 use Rattle.laws.specs.MapLaws.{idle-holder, room-old}
 use Rattle.laws.specs.LeafLaws.{GoodLeaves}
-use Rattle.laws.specs.LeafCuts.{GoodCut}
+use Rattle.spec.specs.GoodSettings.{GoodCut}
 use Rattle.laws.specs.LeafSwaps.{Kept}
 use Rattle.laws.specs.SettleLaws.{InLeaf, records-in-leaf, settle-good, settle-keeps}
 

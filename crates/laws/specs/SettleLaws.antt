@@ -14,7 +14,8 @@ use Rattle.lists.specs.Ascending.{Ascends, rising-keys, rising-filter, mem-filt
 use Rattle.spec.specs.Records.{Settings}
 use Rattle.spec.specs.Leaves.{Leaf, leafFrom, leafOf, versionAt, live, cuts, starts, newLows, freshLeaves, Around, aroundFrom, around, widened, settled, settle, versionsTaken}
 use Rattle.laws.specs.LeafParts.{LowsFrom, Covers, Above, Apart, live-nil, live-head, live-later, live-cons, live-left, live-right, live-parts, apart-right, lows-right, lows-weaken}
-use Rattle.laws.specs.LeafCuts.{GoodCut, starts-none, cuts-fit, fresh-holds, taken-some, lows-taken, fresh-versions, fresh-apart, fresh-rise}
+use Rattle.spec.specs.GoodSettings.{GoodCut}
+use Rattle.laws.specs.LeafCuts.{starts-none, cuts-fit, fresh-holds, taken-some, lows-taken, fresh-versions, fresh-apart, fresh-rise}
 use Rattle.laws.specs.LeafVersions.{GoodLeaves, version-old}
 use Rattle.laws.specs.LeafSwaps.{Swap, Kept, gone-side, new-inside, swap-good, swap-renews, swap-keeps}
 

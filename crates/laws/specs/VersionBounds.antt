@@ -17,7 +17,8 @@ use Rattle.spec.specs.Leaves.{versionAt, versionsTaken}
 use Rattle.spec.specs.Slots.{Content, entries}
 use Rattle.spec.specs.Maps.{MapState, each, mergesAt, merging, mergeEntry, recordsIn, settleMap, mergeAll, mergeAt}
 use Rattle.laws.specs.SlotLaws.{member-content}
-use Rattle.laws.specs.LeafCuts.{GoodCut, taken-most}
+use Rattle.spec.specs.GoodSettings.{GoodCut}
+use Rattle.laws.specs.LeafCuts.{taken-most}
 use Rattle.laws.specs.MapBounds.{Bounded, record-count, merge-bounded}
 use Rattle.laws.specs.PendingCounts.{pendingCount, pendingAt, merged-fewer}
 use Rattle.laws.specs.RecordLaws.{both-left}

@@ -19,14 +19,9 @@ use Rattle.spec.specs.declared.Stage.{Stage}
 use Rattle.spec.specs.declared.Stage.the-variants.{Free, Open, Locked, Checked}
 use Rattle.spec.specs.Refusals.{ends}
 use Rattle.spec.specs.Records.{Settings, standard}
-use Rattle.spec.specs.Slots.{slotCount}
 use Rattle.spec.specs.Steps.{Worker, freeWorker, State, fresh, workerOf, isFree, isOpen, isLocked, isChecked, Cause, noWorker, workerFree, wrongStage, firstCause}
-use Rattle.laws.specs.LeafCuts.{GoodCut, standard-cut}
-
--- What the laws need of the limits.
-pub record GoodSettings (s : Settings) : Type 0 where
-  pub cut : GoodCut s
-  pub roomy : s .waitingLimit < slotCount
+use Rattle.spec.specs.GoodSettings.{GoodSettings}
+use Rattle.laws.specs.LeafCuts.{standard-cut}
 
 pub standard-settings : GoodSettings standard
 standard-settings = record { cut = standard-cut; roomy = omega arith }

@@ -23,7 +23,7 @@ use Rattle.spec.specs.Maps.{MapState, merging, older, oldest}
 use Rattle.spec.specs.Steps.{State, fresh, Step, next, final}
 use Rattle.spec.specs.Waiting.{waitsSince, isMergeOldest, oldestMerges, takesIn, TakenWithin}
 use Rattle.laws.specs.SlotLaws.{Good}
-use Rattle.laws.specs.WorkerLaws.{GoodSettings}
+use Rattle.spec.specs.GoodSettings.{GoodSettings}
 use Rattle.laws.specs.OldestLaws.{older-true, strictly-older}
 use Rattle.laws.specs.WaitingLaws.{olderAt, olderCount, older-fewer-than-entries, older-no-more, older-one-less, oldest-waits, merging-takes}
 use Rattle.limits.specs.Invariant.{Kept, fresh-kept}

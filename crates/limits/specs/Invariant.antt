@@ -26,7 +26,8 @@ use Rattle.spec.specs.Steps.{Worker, freeWorker, State, fresh, workerOf, writeK
 use Rattle.laws.specs.MapBounds.{Bounded, fresh-bounded}
 use Rattle.laws.specs.PendingCounts.{pendingCount, none-pending}
 use Rattle.laws.specs.VersionBounds.{standard-per, versionsPerMerge}
-use Rattle.laws.specs.WorkerLaws.{GoodSettings, worker-fresh, hasLocks}
+use Rattle.spec.specs.GoodSettings.{GoodSettings}
+use Rattle.laws.specs.WorkerLaws.{worker-fresh, hasLocks}
 
 -- A worker within the limits s, n the last commit number given.
 pub record GoodWorker (s : Settings) (n : ℕ) (x : Worker) : Type 0 where

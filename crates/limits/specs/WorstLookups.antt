@@ -16,13 +16,14 @@ use Rattle.lists.specs.Rows.{Row, any}
 use Rattle.spec.specs.declared.Refusal.{Refusal}
 use Rattle.spec.specs.Records.{Settings, standard}
 use Rattle.spec.specs.Slots.{Content, entries, search}
+use Rattle.spec.specs.GoodSettings.{GoodSettings}
 use Rattle.spec.specs.Maps.{MapState, withSlots, lockAll, installAll, merging, mergeAll, mergeAt, oldest}
 use Rattle.spec.specs.Steps.{State, fresh, Step, begin, read, scan, put, remove, lock, validate, install, abort, merge, mergeOldest, refused, refusal, granted, withWorker, withMap, withCounters, installCounted, merged, mergedAt, effect, answer, next, final, history, stepsOf}
 use Rattle.spec.specs.Examined.{isAbort, takesOutBy, takesOut}
 use Rattle.spec.specs.Computing.{model}
 use Rattle.spec.specs.Crowded.{homedAt, crowdedAddress, crowdedAddresses, crowdedFrom, crowded}
 use Rattle.laws.specs.DenseSlots.{Dense, fresh-dense, lock-dense, install-dense, examined-most}
-use Rattle.laws.specs.WorkerLaws.{GoodSettings, standard-settings}
+use Rattle.laws.specs.WorkerLaws.{standard-settings}
 use Rattle.limits.specs.Invariant.{fresh-kept}
 use Rattle.limits.specs.Keeping.{final-kept, final-settings}
 use Rattle.limits.specs.Refusing.{next-granted, refused-same}

@@ -15,7 +15,8 @@ use Rattle.spec.specs.Steps.{Places, places, shortest, firstCause, State, Step,
 use Rattle.spec.specs.Computing.{model}
 use Rattle.spec.specs.Files.{littleEndian, addressBytes, entryBytes, fileOf, fileSize}
 use Rattle.spec.specs.Exports.{ExportStep, openExport, portion, file, closeExport, declined, opened, given, filed, closed, exportOf, exportCauses, exportRefusal, exportGranted, exportEffect, exportAnswer, exportNext, Exporting, Request, job, exporting, Exchange, jobTold, exportTold, exchange, nextOf, startingAt, jobSteps}
-use Rattle.spec.specs.Runs.{wide, event, owned, ownersTold, Run, home, leaves, script, starred}
+use Rattle.spec.specs.Events.{event}
+use Rattle.spec.specs.Runs.{wide, owned, ownersTold, Run, home, leaves, script, starred}
 use Rattle.map.specs.Views.{Lent, mapOf}
 use Rattle.ranges.specs.Buffers.{placesOf}
 use Rattle.exports.specs.Exporting.{ExportedRows, Space}

@@ -13,7 +13,8 @@ use Rattle.lists.specs.Tests.{same, less, atMost, within}
 use Rattle.lists.specs.Rows.{row}
 use Rattle.spec.specs.Records.{Payload}
 use Rattle.spec.specs.Steps.{Answer, refused, done, found, listed, numbered, counted, Event}
-use Rattle.spec.specs.Runs.{fullRun, oldestMerged, value, event}
+use Rattle.spec.specs.Events.{value, event}
+use Rattle.spec.specs.Runs.{fullRun, oldestMerged}
 use Rattle.spec.specs.declared.Refusal.the-variants.{NoWorker, Phantom}
 use Rattle.script.specs.declared.Line.{Line}
 use Rattle.script.specs.declared.Line.the-variants.{Begin, Read, Scan, Put, Remove, Lock, Validate, Install, Abort, Merge, MergeOldest}

@@ -19,7 +19,8 @@ use Rattle.spec.specs.Maps.{contents, hiddenIn}
 use Rattle.spec.specs.Steps.{State, fresh, workerOf, Step, begin, read, scan, put, remove, lock, validate, install, abort, merge, mergeOldest, refused, listed, Cause, cause, causes, firstCause, granted, effect, afterRefusal, writeKeys, Event}
 use Rattle.spec.specs.Claim.{SerialRun}
 use Rattle.spec.specs.Computing.{claim}
-use Rattle.spec.specs.Runs.{value, wide}
+use Rattle.spec.specs.Events.{value}
+use Rattle.spec.specs.Runs.{wide}
 
 found-differ : {p : Payload} → some none ≡ some (some p) → ⊥
 found-differ e = let z : _≡_ {A = ℕ} 0 1 = cc in omega arith

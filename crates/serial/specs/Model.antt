@@ -22,7 +22,7 @@ use Rattle.spec.specs.Claim.{Transaction, Reading, runningNow, passed, extended
 use Rattle.laws.specs.SlotCounts.{Good}
 use Rattle.laws.specs.SlotLaws.{fresh-good}
 use Rattle.laws.specs.LeafLaws.{GoodLeaves, fresh-leaves}
-use Rattle.laws.specs.WorkerLaws.{GoodSettings}
+use Rattle.spec.specs.GoodSettings.{GoodSettings}
 use Rattle.serial.specs.Invariant.{Facts}
 use Rattle.serial.specs.Keeping.{ReadOn}
 

@@ -22,7 +22,8 @@ use Rattle.spec.specs.Maps.{contents}
 use Rattle.spec.specs.Steps.{State, fresh, Step, begin, read, scan, put, remove, lock, validate, install, abort, merge, mergeOldest, stepWorker, refusal, withWorker, withMap, withCounters, installCounted, dropped, merged, effect, afterRefusal, next, final, history}
 use Rattle.spec.specs.Sequential.{afterSteps}
 use Rattle.spec.specs.Claim.{Transaction, Reading, nothingRead, readOn, reading, listAfter}
-use Rattle.laws.specs.WorkerLaws.{GoodSettings, standard-settings}
+use Rattle.spec.specs.GoodSettings.{GoodSettings}
+use Rattle.laws.specs.WorkerLaws.{standard-settings}
 use Rattle.serial.specs.Feeding.{eventWrites, laid, look-afterAll, look-member, listAfter-none, rising-listAfter}
 use Rattle.serial.specs.Invariant.{Facts, Observation, Matches, RoomFor, Done, Invariant}
 use Rattle.serial.specs.Observing.{within-low}

@@ -20,7 +20,8 @@ use Rattle.spec.specs.Steps.{Worker, State, Places, fresh, workerOf, Step, begi
 use Rattle.spec.specs.Claim.{Reading, nothingRead, isGranted, passed, readGranted, advance, readOn, reading, listAfter, SerialRun}
 use Rattle.laws.specs.ContentLaws.{look-contents, rising-contents}
 use Rattle.laws.specs.MapBounds.{lock-room}
-use Rattle.laws.specs.WorkerLaws.{GoodSettings, standard-settings}
+use Rattle.spec.specs.GoodSettings.{GoodSettings}
+use Rattle.laws.specs.WorkerLaws.{standard-settings}
 use Rattle.serial.specs.Stages.{free-free, checked-busy}
 use Rattle.serial.specs.Concluding.{serial}
 use Rattle.serial.specs.Model.{Fine, fine-fresh, worker-fresh, cause-passed, not-false}

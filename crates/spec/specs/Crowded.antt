@@ -9,7 +9,7 @@ use mathlib.Core.Option.{some}
 use lib.Bits.{bitXor}
 use Rattle.spec.specs.Slots.{tableEntry}
 use Rattle.spec.specs.Steps.{begin, read, found, Event, done}
-use Rattle.spec.specs.Runs.{value, event, installed}
+use Rattle.spec.specs.Events.{value, event, installed}
 
 -- the address with home slot 13 + i whose second byte is b, the higher two being 0: 23 undoes the table's 167, modulo 256
 unfoldable pub homedAt : ℕ → ℕ → ℕ

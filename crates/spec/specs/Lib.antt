@@ -3,6 +3,7 @@ pub mod Records
 pub mod Payloads
 pub mod Leaves
 pub mod Slots
+pub mod GoodSettings
 pub mod Maps
 pub mod Guards
 pub mod Steps
@@ -12,6 +13,7 @@ pub mod Sequential
 pub mod Claim
 pub mod Files
 pub mod Exports
+pub mod Events
 pub mod Runs
 pub mod Computing
 pub mod Crowded

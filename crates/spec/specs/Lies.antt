@@ -10,7 +10,8 @@ use Rattle.spec.specs.Records.{Record}
 use Rattle.spec.specs.Steps.{begin, read, scan, put, lock, validate, install, done, found, listed, numbered, Event}
 use Rattle.spec.specs.Claim.{SerialRun}
 use Rattle.spec.specs.Computing.{claim}
-use Rattle.spec.specs.Runs.{value, wide, event, entryOf}
+use Rattle.spec.specs.Events.{value, event}
+use Rattle.spec.specs.Runs.{wide, entryOf}
 
 -- a transaction that puts a value at an address
 abbrev putter : ℕ → ℕ → ℕ → ℕ → List Event

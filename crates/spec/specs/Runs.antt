@@ -10,18 +10,13 @@ use Rattle.spec.specs.Records.{standard, Payload, Record}
 use Rattle.spec.specs.Leaves.{cuts}
 use Rattle.spec.specs.Slots.{homeSlot}
 use Rattle.spec.specs.Maps.{contents}
-use Rattle.spec.specs.Steps.{fresh, Places, places, Step, begin, read, scan, put, remove, lock, validate, install, abort, merge, mergeOldest, Answer, refused, done, found, listed, numbered, counted, answer, Event, final, history, stepsOf}
+use Rattle.spec.specs.Steps.{fresh, Places, places, begin, read, scan, put, remove, lock, validate, install, abort, merge, mergeOldest, refused, done, found, listed, numbered, counted, answer, Event, final, history, stepsOf}
+use Rattle.spec.specs.Events.{value, event, checked, installed}
 use Rattle.spec.specs.Computing.{model}
-
-abbrev pub value : ℕ → Payload
-value n = record { value = n; owner = 0 }
 
 -- buffers in which every scan of the runs fits
 abbrev pub wide : Places
 wide = places 64 64 64
-
-abbrev pub event : Step → Answer → Event
-event s a = record { step = s; answer = a }
 
 abbrev pub entryOf : ℕ → ℕ → ℕ → Row Record
 entryOf k n c = row k (record { payload = value n; commit = c })
@@ -166,18 +161,6 @@ ownWrites =
 abbrev pub inTurn : List (List Event) → List Event
 inTurn [] = []
 inTurn (h ∷ hs) = h ++ inTurn hs
-
--- puts of worker w at these addresses
-abbrev pub putsAt : ℕ → List ℕ → List Event
-putsAt w [] = []
-putsAt w (k ∷ ks) = event (put w k (value k)) done ∷ putsAt w ks
-
--- worker w puts at these addresses, and its transaction takes number n; it is installed
-abbrev pub checked : ℕ → ℕ → List ℕ → List Event
-checked w n ks = event (begin w) done ∷ putsAt w ks ++ (event (lock w) done ∷ event (validate w) (numbered n) ∷ [])
-
-abbrev pub installed : ℕ → ℕ → List ℕ → List Event
-installed w n ks = checked w n ks ++ (event (install w) done ∷ [])
 
 abbrev pub oldestMerged : ℕ → List Event
 oldestMerged n = event mergeOldest (counted n) ∷ []

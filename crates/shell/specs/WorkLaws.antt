@@ -135,7 +135,7 @@ module _ {l : Lent} {g : Logs} {ws input : List ℕ} {w : Work} (h : Reads l g w
   end-read new (pos (suc k)) e f = absurd (subst T e (lt→ltb 0 (suc k) (omega arith)))
   end-read new (negsuc k) e f = clash refl f
 
-  pub rests-read : (new : List ℕ) (got : ℤ) → Rests l g ws new (afterRead w got (length new))
+  rests-read : (new : List ℕ) (got : ℤ) → Rests l g ws new (afterRead w got (length new))
   unfolding stands-read
   rests-read new got = record { stands = stands-read new got; goes = λ e. h .rests .goes (h .goes); ends = end-read new got }
 
@@ -202,7 +202,7 @@ module _ {l : Lent} {g : Logs} {ws input waiting : List ℕ} {w : Work} (h : Sta
       not-false true q = refl
       not-false false q = clash refl q
 
-  pub rests-written : (written : Bool) → Rests l g ws input (afterWrite w written)
+  rests-written : (written : Bool) → Rests l g ws input (afterWrite w written)
   unfolding stands-written
   rests-written written = record { stands = stands-written written; goes = goes written; ends = end-written written }
     where

@@ -14,3 +14,6 @@ pub mod WholeRuns
 pub mod SerialOutput
 pub mod TranscriptLaws
 pub mod SerialOutputLaws
+pub mod OutputEnds
+pub mod GuardedOutputLaws
+pub mod MalformedLaws

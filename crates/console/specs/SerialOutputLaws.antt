@@ -46,11 +46,11 @@ answers σ s = go (refusal σ s)
 
 -- ---- the lines of the output, from any state
 
-abbrev stepsIn : List Line → List Step
+abbrev pub stepsIn : List Line → List Step
 stepsIn [] = []
 stepsIn (l ∷ ls) = stepOf places l ∷ stepsIn ls
 
-abbrev Transcribes : State → List Line → List ℕ → Type 0
+abbrev pub Transcribes : State → List Line → List ℕ → Type 0
 Transcribes σ ls text = Transcript ls text (history σ (stepsIn ls)) (contents (final σ (stepsIn ls) .map))
 
 transcribes-none : (σ : State) (ls : List Line) → some [] ≡ some ls → Transcribes σ ls (endLine (contents (σ .map)))
@@ -68,7 +68,7 @@ transcribes-line σ l ls ms text e t =
 no-lines : {A : Type 0} (ls : List Line) → none ≡ some ls → A
 no-lines ls e = let z : _≡_ {A = ℕ} 0 1 = cc in absurd (omega arith)
 
-transcribes : (σ : State) (line bs : List ℕ) (ls : List Line) → linesFrom line bs ≡ some ls → Transcribes σ ls (writtenFrom σ line bs)
+pub transcribes : (σ : State) (line bs : List ℕ) (ls : List Line) → linesFrom line bs ≡ some ls → Transcribes σ ls (writtenFrom σ line bs)
 unfolding linesFrom writtenFrom
 transcribes σ line [] ls e = go (filled line) e
   where
@@ -92,7 +92,7 @@ transcribes σ line (b ∷ bs) ls e =
     go true (some l) (some ms) q f g = transcribes-line σ l ms ls (writtenFrom (next σ (stepOf places l)) [] bs) q (f l ms refl)
     go false o p q f g = g q
 
-written-serial : (g : Bool) (bs : List ℕ) (ls : List Line) → linesFrom [] bs ≡ some ls → SerialOutput ls (writtenFrom (fresh standard g) [] bs)
+pub written-serial : (g : Bool) (bs : List ℕ) (ls : List Line) → linesFrom [] bs ≡ some ls → SerialOutput ls (writtenFrom (fresh standard g) [] bs)
 written-serial g bs ls e =
     let t : Transcribes (fresh standard g) ls (writtenFrom (fresh standard g) [] bs) = transcribes (fresh standard g) [] bs ls e in
     record {

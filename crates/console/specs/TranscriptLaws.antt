@@ -9,15 +9,16 @@ use mathlib.Core.Option.{Option, none, some}
 use lib.ListN.{length}
 use Rattle.lists.specs.Tests.{pick, same, less, atMost, within}
 use Rattle.lists.specs.TestLaws.{atMost-yes, less-true, less-false, cases}
-use Rattle.lists.specs.Rows.{Row, row}
+use Rattle.lists.specs.Rows.{Row, row, mapItems}
 use Rattle.spec.specs.declared.Refusal.{Refusal}
 use Rattle.spec.specs.declared.Refusal.the-variants.{NoWorker, WorkerFree, WorkerTaken, WrongStage, Backward, LogFull, WritesFull, ShortBuffer, Held, IndexletFull, MapFull, Changed, UnderLock, Phantom, Spent, Unfit, Uncovered, Overlap, ExportOpen, NoExport}
 use Rattle.spec.specs.Refusals.{numberOf}
 use Rattle.spec.specs.Records.{Payload, Record}
 use Rattle.spec.specs.Steps.{Step, begin, read, scan, put, remove, lock, validate, install, abort, merge, mergeOldest, Answer, refused, done, found, listed, numbered, counted, Event}
+use Rattle.spec.specs.Exports.{unstamped}
 use Rattle.script.specs.declared.Line.{Line}
 use Rattle.script.specs.Grammar.{isDigit, stepOf}
-use Rattle.answers.specs.Output.{decimal, field, absent, triple, triples, answerText}
+use Rattle.answers.specs.Output.{decimal, field, absent, triple, triples, answerText, endLine}
 use Rattle.answers.specs.OutputLaws.{decimal-one, decimal-more}
 use Rattle.console.specs.Program.{places, answerLine}
 use Rattle.console.specs.SerialOutput.{Answers, not-granted, begun, value, records, written, removed, locked, number, installed, aborted, count, oldest-count, Transcript, end-line, answer-line}
@@ -228,10 +229,10 @@ rowsFront (suc n) t =
     let f = rowsFront n (r .rest) in
     got (r .read ∷ f .read) (f .rest)
 
-stops-triples : (rs : List (Row Payload)) (t : List ℕ) → Stops t → Stops (triples (λ (p : Payload). p) rs ++ t)
+stops-triples : {A : Type 0} (p : A → Payload) (rs : List (Row A)) (t : List ℕ) → Stops t → Stops (triples p rs ++ t)
 unfolding triples triple field isDigit within atMost
-stops-triples [] t h = h
-stops-triples (r ∷ rs) t h = refl
+stops-triples p [] t h = h
+stops-triples p (r ∷ rs) t h = refl
 
 stops-field : (n : ℕ) (t : List ℕ) → Stops (field n ++ t)
 unfolding field isDigit within atMost
@@ -248,17 +249,23 @@ row-front k v o t h =
     ∙ ap (λ (y : Front ℕ). let z = fieldIn (y .rest) in got (row k (record { value = y .read; owner = z .read })) (z .rest)) (field-in v last (stops-field o t))
     ∙ ap (λ (z : Front ℕ). got (row k (record { value = v; owner = z .read })) (z .rest)) (field-in o t h)
 
-rows-front : (rs : List (Row Payload)) (t : List ℕ) → Stops t → rowsFront (length rs) (triples (λ (p : Payload). p) rs ++ t) ≡ got rs t
-unfolding triples rowsFront
-rows-front [] t h = refl
-rows-front (r ∷ rs) t h =
-    let one = triple (r .key) (r .item .value) (r .item .owner) in
-    let after = triples (λ (p : Payload). p) rs ++ t in
-    let ih : rowsFront (length rs) after ≡ got rs t = rows-front rs t h in
-    ap (rowsFront (suc (length rs))) (append-assoc one (triples (λ (p : Payload). p) rs) t)
+rows-front : {A : Type 0} (p : A → Payload) (rs : List (Row A)) (t : List ℕ) → Stops t → rowsFront (length rs) (triples p rs ++ t) ≡ got (mapItems p rs) t
+unfolding triples rowsFront mapItems
+rows-front p [] t h = refl
+rows-front p (r ∷ rs) t h =
+    let one = triple (r .key) (p (r .item) .value) (p (r .item) .owner) in
+    let after = triples p rs ++ t in
+    let ih : rowsFront (length rs) after ≡ got (mapItems p rs) t = rows-front p rs t h in
+    ap (rowsFront (suc (length rs))) (append-assoc one (triples p rs) t)
     ∙ ap (λ (x : Front (Row Payload)). let f = rowsFront (length rs) (x .rest) in got (x .read ∷ f .read) (f .rest))
-    (row-front (r .key) (r .item .value) (r .item .owner) after (stops-triples rs t h))
-    ∙ ap (λ (f : Front (List (Row Payload))). got (r ∷ f .read) (f .rest)) ih
+    (row-front (r .key) (p (r .item) .value) (p (r .item) .owner) after (stops-triples p rs t h))
+    ∙ ap (λ (f : Front (List (Row Payload))). got (row (r .key) (p (r .item)) ∷ f .read) (f .rest)) ih
+
+-- the payloads of payloads
+items-same : (rs : List (Row Payload)) → mapItems (λ (p : Payload). p) rs ≡ rs
+unfolding mapItems
+items-same [] = refl
+items-same (r ∷ rs) = ap (λ (qs : List (Row Payload)). r ∷ qs) (items-same rs)
 
 -- ---- a line
 
@@ -312,8 +319,9 @@ answer-front (found (some p) x) t =
 answer-front (listed rs) t =
     let after = triples (λ (p : Payload). p) rs ++ (10 ∷ t) in
     ap (λ (x : List ℕ). recordsFront (fieldIn x)) (append-assoc (field (length rs)) (triples (λ (p : Payload). p) rs) (10 ∷ t))
-    ∙ ap recordsFront (field-in (length rs) after (stops-triples rs (10 ∷ t) (stops-feed t)))
-    ∙ ap (λ (g : Front (List (Row Payload))). got (listed (g .read)) (g .rest)) (rows-front rs (10 ∷ t) (stops-feed t))
+    ∙ ap recordsFront (field-in (length rs) after (stops-triples (λ (p : Payload). p) rs (10 ∷ t) (stops-feed t)))
+    ∙ ap (λ (g : Front (List (Row Payload))). got (listed (g .read)) (g .rest)) (rows-front (λ (p : Payload). p) rs (10 ∷ t) (stops-feed t))
+    ∙ ap (λ (qs : List (Row Payload)). got (listed qs) (10 ∷ t)) (items-same rs)
 answer-front (numbered n) t = ap (λ (f : Front ℕ). got (numbered (f .read)) (f .rest)) (field-in n (10 ∷ t) (stops-feed t))
 answer-front (counted n) t = ap (λ (f : Front ℕ). got (counted (f .read)) (f .rest)) (field-in n (10 ∷ t) (stops-feed t))
 
@@ -362,3 +370,23 @@ events-in (answer-line {ls = ls} {text = text} {h = h} l a p rest) =
 -- no other history can be read off them
 pub one-history : {ls : List Line} {text : List ℕ} {h g : List Event} {rs qs : List (Row Record)} → Transcript ls text h rs → Transcript ls text g qs → h ≡ g
 one-history p q = sym (events-in p) ∙ events-in q
+
+-- ---- the last line
+
+-- the records that it tells
+abbrev recordsTold : List ℕ → List (Row Payload)
+recordsTold t = let f = fieldIn (tail t) in rowsFront (f .read) (f .rest) .read
+
+records-told : (rs : List (Row Record)) → recordsTold (endLine rs) ≡ unstamped rs
+unfolding endLine
+records-told rs =
+    let after = triples (λ (r : Record). r .payload) rs ++ (10 ∷ []) in
+    ap (λ (x : List ℕ). let f = fieldIn x in rowsFront (f .read) (f .rest) .read)
+    (append-assoc (field (length rs)) (triples (λ (r : Record). r .payload) rs) (10 ∷ []))
+    ∙ ap (λ (f : Front ℕ). rowsFront (f .read) (f .rest) .read)
+    (field-in (length rs) after (stops-triples (λ (r : Record). r .payload) rs (10 ∷ []) (stops-feed [])))
+    ∙ ap (λ (g : Front (List (Row Payload))). g .read) (rows-front (λ (r : Record). r .payload) rs (10 ∷ []) (stops-feed []))
+
+-- lines that are alike tell the same records, commit numbers aside
+pub same-records : (rs qs : List (Row Record)) → endLine rs ≡ endLine qs → unstamped rs ≡ unstamped qs
+same-records rs qs e = sym (records-told rs) ∙ ap recordsTold e ∙ records-told qs

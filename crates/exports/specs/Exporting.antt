@@ -1,6 +1,7 @@
 -- Request 107: how a lent array and three values are read as the export beside the map, and what each step of one promises.
 use Prim.Native.Nat.{ℕ, _%_, _^_, _≤_}
 use mathlib.Core.Path.{_≡_}
+use mathlib.Core.Bool.{false}
 use mathlib.Core.List.{List}
 use mathlib.Core.Option.{Option, none, some}
 use lib.ListN.{length, take, getD}
@@ -37,10 +38,11 @@ exportedIn rows n = firstRows exportRow rows n
 unfoldable pub exportIn : ExportedRows → Export → Option model.Export
 exportIn rows x = pick (x .open) (some (record { records = exportedIn rows (x .count); taken = x .taken })) none
 
--- There is room for its records, and no more are taken than there are.
+-- There is room for its records, no more are taken than there are, and one that is not open has none.
 pub record ExportHeld (x : Export) : Type 0 where
   pub room : x .count ≤ standard .mapLimit
   pub within : x .taken ≤ x .count
+  pub none-closed : x .open ≡ false → x .count ≡ 0
 
 -- ---- answers
 

@@ -82,13 +82,30 @@ file-told contents (some x) n bs e =
         ≡ maybe (pick b (some ShortBuffer) none) (model.filed (fileOf (x .records))) model.declined
     tested b q = ap (λ (b : Bool). maybe (pick b (some ShortBuffer) none) (model.filed (fileOf (x .records))) model.declined) q
 
+-- no other step tells bytes
+told-by : (contents : List (Row Record)) (o : Option model.Export) (s : model.ExportStep) (bs : List ℕ) → model.exportAnswer contents o s ≡ model.filed bs
+    → bs ≡ fileOf (model.exportOf o .records)
+unfolding model.exportAnswer model.exportRefusal model.exportCauses model.exportGranted firstCause
+told-by contents none model.openExport bs e = both-options (ap bytesTold e) refl
+told-by contents (some x) model.openExport bs e = both-options (ap bytesTold e) refl
+told-by contents none (model.portion b) bs e = both-options (ap bytesTold e) refl
+told-by contents (some x) (model.portion b) bs e = both-options (ap bytesTold e) refl
+told-by contents o (model.file n) bs e = file-told contents o n bs e
+told-by contents none model.closeExport bs e = both-options (ap bytesTold e) refl
+told-by contents (some x) model.closeExport bs e = both-options (ap bytesTold e) refl
+
+-- Bytes that a step tells are read back as the records of the export.
+pub told-read-back : (contents : List (Row Record)) (rows : ExportedRows) (x : Export) (s : model.ExportStep) (bs : List ℕ) → ExportHeld x
+    → model.exportAnswer contents (exportIn rows x) s ≡ model.filed bs → parsed bs ≡ some (model.exportOf (exportIn rows x) .records)
+told-read-back contents rows x s bs h e =
+    let f = fileable rows x h in
+    ap parsed (told-by contents (exportIn rows x) s bs e) ∙ file-parsed (f .fit) (f .few)
+
 -- The bytes that a step of `file` writes are read back as the records of the export.
 pub file-read-back : {contents : List (Row Record)} {rows : ExportedRows} {x : Export} {b : Buffers} {bs bs' : List ℕ} {d : ExportDone} (n : ℕ) → ExportHeld x
     → ExportStepped contents (model.file (length bs)) rows x (space b bs) rows d (space b bs') → d .answer ≡ Filed n
     → parsed (take n bs') ≡ some (model.exportOf (exportIn rows x) .records)
 unfolding exportAnswerIn
 file-read-back {contents} {rows} {x} {b} {bs} {bs'} {d} n h p e =
-    let f = fileable rows x h in
-    ap parsed
-    (file-told contents (exportIn rows x) (length bs) (take n bs') (sym (p .answer-is) ∙ ap (λ (a : ExportAnswer). exportAnswerIn a (space b bs')) e))
-    ∙ file-parsed (f .fit) (f .few)
+    told-read-back contents rows x (model.file (length bs)) (take n bs') h
+    (sym (p .answer-is) ∙ ap (λ (a : ExportAnswer). exportAnswerIn a (space b bs')) e)

@@ -9,7 +9,7 @@ use mathlib.Core.Option.{Option, none, some}
 use lib.ListN.{length, take, drop, length-drop}
 use lib.Seq.{take-all}
 use Rattle.lists.specs.Tests.{pick, maybe, less}
-use Rattle.lists.specs.TestLaws.{cases, less-true, less-false, less-yes, less-no}
+use Rattle.lists.specs.TestLaws.{cases, clash, less-true, less-false, less-yes, less-no}
 use Rattle.lists.specs.Rows.{Row}
 use Rattle.lists.specs.Texts.{Wrote}
 use Rattle.spec.specs.declared.Refusal.{Refusal}
@@ -45,7 +45,7 @@ open-in rows x e = ap (λ (b : Bool). pick b (some (openIn rows x)) none) e
 
 -- a start
 pub none-held : (x : Export) → x .open ≡ false → x .count ≡ 0 → x .taken ≡ 0 → ((rows : ExportedRows) → exportIn rows x ≡ none) × ExportHeld x
-none-held x e c t = (λ rows. none-in rows x e, record { room = omega (arith, c); within = omega (arith, c, t) })
+none-held x e c t = (λ rows. none-in rows x e, record { room = omega (arith, c); within = omega (arith, c, t); none-closed = λ o. c })
 
 -- ---- any step
 
@@ -150,7 +150,7 @@ module _ (contents : List (Row Record)) (rows : ExportedRows) (x : Export) where
       let q : count ≡ length contents = c .count-is in
       grants contents model.openExport rows x none (none-in rows x e) {s = s} {s' = s} {rows' = rows'}
       refl
-      (record { room = omega arith; within = omega arith })
+      (record { room = omega arith; within = omega arith; none-closed = λ o. clash refl o })
       (ap model.opened q)
       (ap (λ (rs : List (Row Payload)). some (record { records = rs; taken = 0 })) (c .rows-are))
       (beyond-refl 0 (s .portion))
@@ -237,7 +237,7 @@ module _ (x : Export) (h : ExportHeld x) {b : Buffers} {n : ℕ} (m : n ≡ min 
         ∙ sym (length-drop (x .taken + length (model.portionOf (openIn rows x) (placesOf b))) (exportedIn rows (x .count)) ∙ (λ i. l i - (x .taken + k i))) in
         grants contents (model.portion (placesOf b)) rows x (some (openIn rows x)) (open-in rows x e) {s = space b bs} {s' = space c bs} {rows' = rows}
         refl
-        (record { room = r; within = omega arith })
+        (record { room = r; within = omega arith; none-closed = λ o. clash refl o })
         (λ i. model.given (portion-is i) (left i))
         (ap (λ (j : ℕ). some (record { records = exportedIn rows (x .count); taken = x .taken + j })) (sym k))
         (g .beyond)

@@ -1,23 +1,20 @@
 -- Request 102 of a replay: run on a fresh guarded map, whatever the steps are, no two present sections overlap.
-use mathlib.Core.Path.{ap, _∙_}
 use mathlib.Core.Bool.{true}
 use mathlib.Core.List.{List}
 use Prim.Native.Nat.{ℕ}
-use lib.ListN.{length}
 use Rattle.spec.specs.Records.{standard}
 use Rattle.spec.specs.Guards.{NoOverlap}
 use Rattle.spec.specs.Maps.{contents}
-use Rattle.spec.specs.Exports.{Exporting, jobSteps}
+use Rattle.spec.specs.Exports.{jobSteps}
 use Rattle.map.specs.Views.{Lent, mapOf}
-use Rattle.ranges.specs.Buffers.{placesOf}
 use Rattle.exports.specs.Exporting.{ExportedRows, Space}
 use Rattle.transactions.specs.Views.{Logs}
 use Rattle.calls.specs.GuardedCalls.{reached-apart}
 use Rattle.replay.specs.Replays.{ReplayEnd, runOf, Replays}
-use Rattle.replay.specs.LoopLaws.{requestsOf, ran-final}
+use Rattle.replay.specs.ToldExports.{requestsOf}
+use Rattle.replay.specs.ToldLaws.{tells-state}
 
 pub replay-apart : {words : List ℕ} {s : Space} {out : List ℕ} {l : Lent} {g : Logs} {xs : ExportedRows} {s' : Space} {out' : List ℕ} {r : ReplayEnd}
     → Replays true words s out l g xs s' out' r → NoOverlap standard (contents (mapOf l (r .core .sizes)))
 replay-apart {words} {s} {out} {l} {g} {r = r} h =
-    reached-apart l g (r .core) (jobSteps (requestsOf (runOf true words s out .told)))
-    (ap (λ (ξ : Exporting). ξ .state) (h .after) ∙ ran-final true (placesOf (s .portion)) (length (s .bytes)) (length out) words)
+    reached-apart l g (r .core) (jobSteps (requestsOf (runOf true words s out .told))) (tells-state (h .tells))

@@ -1,6 +1,8 @@
 pub mod CodedSteps
 pub mod StepLaws
 pub mod PartLaws
+pub mod ToldExports
+pub mod ToldLaws
 pub mod Replays
 pub mod FitLaws
 pub mod ShownLaws
@@ -9,3 +11,5 @@ pub mod LoopLaws
 pub mod Starred
 pub mod WaitingReplays
 pub mod GuardedReplays
+pub mod ExaminedReplays
+pub mod ExportReplays

@@ -2,23 +2,21 @@
 use Prim.Native.Nat.{ℕ, _+_, _-_, _*_, _/_, _%_, _<_, _≤_, zero-le}
 use native.Mathlib.Omega.{arith}
 use mathlib.Core.Path.{_≡_, refl, sym, ap, _∙_, subst}
-use mathlib.Core.Bool.{Bool, true, false}
+use mathlib.Core.Bool.{Bool}
 use mathlib.Core.List.{List, [], _∷_, _++_, append-nil, append-assoc}
-use mathlib.Core.Option.{Option, none, some}
+use mathlib.Core.Option.{none}
 use lib.ListN.{length, drop, length-append, length-drop}
 use lib.Seq.{length-sets}
-use Rattle.lists.specs.Tests.{pick, maybe, same, less}
+use Rattle.lists.specs.Tests.{pick, same}
 use Rattle.lists.specs.Texts.{Wrote}
 use Rattle.lists.specs.TextLaws.{wrote-join, wrote-length}
 use Rattle.spec.specs.Records.{standard}
 use Rattle.spec.specs.Maps.{MapState, contents}
-use Rattle.spec.specs.Steps.{Places, State, Step, fresh, final}
+use Rattle.spec.specs.Steps.{Places, State, fresh}
 use Rattle.spec.specs.Claim.{SerialRun}
-use Rattle.spec.specs.Exports.{Exporting, Request, job, exporting, Exchange, jobTold, exportTold, exchange, nextOf, finalOf, exchanges, startingAt, contentsNow, jobSteps, jobEvents}
-use Rattle.laws.specs.ExportLaws.{jobs-final}
-use Rattle.serial.specs.ExportRuns.{exports-serial}
+use Rattle.spec.specs.Exports.{Exporting, Exchange, startingAt, jobEvents}
 use Rattle.calls.specs.CallLaws.{map-in}
-use Rattle.map.specs.Views.{Lent}
+use Rattle.map.specs.Views.{Lent, mapOf}
 use Rattle.ranges.specs.Buffers.{placesOf}
 use Rattle.exports.specs.declared.Export.{Export}
 use Rattle.exports.specs.Exporting.{ExportedRows, exportIn, ExportHeld, Space}
@@ -28,88 +26,10 @@ use Rattle.transactions.specs.Starts.{Fresh}
 use Rattle.codes.specs.declared.Code.{Code}
 use Rattle.replay.specs.declared.stops.Stop.{Stop}
 use Rattle.replay.specs.declared.stops.Stop.the-variants as stop
-use Rattle.replay.specs.Replays.{ReplayEnd, Asked, asked, Ran, ended, followedBy, stepWords, codeOf, longestAnswer, toldWords, ran, allWords, leftIn, addressesBy, valuesBy, ownersBy, filedBy, SpaceBecomes, Whole, whole, exportingIn, WholeReady, runOf, leftBy, Replays}
+use Rattle.replay.specs.Replays.{ReplayEnd, Ran, ended, stepWords, toldWords, ran, allWords, leftIn, addressesBy, valuesBy, ownersBy, filedBy, SpaceBecomes, Whole, whole, exportingIn, WholeReady, runOf, leftBy, Replays}
+use Rattle.replay.specs.ToldExports.{Tells, nothing-told}
+use Rattle.replay.specs.ToldLaws.{tells-join, tells-serial}
 use Rattle.replay.specs.RunLaws.{codeAt, wordsFrom, drop-code, ranWith, allFollowedBy, chained, tally, TakesCode}
-
--- ---- a run is the model's
-
--- the steps that were taken
-abbrev pub requestOf : Exchange → Request
-requestOf (jobTold e) = job (e .step)
-requestOf (exportTold s a) = exporting s
-
-abbrev pub requestsOf : List Exchange → List Request
-requestsOf [] = []
-requestsOf (x ∷ xs) = requestOf x ∷ requestsOf xs
-
-record Models (ξ : Exporting) (r : Ran) : Type 0 where
-  answers : exchanges ξ (requestsOf (r .told)) ≡ r .told
-  after : finalOf ξ (requestsOf (r .told)) ≡ r .after
-
-models-ended : (t : Stop) (ξ : Exporting) → Models ξ (ended t ξ)
-unfolding exchanges finalOf
-models-ended t ξ = record { answers = refl; after = refl }
-
--- an exchange is of its request
-request-of : (ξ : Exporting) (q : Request) → requestOf (exchange ξ q) ≡ q
-unfolding exchange
-request-of ξ (job s) = refl
-request-of ξ (exporting s) = refl
-
-models-step : (ξ : Exporting) (q : Request) (r : Ran) → Models (nextOf ξ q) r → Models ξ (followedBy (exchange ξ q) r)
-unfolding exchanges finalOf
-models-step ξ q r h =
-    record {
-      answers =
-          ap (λ (p : Request). exchange ξ p ∷ exchanges (nextOf ξ p) (requestsOf (r .told))) (request-of ξ q)
-          ∙ ap (λ (es : List Exchange). exchange ξ q ∷ es) (h .answers);
-      after = ap (λ (p : Request). finalOf (nextOf ξ p) (requestsOf (r .told))) (request-of ξ q) ∙ h .after;
-    }
-
-ran-model : (m : Places) (n : ℕ) (ξ : Exporting) (room : ℕ) (ws : List ℕ) → Models ξ (ran m n ξ room ws)
-unfolding ran
-ran-model m n ξ room [] = models-ended stop.Complete ξ
-ran-model m n ξ room (k ∷ []) = models-ended stop.Meaningless ξ
-ran-model m n ξ room (k ∷ a ∷ []) = models-ended stop.Meaningless ξ
-ran-model m n ξ room (k ∷ a ∷ b ∷ []) = models-ended stop.Meaningless ξ
-ran-model m n ξ room (k ∷ a ∷ b ∷ c ∷ []) = models-ended stop.Meaningless ξ
-ran-model m n ξ room (k ∷ a ∷ b ∷ c ∷ d ∷ []) = models-ended stop.Meaningless ξ
-ran-model m n ξ room (k ∷ a ∷ b ∷ c ∷ d ∷ e ∷ []) = models-ended stop.Meaningless ξ
-ran-model m n ξ room (k ∷ a ∷ b ∷ c ∷ d ∷ e ∷ f ∷ ws) =
-    go (asked m n (codeOf k a b c d e f))
-    (λ (q : Request). ran-model m n (nextOf ξ q) (room - length (toldWords (exchange ξ q))) ws)
-  where
-    rest : Request → Ran
-    rest q = ran m n (nextOf ξ q) (room - length (toldWords (exchange ξ q))) ws
-
-    on : (x : Bool) (q : Request) → Models (nextOf ξ q) (rest q) → Models ξ (pick x (ended stop.Full ξ) (followedBy (exchange ξ q) (rest q)))
-    on true q ih = models-ended stop.Full ξ
-    on false q ih = models-step ξ q (rest q) ih
-
-    go : (x : Option Asked) → ((q : Request) → Models (nextOf ξ q) (rest q))
-        → Models ξ
-        (maybe x (ended stop.Meaningless ξ)
-        (λ (q : Asked). pick (less room (longestAnswer (q .wants))) (ended stop.Full ξ) (followedBy (exchange ξ (q .request)) (rest (q .request)))))
-    go none ih = models-ended stop.Meaningless ξ
-    go (some q) ih = on (less room (longestAnswer (q .wants))) (q .request) (ih (q .request))
-
--- demand 3 of a run
-ran-serial : (x : Bool) (m : Places) (n room : ℕ) (ws : List ℕ)
-    → SerialRun (jobEvents (ran m n (startingAt (fresh standard x)) room ws .told)) (contentsNow (ran m n (startingAt (fresh standard x)) room ws .after))
-ran-serial x m n room ws =
-    let ξ = startingAt (fresh standard x) in
-    let r = ran m n ξ room ws in
-    let h : Models ξ r = ran-model m n ξ room ws in
-    subst (λ (ζ : Exporting). SerialRun (jobEvents (r .told)) (contentsNow ζ)) (h .after)
-    (subst (λ (es : List Exchange). SerialRun (jobEvents es) (contentsNow (finalOf ξ (requestsOf (r .told))))) (h .answers) (exports-serial x (requestsOf (r .told))))
-
--- the jobs' part of the state after it
-pub ran-final : (x : Bool) (m : Places) (n room : ℕ) (ws : List ℕ)
-    → ran m n (startingAt (fresh standard x)) room ws .after .state ≡ final (fresh standard x) (jobSteps (requestsOf (ran m n (startingAt (fresh standard x)) room ws .told)))
-ran-final x m n room ws =
-    let ξ = startingAt (fresh standard x) in
-    let r = ran m n ξ room ws in
-    ap (λ (ζ : Exporting). ζ .state) (sym (ran-model m n ξ room ws .after)) ∙ jobs-final ξ (requestsOf (r .told))
 
 -- ---- the words that make no whole code
 
@@ -171,8 +91,9 @@ words-append (e ∷ es) fs =
 
 ends : {x : Bool} {words : List ℕ} {s₀ : Space} {out₀ : List ℕ} {h : Whole} {s : Space} {out : List ℕ} {at i : ℕ} {y : Stop} {es : List Exchange} → WholeReady h
     → runOf x words s₀ out₀ ≡ record { told = es; stop = y; after = exportingIn h } → i ≡ length es → Wrote out₀ 0 (allWords es) out at → SpaceBecomes es s₀ s
+    → Tells (startingAt (fresh standard x)) es (exportingIn h)
     → Replays x words s₀ out₀ (h .map) (h .logs) (h .exported) s out (record { core = h .core; export = h .export; taken = i; written = at; stop = y })
-ends {x} {words} {s₀} {out₀} {h} {s} {out} {at} {i} {y} {es} r e n w a =
+ends {x} {words} {s₀} {out₀} {h} {s} {out} {at} {i} {y} {es} r e n w a k =
     let f : runOf x words s₀ out₀ .told ≡ es = ap (λ (z : Ran). z .told) e in
     record {
       ready = r;
@@ -181,10 +102,10 @@ ends {x} {words} {s₀} {out₀} {h} {s} {out} {at} {i} {y} {es} r e n w a =
       taken = n ∙ ap length (sym f);
       answers = subst (λ (fs : List Exchange). Wrote out₀ 0 (allWords fs) out at) (sym f) w;
       space = subst (λ (fs : List Exchange). SpaceBecomes fs s₀ s) (sym f) a;
+      tells = subst (λ (fs : List Exchange). Tells (startingAt (fresh standard x)) fs (exportingIn h)) (sym f) k;
       serial =
-          subst (λ (m : MapState). SerialRun (jobEvents (runOf x words s₀ out₀ .told)) (contents m))
-          (ap (λ (z : Ran). z .after .state .map) e ∙ map-in (h .map) (h .logs) (h .core))
-          (ran-serial x (placesOf (s₀ .portion)) (length (s₀ .bytes)) (length out₀) words);
+          subst (λ (fs : List Exchange). SerialRun (jobEvents fs) (contents (mapOf (h .map) (h .core .sizes)))) (sym f)
+          (subst (λ (m : MapState). SerialRun (jobEvents es) (contents m)) (map-in (h .map) (h .logs) (h .core)) (tells-serial x k));
     }
 
 no-steps : (es : List Exchange) → length es ≡ 0 → es ≡ []
@@ -201,6 +122,7 @@ pub record Replaying (x : Bool) (words : List ℕ) (s₀ : Space) (out₀ : List
   pub count : i ≡ length told
   pub inside : i ≤ length words / stepWords
   pub space : SpaceBecomes told s₀ s
+  pub tells : Tells (startingAt (fresh standard x)) told (exportingIn h)
 
 -- a fresh map, and no export open
 fresh-whole : {l : Lent} {g : Logs} {x : Bool} {c : Core} (xs : ExportedRows) (e : Export) → Fresh l g x c → exportIn xs e ≡ none
@@ -221,6 +143,7 @@ replaying-start {l} {g} {c} {xs} {e} x words s out f o =
       count = refl;
       inside = zero-le;
       space = record { addresses = refl; values = refl; owners = refl; bytes = refl };
+      tells = subst (Tells (startingAt (fresh standard x)) []) (fresh-whole xs e f (o .0)) nothing-told;
     }
 
 -- a fresh start tells whether the map is guarded
@@ -308,6 +231,7 @@ module _ {x : Bool} {words : List ℕ} {s₀ : Space} {out₀ : List ℕ} {h h' 
           count = omega arith;
           inside = omega arith;
           space = left-on (p .space) (u .space);
+          tells = tells-join (p .tells) (u .tells);
         }
 
     -- a code at which the run stops takes no step
@@ -328,6 +252,7 @@ module _ {x : Bool} {words : List ℕ} {s₀ : Space} {out₀ : List ℕ} {h h' 
         (p .count)
         (subst (λ (es : List Exchange). Wrote out₀ 0 (allWords es) out' next) all all-wrote)
         (subst (λ (es : List Exchange). SpaceBecomes es s₀ s') all (left-on (p .space) (u .space)))
+        (subst (λ (es : List Exchange). Tells (startingAt (fresh standard x)) es (exportingIn h')) all (tells-join (p .tells) (u .tells)))
 
 -- no code is left
 pub replays-end : {x : Bool} {words : List ℕ} {s₀ : Space} {out₀ : List ℕ} {h : Whole} {s : Space} {out : List ℕ} {at : ℕ} {y : Stop} (i : ℕ)
@@ -345,4 +270,4 @@ replays-end {x} {words} {s₀} {out₀} {h} {at = at} {y = y} i p z e =
     ∙ ap (λ (k : ℕ). ended (restStop k) ξ) n
     ∙ ap (λ (s : Stop). ended s ξ) (sym e))
     ∙ ap (λ (es : List Exchange). record { told = es; stop = y; after = ξ }) (append-nil (p .told)))
-    (p .count) (p .wrote) (p .space)
+    (p .count) (p .wrote) (p .space) (p .tells)

@@ -33,6 +33,7 @@ use Rattle.codes.specs.ExportCodes.{decodedExport, exportWords}
 use Rattle.replay.specs.declared.stops.Stop.{Stop}
 use Rattle.replay.specs.declared.stops.Stop.the-variants as stop
 use Rattle.replay.specs.declared.runs.Replayed.{Replayed}
+use Rattle.replay.specs.ToldExports.{Tells}
 
 -- ---- what a code asks for
 
@@ -208,5 +209,7 @@ pub record Replays (guarded : Bool) (words : List ℕ) (s : Space) (out : List �
   -- their answers are written, and nothing past them
   pub answers : Wrote out 0 (allWords (runOf guarded words s out .told)) out' (r .written)
   pub space : SpaceBecomes (runOf guarded words s out .told) s s'
+  -- they are the model's, one after the other up to what is left, and each file among them is read back
+  pub tells : Tells (startingAt (fresh standard guarded)) (runOf guarded words s out .told) (exportingIn (leftBy l g xs r))
   -- demand 3, of the jobs' steps among these, their answers and the contents after them
   pub serial : SerialRun (jobEvents (runOf guarded words s out .told)) (contents (mapOf l (r .core .sizes)))

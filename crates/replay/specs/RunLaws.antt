@@ -14,7 +14,8 @@ use Rattle.lists.specs.Texts.{Wrote}
 use Rattle.spec.specs.Records.{Record}
 use Rattle.spec.specs.Maps.{MapState, contents}
 use Rattle.spec.specs.Steps.{Places, places, shortest, Answer, answer}
-use Rattle.spec.specs.Exports.{Export as ModelExport, ExportStep, ExportAnswer as ModelAnswer, exportAnswer, exportNext, Exporting, job, exporting, Exchange, jobTold, exportTold, exchange, nextOf, contentsNow}
+use Rattle.spec.specs.Files.{parsed}
+use Rattle.spec.specs.Exports.{Export as ModelExport, ExportStep, ExportAnswer as ModelAnswer, filed, exportOf, exportAnswer, exportNext, Exporting, job, exporting, Exchange, jobTold, exportTold, exchange, nextOf, contentsNow}
 use Rattle.calls.specs.CallLaws.{map-in}
 use Rattle.map.specs.Views.{Lent, mapOf}
 use Rattle.ranges.specs.Buffers.{Buffers, placesOf, Lends}
@@ -24,6 +25,7 @@ use Rattle.exports.specs.declared.ExportDone.{ExportDone}
 use Rattle.exports.specs.declared.ops.ExportOp.{ExportOp}
 use Rattle.exports.specs.declared.ops.ExportOp.the-variants.{Open, Portion, File, Close}
 use Rattle.exports.specs.Exporting.{ExportedRows, exportIn, ExportHeld, Space, space, exportAnswerIn, placesWritten, bytesWritten, placesWanted, bytesWanted, ExportStepped, exportStepIn, LendsTo}
+use Rattle.exports.specs.ReadBacks.{told-read-back}
 use Rattle.transactions.specs.Cores.{Core}
 use Rattle.transactions.specs.Views.{Logs, stateOf}
 use Rattle.transactions.specs.Ready.{Ready}
@@ -43,6 +45,8 @@ use Rattle.replay.specs.declared.stops.Stop.{Stop}
 use Rattle.replay.specs.declared.stops.Stop.the-variants as stop
 use Rattle.replay.specs.CodedSteps.{PerformsFirst}
 use Rattle.replay.specs.PartLaws.{performs-with}
+use Rattle.replay.specs.ToldExports.{Tells, nothing-told}
+use Rattle.replay.specs.ToldLaws.{tells-one, job-no-file, export-file}
 use Rattle.replay.specs.Replays.{Asked, askedJob, askedExport, asked, Ran, ended, followedBy, stepWords, codeOf, longestAnswer, toldWords, ran, allWords, shownBy, filedBy, leftIn, SpaceBecomes, Whole, whole, exportingIn, WholeReady}
 use Rattle.replay.specs.ShownLaws.{room-left, places-left, places-kept, space-shown, reply-shown, export-shown, export-filed}
 
@@ -150,6 +154,7 @@ pub record TakesCode (h : Whole) (k : Code) (s : Space) (out : List ℕ) (at : �
       ≡ chained told t (exportingIn h') (ranWith s (exportingIn h') (length out - next) ws)
   pub count : length told ≡ tally t
   pub space : SpaceBecomes told s s'
+  pub tells : Tells (exportingIn h) told (exportingIn h')
 
 wrote-nothing : (out : List ℕ) (at : ℕ) → at ≤ length out → Wrote out at (allWords []) out at
 unfolding allWords
@@ -170,6 +175,7 @@ module _ {h : Whole} {k : Code} (s : Space) (out : List ℕ) (at : ℕ) (r : Who
         run = f;
         count = z;
         space = record { addresses = refl; values = refl; owners = refl; bytes = refl };
+        tells = nothing-told;
       }
 
   code-unmeant : askedWith s k ≡ none → TakesCode h k s out at h s out at stop.Meaningless
@@ -182,9 +188,10 @@ module _ {h : Whole} {k : Code} (s : Space) (out : List ℕ) (at : ℕ) (r : Who
 code-taken : {h h' : Whole} {k : Code} {s s' : Space} {out out' : List ℕ} {at j : ℕ} (q : Asked) → askedWith s k ≡ some q → longestAnswer (q .wants) ≤ length out - at
     → WholeReady h' → exportingIn h' ≡ nextOf (exportingIn h) (q .request)
     → Wrote out at (toldWords (exchange (exportingIn h) (q .request))) out' j → SpaceBecomes (exchange (exportingIn h) (q .request) ∷ []) s s'
+    → ((t : ExportStep) (bs : List ℕ) → exchange (exportingIn h) (q .request) ≡ exportTold t (filed bs) → parsed bs ≡ some (exportOf (exportIn (h .exported) (h .export)) .records))
     → TakesCode h k s out at h' s' out' j stop.Complete
 unfolding allWords
-code-taken {h} {h'} {k} {s} {s'} {out} {out'} {at} {j} q e f r n w b =
+code-taken {h} {h'} {k} {s} {s'} {out} {out'} {at} {j} q e f r n w b p =
     let ξ = exportingIn h in
     let x = exchange ξ (q .request) in
     let place : j ≡ at + length (toldWords (exchange ξ (q .request))) = w .place in
@@ -199,6 +206,7 @@ code-taken {h} {h'} {k} {s} {s'} {out} {out'} {at} {j} q e f r n w b =
           ∙ ap (λ (n : ℕ). followedBy x (ranWith s (exportingIn h') n ws)) left;
       count = refl;
       space = b;
+      tells = tells-one (q .request) n p;
     }
 
 -- ---- a job's
@@ -244,6 +252,7 @@ module _ {l : Lent} {g : Logs} {c : Core} (k : Code) {d : Decoded} (b : Buffers)
               (subst (λ (r : Answer). SpaceBecomes (jobTold (record { step = stepIn o v; answer = r }) ∷ []) (space b bs) (space b' bs)) a
               (space-shown (jobTold (record { step = stepIn o v; answer = replyIn (p .reply) b' })) (space b bs) (space b' bs) _ 0
               (reply-shown (p .reply) b') refl (places-left v b (y .few) lends) (y .beyond) zero-le (unmoved-refl 0 bs)))
+              (λ t y q. job-no-file (exportingIn (whole l g c xs x)) (stepIn o v) t y q)
 
 -- ---- an export's
 
@@ -319,3 +328,4 @@ module _ (k : Code) {d : DecodedExport} {xs : ExportedRows} {x : Export} (rs : L
               (subst (λ (y : ModelAnswer). SpaceBecomes (exportTold t y ∷ []) s s') a
               (space-shown (exportTold t (exportAnswerIn (p .answer) s')) s s' _ _ (export-shown (p .answer) s') (export-filed (p .answer) s')
               (places-left v (s .portion) (few-places o v z) (lends .places)) (z .places) (few-bytes o lends z) (z .bytes)))
+              (λ y bs q. told-read-back (contents (stateOf l g c .map)) xs x t bs held (export-file (exportingIn (whole l g c xs x)) t y bs q))

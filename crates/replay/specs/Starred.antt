@@ -14,7 +14,7 @@ use Rattle.spec.specs.Maps.{contents}
 use Rattle.spec.specs.Steps.{Places, places, shortest, firstCause, State, Step, begin, read, scan, put, remove, lock, validate, install, abort, merge, mergeOldest, Answer, done, numbered, fresh, final, Event}
 use Rattle.spec.specs.Computing.{model}
 use Rattle.spec.specs.Files.{littleEndian, addressBytes, entryBytes, fileOf, fileSize}
-use Rattle.spec.specs.Exports.{ExportStep, openExport, portion, file, closeExport, declined, opened, given, filed, closed, exportOf, exportCauses, exportRefusal, exportGranted, exportEffect, exportAnswer, exportNext, Exporting, Request, job, exporting, Exchange, jobTold, exportTold, exchange, nextOf, startingAt, jobSteps}
+use Rattle.spec.specs.Exports.{ExportStep, openExport, portion, file, closeExport, declined, opened, given, filed, closed, exportOf, exportCauses, exportRefusal, exportGranted, exportEffect, exportAnswer, exportNext, Request, job, exporting, Exchange, jobTold, exportTold, exchange, nextOf, startingAt, jobSteps}
 use Rattle.spec.specs.Events.{event}
 use Rattle.spec.specs.Runs.{wide, owned, ownersTold, Run, home, leaves, script, starred}
 use Rattle.map.specs.Views.{Lent, mapOf}
@@ -26,7 +26,8 @@ use Rattle.codes.specs.Codes.{placesLent, decodedScan, decodedPut, decodedAcces
 use Rattle.codes.specs.ExportCodes.{decodedPortion, decodedFile, decodedExport, exportWords}
 use Rattle.replay.specs.declared.stops.Stop.the-variants as stop
 use Rattle.replay.specs.Replays.{ReplayEnd, asked, Ran, ran, toldWords, allWords, Replays}
-use Rattle.replay.specs.LoopLaws.{requestsOf, ran-final}
+use Rattle.replay.specs.ToldExports.{requestsOf}
+use Rattle.replay.specs.ToldLaws.{tells-state}
 
 -- ---- steps in coded form
 
@@ -99,9 +100,8 @@ shows b x rs e k s out l g xs s' out' r m n o p =
     let same : ran (placesOf (s .portion)) (length (s .bytes)) (startingAt (fresh standard b)) (length out) (codesFor (requestsOf x)) ≡ runFor b x
     = λ i. ran (m i) (n i) (startingAt (fresh standard b)) (o i) (codesFor (requestsOf x)) in
     let state : stateOf l g (r .core) ≡ final (fresh standard b) (jobSteps (requestsOf x))
-    = ap (λ (ξ : Exporting). ξ .state) (p .after ∙ ap (λ (y : Ran). y .after) same)
-    ∙ ran-final b wide bytes room (codesFor (requestsOf x))
-    ∙ ap (λ (es : List Exchange). final (fresh standard b) (jobSteps (requestsOf es))) (e .0) in
+    = tells-state (p .tells)
+    ∙ ap (λ (es : List Exchange). final (fresh standard b) (jobSteps (requestsOf es))) (ap (λ (y : Ran). y .told) same ∙ e .0) in
     record {
       complete = p .stop ∙ ap (λ (y : Ran). y .stop) same ∙ e .1;
       answers = subst (λ (es : List Exchange). Wrote out 0 (allWords es) out' (r .written)) (ap (λ (y : Ran). y .told) same ∙ e .0) (p .answers);

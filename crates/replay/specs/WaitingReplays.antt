@@ -1,27 +1,25 @@
 -- Request 101 of a replay: nobody starves. An address that waits in the arrays that a replay left is merged by the time that
 -- the steps after it, whatever they are, have merged the oldest as often as addresses can wait.
 use Prim.Native.Nat.{ℕ, _≤_}
-use mathlib.Core.Path.{_≡_, ap, _∙_}
+use mathlib.Core.Path.{_≡_}
 use mathlib.Core.Bool.{Bool}
 use mathlib.Core.List.{List}
 use mathlib.Core.Option.{some}
-use lib.ListN.{length}
 use Rattle.spec.specs.Records.{standard}
 use Rattle.spec.specs.Steps.{Step}
 use Rattle.spec.specs.Waiting.{waitsSince, oldestMerges, TakenWithin}
-use Rattle.spec.specs.Exports.{Exporting, jobSteps}
+use Rattle.spec.specs.Exports.{jobSteps}
 use Rattle.map.specs.Views.{Lent, mapOf}
-use Rattle.ranges.specs.Buffers.{placesOf}
 use Rattle.exports.specs.Exporting.{ExportedRows, Space}
 use Rattle.transactions.specs.Views.{Logs, stateOf}
 use Rattle.calls.specs.WaitingCalls.{reached-waiting}
 use Rattle.replay.specs.Replays.{ReplayEnd, runOf, Replays}
-use Rattle.replay.specs.LoopLaws.{requestsOf, ran-final}
+use Rattle.replay.specs.ToldExports.{requestsOf}
+use Rattle.replay.specs.ToldLaws.{tells-state}
 
 pub replay-waiting : {x : Bool} {words : List ℕ} {s : Space} {out : List ℕ} {l : Lent} {g : Logs} {xs : ExportedRows} {s' : Space} {out' : List ℕ} {r : ReplayEnd}
     → Replays x words s out l g xs s' out' r
     → (k t : ℕ) → waitsSince (mapOf l (r .core .sizes)) k ≡ some t → (ts : List Step) → standard .waitingLimit ≤ oldestMerges ts
     → TakenWithin (stateOf l g (r .core)) k (standard .waitingLimit) ts
 replay-waiting {x} {words} {s} {out} {l} {g} {r = r} h k t w ts m =
-    reached-waiting l g (r .core) x (jobSteps (requestsOf (runOf x words s out .told)))
-    (ap (λ (ξ : Exporting). ξ .state) (h .after) ∙ ran-final x (placesOf (s .portion)) (length (s .bytes)) (length out) words) k t w ts m
+    reached-waiting l g (r .core) x (jobSteps (requestsOf (runOf x words s out .told))) (tells-state (h .tells)) k t w ts m

@@ -3,8 +3,9 @@ use Prim.Native.Nat.{ℕ}
 use mathlib.Core.Path.{_≡_}
 use mathlib.Core.Bool.{Bool}
 use mathlib.Core.List.{List, [], _∷_}
+use mathlib.Core.Option.{none}
 use lib.ListN.{getD}
-use Rattle.lists.specs.Tests.{pick, same, maybe, present}
+use Rattle.lists.specs.Tests.{maybe, present}
 use Rattle.lists.specs.Rows.{Row}
 use Rattle.spec.specs.Records.{Record}
 use Rattle.spec.specs.Maps.{contents}
@@ -16,7 +17,7 @@ use Rattle.transactions.specs.Ready.{Ready}
 use Rattle.ranges.specs.Buffers.{Buffers}
 use Rattle.exports.specs.declared.ExportAnswer.{ExportAnswer}
 use Rattle.exports.specs.declared.ExportDone.{ExportDone}
-use Rattle.exports.specs.Exporting.{ExportedRows, Space, ExportStepped}
+use Rattle.exports.specs.Exporting.{ExportedRows, exportIn, ExportHeld, Space, ExportStepped}
 use Rattle.codes.specs.declared.Code.{Code}
 use Rattle.codes.specs.declared.Coded.{Coded}
 use Rattle.codes.specs.Codes.{codedAs}
@@ -24,8 +25,8 @@ use Rattle.codes.specs.ExportCodes.{exportCodedOf}
 use Rattle.replay.specs.declared.stops.Stop.{Stop}
 use Rattle.replay.specs.declared.stops.Stop.the-variants.{Complete, Meaningless, Full}
 use Rattle.replay.specs.CodedSteps.{StepEnd, CodedStep}
-use Rattle.replay.specs.Replays.{codeOf, ReplayEnd}
-use Rattle.sections.specs.Saved.{savedGlobals, savedCore, savedExport}
+use Rattle.replay.specs.Replays.{codeOf, ReplayEnd, runOf, Replays}
+use Rattle.sections.specs.Saved.{savedGlobals, savedCore, savedExport, exportSaved, exportNumbers}
 
 -- ---- a step
 
@@ -52,16 +53,20 @@ stopNumber Complete = 0
 stopNumber Meaningless = 1
 stopNumber Full = 2
 
-unfoldable pub stopOf : ℕ → Stop
-stopOf n = pick (same n 0) Complete (pick (same n 1) Meaningless Full)
-
 pub record CountsAre (ws : List ℕ) (taken written : ℕ) : Type 0 where
   pub taken-is : getD ws 0 0 ≡ taken
   pub written-is : getD ws 1 0 ≡ written
 
-abbrev pub replayedIn : List ℕ → List ℕ → List ℕ → List ℕ → ℕ → ReplayEnd
-replayedIn workers globals export counts n =
-    record { core = savedCore workers globals; export = savedExport export; taken = getD counts 0 0; written = getD counts 1 0; stop = stopOf n }
+abbrev pub replayedIn : List ℕ → List ℕ → List ℕ → List ℕ → Stop → ReplayEnd
+replayedIn workers globals export counts stop =
+    record { core = savedCore workers globals; export = savedExport export; taken = getD counts 0 0; written = getD counts 1 0; stop = stop }
+
+-- A list of steps: the promise of a replay, the number that tells why no more were taken, and the words of the export.
+pub record ReplayEntry (guarded : Bool) (words : List ℕ) (s : Space) (out : List ℕ) (l : Lent) (g : Logs) (xs : ExportedRows) (s' : Space) (out' : List ℕ)
+    (workers globals export counts : List ℕ) (n : ℕ) : Type 0 where
+  pub replays : Replays guarded words s out l g xs s' out' (replayedIn workers globals export counts (runOf guarded words s out .stop))
+  pub number : n ≡ stopNumber (runOf guarded words s out .stop)
+  pub numbers : export ≡ exportNumbers (runOf guarded words s out .after .export)
 
 -- ---- the contents, one after the other
 
@@ -80,9 +85,15 @@ pub record NextRecord (l : Lent) (globals : List ℕ) (from : ℕ) (old new : Li
 
 -- ---- an export beside the map
 
+-- none is open
+pub record NoneIn (words : List ℕ) : Type 0 where
+  pub numbers : words ≡ exportNumbers none
+  pub none-open : (rows : ExportedRows) → exportIn rows (savedExport words) ≡ none
+  pub held : ExportHeld (savedExport words)
+
 -- the export after a step in its words, and the words of its answer
 pub record DoneIn (words told : List ℕ) (d : ExportDone) : Type 0 where
-  pub export-is : savedExport words ≡ d .export
+  pub export-is : words ≡ exportSaved (d .export)
   pub answer-is : codedIn told ≡ exportCodedOf (d .answer)
 
 -- An export step: the rows, the numbers and the space before it, those after it, and the words of its answer.
@@ -91,3 +102,4 @@ pub record ExportEntry (contents : List (Row Record)) (step : model.ExportStep) 
   pub answer : ExportAnswer
   pub stepped : ExportStepped contents step rows (savedExport words) s rows' (record { export = savedExport words'; answer = answer }) s'
   pub words-are : codedIn told ≡ exportCodedOf answer
+  pub numbers : words' ≡ exportNumbers (model.exportNext contents (exportIn rows (savedExport words)) step)

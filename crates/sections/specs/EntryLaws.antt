@@ -4,7 +4,7 @@ use mathlib.Core.Path.{_≡_, refl, sym, ap, _∙_, subst}
 use mathlib.Core.Bool.{Bool, true, false}
 use mathlib.Core.List.{List, [], _∷_}
 use mathlib.Core.Option.{Option, none, some}
-use Rattle.lists.specs.Tests.{same, maybe, present}
+use Rattle.lists.specs.Tests.{maybe, present}
 use Rattle.lists.specs.Rows.{Row, row}
 use Rattle.spec.specs.declared.PayloadWords.{PayloadWords}
 use Rattle.spec.specs.Payloads.{owners}
@@ -33,13 +33,12 @@ use Rattle.codes.specs.declared.decodes.Decoded.{Decoded}
 use Rattle.codes.specs.declared.decodes.Decoded.the-variants.{Meant, Meaningless}
 use Rattle.codes.specs.Codes.{decoded}
 use Rattle.replay.specs.declared.steps.Stepped.{Stepped}
-use Rattle.replay.specs.declared.stops.Stop.{Stop}
-use Rattle.replay.specs.declared.stops.Stop.the-variants as stop
 use Rattle.replay.specs.declared.runs.Replayed.{Replayed}
 use Rattle.replay.specs.CodedSteps.{StepEnd, stepEndOf, CodedStep}
 use Rattle.replay.specs.Replays.{replayEndOf, Replays}
-use Rattle.sections.specs.Saved.{savedGlobals, savedCore, savedExport}
-use Rattle.sections.specs.Entries.{codedIn, steppedIn, StepEntry, stopNumber, stopOf, CountsAre, replayedIn, contentsIn, recordWords, NextRecord, DoneIn, ExportEntry}
+use Rattle.sections.specs.Saved.{savedGlobals, savedCore, savedExport, exportSaved, exportNumbers}
+use Rattle.sections.specs.SavedLaws.{export-put, numbers-are}
+use Rattle.sections.specs.Entries.{codedIn, steppedIn, StepEntry, stopNumber, CountsAre, ReplayEntry, contentsIn, recordWords, NextRecord, NoneIn, DoneIn, ExportEntry}
 
 -- ---- the core in the words
 
@@ -78,26 +77,29 @@ step-entry {l} {l'} {g} {g'} {c} {j} {k} {b} {b'} workers globals workers' globa
 
 -- ---- a list of steps
 
-stop-back : (s : Stop) → stopOf (stopNumber s) ≡ s
-unfolding stopOf same
-stop-back stop.Complete = refl
-stop-back stop.Meaningless = refl
-stop-back stop.Full = refl
+-- the words of an export
+export-saved : {x : Export} (words : List ℕ) → words ≡ exportSaved x → savedExport words ≡ x
+export-saved {x} words e = ap savedExport e ∙ export-put x
 
 pub replayed : {guarded : Bool} {words : List ℕ} {s s' : Space} {out out' : List ℕ} {l : Lent} {g : Logs} {xs : ExportedRows} (workers globals export counts : List ℕ) (n : ℕ) (r : Replayed)
-    → Replays guarded words s out l g xs s' out' (replayEndOf workers r) → savedGlobals globals ≡ r .globals → savedExport export ≡ r .export
+    → Replays guarded words s out l g xs s' out' (replayEndOf workers r) → savedGlobals globals ≡ r .globals → export ≡ exportSaved (r .export)
     → CountsAre counts (r .taken) (r .written) → n ≡ stopNumber (r .stop)
-    → Replays guarded words s out l g xs s' out' (replayedIn workers globals export counts n)
+    → ReplayEntry guarded words s out l g xs s' out' workers globals export counts n
 replayed {guarded} {words} {s} {s'} {out} {out'} {l} {g} {xs} workers globals export counts n r h e x f q =
-    subst (Replays guarded words s out l g xs s' out')
-    (λ i. record {
-      core = coreOf workers (sym e i);
-      export = sym x i;
-      taken = sym (f .taken-is) i;
-      written = sym (f .written-is) i;
-      stop = sym (ap stopOf q ∙ stop-back (r .stop)) i;
-    })
-    h
+    record {
+      replays =
+          subst (Replays guarded words s out l g xs s' out')
+          (λ i. record {
+            core = coreOf workers (sym e i);
+            export = sym (export-saved {x = r .export} export x) i;
+            taken = sym (f .taken-is) i;
+            written = sym (f .written-is) i;
+            stop = h .stop i;
+          })
+          h;
+      number = q ∙ ap stopNumber (h .stop);
+      numbers = x ∙ numbers-are xs (r .export) (h .ready .export) ∙ ap (λ (ξ : model.Exporting). exportNumbers (ξ .export)) (h .after);
+    }
 
 -- ---- the contents
 
@@ -120,9 +122,14 @@ module _ (l : Lent) (globals : List ℕ) {c : Globals} {from : ℕ} {r : Next} (
 -- ---- an export
 
 -- none is open
-pub none-saved : {x : Export} (words : List ℕ) → ((rows : ExportedRows) → exportIn rows x ≡ none) × ExportHeld x → savedExport words ≡ x
-    → ((rows : ExportedRows) → exportIn rows (savedExport words) ≡ none) × ExportHeld (savedExport words)
-none-saved words h e = (λ rows. ap (exportIn rows) e ∙ h .0 rows, subst ExportHeld (sym e) (h .1))
+pub none-saved : {x : Export} (words : List ℕ) → ((rows : ExportedRows) → exportIn rows x ≡ none) × ExportHeld x → words ≡ exportSaved x → NoneIn words
+none-saved {x} words h e =
+    let q = export-saved words e in
+    record {
+      numbers = e ∙ numbers-are [] x (h .1) ∙ ap exportNumbers (h .0 []);
+      none-open = λ rows. ap (exportIn rows) q ∙ h .0 rows;
+      held = subst ExportHeld (sym q) (h .1);
+    }
 
 pub held-loaded : {x : Export} (words : List ℕ) → x ≡ savedExport words → ExportHeld (savedExport words) → ExportHeld x
 held-loaded words e h = subst ExportHeld (sym e) h
@@ -135,8 +142,12 @@ module _ {step : model.ExportStep} {rows rows' : ExportedRows} {s s' : Space} {w
         answer = d .answer;
         stepped =
             subst (λ (y : Export). ExportStepped rs step rows y s rows' (record { export = savedExport words'; answer = d .answer }) s') e
-            (subst (λ (y : Export). ExportStepped rs step rows x s rows' (record { export = y; answer = d .answer }) s') (sym (t .export-is)) h);
+            (subst (λ (y : Export). ExportStepped rs step rows x s rows' (record { export = y; answer = d .answer }) s') (sym (export-saved words' (t .export-is))) h);
         words-are = t .answer-is;
+        numbers =
+            t .export-is
+            ∙ numbers-are rows' (d .export) (h .held)
+            ∙ ap exportNumbers (h .next-is ∙ ap (λ (y : Export). model.exportNext rs (exportIn rows y) step) e);
       }
 
   -- leaves play no part in the contents

@@ -1,14 +1,21 @@
 -- The globals are read from their words, and put into them; so are the numbers of an export.
-use Prim.Native.Nat.{ℕ}
-use mathlib.Core.Path.{_≡_, refl}
+use Prim.Native.Nat.{ℕ, _≤_}
+use native.Mathlib.Omega.{arith}
+use mathlib.Core.Path.{_≡_, refl, sym, ap}
+use mathlib.Core.Bool.{Bool, true, false}
 use mathlib.Core.List.{List, [], _∷_}
+use mathlib.Core.Option.{none, some}
 use lib.Dec.{eqb}
-use lib.ListN.{getD}
+use lib.ListN.{length, getD}
 use mir.Val.{boolByte}
+use Rattle.lists.specs.Tests.{pick, maybe}
+use Rattle.spec.specs.Exports as model
+use Rattle.sets.specs.SetLaws.{length-rows}
 use Rattle.sets.specs.ReadLaws.{flag-back}
 use Rattle.exports.specs.declared.Export.{Export}
+use Rattle.exports.specs.Exporting.{ExportedRows, exportRow, exportedIn, exportIn, ExportHeld}
 use Rattle.transactions.specs.declared.Globals.{Globals}
-use Rattle.sections.specs.Saved.{savedGlobals, savedExport}
+use Rattle.sections.specs.Saved.{savedGlobals, savedExport, exportSaved, exportNumbers}
 
 -- ---- the globals
 
@@ -41,6 +48,22 @@ pub export-read : (ws : List ℕ) {n m : ℕ} → n ≡ getD ws 1 0 → m ≡ ge
 unfolding savedExport
 export-read ws e f = λ i. record { «open» = eqb (getD ws 0 0) 1; count = e i; taken = f i }
 
-pub export-put : (x : Export) → savedExport (boolByte (x .open) ∷ x .count ∷ x .taken ∷ []) ≡ x
+pub export-put : (x : Export) → savedExport (exportSaved x) ≡ x
 unfolding savedExport
 export-put x = λ i. record { «open» = flag-back (x .open) i; count = x .count; taken = x .taken }
+
+-- the words are those of the model's export
+pub numbers-are : (rows : ExportedRows) (x : Export) → ExportHeld x → exportSaved x ≡ exportNumbers (exportIn rows x)
+unfolding exportIn exportNumbers
+numbers-are rows x h = by-cases (x .open) (h .none-closed)
+  where
+    by-cases : (b : Bool) → (b ≡ false → x .count ≡ 0)
+        → boolByte b ∷ x .count ∷ x .taken ∷ []
+        ≡ maybe (pick b (some (record { records = exportedIn rows (x .count); taken = x .taken })) none) (0 ∷ 0 ∷ 0 ∷ [])
+        (λ (e : model.Export). 1 ∷ length (e .records) ∷ e .taken ∷ [])
+    by-cases true z = ap (λ (n : ℕ). 1 ∷ n ∷ x .taken ∷ []) (sym (length-rows exportRow rows (x .count)))
+    by-cases false z =
+        let w : x .taken ≤ x .count = h .within in
+        let c : x .count ≡ 0 = z refl in
+        let t : x .taken ≡ 0 = omega arith in
+        λ i. 0 ∷ c i ∷ t i ∷ []

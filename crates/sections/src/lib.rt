@@ -26,7 +26,6 @@ use spec::OWNERS;
 use transactions::starts;
 ghost use mathlib.Core.Path.{_≡_};
 ghost use mathlib.Core.List.{List};
-ghost use mathlib.Core.Option.{none};
 ghost use Prim.Native.Nat.{ℕ};
 ghost use lib.ListN.{length};
 ghost use Rattle.lists.specs.Rows.{Row};
@@ -37,10 +36,9 @@ ghost use Rattle.transactions.specs.Views.{logs};
 ghost use Rattle.transactions.specs.Ready.{Ready};
 ghost use Rattle.transactions.specs.Starts.{Fresh};
 ghost use Rattle.ranges.specs.Buffers.{Buffers, buffers, placesOf};
-ghost use Rattle.exports.specs.Exporting.{ExportedRows, exportIn, ExportHeld, Space, space};
-ghost use Rattle.replay.specs.Replays.{Replays};
+ghost use Rattle.exports.specs.Exporting.{ExportedRows, ExportHeld, Space, space};
 ghost use Rattle.sections.specs.Saved.{savedCore, savedExport};
-ghost use Rattle.sections.specs.Entries.{codeIn, codedIn, StepEntry, stopNumber, CountsAre, replayedIn, contentsIn, NextRecord, DoneIn, ExportEntry};
+ghost use Rattle.sections.specs.Entries.{codeIn, codedIn, StepEntry, stopNumber, CountsAre, ReplayEntry, contentsIn, NextRecord, NoneIn, DoneIn, ExportEntry};
 
 // An answer in words.
 pub const ANSWER_WORDS: usize = 5;
@@ -72,7 +70,7 @@ pub extern "C" fn sections_fresh(
     guarded: bool,
 )
     ensures { λ _. ⌜ Fresh (lent (now (rows .exit)) (now (leaves .exit)) (now (slots .exit))) (logs (now (reads .exit)) (now (leafsets .exit)) (now (writes .exit))) guarded (savedCore (now (workers .exit)) (now (globals .exit))) ⌝ }
-    ensures { λ _. ⌜ ((rows : ExportedRows) → exportIn rows (savedExport (now (export .exit))) ≡ none) × ExportHeld (savedExport (now (export .exit))) ⌝ }
+    ensures { λ _. ⌜ NoneIn (now (export .exit)) ⌝ }
 {
     let c = starts::fresh_state(
         rows,
@@ -197,11 +195,11 @@ pub extern "C" fn sections_replay(
     steps: &[u64],
     guarded: bool,
 ) -> u64
-    ensures { λ r. ⌜ Replays guarded (now (steps .entry))
+    ensures { λ r. ⌜ ReplayEntry guarded (now (steps .entry))
         (space (buffers (now (addresses .entry)) (now (values .entry)) (now (owners .entry))) (now (bytes .entry))) (now (out .entry))
         (lent (now (rows .exit)) (now (leaves .exit)) (now (slots .exit))) (logs (now (reads .exit)) (now (leafsets .exit)) (now (writes .exit))) (now (exported .exit))
         (space (buffers (now (addresses .exit)) (now (values .exit)) (now (owners .exit))) (now (bytes .exit))) (now (out .exit))
-        (replayedIn (now (workers .exit)) (now (globals .exit)) (now (export .exit)) (now (counts .exit)) r) ⌝ }
+        (now (workers .exit)) (now (globals .exit)) (now (export .exit)) (now (counts .exit)) r ⌝ }
 {
     let p = runs::replay(
         out,

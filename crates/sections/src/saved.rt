@@ -5,7 +5,7 @@ use exports::Export;
 use map::Sizes;
 use transactions::Globals;
 ghost use mathlib.Core.Path.{_≡_};
-ghost use Rattle.sections.specs.Saved.{savedGlobals, savedExport};
+ghost use Rattle.sections.specs.Saved.{savedGlobals, savedExport, exportSaved};
 
 // Whether the map is guarded (1 if it is), the four sizes, the three counters.
 pub const GLOBAL_WORDS: usize = 8;
@@ -83,7 +83,7 @@ pub fn load_export(words: &ExportWords) -> Export
 
 // Puts the numbers of an export into the words.
 pub fn store_export(words: &mut ExportWords, x: Export)
-    ensures { λ _. ⌜ savedExport (now (words .exit)) ≡ x ⌝ }
+    ensures { λ _. ⌜ now (words .exit) ≡ exportSaved x ⌝ }
 {
     let all = [x.open as u64, x.count as u64, x.taken as u64];
     *words = all;

@@ -1,5 +1,5 @@
--- `saved::store_export` meets its contract: what it puts is read as the export.
-use Rattle.sections.specs.SavedLaws.{export-put}
+-- `saved::store_export` meets its contract: it puts the numbers of the export.
+use mathlib.Core.Path.{refl}
 use borrow.Author.Needs.{needs}
 use Rattle.sections.proofs.saved.store_export.Statement.{statement}
 use Rattle.sections.proofs.saved.store_export.Tie as tie
@@ -8,7 +8,7 @@ cast-t4 : tie.Need-cast-t4
 cast-t4 c = search needs
 
 returns : tie.Need-returns
-returns c = export-put _
+returns c = refl
 
 pub store-export-spec : {M : Type 1} → statement M
 store-export-spec = tie.close (tie.spec cast-t4 returns)

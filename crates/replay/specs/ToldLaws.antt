@@ -211,7 +211,7 @@ kept-by rs (some x) (file n) p c =
     record { still-open = k .0; records = k .1 }
 kept-by rs (some x) closeExport p c = clash refl c
 
-neither : (a b : Bool) → pick a true b ≡ false → (a ≡ false) × (b ≡ false)
+pub neither : (a b : Bool) → pick a true b ≡ false → (a ≡ false) × (b ≡ false)
 neither true b e = clash refl e
 neither false b e = (refl, e)
 

@@ -26,7 +26,7 @@ use Rattle.transactions.specs.Starts.{Fresh}
 use Rattle.codes.specs.declared.Code.{Code}
 use Rattle.replay.specs.declared.stops.Stop.{Stop}
 use Rattle.replay.specs.declared.stops.Stop.the-variants as stop
-use Rattle.replay.specs.Replays.{ReplayEnd, Ran, ended, stepWords, toldWords, ran, allWords, leftIn, addressesBy, valuesBy, ownersBy, filedBy, FilesFit, SpaceBecomes, Whole, whole, exportingIn, WholeReady, runOf, leftBy, Replays}
+use Rattle.replay.specs.Replays.{ReplayEnd, Ran, ended, stepWords, toldWords, ran, allWords, leftIn, addressesBy, valuesBy, ownersBy, filedBy, FilesFit, SpaceBecomes, Whole, whole, exportingIn, WholeReady, runOf, Replays}
 use Rattle.replay.specs.ToldExports.{Tells, nothing-told}
 use Rattle.replay.specs.ToldLaws.{tells-join, tells-serial}
 use Rattle.replay.specs.RunLaws.{codeAt, wordsFrom, drop-code, ranWith, allFollowedBy, chained, tally, TakesCode}

@@ -6,7 +6,7 @@ use mathlib.Core.List.{List, [], _∷_, _++_}
 use mathlib.Core.Option.{some}
 use lib.ListN.{length}
 use Rattle.lists.specs.Rows.{Row, any}
-use Rattle.spec.specs.Records.{standard, Payload, Record}
+use Rattle.spec.specs.Records.{standard, Record}
 use Rattle.spec.specs.Steps.{fresh}
 use Rattle.spec.specs.Claim.{reading, listAfter}
 use Rattle.spec.specs.Files.{parsed}

@@ -26,7 +26,7 @@ use Rattle.transactions.specs.Starts.{Fresh}
 use Rattle.codes.specs.declared.Code.{Code}
 use Rattle.replay.specs.declared.stops.Stop.{Stop}
 use Rattle.replay.specs.declared.stops.Stop.the-variants as stop
-use Rattle.replay.specs.Replays.{ReplayEnd, Ran, ended, stepWords, toldWords, ran, allWords, leftIn, addressesBy, valuesBy, ownersBy, filedBy, SpaceBecomes, Whole, whole, exportingIn, WholeReady, runOf, leftBy, Replays}
+use Rattle.replay.specs.Replays.{ReplayEnd, Ran, ended, stepWords, toldWords, ran, allWords, leftIn, addressesBy, valuesBy, ownersBy, filedBy, FilesFit, SpaceBecomes, Whole, whole, exportingIn, WholeReady, runOf, Replays}
 use Rattle.replay.specs.ToldExports.{Tells, nothing-told}
 use Rattle.replay.specs.ToldLaws.{tells-join, tells-serial}
 use Rattle.replay.specs.RunLaws.{codeAt, wordsFrom, drop-code, ranWith, allFollowedBy, chained, tally, TakesCode}
@@ -49,12 +49,12 @@ ran-rest m n ξ room (k ∷ a ∷ b ∷ c ∷ d ∷ e ∷ f ∷ ws) h = absurd (
 
 -- ---- buffers
 
-left-length : (f : Exchange → List ℕ) (es : List Exchange) (ks : List ℕ) → length (leftIn f es ks) ≡ length ks
+pub left-length : (f : Exchange → List ℕ) (es : List Exchange) (ks : List ℕ) → length (leftIn f es ks) ≡ length ks
 unfolding leftIn
 left-length f [] ks = refl
 left-length f (e ∷ es) ks = left-length f es _ ∙ length-sets ks 0 (f e)
 
-left-append : (f : Exchange → List ℕ) (es fs : List Exchange) (ks : List ℕ) → leftIn f fs (leftIn f es ks) ≡ leftIn f (es ++ fs) ks
+pub left-append : (f : Exchange → List ℕ) (es fs : List Exchange) (ks : List ℕ) → leftIn f fs (leftIn f es ks) ≡ leftIn f (es ++ fs) ks
 unfolding leftIn
 left-append f [] fs ks = refl
 left-append f (e ∷ es) fs ks = left-append f es fs _
@@ -72,6 +72,11 @@ module _ {es : List Exchange} {s s' : Space} (h : SpaceBecomes es s s') where
   left-bytes : length (s' .bytes) ≡ length (s .bytes)
   left-bytes = ap length (h .bytes) ∙ left-length filedBy es (s .bytes)
 
+fits-append : (n : ℕ) (es fs : List Exchange) → FilesFit n es → FilesFit n fs → FilesFit n (es ++ fs)
+unfolding FilesFit
+fits-append n [] fs h k = k
+fits-append n (e ∷ es) fs h k = (h .0, fits-append n es fs (h .1) k)
+
 left-on : {es fs : List Exchange} {s s' s'' : Space} → SpaceBecomes es s s' → SpaceBecomes fs s' s'' → SpaceBecomes (es ++ fs) s s''
 left-on {es} {fs} {s} h k =
     record {
@@ -79,6 +84,7 @@ left-on {es} {fs} {s} h k =
       values = k .values ∙ ap (leftIn valuesBy fs) (h .values) ∙ left-append valuesBy es fs (s .portion .values);
       owners = k .owners ∙ ap (leftIn ownersBy fs) (h .owners) ∙ left-append ownersBy es fs (s .portion .owners);
       bytes = k .bytes ∙ ap (leftIn filedBy fs) (h .bytes) ∙ left-append filedBy es fs (s .bytes);
+      fits = fits-append (length (s .bytes)) es fs (h .fits) (subst (λ (n : ℕ). FilesFit n fs) (left-bytes h) (k .fits));
     }
 
 words-append : (es fs : List Exchange) → allWords (es ++ fs) ≡ allWords es ++ allWords fs
@@ -131,7 +137,7 @@ fresh-whole xs e f o = λ i. record { state = sym (f .state) i; export = sym o i
 
 pub replaying-start : {l : Lent} {g : Logs} {c : Core} {xs : ExportedRows} {e : Export} (x : Bool) (words : List ℕ) (s : Space) (out : List ℕ) → Fresh l g x c
     → (exportIn xs e ≡ none) × ExportHeld e → Replaying x words s out (whole l g c xs e) s out 0 0
-unfolding allWords leftIn
+unfolding allWords leftIn FilesFit
 replaying-start {l} {g} {c} {xs} {e} x words s out f o =
     record {
       told = [];
@@ -142,7 +148,7 @@ replaying-start {l} {g} {c} {xs} {e} x words s out f o =
           ∙ ap (λ (n : ℕ). ranWith s (exportingIn (whole l g c xs e)) n words) (let z : length out ≡ length out - 0 = omega arith in z);
       count = refl;
       inside = zero-le;
-      space = record { addresses = refl; values = refl; owners = refl; bytes = refl };
+      space = record { addresses = refl; values = refl; owners = refl; bytes = refl; fits = tt };
       tells = subst (Tells (startingAt (fresh standard x)) []) (fresh-whole xs e f (o .0)) nothing-told;
     }
 

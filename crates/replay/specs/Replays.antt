@@ -1,6 +1,6 @@
 -- A list of coded steps, run from a fresh map with no export open: which steps are taken, what is written, and what the run
 -- promises, demand 3 included.
-use Prim.Native.Nat.{ℕ, _+_, _-_, _*_}
+use Prim.Native.Nat.{ℕ, _+_, _-_, _*_, _≤_}
 use mathlib.Core.Path.{_≡_}
 use mathlib.Core.Bool.{Bool}
 use mathlib.Core.List.{List, [], _∷_, _++_, map}
@@ -140,6 +140,11 @@ unfoldable pub leftIn : (Exchange → List ℕ) → List Exchange → List ℕ �
 leftIn f [] ks = ks
 leftIn f (e ∷ es) ks = leftIn f es (sets ks 0 (f e))
 
+-- every file has so many bytes at most
+unfoldable pub FilesFit : ℕ → List Exchange → Type 0
+FilesFit n [] = Unit {0}
+FilesFit n (e ∷ es) = (length (filedBy e) ≤ n) × FilesFit n es
+
 abbrev pub addressesBy : Exchange → List ℕ
 addressesBy e = map (λ (r : Row Payload). r .key) (shownBy e)
 
@@ -155,6 +160,7 @@ pub record SpaceBecomes (es : List Exchange) (s s' : Space) : Type 0 where
   pub values : s' .portion .values ≡ leftIn valuesBy es (s .portion .values)
   pub owners : s' .portion .owners ≡ leftIn ownersBy es (s .portion .owners)
   pub bytes : s' .bytes ≡ leftIn filedBy es (s .bytes)
+  pub fits : FilesFit (length (s .bytes)) es
 
 -- ---- what is promised
 

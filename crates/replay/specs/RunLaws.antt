@@ -47,7 +47,7 @@ use Rattle.replay.specs.CodedSteps.{PerformsFirst}
 use Rattle.replay.specs.PartLaws.{performs-with}
 use Rattle.replay.specs.ToldExports.{Tells, nothing-told}
 use Rattle.replay.specs.ToldLaws.{tells-one, job-no-file, export-file}
-use Rattle.replay.specs.Replays.{Asked, askedJob, askedExport, asked, Ran, ended, followedBy, stepWords, codeOf, longestAnswer, toldWords, ran, allWords, shownBy, filedBy, leftIn, SpaceBecomes, Whole, whole, exportingIn, WholeReady}
+use Rattle.replay.specs.Replays.{Asked, askedJob, askedExport, asked, Ran, ended, followedBy, stepWords, codeOf, longestAnswer, toldWords, ran, allWords, shownBy, filedBy, leftIn, FilesFit, SpaceBecomes, Whole, whole, exportingIn, WholeReady}
 use Rattle.replay.specs.ShownLaws.{room-left, places-left, places-kept, space-shown, reply-shown, export-shown, export-filed}
 
 -- ---- codes
@@ -166,7 +166,7 @@ module _ {h : Whole} {k : Code} (s : Space) (out : List ℕ) (at : ℕ) (r : Who
       → ((ws : List ℕ) → ranWith s (exportingIn h) (length out - at) (wordsFrom k ws)
       ≡ chained [] x (exportingIn h) (ranWith s (exportingIn h) (length out - at) ws))
       → TakesCode h k s out at h s out at x
-  unfolding leftIn
+  unfolding leftIn FilesFit
   not-taken x z f =
       record {
         told = [];
@@ -174,7 +174,7 @@ module _ {h : Whole} {k : Code} (s : Space) (out : List ℕ) (at : ℕ) (r : Who
         wrote = wrote-nothing out at i;
         run = f;
         count = z;
-        space = record { addresses = refl; values = refl; owners = refl; bytes = refl };
+        space = record { addresses = refl; values = refl; owners = refl; bytes = refl; fits = tt };
         tells = nothing-told;
       }
 

@@ -18,7 +18,7 @@ use Rattle.exports.specs.Exporting.{Space, exportAnswerIn, placesWritten, bytes
 use Rattle.engine.specs.declared.steps.Reply.{Reply}
 use Rattle.engine.specs.declared.steps.Reply.the-variants as reply
 use Rattle.engine.specs.Performs.{replyIn, placesIn}
-use Rattle.replay.specs.Replays.{longestAnswer, scanned, shownBy, bytesOf, filedBy, leftIn, SpaceBecomes}
+use Rattle.replay.specs.Replays.{longestAnswer, scanned, shownBy, bytesOf, filedBy, leftIn, FilesFit, SpaceBecomes}
 
 -- ---- room
 
@@ -90,13 +90,15 @@ module _ (b : Buffers) (n : ℕ) where
 pub space-shown : (e : Exchange) (s s' : Space) (n k : ℕ) → shownBy e ≡ rowsIn n (s' .portion) → filedBy e ≡ take k (s' .bytes)
     → n ≤ shortest (placesOf (s .portion)) → Beyond n (s .portion) (s' .portion) → k ≤ length (s .bytes) → Unmoved k (s .bytes) (s' .bytes)
     → SpaceBecomes (e ∷ []) s s'
-unfolding leftIn shortest
+unfolding leftIn FilesFit shortest
 space-shown e s s' n k q p h y i u =
     let b = s .portion in
     let b' = s' .portion in
     let x : length (b' .addresses) ≡ length (b .addresses) = y .addresses .size in
     let v : length (b' .values) ≡ length (b .values) = y .values .size in
     let o : length (b' .owners) ≡ length (b .owners) = y .owners .size in
+    let m : length (s' .bytes) ≡ length (s .bytes) = u .size in
+    let f : length (filedBy e) ≡ k = ap length p ∙ length-take-le k (s' .bytes) (omega arith) in
     record {
       addresses =
           filled (b .addresses) (b' .addresses) n (omega arith) (y .addresses)
@@ -108,6 +110,7 @@ space-shown e s s' n k q p h y i u =
           filled (b .owners) (b' .owners) n (omega arith) (y .owners)
           ∙ ap (sets (b .owners) 0) (sym (rows-owners b' n (omega arith)) ∙ ap (map (λ (r : Row Payload). r .item .owner)) (sym q));
       bytes = filled (s .bytes) (s' .bytes) k i u ∙ ap (sets (s .bytes) 0) (sym p);
+      fits = (let j : length (filedBy e) ≤ length (s .bytes) = omega arith in j, tt);
     }
 
 -- ---- what a step shows

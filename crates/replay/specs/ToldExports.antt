@@ -1,12 +1,12 @@
 -- Request 107 of a history: what was told of exports, in exchanges one after the other, whoever asked for them.
 use Prim.Native.Nat.{ℕ}
 use mathlib.Core.Path.{_≡_}
-use mathlib.Core.Bool.{Bool, false}
+use mathlib.Core.Bool.{Bool, true, false}
 use mathlib.Core.List.{List, [], _∷_, _++_}
 use mathlib.Core.Option.{some}
 use lib.ListN.{length}
 use Rattle.lists.specs.Rows.{Row, any}
-use Rattle.spec.specs.Records.{standard, Payload, Record}
+use Rattle.spec.specs.Records.{standard, Record}
 use Rattle.spec.specs.Steps.{fresh}
 use Rattle.spec.specs.Claim.{reading, listAfter}
 use Rattle.spec.specs.Files.{parsed}
@@ -62,6 +62,15 @@ pub record OpenAfter (es : List Exchange) : Type 0 where
   pub since : List Exchange
   pub told : es ≡ before ++ (exportTold openExport (opened count) ∷ since)
   pub unclosed : any isClose (requestsOf since) ≡ false
+
+-- the exchange told a file
+unfoldable pub tellsFile : Exchange → Bool
+tellsFile (jobTold e) = false
+tellsFile (exportTold s (declined r)) = false
+tellsFile (exportTold s (opened n)) = false
+tellsFile (exportTold s (given rs n)) = false
+tellsFile (exportTold s (filed bs)) = true
+tellsFile (exportTold s closed) = false
 
 -- ---- what is claimed, of a history from a fresh map, guarded or not
 

@@ -1,14 +1,13 @@
 -- The laws of exchanges one after the other: joined, cut, and what they tell of exports.
-use Prim.Native.Nat.{ℕ, zero, suc}
+use Prim.Native.Nat.{ℕ, suc}
 use native.Mathlib.Omega.{arith}
 use mathlib.Core.Path.{_≡_, refl, sym, ap, _∙_, subst}
-use mathlib.Core.Logic.{⊎-elim}
 use mathlib.Core.Bool.{Bool, true, false}
 use mathlib.Core.List.{List, [], _∷_, _++_, append-assoc, append-nil}
 use mathlib.Core.Option.{Option, none, some}
 use lib.ListN.{length}
 use Rattle.lists.specs.Tests.{pick, maybe, present, less}
-use Rattle.lists.specs.TestLaws.{cases, clash}
+use Rattle.lists.specs.TestLaws.{clash}
 use Rattle.lists.specs.Rows.{Row, any, mapItems}
 use Rattle.lists.specs.Options.{both-options, some-same}
 use Rattle.spec.specs.declared.Refusal.{Refusal}
@@ -20,7 +19,7 @@ use Rattle.spec.specs.Files.{fileOf, fileSize, parsed}
 use Rattle.spec.specs.Exports.{Export, unstamped, remaining, ExportStep, openExport, portion, file, closeExport, ExportAnswer, declined, opened, given, filed, closed, exportOf, exportCauses, exportRefusal, exportGranted, exportEffect, exportAnswer, exportNext, Exporting, Request, job, exporting, Exchange, jobTold, exportTold, contentsNow, exchange, nextOf, finalOf, exchanges, startingAt, jobSteps, jobEvents, recordsGiven, portionsGiven, isClose, remainingOf}
 use Rattle.laws.specs.ExportLaws.{jobs-final}
 use Rattle.serial.specs.ExportRuns.{exports-serial, portions-whole}
-use Rattle.replay.specs.ToldExports.{requestOf, requestsOf, Tells, nothing-told, told-next, remainsBy, remainsTold, presentAfter, listedAfter, OpenAfter, PortionsTold, OpenedTold, FileTold, FilesTold}
+use Rattle.replay.specs.ToldExports.{requestOf, requestsOf, Tells, nothing-told, told-next, remainsBy, remainsTold, presentAfter, listedAfter, OpenAfter, PortionsTold, OpenedTold, FilesTold}
 
 -- ---- joined and cut
 
@@ -211,7 +210,7 @@ kept-by rs (some x) (file n) p c =
     record { still-open = k .0; records = k .1 }
 kept-by rs (some x) closeExport p c = clash refl c
 
-neither : (a b : Bool) → pick a true b ≡ false → (a ≡ false) × (b ≡ false)
+pub neither : (a b : Bool) → pick a true b ≡ false → (a ≡ false) × (b ≡ false)
 neither true b e = clash refl e
 neither false b e = (refl, e)
 

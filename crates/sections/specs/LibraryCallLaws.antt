@@ -6,7 +6,6 @@ use mathlib.Core.List.{List, [], _∷_, _++_}
 use mathlib.Core.Option.{some}
 use Rattle.lists.specs.Rows.{Row, any}
 use Rattle.spec.specs.Records.{standard, Record}
-use Rattle.spec.specs.Files.{parsed}
 use Rattle.spec.specs.Maps.{MapState, contents}
 use Rattle.spec.specs.Steps.{Places, Step, Answer, fresh, final}
 use Rattle.spec.specs.Slots.{search}
@@ -14,23 +13,21 @@ use Rattle.spec.specs.Guards.{NoOverlap}
 use Rattle.spec.specs.Waiting.{waitsSince, oldestMerges, TakenWithin}
 use Rattle.spec.specs.Examined.{takesOut}
 use Rattle.spec.specs.Claim.{SerialRun}
-use Rattle.spec.specs.Exports.{unstamped, ExportStep, filed, exportOf, exportAnswer, exportNext, Exporting, job, exporting, Exchange, jobTold, exportTold, contentsNow, exchange, nextOf, startingAt, jobSteps, jobEvents}
+use Rattle.spec.specs.Exports.{unstamped, ExportStep, exportOf, exportAnswer, exportNext, Exporting, job, exporting, Exchange, jobTold, exportTold, contentsNow, exchange, nextOf, startingAt, jobSteps, jobEvents}
 use Rattle.map.specs.Views.{Lent, mapOf}
 use Rattle.ranges.specs.Buffers.{Buffers, placesOf}
 use Rattle.exports.specs.Exporting.{ExportedRows, exportIn, Space, exportAnswerIn}
 use Rattle.exports.specs.ReadBacks.{told-read-back}
-use Rattle.transactions.specs.Cores.{Core}
 use Rattle.transactions.specs.Views.{Logs, stateOf}
 use Rattle.calls.specs.CallLaws.{map-in}
 use Rattle.calls.specs.WaitingCalls.{reached-waiting}
 use Rattle.calls.specs.GuardedCalls.{reached-apart}
 use Rattle.engine.specs.declared.steps.Op.{Op}
-use Rattle.engine.specs.Performs.{stepIn, replyIn}
+use Rattle.engine.specs.Performs.{stepIn}
 use Rattle.codes.specs.declared.Code.{Code}
 use Rattle.codes.specs.declared.decodes.Decoded.the-variants.{Meaningless}
 use Rattle.codes.specs.Codes.{meantWith, decoded}
 use Rattle.codes.specs.CodeLaws.{meant-lends}
-use Rattle.replay.specs.CodedSteps.{StepEnd}
 use Rattle.replay.specs.PartLaws.{performs-with}
 use Rattle.replay.specs.ToldExports.{requestsOf, listedAfter, OpenAfter, PortionsTold, OpenedTold, FilesTold, Tells, nothing-told, told-next}
 use Rattle.replay.specs.ToldLaws.{tells-answers, tells-final, tells-join, tells-state, tells-serial, job-no-file, export-file, portions-told, opened-told, held-listed, files-told}

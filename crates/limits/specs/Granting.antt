@@ -1,18 +1,15 @@
 -- What a granted step has passed, step by step: the tests of document 01's refusals, as facts.
-use Prim.Native.Nat.{ℕ, _+_, _<_, _≤_}
-use mathlib.Core.Path.{_≡_, refl}
-use mathlib.Core.Logic.{_⊎_, inl, inr, ⊎-elim}
-use mathlib.Core.Bool.{Bool, true, false, not}
+use Prim.Native.Nat.{ℕ, _<_, _≤_}
+use mathlib.Core.Path.{_≡_}
+use mathlib.Core.Bool.{Bool, true, false}
 use mathlib.Core.Option.{none}
-use lib.ListN.{length}
-use Rattle.lists.specs.Tests.{both, either, present, less}
-use Rattle.lists.specs.TestLaws.{clash, less-true, less-false}
+use Rattle.lists.specs.Tests.{less}
+use Rattle.lists.specs.TestLaws.{less-true, less-false}
 use Rattle.lists.specs.Rows.{has}
 use Rattle.lists.specs.RowLaws.{has-any}
 use Rattle.spec.specs.declared.Stage.{Stage}
-use Rattle.spec.specs.Records.{Payload}
 use Rattle.spec.specs.Maps.{waitingWith, addressesWith}
-use Rattle.spec.specs.Steps.{State, Places, workerOf, begin, read, scan, put, remove, lock, validate, install, abort, isFree, isOpen, isLocked, isChecked, ownWrite, scanReads, scanVersions, noWorker, readLogFull, scanLogFull, writesFull, lockedByOther, writeKeys, causes, refusal, Access, access, act, accessCauses, firstCause}
+use Rattle.spec.specs.Steps.{State, workerOf, begin, lock, validate, install, abort, isFree, isOpen, isLocked, isChecked, noWorker, lockedByOther, writeKeys, causes, refusal, Access, access, act, accessCauses, firstCause}
 use Rattle.laws.specs.WorkerLaws.{not-false, cause-passed, stage-passed}
 
 -- The worker is there, in a stage that passes the test.

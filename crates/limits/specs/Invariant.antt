@@ -17,7 +17,7 @@ use lib.ListN.{length, replicate, length-replicate}
 use Rattle.lists.specs.Tests.{pick}
 use Rattle.lists.specs.TestLaws.{clash}
 use Rattle.lists.specs.Options.{both-options}
-use Rattle.lists.specs.Rows.{look, has, Rising}
+use Rattle.lists.specs.Rows.{look, has}
 use Rattle.lists.specs.RowLaws.{rising-nil}
 use Rattle.lists.specs.Sums.{total}
 use Rattle.spec.specs.Records.{Settings, standard, Write, isPut}

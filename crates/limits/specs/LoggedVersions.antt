@@ -1,10 +1,10 @@
 -- A logged leaf version was given: it is not above the last one. Every step keeps this.
-use Prim.Native.Nat.{ℕ, _≤_}
+use Prim.Native.Nat.{ℕ}
 use native.Mathlib.Nat.{le-trans}
 use mathlib.Core.Path.{sym, subst}
 use mathlib.Core.Logic.{⊎-elim}
 use mathlib.Core.Bool.{Bool, true, false}
-use mathlib.Core.List.{List, [], _++_, List·Memᴰ, List·Memᴰ·not-nil, List·Memᴰ·append-cases}
+use mathlib.Core.List.{List}
 use mathlib.Core.Option.{Option, none, some}
 use lib.ListN.{length, getD, set}
 use lib.Seq.{set-out}
@@ -14,7 +14,7 @@ use Rattle.spec.specs.declared.Refusal.{Refusal}
 use Rattle.spec.specs.Refusals.{ends}
 use Rattle.spec.specs.Records.{Settings}
 use Rattle.spec.specs.Maps.{mergeAt, oldest}
-use Rattle.spec.specs.Steps.{Worker, freeWorker, State, fresh, workerOf, beginning, access, locking, validating, installing, aborting, Step, act, merge, mergeOldest, stepWorker, scanVersions, refusal, withWorker, withMap, withCounters, installCounted, atStage, logged, writing, checkedAs, dropped, merged, effect, afterRefusal, next}
+use Rattle.spec.specs.Steps.{Worker, freeWorker, State, fresh, workerOf, beginning, access, locking, validating, installing, aborting, Step, act, merge, mergeOldest, stepWorker, refusal, withWorker, withMap, withCounters, installCounted, atStage, checkedAs, dropped, merged, effect, afterRefusal, next}
 use Rattle.laws.specs.AccessLaws.{Old, none-old, accessed-old}
 use Rattle.laws.specs.MergeLaws.{merges}
 use Rattle.laws.specs.WorkerLaws.{set-same, set-other, worker-fresh}

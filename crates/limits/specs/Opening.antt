@@ -1,23 +1,16 @@
 -- A begin and the steps of an open transaction keep the invariant. Each rewrites its own worker, which has no locks before nor
 -- after it.
-use Prim.Native.Nat.{ℕ, _+_, _<_, _≤_, zero-le}
+use Prim.Native.Nat.{ℕ, _<_, zero-le}
 use native.Mathlib.Nat.{le-refl, le-trans, le-of-eq}
-use native.Mathlib.Omega.{arith}
 use mathlib.Core.Path.{_≡_, refl, sym, ap, _∙_}
-use mathlib.Core.Logic.{_⊎_, ⊎-elim}
-use mathlib.Core.Bool.{true, false}
-use mathlib.Core.List.{List, []}
-use mathlib.Core.Option.{Option, none, some}
-use lib.ListN.{length, length-append}
-use Rattle.lists.specs.Tests.{present}
+use mathlib.Core.Bool.{false}
+use mathlib.Core.Option.{none}
+use lib.ListN.{length}
 use Rattle.lists.specs.TestLaws.{clash}
-use Rattle.lists.specs.Rows.{Row, look}
 use Rattle.lists.specs.RowLaws.{rising-nil}
-use Rattle.lists.specs.Memberships.{rising-insert, insert-longer, insert-replaces}
 use Rattle.spec.specs.declared.Stage.the-variants.{Open}
-use Rattle.spec.specs.Records.{Settings, Record, Write}
-use Rattle.spec.specs.Guards.{Scan}
-use Rattle.spec.specs.Steps.{Worker, freeWorker, State, workerOf, isFree, isOpen, isLocked, isChecked, ownWrite, withWorker, atStage, logged, writing, readRows, Access, accessCauses, firstCause, accessed}
+use Rattle.spec.specs.Records.{Write}
+use Rattle.spec.specs.Steps.{Worker, freeWorker, State, workerOf, isFree, isOpen, isLocked, isChecked, withWorker, atStage, Access, accessCauses, firstCause, accessed}
 use Rattle.laws.specs.VersionBounds.{versionsPerMerge}
 use Rattle.laws.specs.WorkerLaws.{hasLocks, free-no-locks, open-no-locks, no-locks-unchecked, open-busy}
 use Rattle.laws.specs.AccessLaws.{GoodWorker, accessed-stage, accessed-good}

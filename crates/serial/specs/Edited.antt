@@ -16,7 +16,7 @@ use Rattle.spec.specs.Records.{standard, Payload}
 use Rattle.spec.specs.Leaves.{live}
 use Rattle.spec.specs.Slots.{Content, entries}
 use Rattle.spec.specs.Maps.{contents, hiddenIn}
-use Rattle.spec.specs.Steps.{State, fresh, workerOf, Step, begin, read, scan, put, remove, lock, validate, install, abort, merge, mergeOldest, refused, listed, Cause, cause, causes, firstCause, granted, effect, afterRefusal, writeKeys, Event, act, beginning, access, locking, validating, installing, aborting}
+use Rattle.spec.specs.Steps.{State, fresh, workerOf, Step, begin, read, scan, put, remove, lock, validate, install, merge, mergeOldest, refused, listed, Cause, cause, causes, firstCause, granted, effect, afterRefusal, writeKeys, Event, act, beginning, access, locking, validating, installing, aborting}
 use Rattle.spec.specs.Claim.{SerialRun}
 use Rattle.spec.specs.Computing.{claim}
 use Rattle.spec.specs.Events.{value}

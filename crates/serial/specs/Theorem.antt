@@ -13,7 +13,7 @@ use Rattle.lists.specs.Rows.{Row, look, keys, Different}
 use Rattle.lists.specs.RowLaws.{has-any, look-nil, rising-different}
 use Rattle.spec.specs.declared.Refusal.{Refusal}
 use Rattle.spec.specs.Refusals.{ends}
-use Rattle.spec.specs.Records.{Settings, standard, Payload}
+use Rattle.spec.specs.Records.{Settings, standard}
 use Rattle.spec.specs.Slots.{slotCount, Content, idle, emptySlot, entries, contentOf}
 use Rattle.spec.specs.Maps.{freshMap, outcomeOf, current, contents, oldest}
 use Rattle.spec.specs.Steps.{Worker, State, fresh, workerOf, Step, lock, validate, install, merge, mergeOldest, stepWorker, refused, isFree, isOpen, isLocked, isChecked, writeKeys, Cause, noWorker, workerFree, wrongStage, causes, firstCause, refusal, granted, effect, afterRefusal, answer, next, final, history, Access, act, beginning, access, locking, validating, installing, aborting, begin, accessAnswer}

@@ -17,7 +17,7 @@ use Rattle.spec.specs.declared.Refusal.the-variants.{WritesFull}
 use Rattle.spec.specs.Refusals.{ends}
 use Rattle.spec.specs.Records.{standard, Write, written, deleted}
 use Rattle.spec.specs.Steps as model
-use Rattle.spec.specs.Steps.{State, Step, put, remove, Answer, done, isOpen, workerOf, ownWrite, cause, noWorker, workerFree, wrongStage, writesFull, causes, firstCause, refusal, granted, effect, withWorker, writing}
+use Rattle.spec.specs.Steps.{State, Step, put, remove, Answer, done, isOpen, workerOf, ownWrite, cause, noWorker, workerFree, wrongStage, writesFull, causes, firstCause, refusal, granted, effect, withWorker, writing, accessCauses, accessAnswer, accessed}
 use Rattle.laws.specs.WorkerLaws.{mild-cause}
 use Rattle.sets.specs.declared.workers.Worker.{Worker}
 use Rattle.sets.specs.declared.writes.Found.{Found}
@@ -83,12 +83,12 @@ module _ (ws : WriteRows) (n a : ℕ) where
 
 refusal-editing : (σ : State) (w a : ℕ) (e : Write)
     → refusal σ (editing w a e) ≡ maybe (front isOpen σ w) (firstCause (cause (writesFull σ w a) WritesFull ∷ [])) some
-unfolding refusal causes
+unfolding refusal causes accessCauses
 refusal-editing σ w a (written p) = front-first isOpen σ w (cause (writesFull σ w a) WritesFull ∷ [])
 refusal-editing σ w a deleted = front-first isOpen σ w (cause (writesFull σ w a) WritesFull ∷ [])
 
 mild : (σ : State) (w a : ℕ) (e : Write) (r : Refusal) → refusal σ (editing w a e) ≡ some r → ends r ≡ false
-unfolding refusal causes noWorker workerFree wrongStage any
+unfolding refusal causes accessCauses noWorker workerFree wrongStage any
 mild σ w a (written p) r q = mild-cause (causes σ (put w a p)) r refl q
 mild σ w a deleted r q = mild-cause (causes σ (remove w a)) r refl q
 
@@ -134,12 +134,12 @@ edit-full {ws} {c} {w} {a} {e} {x} {b} t q f =
 -- ---- granted
 
 granted-editing : (σ : State) (w a : ℕ) (e : Write) → granted σ (editing w a e) ≡ done
-unfolding granted
+unfolding granted accessAnswer
 granted-editing σ w a (written p) = refl
 granted-editing σ w a deleted = refl
 
 effect-editing : (σ : State) (w a : ℕ) (e : Write) → effect σ (editing w a e) ≡ withWorker σ w (writing a e (workerOf σ w))
-unfolding effect
+unfolding effect accessed
 effect-editing σ w a (written p) = refl
 effect-editing σ w a deleted = refl
 

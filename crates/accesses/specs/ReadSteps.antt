@@ -20,7 +20,7 @@ use Rattle.spec.specs.Records.{standard, Record, Write, written, deleted, ownVi
 use Rattle.spec.specs.Slots.{search}
 use Rattle.spec.specs.Maps.{current}
 use Rattle.spec.specs.Steps as model
-use Rattle.spec.specs.Steps.{State, read, Answer, found, isOpen, workerOf, freeWorker, ownWrite, slotsExamined, cause, noWorker, workerFree, wrongStage, readLogFull, causes, firstCause, refusal, granted, effect, withWorker, logged, readRows}
+use Rattle.spec.specs.Steps.{State, read, Answer, found, isOpen, workerOf, freeWorker, ownWrite, slotsExamined, cause, noWorker, workerFree, wrongStage, readLogFull, causes, firstCause, refusal, granted, effect, withWorker, logged, readRows, accessCauses, accessAnswer, accessed}
 use Rattle.laws.specs.WorkerLaws.{mild-cause}
 use Rattle.sets.specs.declared.workers.Worker.{Worker}
 use Rattle.sets.specs.declared.writes.Found.{Found}
@@ -99,13 +99,13 @@ shown-none s n e =
 
 refusal-front : (σ : State) (w a : ℕ) (o : Option Refusal) → front isOpen σ w ≡ o
     → refusal σ (read w a) ≡ maybe o (firstCause (cause (readLogFull σ w a) LogFull ∷ [])) some
-unfolding refusal causes
+unfolding refusal causes accessCauses
 refusal-front σ w a o q =
     front-first isOpen σ w (cause (readLogFull σ w a) LogFull ∷ [])
     ∙ ap (λ (p : Option Refusal). maybe p (firstCause (cause (readLogFull σ w a) LogFull ∷ [])) some) q
 
 mild : (σ : State) (w a : ℕ) (r : Refusal) → refusal σ (read w a) ≡ some r → ends r ≡ false
-unfolding refusal causes noWorker workerFree wrongStage any
+unfolding refusal causes accessCauses noWorker workerFree wrongStage any
 mild σ w a r q = mild-cause (causes σ (read w a)) r refl q
 
 pub read-refused : {rs : List ReadRows} {rows : RecordRows} {slots : SlotRows} {ws : List WriteRows} {c : Core} {w a : ℕ} {r : Refusal} → Turned isOpen (c .workers) w r
@@ -181,12 +181,12 @@ toldBy σ a o =
     found (maybe o (payloadOf (current (σ .map) a)) ownView) (maybe o (search (σ .settings .bytes) (σ .map .slots) a .examined) (λ (e : Write). 0))
 
 granted-is : (σ : State) (w a : ℕ) (o : Option Write) → ownWrite σ w a ≡ o → granted σ (read w a) ≡ toldBy σ a o
-unfolding granted slotsExamined
+unfolding granted accessAnswer slotsExamined
 granted-is σ w a o q = ap (toldBy σ a) q
 
 effect-is : (σ : State) (w a : ℕ) (o : Option Write) → ownWrite σ w a ≡ o
     → effect σ (read w a) ≡ withWorker σ w (logged (maybe o (row a (current (σ .map) a) ∷ []) (λ (e : Write). [])) [] [] (workerOf σ w))
-unfolding effect readRows
+unfolding effect accessed readRows
 effect-is σ w a o q =
     ap (λ (p : Option Write). withWorker σ w (logged (maybe p (row a (current (σ .map) a) ∷ []) (λ (e : Write). [])) [] [] (workerOf σ w))) q
 

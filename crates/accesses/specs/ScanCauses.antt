@@ -15,7 +15,7 @@ use Rattle.spec.specs.Refusals.{ends}
 use Rattle.spec.specs.Records.{standard, Payload, Record, Write, ownView, payloadOf}
 use Rattle.spec.specs.Maps.{current, indexedBetween}
 use Rattle.spec.specs.Steps as model
-use Rattle.spec.specs.Steps.{Places, shortest, State, workerOf, scan, isOpen, scanned, scanReads, scanVersions, scanLogFull, Cause, cause, noWorker, workerFree, wrongStage, causes, firstCause, refusal, refused}
+use Rattle.spec.specs.Steps.{Places, shortest, State, workerOf, scan, isOpen, scanned, scanReads, scanVersions, scanLogFull, Cause, cause, noWorker, workerFree, wrongStage, causes, firstCause, refusal, refused, accessCauses}
 use Rattle.laws.specs.WorkerLaws.{mild-cause}
 use Rattle.sets.specs.declared.workers.Worker.{Worker}
 use Rattle.sets.specs.Workers.{workerIn}
@@ -63,12 +63,12 @@ further σ w lo hi b =
 
 scan-causes : (σ : State) (w lo hi : ℕ) (b : Places) (o : Option Refusal) → front isOpen σ w ≡ o
     → refusal σ (scan w lo hi b) ≡ maybe o (firstCause (further σ w lo hi b)) some
-unfolding refusal causes further
+unfolding refusal causes accessCauses further
 scan-causes σ w lo hi b o e =
     front-first isOpen σ w (further σ w lo hi b) ∙ ap (λ (p : Option Refusal). maybe p (firstCause (further σ w lo hi b)) some) e
 
 mild : (σ : State) (w lo hi : ℕ) (b : Places) (r : Refusal) → refusal σ (scan w lo hi b) ≡ some r → ends r ≡ false
-unfolding refusal causes noWorker workerFree wrongStage any
+unfolding refusal causes accessCauses noWorker workerFree wrongStage any
 mild σ w lo hi b r q = mild-cause (causes σ (scan w lo hi b)) r refl q
 
 -- refused for the worker

@@ -15,7 +15,7 @@ use Rattle.spec.specs.Records.{standard, Payload, Record}
 use Rattle.spec.specs.Leaves.{Leaf, firstLeaf, leafOf, versionAt, live}
 use Rattle.spec.specs.Guards.{Scan}
 use Rattle.spec.specs.Steps as model
-use Rattle.spec.specs.Steps.{listed, workerOf, scan, isOpen, scanReads, scanVersions, remembered, granted, effect, withWorker, logged}
+use Rattle.spec.specs.Steps.{listed, workerOf, scan, isOpen, scanReads, scanVersions, remembered, granted, effect, withWorker, logged, accessAnswer, accessed}
 use Rattle.laws.specs.LeafParts.{LowsFrom}
 use Rattle.laws.specs.LeafVersions.{GoodLeaves, leaf-of-low, meeting-covers}
 use Rattle.sets.specs.declared.workers.Worker.{Worker}
@@ -174,7 +174,7 @@ module _ {l : Lent} {g : Logs} {c : Core} {w : ℕ} {x : Worker} (k : Ready l g 
           ∙ ap (λ (s : Scan). scansIn (g .leaves) w (x .leaves) ++ (s ∷ [])) same-scan
 
   state-is : stateOf l (logging g w rs ls) (coreWith c w y) ≡ effect (stateOf l g c) (scan w lo hi (placesOf b))
-  unfolding effect
+  unfolding effect accessed
   state-is = state-with l g (logging g w rs ls) c w y others ∙ ap (withWorker (stateOf l g c) w) logged-is
 
   -- ---- stored again
@@ -207,7 +207,7 @@ module _ {l : Lent} {g : Logs} {c : Core} {w : ℕ} {x : Worker} (k : Ready l g 
       (sym (own-set (λ (s : LeafSetRows). s) (g .leaves) w ls (k .stored .leaves) (e .inside))) own-lows)
 
   answer-is : granted (stateOf l g c) (scan w lo hi (placesOf b)) ≡ listed (rowsIn (r .count) b')
-  unfolding granted
+  unfolding granted accessAnswer
   answer-is = ap (λ (os : List (Row Payload)). listed os) (sym (d .fills .rows-are ∙ scan-shown k e lo hi t (p .measured)))
 
   pub scan-granted : Refines l g c (scan w lo hi (placesOf b)) l (logging g w rs ls) (coreWith c w y) (listed (rowsIn (r .count) b'))

@@ -9,9 +9,10 @@ use Rattle.lists.specs.Tests.{pick, maybe, same}
 use Rattle.lists.specs.Rows.{Row}
 use Rattle.spec.specs.declared.Refusal.{Refusal}
 use Rattle.spec.specs.Records.{Payload, Record}
-use Rattle.spec.specs.Steps.{Places, Step, begin, read, scan, put, remove, lock, validate, install, abort, merge, mergeOldest, Answer, refused, done, found, listed, numbered, counted, Event}
+use Rattle.spec.specs.Steps.{Answer, refused, done, found, listed, numbered, counted, Event}
 use Rattle.spec.specs.Claim.{SerialRun}
 use Rattle.script.specs.declared.Line.{Line}
+use Rattle.script.specs.declared.Line.the-variants.{Begin, Read, Scan, Put, Remove, Lock, Validate, Install, Abort, Merge, MergeOldest}
 use Rattle.script.specs.Grammar.{meaning, stepOf}
 use Rattle.script.specs.Parsing.{filled}
 use Rattle.answers.specs.Output.{endLine, guardedAnswer}
@@ -38,26 +39,26 @@ linesOf input = linesFrom [] (pick (startsGuarded input) (drop 2 input) input)
 abbrev pub opening : List ℕ → List ℕ
 opening input = pick (startsGuarded input) guardedAnswer []
 
--- what a step can be answered: any refusal, or what it tells when it is granted
-pub data Answers : Step → Answer → Type 0 where
-  not-granted : (s : Step) (r : Refusal) → Answers s (refused r)
-  begun : (w : ℕ) → Answers (begin w) done
-  value : (w k : ℕ) (o : Option Payload) (n : ℕ) → Answers (read w k) (found o n)
-  records : (w lo hi : ℕ) (b : Places) (rs : List (Row Payload)) → Answers (scan w lo hi b) (listed rs)
-  written : (w k : ℕ) (p : Payload) → Answers (put w k p) done
-  removed : (w k : ℕ) → Answers (remove w k) done
-  locked : (w : ℕ) → Answers (lock w) done
-  number : (w n : ℕ) → Answers (validate w) (numbered n)
-  installed : (w : ℕ) → Answers (install w) done
-  aborted : (w : ℕ) → Answers (abort w) done
-  count : (a n : ℕ) → Answers (merge a) (counted n)
-  oldest-count : (n : ℕ) → Answers mergeOldest (counted n)
+-- what a line can be answered: any refusal, or what its step tells when it is granted
+pub data Answers : Line → Answer → Type 0 where
+  not-granted : (l : Line) (r : Refusal) → Answers l (refused r)
+  begun : (w : ℕ) → Answers (Begin w) done
+  value : (w k : ℕ) (o : Option Payload) (n : ℕ) → Answers (Read w k) (found o n)
+  records : (w lo hi : ℕ) (rs : List (Row Payload)) → Answers (Scan w lo hi) (listed rs)
+  written : (w k v o : ℕ) → Answers (Put w k v o) done
+  removed : (w k : ℕ) → Answers (Remove w k) done
+  locked : (w : ℕ) → Answers (Lock w) done
+  number : (w n : ℕ) → Answers (Validate w) (numbered n)
+  installed : (w : ℕ) → Answers (Install w) done
+  aborted : (w : ℕ) → Answers (Abort w) done
+  count : (a n : ℕ) → Answers (Merge a) (counted n)
+  oldest-count : (n : ℕ) → Answers MergeOldest (counted n)
 
 -- The lines of an input and the bytes of an output, read side by side: each line of the input with the line of the output that
 -- tells its answer, and at the end the line of the contents.
 pub data Transcript : List Line → List ℕ → List Event → List (Row Record) → Type 0 where
   end-line : (rs : List (Row Record)) → Transcript [] (endLine rs) [] rs
-  answer-line : {ls : List Line} {text : List ℕ} {h : List Event} {rs : List (Row Record)} (l : Line) (a : Answer) → Answers (stepOf places l) a
+  answer-line : {ls : List Line} {text : List ℕ} {h : List Event} {rs : List (Row Record)} (l : Line) (a : Answer) → Answers l a
       → Transcript ls text h rs → Transcript (l ∷ ls) (answerLine l a ++ text) (record { step = stepOf places l; answer = a } ∷ h) rs
 
 -- The output for these lines is that of a serial run.

@@ -10,9 +10,10 @@ use Rattle.lists.specs.Tests.{pick, maybe, same}
 use Rattle.spec.specs.declared.Refusal.{Refusal}
 use Rattle.spec.specs.Records.{standard}
 use Rattle.spec.specs.Maps.{contents}
-use Rattle.spec.specs.Steps.{State, Step, begin, read, scan, put, remove, lock, validate, install, abort, merge, mergeOldest, refused, fresh, refusal, granted, answer, next, final, history}
+use Rattle.spec.specs.Steps.{State, Step, refused, fresh, refusal, accessAnswer, granted, answer, next, final, history}
 use Rattle.serial.specs.Theorem.{theorem}
 use Rattle.script.specs.declared.Line.{Line}
+use Rattle.script.specs.declared.Line.the-variants.{Begin, Read, Scan, Put, Remove, Lock, Validate, Install, Abort, Merge, MergeOldest}
 use Rattle.script.specs.Grammar.{meaning, stepOf}
 use Rattle.script.specs.Parsing.{filled}
 use Rattle.answers.specs.Output.{endLine, guardedAnswer, malformedLine}
@@ -22,27 +23,27 @@ use Rattle.console.specs.SerialOutput.{linesFrom, linesOf, opening, Answ
 
 -- ---- what the model answers is an answer to the step
 
-granted-answers : (σ : State) (s : Step) → Answers s (granted σ s)
-unfolding granted
-granted-answers σ (begin w) = begun w
-granted-answers σ (read w k) = value w k _ _
-granted-answers σ (scan w lo hi b) = records w lo hi b _
-granted-answers σ (put w k p) = written w k p
-granted-answers σ (remove w k) = removed w k
-granted-answers σ (lock w) = locked w
-granted-answers σ (validate w) = number w _
-granted-answers σ (install w) = installed w
-granted-answers σ (abort w) = aborted w
-granted-answers σ (merge a) = count a _
-granted-answers σ mergeOldest = oldest-count _
+granted-answers : (σ : State) (l : Line) → Answers l (granted σ (stepOf places l))
+unfolding granted accessAnswer
+granted-answers σ (Begin w) = begun w
+granted-answers σ (Read w k) = value w k _ _
+granted-answers σ (Scan w lo hi) = records w lo hi _
+granted-answers σ (Put w k v o) = written w k v o
+granted-answers σ (Remove w k) = removed w k
+granted-answers σ (Lock w) = locked w
+granted-answers σ (Validate w) = number w _
+granted-answers σ (Install w) = installed w
+granted-answers σ (Abort w) = aborted w
+granted-answers σ (Merge a) = count a _
+granted-answers σ MergeOldest = oldest-count _
 
-answers : (σ : State) (s : Step) → Answers s (answer σ s)
+answers : (σ : State) (l : Line) → Answers l (answer σ (stepOf places l))
 unfolding answer
-answers σ s = go (refusal σ s)
+answers σ l = go (refusal σ (stepOf places l))
   where
-    go : (o : Option Refusal) → Answers s (maybe o (granted σ s) refused)
-    go none = granted-answers σ s
-    go (some r) = not-granted s r
+    go : (o : Option Refusal) → Answers l (maybe o (granted σ (stepOf places l)) refused)
+    go none = granted-answers σ l
+    go (some r) = not-granted l r
 
 -- ---- the lines of the output, from any state
 
@@ -63,7 +64,7 @@ transcribes-line : (σ : State) (l : Line) (ls ms : List Line) (text : List ℕ)
 unfolding history final
 transcribes-line σ l ls ms text e t =
     subst (λ (xs : List Line). Transcribes σ xs (answerLine l (answer σ (stepOf places l)) ++ text)) (let q : l ∷ ls ≡ ms = cc in q)
-    (answer-line l (answer σ (stepOf places l)) (answers σ (stepOf places l)) t)
+    (answer-line l (answer σ (stepOf places l)) (answers σ l) t)
 
 no-lines : {A : Type 0} (ls : List Line) → none ≡ some ls → A
 no-lines ls e = let z : _≡_ {A = ℕ} 0 1 = cc in absurd (omega arith)

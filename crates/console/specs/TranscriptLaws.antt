@@ -14,9 +14,10 @@ use Rattle.spec.specs.declared.Refusal.{Refusal}
 use Rattle.spec.specs.declared.Refusal.the-variants.{NoWorker, WorkerFree, WorkerTaken, WrongStage, Backward, LogFull, WritesFull, ShortBuffer, Held, IndexletFull, MapFull, Changed, UnderLock, Phantom, Spent, Unfit, Uncovered, Overlap, ExportOpen, NoExport}
 use Rattle.spec.specs.Refusals.{numberOf}
 use Rattle.spec.specs.Records.{Payload, Record}
-use Rattle.spec.specs.Steps.{Step, begin, read, scan, put, remove, lock, validate, install, abort, merge, mergeOldest, Answer, refused, done, found, listed, numbered, counted, Event}
+use Rattle.spec.specs.Steps.{Answer, refused, done, found, listed, numbered, counted, Event}
 use Rattle.spec.specs.Exports.{unstamped}
 use Rattle.script.specs.declared.Line.{Line}
+use Rattle.script.specs.declared.Line.the-variants.{Begin, Read, Scan, Put, Remove, Lock, Validate, Install, Abort, Merge, MergeOldest}
 use Rattle.script.specs.Grammar.{isDigit, stepOf}
 use Rattle.answers.specs.Output.{decimal, field, absent, triple, triples, answerText, endLine}
 use Rattle.answers.specs.OutputLaws.{decimal-one, decimal-more}
@@ -128,19 +129,19 @@ kindOf (listed rs) = 3
 kindOf (numbered n) = 4
 kindOf (counted n) = 5
 
--- ... of a step that is granted
-abbrev grantedKind : Step → ℕ
-grantedKind (begin w) = 1
-grantedKind (read w k) = 2
-grantedKind (scan w lo hi b) = 3
-grantedKind (put w k p) = 1
-grantedKind (remove w k) = 1
-grantedKind (lock w) = 1
-grantedKind (validate w) = 4
-grantedKind (install w) = 1
-grantedKind (abort w) = 1
-grantedKind (merge a) = 5
-grantedKind mergeOldest = 5
+-- ... of a line that is granted
+abbrev grantedKind : Line → ℕ
+grantedKind (Begin w) = 1
+grantedKind (Read w k) = 2
+grantedKind (Scan w lo hi) = 3
+grantedKind (Put w k v o) = 1
+grantedKind (Remove w k) = 1
+grantedKind (Lock w) = 1
+grantedKind (Validate w) = 4
+grantedKind (Install w) = 1
+grantedKind (Abort w) = 1
+grantedKind (Merge a) = 5
+grantedKind MergeOldest = 5
 
 -- the number at the front of an answer's text
 abbrev answerNumber : Answer → ℕ
@@ -151,12 +152,12 @@ answerNumber (listed rs) = 0
 answerNumber (numbered n) = 0
 answerNumber (counted n) = 0
 
--- its kind is told by that number and the step
-kind-told : {s : Step} {a : Answer} → Answers s a → kindOf a ≡ pick (same (answerNumber a) 0) (grantedKind s) 0
+-- its kind is told by that number and the line
+kind-told : {l : Line} {a : Answer} → Answers l a → kindOf a ≡ pick (same (answerNumber a) 0) (grantedKind l) 0
 unfolding same
-kind-told (not-granted s r) = go r
+kind-told (not-granted l r) = go r
   where
-    go : (r : Refusal) → 0 ≡ pick (same (numberOf r) 0) (grantedKind s) 0
+    go : (r : Refusal) → 0 ≡ pick (same (numberOf r) 0) (grantedKind l) 0
     go NoWorker = refl
     go WorkerFree = refl
     go WorkerTaken = refl
@@ -179,8 +180,8 @@ kind-told (not-granted s r) = go r
     go NoExport = refl
 kind-told (begun w) = refl
 kind-told (value w k o x) = refl
-kind-told (records w lo hi b rs) = refl
-kind-told (written w k p) = refl
+kind-told (records w lo hi rs) = refl
+kind-told (written w k v o) = refl
 kind-told (removed w k) = refl
 kind-told (locked w) = refl
 kind-told (number w n) = refl
@@ -335,16 +336,16 @@ stops-more (listed rs) t = refl
 stops-more (numbered n) t = refl
 stops-more (counted n) t = refl
 
--- the answer to a step
-abbrev stepFront : Step → Front ℕ → Front Answer
-stepFront s f = answerFront (pick (same (f .read) 0) (grantedKind s) 0) (f .read) (f .rest)
+-- the answer to a line
+abbrev lineFront : Line → Front ℕ → Front Answer
+lineFront l f = answerFront (pick (same (f .read) 0) (grantedKind l) 0) (f .read) (f .rest)
 
-step-front : {s : Step} {a : Answer} (t : List ℕ) → Answers s a → stepFront s (fieldIn (answerText a ++ (10 ∷ t))) ≡ got a (10 ∷ t)
-step-front {s} {a} t h =
+line-front : {l : Line} {a : Answer} (t : List ℕ) → Answers l a → lineFront l (fieldIn (answerText a ++ (10 ∷ t))) ≡ got a (10 ∷ t)
+line-front {l} {a} t h =
     let after = more a ++ (10 ∷ t) in
-    ap (λ (x : List ℕ). stepFront s (fieldIn (x ++ (10 ∷ t)))) (text-is a)
-    ∙ ap (λ (x : List ℕ). stepFront s (fieldIn x)) (append-assoc (field (answerNumber a)) (more a) (10 ∷ t))
-    ∙ ap (stepFront s) (field-in (answerNumber a) after (stops-more a t))
+    ap (λ (x : List ℕ). lineFront l (fieldIn (x ++ (10 ∷ t)))) (text-is a)
+    ∙ ap (λ (x : List ℕ). lineFront l (fieldIn x)) (append-assoc (field (answerNumber a)) (more a) (10 ∷ t))
+    ∙ ap (lineFront l) (field-in (answerNumber a) after (stops-more a t))
     ∙ ap (λ (k : ℕ). answerFront k (answerNumber a) after) (sym (kind-told h))
     ∙ answer-front a t
 
@@ -354,7 +355,7 @@ step-front {s} {a} t h =
 eventsIn : List Line → List ℕ → List Event
 eventsIn [] t = []
 eventsIn (l ∷ ls) t =
-    let f = stepFront (stepOf places l) (fieldIn (tail t)) in
+    let f = lineFront l (fieldIn (tail t)) in
     record { step = stepOf places l; answer = f .read } ∷ eventsIn ls (tail (f .rest))
 
 events-in : {ls : List Line} {text : List ℕ} {h : List Event} {rs : List (Row Record)} → Transcript ls text h rs → eventsIn ls text ≡ h
@@ -362,9 +363,9 @@ unfolding eventsIn answerLine
 events-in (end-line rs) = refl
 events-in (answer-line {ls = ls} {text = text} {h = h} l a p rest) =
     let s = stepOf places l in
-    ap (λ (x : List ℕ). let f = stepFront s (fieldIn x) in record { step = s; answer = f .read } ∷ eventsIn ls (tail (f .rest)))
+    ap (λ (x : List ℕ). let f = lineFront l (fieldIn x) in record { step = s; answer = f .read } ∷ eventsIn ls (tail (f .rest)))
     (append-assoc (answerText a) (10 ∷ []) text)
-    ∙ ap (λ (f : Front Answer). record { step = s; answer = f .read } ∷ eventsIn ls (tail (f .rest))) (step-front text p)
+    ∙ ap (λ (f : Front Answer). record { step = s; answer = f .read } ∷ eventsIn ls (tail (f .rest))) (line-front text p)
     ∙ ap (λ (es : List Event). record { step = s; answer = a } ∷ es) (events-in rest)
 
 -- no other history can be read off them

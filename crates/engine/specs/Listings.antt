@@ -8,7 +8,7 @@ use Rattle.lists.specs.Tests.{maybe}
 use Rattle.lists.specs.TestLaws.{less-false}
 use Rattle.spec.specs.declared.Refusal.{Refusal}
 use Rattle.spec.specs.Steps as model
-use Rattle.spec.specs.Steps.{Places, shortest, State, Step, Answer, refused, done, found, listed, numbered, counted, answer, granted, refusal, causes, scanned}
+use Rattle.spec.specs.Steps.{Places, shortest, State, Step, Answer, refused, done, found, listed, numbered, counted, answer, granted, refusal, causes, scanned, accessCauses, accessAnswer}
 use Rattle.laws.specs.WorkerLaws.{cause-passed}
 use Rattle.ranges.specs.Buffers.{Buffers}
 use Rattle.ranges.specs.BufferLaws.{length-rows}
@@ -30,7 +30,7 @@ countIn (numbered n) = 0
 countIn (counted n) = 0
 
 scan-room : (σ : State) (w lo hi : ℕ) (b : Places) → refusal σ (model.scan w lo hi b) ≡ none → length (scanned σ w lo hi) ≤ shortest b
-unfolding refusal causes
+unfolding refusal causes accessCauses
 scan-room σ w lo hi b e =
     let a = cause-passed _ _ e .1 in
     let g = cause-passed _ _ a .1 in
@@ -49,7 +49,7 @@ none-listed σ s m z = go (refusal σ s)
     go (some r) = omega arith
 
 scan-listed : (σ : State) (w lo hi : ℕ) (b : Places) → countIn (answer σ (model.scan w lo hi b)) ≤ shortest b
-unfolding answer granted
+unfolding answer granted accessAnswer
 scan-listed σ w lo hi b = go (refusal σ (model.scan w lo hi b)) refl
   where
     go : (q : Option Refusal) → refusal σ (model.scan w lo hi b) ≡ q
@@ -58,7 +58,7 @@ scan-listed σ w lo hi b = go (refusal σ (model.scan w lo hi b)) refl
     go (some r) e = omega arith
 
 listed-fits : (σ : State) (o : Op) (b : Places) → countIn (answer σ (stepIn o b)) ≤ shortest b
-unfolding granted
+unfolding granted accessAnswer
 listed-fits σ (op.Begin w) b = none-listed σ (model.begin w) (shortest b) refl
 listed-fits σ (op.Access w (access.Read a)) b = none-listed σ (model.read w a) (shortest b) refl
 listed-fits σ (op.Access w (access.Scan lo hi)) b = scan-listed σ w lo hi b

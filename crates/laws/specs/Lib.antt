@@ -27,3 +27,4 @@ pub mod OldestLaws
 pub mod WaitingLaws
 pub mod FileLaws
 pub mod ExportLaws
+pub mod AccessLaws

@@ -14,7 +14,7 @@ use Rattle.spec.specs.declared.Refusal.{Refusal}
 use Rattle.spec.specs.Records.{Write}
 use Rattle.spec.specs.Refusals.{ends}
 use Rattle.spec.specs.Maps.{merging, oldest}
-use Rattle.spec.specs.Steps.{State, workerOf, Step, begin, read, scan, put, remove, lock, validate, install, abort, merge, mergeOldest, writeKeys, refusal, withWorker, withMap, withCounters, installCounted, dropped, merged, mergedAt, effect, causes, firstCause, next}
+use Rattle.spec.specs.Steps.{State, workerOf, beginning, access, locking, validating, installing, aborting, Step, act, abort, merge, mergeOldest, writeKeys, refusal, withWorker, withMap, withCounters, installCounted, dropped, merged, mergedAt, effect, causes, firstCause, next}
 use Rattle.spec.specs.Waiting.{waitsSince, isMergeOldest, takesIn}
 use Rattle.laws.specs.WaitingLaws.{lock-waits, unlock-waits, install-waits, merge-waits}
 use Rattle.limits.specs.Invariant.{Kept}
@@ -53,15 +53,7 @@ WaitChange σ s τ = WaitsSame σ s τ ⊎ (WaitsMore σ s τ ⊎ WaitsLess σ s
 -- a merge is never refused
 refusable : (σ : State) (s : Step) (r : Refusal) → refusal σ s ≡ some r → isMergeOldest s ≡ false
 unfolding refusal causes firstCause isMergeOldest
-refusable σ (begin w) r e = refl
-refusable σ (read w k) r e = refl
-refusable σ (scan w lo hi b) r e = refl
-refusable σ (put w k p) r e = refl
-refusable σ (remove w k) r e = refl
-refusable σ (lock w) r e = refl
-refusable σ (validate w) r e = refl
-refusable σ (install w) r e = refl
-refusable σ (abort w) r e = refl
+refusable σ (act w a) r e = refl
 refusable σ (merge a) r e = refl
 refusable σ mergeOldest r e = both-options e refl
 
@@ -89,12 +81,9 @@ module _ {σ : State} (h : Kept σ) where
 
   granted-waits : (s : Step) → refusal σ s ≡ none → WaitChange σ s (effect σ s)
   unfolding effect withWorker withMap withCounters installCounted isMergeOldest takesIn
-  granted-waits (begin w) e = inl (record { waits = λ k. refl; installs = refl; other = refl })
-  granted-waits (read w j) e = inl (record { waits = λ k. refl; installs = refl; other = refl })
-  granted-waits (scan w lo hi b) e = inl (record { waits = λ k. refl; installs = refl; other = refl })
-  granted-waits (put w j p) e = inl (record { waits = λ k. refl; installs = refl; other = refl })
-  granted-waits (remove w j) e = inl (record { waits = λ k. refl; installs = refl; other = refl })
-  granted-waits (lock w) e =
+  granted-waits (act w beginning) e = inl (record { waits = λ k. refl; installs = refl; other = refl })
+  granted-waits (act w (access a)) e = inl (record { waits = λ k. refl; installs = refl; other = refl })
+  granted-waits (act w locking) e =
       inl
       (record {
         waits =
@@ -103,8 +92,8 @@ module _ {σ : State} (h : Kept σ) where
         installs = refl;
         other = refl;
       })
-  granted-waits (validate w) e = inl (record { waits = λ k. refl; installs = refl; other = refl })
-  granted-waits (install w) e =
+  granted-waits (act w validating) e = inl (record { waits = λ k. refl; installs = refl; other = refl })
+  granted-waits (act w installing) e =
       inr
       (inl
       (record {
@@ -116,7 +105,7 @@ module _ {σ : State} (h : Kept σ) where
         installs = refl;
         other = refl;
       }))
-  granted-waits (abort w) e = inl (dropped-same (abort w) w refl)
+  granted-waits (act w aborting) e = inl (dropped-same (abort w) w refl)
   granted-waits (merge a) e = inr (inr (merged-less (merge a) a (λ k. refl) (λ t. clash t refl)))
   granted-waits mergeOldest e = inr (inr (merged-less mergeOldest (oldest (σ .map)) (λ k. refl) (λ t. refl)))
 

@@ -11,7 +11,7 @@ use Rattle.spec.specs.declared.Refusal.{Refusal}
 use Rattle.spec.specs.Refusals.{ends}
 use Rattle.spec.specs.Records.{outcome}
 use Rattle.spec.specs.Maps.{current, oldest}
-use Rattle.spec.specs.Steps.{State, workerOf, Step, begin, read, scan, put, remove, lock, validate, install, abort, merge, mergeOldest, writeKeys, causes, firstCause, refusal, withWorker, withMap, withCounters, installCounted, dropped, merged, effect, next}
+use Rattle.spec.specs.Steps.{State, workerOf, beginning, access, locking, validating, installing, aborting, Step, act, install, merge, mergeOldest, writeKeys, causes, firstCause, refusal, withWorker, withMap, withCounters, installCounted, dropped, merged, effect, next}
 use Rattle.laws.specs.MergeLaws.{merges}
 use Rattle.laws.specs.CurrentLaws.{lock-current, unlock-current, install-current}
 use Rattle.limits.specs.Invariant.{Kept}
@@ -37,16 +37,13 @@ module _ {σ : State} (h : Kept σ) where
 
   granted-current : (s : Step) → refusal σ s ≡ none → (GrantedInstall σ s → ⊥) → (k : ℕ) → current (effect σ s .map) k ≡ current (σ .map) k
   unfolding effect merged withWorker withMap withCounters
-  granted-current (begin w) e n k = refl
-  granted-current (read w j) e n k = refl
-  granted-current (scan w lo hi b) e n k = refl
-  granted-current (put w j p) e n k = refl
-  granted-current (remove w j) e n k = refl
-  granted-current (lock w) e n k =
+  granted-current (act w beginning) e n k = refl
+  granted-current (act w (access a)) e n k = refl
+  granted-current (act w locking) e n k =
       lock-current (σ .settings) w (σ .map) (workerOf σ w .writes) (h .map .slots) (lockable h w (lock-passed σ w e .1)) k
-  granted-current (validate w) e n k = refl
-  granted-current (install w) e n k = absurd (n (record { worker = w; is = refl; granted = e }))
-  granted-current (abort w) e n k = dropped-current w k
+  granted-current (act w validating) e n k = refl
+  granted-current (act w installing) e n k = absurd (n (record { worker = w; is = refl; granted = e }))
+  granted-current (act w aborting) e n k = dropped-current w k
   granted-current (merge a) e n k = merged-current a k
   granted-current mergeOldest e n k = merged-current (oldest (σ .map)) k
 

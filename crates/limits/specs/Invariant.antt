@@ -17,29 +17,18 @@ use lib.ListN.{length, replicate, length-replicate}
 use Rattle.lists.specs.Tests.{pick}
 use Rattle.lists.specs.TestLaws.{clash}
 use Rattle.lists.specs.Options.{both-options}
-use Rattle.lists.specs.Rows.{look, has, Rising}
+use Rattle.lists.specs.Rows.{look, has}
 use Rattle.lists.specs.RowLaws.{rising-nil}
 use Rattle.lists.specs.Sums.{total}
 use Rattle.spec.specs.Records.{Settings, standard, Write, isPut}
 use Rattle.spec.specs.Slots.{emptySlots, entries, contentOf}
 use Rattle.spec.specs.Steps.{Worker, freeWorker, State, fresh, workerOf, writeKeys, isFree, isLocked, isChecked}
+use Rattle.laws.specs.AccessLaws.{GoodWorker}
 use Rattle.laws.specs.MapBounds.{Bounded, fresh-bounded}
 use Rattle.laws.specs.PendingCounts.{pendingCount, none-pending}
 use Rattle.laws.specs.VersionBounds.{standard-per, versionsPerMerge}
 use Rattle.spec.specs.GoodSettings.{GoodSettings}
 use Rattle.laws.specs.WorkerLaws.{worker-fresh, hasLocks}
-
--- A worker within the limits s, n the last commit number given.
-pub record GoodWorker (s : Settings) (n : ℕ) (x : Worker) : Type 0 where
-  pub rising : Rising (x .writes)
-  pub writes : length (x .writes) ≤ s .writeLimit
-  pub reads : length (x .reads) ≤ s .readLimit
-  pub versions : length (x .versions) ≤ s .leafSetLimit
-  -- a free worker has nothing
-  pub free : isFree (x .stage) ≡ true → x ≡ freeWorker
-  -- a commit number is had from the check on
-  pub unchecked : isChecked (x .stage) ≡ false → x .number ≡ 0
-  pub checked : isChecked (x .stage) ≡ true → (1 ≤ x .number) × (x .number ≤ n)
 
 -- how many workers are checked
 unfoldable pub checkedCount : List Worker → ℕ

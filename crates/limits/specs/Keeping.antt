@@ -13,16 +13,16 @@ use Rattle.lists.specs.TestLaws.{cases}
 use Rattle.lists.specs.Rows.{keys, distinct}
 use Rattle.spec.specs.declared.Refusal.{Refusal}
 use Rattle.spec.specs.Refusals.{ends}
-use Rattle.spec.specs.Records.{Settings, standard, written, deleted}
+use Rattle.spec.specs.Records.{Settings, standard}
 use Rattle.spec.specs.Slots.{entries}
 use Rattle.spec.specs.Maps.{oldest}
-use Rattle.spec.specs.Steps.{State, fresh, workerOf, Step, begin, read, scan, put, remove, lock, validate, install, abort, merge, mergeOldest, scanReads, scanVersions, remembered, refusal, withWorker, withMap, withCounters, installCounted, dropped, merged, effect, next, final}
+use Rattle.spec.specs.Steps.{State, fresh, workerOf, beginning, access, locking, validating, installing, aborting, Step, act, merge, mergeOldest, refusal, withWorker, withMap, withCounters, installCounted, dropped, merged, effect, next, final}
 use Rattle.laws.specs.MapBounds.{record-count, leaf-limit}
 use Rattle.laws.specs.WorkerLaws.{standard-settings}
 use Rattle.limits.specs.Invariant.{Kept, fresh-kept, standard-version}
-use Rattle.limits.specs.Granting.{begin-passed, read-passed, scan-passed, put-passed, remove-passed, lock-passed, validate-passed, install-passed, abort-passed}
+use Rattle.limits.specs.Granting.{begin-passed, access-passed, lock-passed, validate-passed, install-passed, abort-passed}
 use Rattle.limits.specs.Refusing.{ends-validation, next-granted, refused-same, refused-ends}
-use Rattle.limits.specs.Opening.{begin-kept, logs-kept, read-kept, write-kept}
+use Rattle.limits.specs.Opening.{begin-kept, access-kept}
 use Rattle.limits.specs.Locking.{lock-kept, dropped-kept}
 use Rattle.limits.specs.Finishing.{validate-kept, install-kept, merge-kept}
 use Rattle.laws.specs.VersionBounds.{versionsPerMerge}
@@ -30,17 +30,12 @@ use Rattle.laws.specs.VersionBounds.{versionsPerMerge}
 module _ {σ : State} (h : Kept σ) where
   granted-kept : (s : Step) → refusal σ s ≡ none → Kept (effect σ s)
   unfolding effect
-  granted-kept (begin w) e = begin-kept h w (begin-passed σ w e)
-  granted-kept (read w k) e = let p = read-passed σ w k e in read-kept h w k (p .0) (p .1)
-  granted-kept (scan w lo hi b) e =
-      let p = scan-passed σ w lo hi b e in
-      logs-kept h w (p .0) (scanReads σ lo hi) (scanVersions σ lo hi) (remembered σ w lo hi ∷ []) (p .1 .reads) (p .1 .versions)
-  granted-kept (put w k d) e = let p = put-passed σ w k d e in write-kept h w k (written d) (p .0) (p .1)
-  granted-kept (remove w k) e = let p = remove-passed σ w k e in write-kept h w k deleted (p .0) (p .1)
-  granted-kept (lock w) e = let p = lock-passed σ w e in lock-kept h w (p .0) (p .1)
-  granted-kept (validate w) e = let p = validate-passed σ w e in validate-kept h w (p .0) (p .1)
-  granted-kept (install w) e = install-kept h w (install-passed σ w e)
-  granted-kept (abort w) e = dropped-kept h w (abort-passed σ w e)
+  granted-kept (act w beginning) e = begin-kept h w (begin-passed σ w e)
+  granted-kept (act w (access a)) e = let p = access-passed σ w a e in access-kept h w a (p .0) (p .1)
+  granted-kept (act w locking) e = let p = lock-passed σ w e in lock-kept h w (p .0) (p .1)
+  granted-kept (act w validating) e = let p = validate-passed σ w e in validate-kept h w (p .0) (p .1)
+  granted-kept (act w installing) e = install-kept h w (install-passed σ w e)
+  granted-kept (act w aborting) e = dropped-kept h w (abort-passed σ w e)
   granted-kept (merge a) e = merge-kept h a
   granted-kept mergeOldest e = merge-kept h (oldest (σ .map))
 
@@ -72,15 +67,12 @@ pub next-settings : (σ : State) (s : Step) → next σ s .settings ≡ σ .sett
 next-settings σ s = go (refusal σ s) refl
   where
     granted-settings : (x : Step) → effect σ x .settings ≡ σ .settings
-    granted-settings (begin w) = unfold effect withWorker in refl
-    granted-settings (read w k) = unfold effect withWorker in refl
-    granted-settings (scan w lo hi b) = unfold effect withWorker in refl
-    granted-settings (put w k d) = unfold effect withWorker in refl
-    granted-settings (remove w k) = unfold effect withWorker in refl
-    granted-settings (lock w) = unfold effect withWorker withMap in refl
-    granted-settings (validate w) = unfold effect withWorker withCounters in refl
-    granted-settings (install w) = unfold effect installCounted withWorker withMap in refl
-    granted-settings (abort w) = unfold effect dropped withWorker withMap in refl
+    granted-settings (act w beginning) = unfold effect withWorker in refl
+    granted-settings (act w (access a)) = unfold effect withWorker in refl
+    granted-settings (act w locking) = unfold effect withWorker withMap in refl
+    granted-settings (act w validating) = unfold effect withWorker withCounters in refl
+    granted-settings (act w installing) = unfold effect installCounted withWorker withMap in refl
+    granted-settings (act w aborting) = unfold effect dropped withWorker withMap in refl
     granted-settings (merge a) = unfold effect merged withCounters withMap in refl
     granted-settings mergeOldest = unfold effect merged withCounters withMap in refl
 

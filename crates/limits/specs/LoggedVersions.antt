@@ -1,10 +1,10 @@
 -- A logged leaf version was given: it is not above the last one. Every step keeps this.
-use Prim.Native.Nat.{ℕ, _≤_}
+use Prim.Native.Nat.{ℕ}
 use native.Mathlib.Nat.{le-trans}
 use mathlib.Core.Path.{sym, subst}
 use mathlib.Core.Logic.{⊎-elim}
 use mathlib.Core.Bool.{Bool, true, false}
-use mathlib.Core.List.{List, [], _++_, List·Memᴰ, List·Memᴰ·not-nil, List·Memᴰ·append-cases}
+use mathlib.Core.List.{List}
 use mathlib.Core.Option.{Option, none, some}
 use lib.ListN.{length, getD, set}
 use lib.Seq.{set-out}
@@ -14,27 +14,17 @@ use Rattle.spec.specs.declared.Refusal.{Refusal}
 use Rattle.spec.specs.Refusals.{ends}
 use Rattle.spec.specs.Records.{Settings}
 use Rattle.spec.specs.Maps.{mergeAt, oldest}
-use Rattle.spec.specs.Steps.{Worker, freeWorker, State, fresh, workerOf, Step, begin, read, scan, put, remove, lock, validate, install, abort, merge, mergeOldest, stepWorker, scanVersions, refusal, withWorker, withMap, withCounters, installCounted, atStage, logged, writing, checkedAs, dropped, merged, effect, afterRefusal, next}
-use Rattle.laws.specs.LeafVersions.{meeting-old}
+use Rattle.spec.specs.Steps.{Worker, freeWorker, State, fresh, workerOf, beginning, access, locking, validating, installing, aborting, Step, act, merge, mergeOldest, stepWorker, refusal, withWorker, withMap, withCounters, installCounted, atStage, checkedAs, dropped, merged, effect, afterRefusal, next}
+use Rattle.laws.specs.AccessLaws.{Old, none-old, accessed-old}
 use Rattle.laws.specs.MergeLaws.{merges}
 use Rattle.laws.specs.WorkerLaws.{set-same, set-other, worker-fresh}
 use Rattle.limits.specs.Invariant.{Kept}
-
--- none of the versions is above v
-abbrev pub Old : ℕ → List ℕ → Type 0
-Old v vs = (u : ℕ) → List·Memᴰ u vs → u ≤ v
 
 abbrev AllOld : ℕ → List Worker → Type 0
 AllOld v xs = (w : ℕ) → Old v (getD xs w freeWorker .versions)
 
 pub record LoggedOld (σ : State) : Type 0 where
   pub old : (w : ℕ) → Old (σ .counters .version) (workerOf σ w .versions)
-
-none-old : (v : ℕ) → Old v []
-none-old v u m = absurd (List·Memᴰ·not-nil m)
-
-more-old : (v : ℕ) (us vs : List ℕ) → Old v us → Old v vs → Old v (us ++ vs)
-more-old v us vs a b u m = ⊎-elim (λ q. a u q) (λ q. b u q) (List·Memᴰ·append-cases us m)
 
 set-old : (v : ℕ) (xs : List Worker) (w : ℕ) (x : Worker) → AllOld v xs → Old v (x .versions) → AllOld v (set xs w x)
 set-old v xs w x a b u =
@@ -63,20 +53,14 @@ module _ {σ : State} (k : Kept σ) (h : AllOld (σ .counters .version) (σ .wor
   merged-old a w u m = le-trans (h w u m) (merges a (k .settings .cut) (k .map .slots) (k .map .records) (k .map .leaves) .later)
 
   granted-old : (s : Step) → AllOld (effect σ s .counters .version) (effect σ s .workers)
-  unfolding effect installCounted withWorker withMap withCounters atStage logged writing checkedAs merged
-  granted-old (begin w) = set-old (σ .counters .version) (σ .workers) w _ h (none-old (σ .counters .version))
-  granted-old (read w j) = set-old (σ .counters .version) (σ .workers) w _ h (more-old _ (workerOf σ w .versions) [] (own w) (none-old _))
-  granted-old (scan w lo hi b) =
-      set-old (σ .counters .version) (σ .workers) w _ h
-      (more-old _ (workerOf σ w .versions) (scanVersions σ lo hi) (own w) (unfold scanVersions in meeting-old (k .map .leaves) lo hi))
-  granted-old (put w j p) = set-old (σ .counters .version) (σ .workers) w _ h (own w)
-  granted-old (remove w j) = set-old (σ .counters .version) (σ .workers) w _ h (own w)
-  granted-old (lock w) = set-old (σ .counters .version) (σ .workers) w _ h (own w)
-  granted-old (validate w) = set-old (σ .counters .version) (σ .workers) w _ h (own w)
-  granted-old (install w) = set-old (σ .counters .version) (σ .workers) w freeWorker h (none-old (σ .counters .version))
-  granted-old (abort w) = dropped-old w
-  granted-old (merge a) =
-      merged-old a
+  unfolding effect installCounted withWorker withMap withCounters atStage checkedAs merged
+  granted-old (act w beginning) = set-old (σ .counters .version) (σ .workers) w _ h (none-old (σ .counters .version))
+  granted-old (act w (access a)) = set-old (σ .counters .version) (σ .workers) w _ h (accessed-old σ w (k .map .leaves) (own w) a)
+  granted-old (act w locking) = set-old (σ .counters .version) (σ .workers) w _ h (own w)
+  granted-old (act w validating) = set-old (σ .counters .version) (σ .workers) w _ h (own w)
+  granted-old (act w installing) = set-old (σ .counters .version) (σ .workers) w freeWorker h (none-old (σ .counters .version))
+  granted-old (act w aborting) = dropped-old w
+  granted-old (merge a) = merged-old a
   granted-old mergeOldest = merged-old (oldest (σ .map))
 
   refused-old : (s : Step) (r : Refusal) → AllOld (afterRefusal σ s r .counters .version) (afterRefusal σ s r .workers)

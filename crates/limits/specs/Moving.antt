@@ -20,7 +20,8 @@ use Rattle.laws.specs.MapBounds.{Bounded}
 use Rattle.laws.specs.PendingCounts.{pendingCount}
 use Rattle.laws.specs.VersionBounds.{versionsPerMerge}
 use Rattle.laws.specs.WorkerLaws.{set-same, set-other, hasLocks}
-use Rattle.limits.specs.Invariant.{GoodWorker, checkedCount, Kept}
+use Rattle.laws.specs.AccessLaws.{GoodWorker}
+use Rattle.limits.specs.Invariant.{checkedCount, Kept}
 
 -- the state with worker w as x, and another map and other counters
 abbrev pub movedTo : State → ℕ → Worker → MapState → Counters → State

@@ -10,7 +10,8 @@ use Rattle.lists.specs.Rows.{any}
 use Rattle.spec.specs.declared.Refusal.{Refusal}
 use Rattle.spec.specs.declared.Refusal.the-variants.{NoWorker, WorkerFree, WorkerTaken, WrongStage, Backward, LogFull, WritesFull, ShortBuffer, Held, IndexletFull, MapFull, Changed, UnderLock, Phantom, Spent, Unfit, Uncovered, Overlap, ExportOpen, NoExport}
 use Rattle.spec.specs.Refusals.{numberOf, ends}
-use Rattle.spec.specs.Steps.{State, workerOf, Step, begin, read, scan, put, remove, lock, validate, install, abort, merge, mergeOldest, stepWorker, isLocked, Cause, noWorker, workerFree, wrongStage, causes, refusal, effect, afterRefusal, dropped, next}
+use Rattle.spec.specs.Steps.{State, workerOf, beginning, access, locking, validating, installing, aborting, Step, act, validate, merge, mergeOldest, stepWorker, isLocked, Cause, noWorker, workerFree, wrongStage, causes, refusal, effect, afterRefusal, dropped, next}
+use Rattle.laws.specs.AccessLaws.{access-mild}
 use Rattle.laws.specs.WorkerLaws.{not-false, ended-later, mild-cause}
 use Rattle.limits.specs.Granting.{AtStage}
 
@@ -64,15 +65,12 @@ never-ends σ s r m e t = clash t (mild-cause (causes σ s) r m e)
 -- 12, 13 and 14 happen at a validation of a locked worker only
 pub ends-validation : (σ : State) (s : Step) (r : Refusal) → refusal σ s ≡ some r → ends r ≡ true → Validation σ s
 unfolding causes noWorker workerFree wrongStage any
-ends-validation σ (begin w) r e t = never-ends σ (begin w) r refl e t
-ends-validation σ (read w k) r e t = never-ends σ (read w k) r refl e t
-ends-validation σ (scan w lo hi b) r e t = never-ends σ (scan w lo hi b) r refl e t
-ends-validation σ (put w k p) r e t = never-ends σ (put w k p) r refl e t
-ends-validation σ (remove w k) r e t = never-ends σ (remove w k) r refl e t
-ends-validation σ (lock w) r e t = never-ends σ (lock w) r refl e t
-ends-validation σ (validate w) r e t = record { worker = w; is = refl; locked = ends-locked σ w r e t }
-ends-validation σ (install w) r e t = never-ends σ (install w) r refl e t
-ends-validation σ (abort w) r e t = never-ends σ (abort w) r refl e t
+ends-validation σ (act w beginning) r e t = never-ends σ (act w beginning) r refl e t
+ends-validation σ (act w (access a)) r e t = never-ends σ (act w (access a)) r (access-mild σ w a) e t
+ends-validation σ (act w locking) r e t = never-ends σ (act w locking) r refl e t
+ends-validation σ (act w validating) r e t = record { worker = w; is = refl; locked = ends-locked σ w r e t }
+ends-validation σ (act w installing) r e t = never-ends σ (act w installing) r refl e t
+ends-validation σ (act w aborting) r e t = never-ends σ (act w aborting) r refl e t
 ends-validation σ (merge a) r e t = never-ends σ (merge a) r refl e t
 ends-validation σ mergeOldest r e t = never-ends σ mergeOldest r refl e t
 

@@ -18,7 +18,7 @@ use Rattle.spec.specs.Records.{Settings, standard}
 use Rattle.spec.specs.Slots.{Content, entries, search}
 use Rattle.spec.specs.GoodSettings.{GoodSettings}
 use Rattle.spec.specs.Maps.{MapState, withSlots, lockAll, installAll, merging, mergeAll, mergeAt, oldest}
-use Rattle.spec.specs.Steps.{State, fresh, Step, begin, read, scan, put, remove, lock, validate, install, abort, merge, mergeOldest, refused, refusal, granted, withWorker, withMap, withCounters, installCounted, merged, mergedAt, effect, answer, next, final, history, stepsOf}
+use Rattle.spec.specs.Steps.{State, fresh, beginning, access, locking, validating, installing, aborting, Step, act, merge, mergeOldest, refused, refusal, granted, withWorker, withMap, withCounters, installCounted, merged, mergedAt, effect, answer, next, final, history, stepsOf}
 use Rattle.spec.specs.Examined.{isAbort, takesOutBy, takesOut}
 use Rattle.spec.specs.Computing.{model}
 use Rattle.spec.specs.Crowded.{homedAt, crowdedAddress, crowdedAddresses, crowdedFrom, crowded}
@@ -42,15 +42,12 @@ module _ (σ : State) (d : Dense (σ .map .slots)) where
 
   granted-dense : (s : Step) → takesOutBy s (granted σ s) ≡ false → Dense (effect σ s .map .slots)
   unfolding effect granted takesOutBy isAbort withWorker withMap withCounters installCounted lockAll installAll withSlots
-  granted-dense (begin w) t = d
-  granted-dense (read w k) t = d
-  granted-dense (scan w lo hi b) t = d
-  granted-dense (put w k p) t = d
-  granted-dense (remove w k) t = d
-  granted-dense (lock w) t = lock-dense d _ _ _
-  granted-dense (validate w) t = d
-  granted-dense (install w) t = install-dense d _ _ _ _
-  granted-dense (abort w) t = clash refl t
+  granted-dense (act w beginning) t = d
+  granted-dense (act w (access a)) t = d
+  granted-dense (act w locking) t = lock-dense d _ _ _
+  granted-dense (act w validating) t = d
+  granted-dense (act w installing) t = install-dense d _ _ _ _
+  granted-dense (act w aborting) t = clash refl t
   granted-dense (merge a) t = merged-dense a t
   granted-dense mergeOldest t = merged-dense (oldest (σ .map)) t
 

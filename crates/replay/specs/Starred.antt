@@ -11,7 +11,7 @@ use Rattle.spec.specs.Records.{standard, Record}
 use Rattle.spec.specs.Leaves.{cuts}
 use Rattle.spec.specs.Slots.{homeSlot}
 use Rattle.spec.specs.Maps.{contents}
-use Rattle.spec.specs.Steps.{Places, places, shortest, firstCause, State, Step, begin, read, scan, put, remove, lock, validate, install, abort, merge, mergeOldest, Answer, done, numbered, fresh, final, Event}
+use Rattle.spec.specs.Steps.{Places, places, shortest, firstCause, State, Step, begin, read, scan, put, remove, lock, validate, install, abort, merge, mergeOldest, Answer, done, numbered, fresh, final, Event, act, beginning, access, readAt, scanOver, putTo, removeAt, locking, validating, installing, aborting}
 use Rattle.spec.specs.Computing.{model}
 use Rattle.spec.specs.Files.{littleEndian, addressBytes, entryBytes, fileOf, fileSize}
 use Rattle.spec.specs.Exports.{ExportStep, openExport, portion, file, closeExport, declined, opened, given, filed, closed, exportOf, exportCauses, exportRefusal, exportGranted, exportEffect, exportAnswer, exportNext, Request, job, exporting, Exchange, jobTold, exportTold, exchange, nextOf, startingAt, jobSteps}
@@ -32,15 +32,15 @@ use Rattle.replay.specs.ToldLaws.{tells-state}
 -- ---- steps in coded form
 
 abbrev pub codeFor : Step → List ℕ
-codeFor (begin w) = 0 ∷ w ∷ 0 ∷ 0 ∷ 0 ∷ 0 ∷ 0 ∷ []
-codeFor (read w k) = 1 ∷ w ∷ k ∷ 0 ∷ 0 ∷ 0 ∷ 0 ∷ []
-codeFor (scan w lo hi b) = 2 ∷ w ∷ lo ∷ hi ∷ b .addresses ∷ b .values ∷ b .owners ∷ []
-codeFor (put w k p) = 3 ∷ w ∷ k ∷ p .value ∷ p .owner ∷ 0 ∷ 0 ∷ []
-codeFor (remove w k) = 4 ∷ w ∷ k ∷ 0 ∷ 0 ∷ 0 ∷ 0 ∷ []
-codeFor (lock w) = 5 ∷ w ∷ 0 ∷ 0 ∷ 0 ∷ 0 ∷ 0 ∷ []
-codeFor (validate w) = 6 ∷ w ∷ 0 ∷ 0 ∷ 0 ∷ 0 ∷ 0 ∷ []
-codeFor (install w) = 7 ∷ w ∷ 0 ∷ 0 ∷ 0 ∷ 0 ∷ 0 ∷ []
-codeFor (abort w) = 8 ∷ w ∷ 0 ∷ 0 ∷ 0 ∷ 0 ∷ 0 ∷ []
+codeFor (act w beginning) = 0 ∷ w ∷ 0 ∷ 0 ∷ 0 ∷ 0 ∷ 0 ∷ []
+codeFor (act w (access (readAt k))) = 1 ∷ w ∷ k ∷ 0 ∷ 0 ∷ 0 ∷ 0 ∷ []
+codeFor (act w (access (scanOver lo hi b))) = 2 ∷ w ∷ lo ∷ hi ∷ b .addresses ∷ b .values ∷ b .owners ∷ []
+codeFor (act w (access (putTo k p))) = 3 ∷ w ∷ k ∷ p .value ∷ p .owner ∷ 0 ∷ 0 ∷ []
+codeFor (act w (access (removeAt k))) = 4 ∷ w ∷ k ∷ 0 ∷ 0 ∷ 0 ∷ 0 ∷ []
+codeFor (act w locking) = 5 ∷ w ∷ 0 ∷ 0 ∷ 0 ∷ 0 ∷ 0 ∷ []
+codeFor (act w validating) = 6 ∷ w ∷ 0 ∷ 0 ∷ 0 ∷ 0 ∷ 0 ∷ []
+codeFor (act w installing) = 7 ∷ w ∷ 0 ∷ 0 ∷ 0 ∷ 0 ∷ 0 ∷ []
+codeFor (act w aborting) = 8 ∷ w ∷ 0 ∷ 0 ∷ 0 ∷ 0 ∷ 0 ∷ []
 codeFor (merge a) = 9 ∷ a ∷ 0 ∷ 0 ∷ 0 ∷ 0 ∷ 0 ∷ []
 codeFor mergeOldest = 10 ∷ 0 ∷ 0 ∷ 0 ∷ 0 ∷ 0 ∷ 0 ∷ []
 

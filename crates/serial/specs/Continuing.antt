@@ -18,13 +18,13 @@ use Rattle.spec.specs.Leaves.{Leaf, versionAt}
 use Rattle.spec.specs.Slots.{Content, contentOf}
 use Rattle.spec.specs.Guards.{Scan}
 use Rattle.spec.specs.Maps.{MapState, current, indexedBetween}
-use Rattle.spec.specs.Steps.{Worker, State, Places, workerOf, Step, read, scan, put, remove, Answer, done, found, listed, Event, isFree, isOpen, isChecked, ownWrite, slotsExamined, scanned, scanReads, scanVersions, remembered, withWorker, withMap, logged, writing, readRows}
-use Rattle.spec.specs.Sequential.{Agrees}
-use Rattle.spec.specs.Claim.{Reading, runningNow, extended, goesOn}
+use Rattle.spec.specs.Steps.{Worker, State, Places, workerOf, Step, read, scan, put, remove, Answer, done, found, listed, Event, isFree, isOpen, isChecked, ownWrite, slotsExamined, scanned, scanReads, scanVersions, remembered, withWorker, withMap, logged, writing, readRows, accessOf, Access, access, readAt, scanOver, putTo, removeAt, act, accessAnswer, accessed}
+use Rattle.spec.specs.Sequential.{Agrees, AccessAgrees}
+use Rattle.spec.specs.Claim.{Reading, runningNow, extended, goesOn, isGranted}
 use Rattle.laws.specs.ContentLaws.{look-indexedBetween}
 use Rattle.laws.specs.LeafLaws.{version-old, meeting-covers}
 use Rattle.serial.specs.Stages.{open-unchecked, open-busy}
-use Rattle.serial.specs.Feeding.{eventWrites, writesOf-snoc, wrote, look-member}
+use Rattle.serial.specs.Feeding.{eventWrites, writesOf-snoc, wrote, look-member, wroteBy}
 use Rattle.serial.specs.Invariant.{Facts, Observation, Throughout, Explains, Backed, by-read, by-leaf, Saw, AllSaw, Roomy, HasLock, putAt, Working, Invariant}
 use Rattle.serial.specs.Keeping.{ReadOn, own-step}
 use Rattle.serial.specs.Guarding.{saw-longer, saw-now}
@@ -135,6 +135,14 @@ pub record IsOpen (σ : State) (w : ℕ) : Type 0 where
   pub inside : w < length (σ .workers)
   pub stage : isOpen (workerOf σ w .stage) ≡ true
 
+-- the answer to a granted step of an open transaction is none of a refusal
+pub access-granted : (σ : State) (w : ℕ) (a : Access) → isGranted (accessAnswer σ w a) ≡ true
+unfolding accessAnswer isGranted
+access-granted σ w (readAt k) = refl
+access-granted σ w (scanOver lo hi b) = refl
+access-granted σ w (putTo k p) = refl
+access-granted σ w (removeAt k) = refl
+
 module _ {σ : State} {ρ : Reading} {w : ℕ} (h : Sound σ ρ) (o : IsOpen σ w) where
   unfoldable pub x : Worker
   x = workerOf σ w
@@ -194,13 +202,13 @@ module _ {σ : State} {ρ : Reading} {w : ℕ} (h : Sound σ ρ) (o : IsOpen σ 
       (λ o' m j lo hi. backed-writing k e j (o' .seen j) (g-backed o' m j lo hi))
       (unfold writing in g-saw)
 
-  pub put-sound : (k : ℕ) (p : Payload) → Sound (withWorker σ w (writing k (written p) (workerOf σ w))) (goesOn ρ w (record { step = put w k p; answer = done }))
+  put-sound : (k : ℕ) (p : Payload) → Sound (withWorker σ w (writing k (written p) (workerOf σ w))) (goesOn ρ w (record { step = put w k p; answer = done }))
   unfolding x
-  put-sound k p = writes-on k (written p) (put w k p) done (λ l. unfold Agrees in tt) (unfold wrote in refl)
+  put-sound k p = writes-on k (written p) (put w k p) done (λ l. unfold Agrees AccessAgrees accessOf in tt) (unfold wrote wroteBy accessOf in refl)
 
-  pub remove-sound : (k : ℕ) → Sound (withWorker σ w (writing k deleted (workerOf σ w))) (goesOn ρ w (record { step = remove w k; answer = done }))
+  remove-sound : (k : ℕ) → Sound (withWorker σ w (writing k deleted (workerOf σ w))) (goesOn ρ w (record { step = remove w k; answer = done }))
   unfolding x
-  remove-sound k = writes-on k deleted (remove w k) done (λ l. unfold Agrees in tt) (unfold wrote in refl)
+  remove-sound k = writes-on k deleted (remove w k) done (λ l. unfold Agrees AccessAgrees accessOf in tt) (unfold wrote wroteBy accessOf in refl)
 
   -- ---- read and scan
 
@@ -232,7 +240,7 @@ module _ {σ : State} {ρ : Reading} {w : ℕ} (h : Sound σ ρ) (o : IsOpen σ 
   read-by k n none q =
       observes (row k (current (σ .map) k) ∷ []) [] [] (read w k) (found (payloadOf (current (σ .map) k)) n) (readOf k (current (σ .map) k) ∷ g .os)
       (explain-read (g .os) (g .t .events) w k n (current (σ .map) k) (own-is k ∙ q) (g .explains))
-      (unfold wrote in refl)
+      (unfold wrote wroteBy accessOf in refl)
       (λ o' m j lo hi. ⊎-elim (λ e. new o' e j lo hi) (λ e. backed-logged _ _ _ j (o' .seen j) (g-backed o' e j lo hi)) (List·Memᴰ·cases-cons m))
       (λ o' m. List·Memᴰ·tail m)
       (λ c m. absurd (List·Memᴰ·not-nil m))
@@ -253,12 +261,12 @@ module _ {σ : State} {ρ : Reading} {w : ℕ} (h : Sound σ ρ) (o : IsOpen σ 
   read-by k n (some e) q =
       observes [] [] [] (read w k) (found (ownView e) n) (g .os)
       (explain-own-read (g .os) (g .t .events) w k n e (own-is k ∙ q) (g .explains))
-      (unfold wrote in refl)
+      (unfold wrote wroteBy accessOf in refl)
       (λ o' m j lo hi. backed-logged [] [] [] j (o' .seen j) (g-backed o' m j lo hi))
       (λ o' m. m)
       (λ c m. absurd (List·Memᴰ·not-nil m))
 
-  pub read-sound : (k : ℕ)
+  read-sound : (k : ℕ)
       → Sound (withWorker σ w (logged (readRows σ w k) [] [] (workerOf σ w)))
       (goesOn ρ w (record { step = read w k; answer = found (maybe (ownWrite σ w k) (payloadOf (current (σ .map) k)) ownView) (slotsExamined σ w k) }))
   unfolding readRows x
@@ -268,7 +276,7 @@ module _ {σ : State} {ρ : Reading} {w : ℕ} (h : Sound σ ρ) (o : IsOpen σ 
   unfolding scanReads
   scan-is lo hi = record { looks = look-indexedBetween (σ .map) lo hi }
 
-  pub scan-sound : (lo hi : ℕ) (b : Places)
+  scan-sound : (lo hi : ℕ) (b : Places)
       → Sound (withWorker σ w (logged (scanReads σ lo hi) (scanVersions σ lo hi) (remembered σ w lo hi ∷ []) (workerOf σ w)))
       (goesOn ρ w (record { step = scan w lo hi b; answer = listed (scanned σ w lo hi) }))
   unfolding x
@@ -276,7 +284,7 @@ module _ {σ : State} {ρ : Reading} {w : ℕ} (h : Sound σ ρ) (o : IsOpen σ 
       observes (scanReads σ lo hi) (scanVersions σ lo hi) (remembered σ w lo hi ∷ []) (scan w lo hi b) (listed (scanned σ w lo hi)) (new ∷ g .os)
       (subst (λ (rs : List (Row Payload)). Explains (new ∷ g .os) (g .t .events ++ (record { step = scan w lo hi b; answer = listed rs } ∷ []))) shows
       (explain-scan (scan-is lo hi) (g .os) (g .t .events) w b (g .explains)))
-      (unfold wrote in refl)
+      (unfold wrote wroteBy accessOf in refl)
       (λ o' m j l u. ⊎-elim (λ e. seen-new o' e j l u) (λ e. backed-logged _ _ _ j (o' .seen j) (g-backed o' e j l u)) (List·Memᴰ·cases-cons m))
       (λ o' m. List·Memᴰ·tail m)
       (λ c m. subst (Saw (x .reads ++ scanReads σ lo hi) (new ∷ g .os)) (sym (List·Memᴰ·eq-of-singleton m)) saw-new)
@@ -327,3 +335,11 @@ module _ {σ : State} {ρ : Reading} {w : ℕ} (h : Sound σ ρ) (o : IsOpen σ 
       seen-new o' e j l u =
           subst (λ (r : Option Record). Backed (facts σ) x' j r) (sym (ap (λ (y : Observation). y .seen j) e))
           (both-ways j (subst (λ (y : Observation). y .lo ≤ j) e l) (subst (λ (y : Observation). j ≤ y .hi) e u))
+
+  -- any step of an open transaction
+  pub access-sound : (a : Access) → Sound (withWorker σ w (accessed σ w a)) (goesOn ρ w (record { step = act w (access a); answer = accessAnswer σ w a }))
+  unfolding accessed accessAnswer
+  access-sound (readAt k) = read-sound k
+  access-sound (scanOver lo hi b) = scan-sound lo hi b
+  access-sound (putTo k p) = put-sound k p
+  access-sound (removeAt k) = remove-sound k

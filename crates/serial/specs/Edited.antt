@@ -16,7 +16,7 @@ use Rattle.spec.specs.Records.{standard, Payload}
 use Rattle.spec.specs.Leaves.{live}
 use Rattle.spec.specs.Slots.{Content, entries}
 use Rattle.spec.specs.Maps.{contents, hiddenIn}
-use Rattle.spec.specs.Steps.{State, fresh, workerOf, Step, begin, read, scan, put, remove, lock, validate, install, abort, merge, mergeOldest, refused, listed, Cause, cause, causes, firstCause, granted, effect, afterRefusal, writeKeys, Event}
+use Rattle.spec.specs.Steps.{State, fresh, workerOf, Step, begin, read, scan, put, remove, lock, validate, install, merge, mergeOldest, refused, listed, Cause, cause, causes, firstCause, granted, effect, afterRefusal, writeKeys, Event, act, beginning, access, locking, validating, installing, aborting}
 use Rattle.spec.specs.Claim.{SerialRun}
 use Rattle.spec.specs.Computing.{claim}
 use Rattle.spec.specs.Events.{value}
@@ -40,17 +40,14 @@ Rule = Edit → Step → List Cause
 
 -- the keys of a write set are flagged when the lock is granted, if the index lacks them then
 flags : Edit → Step → List ℕ
-flags x (begin w) = x .flagged
-flags x (read w k) = x .flagged
-flags x (scan w lo hi b) = x .flagged
-flags x (put w k p) = x .flagged
-flags x (remove w k) = x .flagged
-flags x (lock w) =
+flags x (act w beginning) = x .flagged
+flags x (act w (access a)) = x .flagged
+flags x (act w locking) =
     filter (λ (k : ℕ). not (present (look (x .state .map .records) k))) (writeKeys (x .state) w)
     ++ filter (λ (k : ℕ). not (has k (writeKeys (x .state) w))) (x .flagged)
-flags x (validate w) = x .flagged
-flags x (install w) = x .flagged
-flags x (abort w) = x .flagged
+flags x (act w validating) = x .flagged
+flags x (act w installing) = x .flagged
+flags x (act w aborting) = x .flagged
 flags x (merge a) = x .flagged
 flags x mergeOldest = x .flagged
 
@@ -109,16 +106,13 @@ flaggedPhantom x w v =
     (any (λ (e : Row Content). both (has (e .key) (x .flagged)) (hiddenIn (x .state .map) w v e)) (entries (x .state .map .slots)))
 
 phantomByFlag : Edit → Step → Cause → Cause
-phantomByFlag x (begin w) c = c
-phantomByFlag x (read w k) c = c
-phantomByFlag x (scan w lo hi b) c = c
-phantomByFlag x (put w k p) c = c
-phantomByFlag x (remove w k) c = c
-phantomByFlag x (lock w) c = c
-phantomByFlag x (validate w) c =
+phantomByFlag x (act w beginning) c = c
+phantomByFlag x (act w (access a)) c = c
+phantomByFlag x (act w locking) c = c
+phantomByFlag x (act w validating) c =
     pick (same (numberOf (c .refusal)) 14) (cause (any (flaggedPhantom x w) (workerOf (x .state) w .versions)) Phantom) c
-phantomByFlag x (install w) c = c
-phantomByFlag x (abort w) c = c
+phantomByFlag x (act w installing) c = c
+phantomByFlag x (act w aborting) c = c
 phantomByFlag x (merge a) c = c
 phantomByFlag x mergeOldest c = c
 

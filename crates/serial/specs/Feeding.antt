@@ -15,25 +15,22 @@ use Rattle.lists.specs.TestLaws.{cases, same-true, same-false}
 use Rattle.lists.specs.Rows.{Row, row, look, insert, Rising}
 use Rattle.lists.specs.RowLaws.{some-not-none, look-insert, look-assign, look-here, look-there, look-nil, rising-assign, rising-nil}
 use Rattle.spec.specs.Records.{Record, Write, written, deleted, outcome}
-use Rattle.spec.specs.Steps.{Step, begin, read, scan, put, remove, lock, validate, install, abort, merge, mergeOldest, Event}
-use Rattle.spec.specs.Sequential.{afterStep, Agrees, afterSteps, AllAgree}
+use Rattle.spec.specs.Steps.{Step, Event, Access, readAt, scanOver, putTo, removeAt, accessOf}
+use Rattle.spec.specs.Sequential.{afterStep, Agrees, afterSteps, AllAgree, afterAccess}
 use Rattle.spec.specs.Claim.{Transaction, listAfter}
 
 -- ---- one transaction
 
+-- the write set after a step of an open transaction
+unfoldable pub wroteBy : List (Row Write) → Access → List (Row Write)
+wroteBy ws (readAt k) = ws
+wroteBy ws (scanOver lo hi b) = ws
+wroteBy ws (putTo k p) = insert k (written p) ws
+wroteBy ws (removeAt k) = insert k deleted ws
+
 -- the write set after a step
 unfoldable pub wrote : List (Row Write) → Step → List (Row Write)
-wrote ws (begin w) = ws
-wrote ws (read w k) = ws
-wrote ws (scan w lo hi b) = ws
-wrote ws (put w k p) = insert k (written p) ws
-wrote ws (remove w k) = insert k deleted ws
-wrote ws (lock w) = ws
-wrote ws (validate w) = ws
-wrote ws (install w) = ws
-wrote ws (abort w) = ws
-wrote ws (merge a) = ws
-wrote ws mergeOldest = ws
+wrote ws s = maybe (accessOf s) ws (wroteBy ws)
 
 unfoldable pub writesFrom : List (Row Write) → List Event → List (Row Write)
 writesFrom ws [] = ws
@@ -53,26 +50,28 @@ laid-insert n j e ws k o =
     ap (λ (x : Option Write). maybe x o (outcome n)) (look-insert j e ws k)
     ∙ ⊎-elim (λ g. rw g) (λ g. rw g) (cases (same j k))
 
-look-after : (n : ℕ) (l l' : List (Row Record)) (ws : List (Row Write)) (s : Step)
-    → ((k : ℕ) → look l' k ≡ laid n ws k (look l k)) → (k : ℕ) → look (afterStep n l' s) k ≡ laid n (wrote ws s) k (look l k)
-unfolding afterStep wrote
-look-after n l l' ws (begin w) h k = h k
-look-after n l l' ws (read w j) h k = h k
-look-after n l l' ws (scan w lo hi b) h k = h k
-look-after n l l' ws (put w j p) h k =
+look-accessed : (n : ℕ) (l l' : List (Row Record)) (ws : List (Row Write)) (a : Access)
+    → ((k : ℕ) → look l' k ≡ laid n ws k (look l k)) → (k : ℕ) → look (afterAccess n l' a) k ≡ laid n (wroteBy ws a) k (look l k)
+unfolding afterAccess wroteBy
+look-accessed n l l' ws (readAt j) h k = h k
+look-accessed n l l' ws (scanOver lo hi b) h k = h k
+look-accessed n l l' ws (putTo j p) h k =
     look-assign j (outcome n (written p)) l' k
     ∙ ap (pick (same j k) (outcome n (written p))) (h k)
     ∙ sym (laid-insert n j (written p) ws k (look l k))
-look-after n l l' ws (remove w j) h k =
+look-accessed n l l' ws (removeAt j) h k =
     look-assign j (outcome n deleted) l' k
     ∙ ap (pick (same j k) (outcome n deleted)) (h k)
     ∙ sym (laid-insert n j deleted ws k (look l k))
-look-after n l l' ws (lock w) h k = h k
-look-after n l l' ws (validate w) h k = h k
-look-after n l l' ws (install w) h k = h k
-look-after n l l' ws (abort w) h k = h k
-look-after n l l' ws (merge a) h k = h k
-look-after n l l' ws mergeOldest h k = h k
+
+look-after : (n : ℕ) (l l' : List (Row Record)) (ws : List (Row Write)) (s : Step)
+    → ((k : ℕ) → look l' k ≡ laid n ws k (look l k)) → (k : ℕ) → look (afterStep n l' s) k ≡ laid n (wrote ws s) k (look l k)
+unfolding afterStep wrote
+look-after n l l' ws s h k = go (accessOf s)
+  where
+    go : (o : Option Access) → look (maybe o l' (afterAccess n l')) k ≡ laid n (maybe o ws (wroteBy ws)) k (look l k)
+    go none = h k
+    go (some a) = look-accessed n l l' ws a h k
 
 look-afterFrom : (n : ℕ) (l l' : List (Row Record)) (ws : List (Row Write)) (es : List Event)
     → ((k : ℕ) → look l' k ≡ laid n ws k (look l k)) → (k : ℕ) → look (afterSteps n l' es) k ≡ laid n (writesFrom ws es) k (look l k)
@@ -88,19 +87,20 @@ unfolding eventWrites
 look-afterAll n l es k =
     look-afterFrom n l l [] es (λ j. sym (ap (λ (x : Option Write). maybe x (look l j) (outcome n)) (look-nil j))) k
 
+rising-accessed : (n : ℕ) (l : List (Row Record)) (a : Access) → Rising l → Rising (afterAccess n l a)
+unfolding afterAccess
+rising-accessed n l (readAt j) h = h
+rising-accessed n l (scanOver lo hi b) h = h
+rising-accessed n l (putTo j p) h = rising-assign j (outcome n (written p)) l h
+rising-accessed n l (removeAt j) h = rising-assign j (outcome n deleted) l h
+
 rising-after : (n : ℕ) (l : List (Row Record)) (s : Step) → Rising l → Rising (afterStep n l s)
 unfolding afterStep
-rising-after n l (begin w) h = h
-rising-after n l (read w j) h = h
-rising-after n l (scan w lo hi b) h = h
-rising-after n l (put w j p) h = rising-assign j (outcome n (written p)) l h
-rising-after n l (remove w j) h = rising-assign j (outcome n deleted) l h
-rising-after n l (lock w) h = h
-rising-after n l (validate w) h = h
-rising-after n l (install w) h = h
-rising-after n l (abort w) h = h
-rising-after n l (merge a) h = h
-rising-after n l mergeOldest h = h
+rising-after n l s h = go (accessOf s)
+  where
+    go : (o : Option Access) → Rising (maybe o l (afterAccess n l))
+    go none = h
+    go (some a) = rising-accessed n l a h
 
 pub rising-afterAll : (n : ℕ) (l : List (Row Record)) (es : List Event) → Rising l → Rising (afterSteps n l es)
 unfolding afterSteps

@@ -15,7 +15,7 @@ use Rattle.spec.specs.Records.{Record, Write, written, deleted, isPut, outcome,
 use Rattle.spec.specs.Leaves.{Leaf, versionAt, live}
 use Rattle.spec.specs.Slots.{Pending, Content, isIdle, contentOf, entries}
 use Rattle.spec.specs.Maps.{MapState, outcomeOf, current, heldByOther, putPending, hiding, hiddenIn, hides, withSlots, installAll, Merged, mergeAt}
-use Rattle.spec.specs.Steps.{Worker, freeWorker, State, workerOf, validate, numbered, Event, isFree, isLocked, isChecked, lockedByOther, changedSince, phantomIn, withWorker, withMap, withCounters, installCounted, checkedAs, installedMap, merged}
+use Rattle.spec.specs.Steps.{Worker, freeWorker, State, workerOf, validate, numbered, Event, isFree, isLocked, isChecked, lockedByOther, changedSince, phantomIn, withWorker, withMap, withCounters, installCounted, checkedAs, installedMap, merged, accessOf}
 use Rattle.spec.specs.Sequential.{Agrees}
 use Rattle.spec.specs.Claim.{Transaction, Reading, runningNow, passed, extended, withNumber, numberIn, oneMoreGiven, validated, installedNow}
 use Rattle.laws.specs.SlotLaws.{content-member}
@@ -241,7 +241,7 @@ module _ {σ : State} {ρ : Reading} {w : ℕ} (h : Sound σ ρ) (p : Validatabl
           × ((os : List Observation) → Explains os (u .events) → Explains os (withNumber n (extended e-validate (g-locked .t)) .events)))
           (is-t t q)
           (unfold withNumber extended in
-          (refl, writesOf-snoc (g-locked .t .events) e-validate ∙ (unfold wrote in refl), λ os x. explain-quiet os (g-locked .t .events) (validate w) (numbered n) (λ l. unfold Agrees in tt) x))
+          (refl, writesOf-snoc (g-locked .t .events) e-validate ∙ (unfold wrote accessOf in refl), λ os x. explain-quiet os (g-locked .t .events) (validate w) (numbered n) (λ l. unfold Agrees accessOf in tt) x))
 
   fine-counted : Fine (withCounters σ n (σ .counters .version))
   unfolding withCounters workerOf

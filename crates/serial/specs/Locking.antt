@@ -17,7 +17,7 @@ use Rattle.spec.specs.Records.{Settings, Payload, Record, Write, written, isPut
 use Rattle.spec.specs.Slots.{Pending, Content, contentOf}
 use Rattle.spec.specs.Guards.{anyPut}
 use Rattle.spec.specs.Maps.{MapState, outcomeOf, current, heldByOther, withSlots, lockAll, unlockAll}
-use Rattle.spec.specs.Steps.{Worker, freeWorker, State, workerOf, lock, done, Event, isOpen, isChecked, guard, unfitPut, uncoveredPut, overlappedPut, lockedByOther, writeKeys, withWorker, withMap, atStage, dropped}
+use Rattle.spec.specs.Steps.{Worker, freeWorker, State, workerOf, lock, done, Event, isOpen, isChecked, guard, unfitPut, uncoveredPut, overlappedPut, lockedByOther, writeKeys, withWorker, withMap, atStage, dropped, accessOf}
 use Rattle.spec.specs.Sequential.{Agrees, AllAgree}
 use Rattle.spec.specs.Claim.{Transaction, Reading, runningNow, passed, started, goesOn}
 use Rattle.laws.specs.MapLaws.{LockRoom, lockedBy, locked-pending, lock-good, lock-says, unlocked, unlocked-other, unlocked-pending, unlock-good, unlock-says}
@@ -186,8 +186,8 @@ module _ {σ : State} {ρ : Reading} {w : ℕ} (h : Sound σ ρ) (o : IsOpen σ 
             own-map σ m' w x' ρ (goesOn ρ w e) own-locks (worker-same (withMap σ m') w x' (unfold withMap in o .inside)) unchecked
             (read-goesOn (facts σ) ρ w (workerOf σ w) e (w-working)) (running-goesOn (facts σ) ρ w (workerOf σ w) e w-working)
             (λ s. goes-on (facts σ) (facts σ') ρ w (workerOf σ w) x' e (w-working .os) w-working same-given
-            (explain-quiet (w-working .os) (w-working .t .events) (lock w) done (λ l. unfold Agrees in tt) (w-working .explains))
-            (unfold wrote atStage in refl)
+            (explain-quiet (w-working .os) (w-working .t .events) (lock w) done (λ l. unfold Agrees accessOf in tt) (w-working .explains))
+            (unfold wrote accessOf atStage in refl)
             (λ o' m k lo hi. still-backed k (o' .seen k) (w-backed o' m k lo hi))
             (λ c k p. holds k p) unchecked (λ c. clash c shut) (λ c. unfold withWorker withMap atStage in roomy))
             (h .invariant);

@@ -19,7 +19,7 @@ use Rattle.spec.specs.Refusals.{ends}
 use Rattle.spec.specs.Records.{Settings, standard, Payload, Record, Write, written, deleted, outcome, payloadOf}
 use Rattle.spec.specs.Guards.{lastByte, share, unfit, NoOverlap}
 use Rattle.spec.specs.Maps.{contents}
-use Rattle.spec.specs.Steps.{State, fresh, Step, begin, read, scan, put, remove, lock, validate, install, abort, merge, mergeOldest, stepWorker, refusal, withWorker, withMap, withCounters, installCounted, dropped, merged, effect, afterRefusal, next, final, history}
+use Rattle.spec.specs.Steps.{State, fresh, Step, merge, mergeOldest, stepWorker, refusal, withWorker, withMap, withCounters, installCounted, dropped, merged, effect, afterRefusal, next, final, history, act, beginning, access, locking, validating, installing, aborting}
 use Rattle.spec.specs.Sequential.{afterSteps}
 use Rattle.spec.specs.Claim.{Transaction, Reading, nothingRead, readOn, reading, listAfter}
 use Rattle.spec.specs.GoodSettings.{GoodSettings}
@@ -179,15 +179,12 @@ spaced-rows s l f h =
 
 granted-guard : (σ : State) (s : Step) → facts (effect σ s) .guard ≡ facts σ .guard
 unfolding effect withWorker withMap withCounters installCounted dropped merged
-granted-guard σ (begin w) = refl
-granted-guard σ (read w k) = refl
-granted-guard σ (scan w lo hi b) = refl
-granted-guard σ (put w k p) = refl
-granted-guard σ (remove w k) = refl
-granted-guard σ (lock w) = refl
-granted-guard σ (validate w) = refl
-granted-guard σ (install w) = refl
-granted-guard σ (abort w) = refl
+granted-guard σ (act w beginning) = refl
+granted-guard σ (act w (access a)) = refl
+granted-guard σ (act w locking) = refl
+granted-guard σ (act w validating) = refl
+granted-guard σ (act w installing) = refl
+granted-guard σ (act w aborting) = refl
 granted-guard σ (merge a) = refl
 granted-guard σ mergeOldest = refl
 

@@ -11,8 +11,8 @@ use Rattle.lists.specs.TestLaws.{cases, atMost-true}
 use Rattle.lists.specs.Rows.{Row, look, Rising, lay, between, mapItems}
 use Rattle.lists.specs.RowLaws.{rows-equal, look-lay, look-nil, look-mapItems, look-between, rising-lay, rising-nil, rising-mapItems, rising-between}
 use Rattle.spec.specs.Records.{Payload, Record, Write, written, deleted, outcome, ownView, payloadOf}
-use Rattle.spec.specs.Steps.{Places, Step, read, scan, Answer, found, listed, Event}
-use Rattle.spec.specs.Sequential.{valueTold, Agrees, afterSteps, listScan}
+use Rattle.spec.specs.Steps.{Places, Step, read, scan, Answer, found, listed, Event, accessOf}
+use Rattle.spec.specs.Sequential.{valueTold, Agrees, afterSteps, listScan, AccessAgrees}
 use Rattle.serial.specs.Feeding.{eventWrites, laid, look-afterAll, rising-afterAll, allAgree-snoc}
 use Rattle.serial.specs.Invariant.{Observation, Matches, Explains}
 
@@ -49,7 +49,7 @@ payload-map (some r) = refl
 -- a read that the own write answered
 pub explain-own-read : (os : List Observation) (es : List Event) (w k x : ℕ) (e : Write) → look (eventWrites es) k ≡ some e
     → Explains os es → Explains os (es ++ (record { step = read w k; answer = found (ownView e) x } ∷ []))
-unfolding Agrees valueTold
+unfolding Agrees AccessAgrees accessOf valueTold
 explain-own-read os es w k x e q h =
     explain os os es (read w k) (found (ownView e) x) h (λ l m. m)
     (λ n l l' r o m.
@@ -62,7 +62,7 @@ readOf k r = record { lo = k; hi = k; seen = λ (j : ℕ). r }
 pub explain-read : (os : List Observation) (es : List Event) (w k x : ℕ) (r : Option Record) → look (eventWrites es) k ≡ none
     → Explains os es
     → Explains (readOf k r ∷ os) (es ++ (record { step = read w k; answer = found (payloadOf r) x } ∷ []))
-unfolding Agrees valueTold
+unfolding Agrees AccessAgrees accessOf valueTold
 explain-read os es w k x r q h =
     explain os (readOf k r ∷ os) es (read w k) (found (payloadOf r) x) h (λ l m o mem. m o (List·Memᴰ·tail mem))
     (λ n l l' s o m.
@@ -133,7 +133,7 @@ module _ {indexed : ℕ → Bool} {current : ℕ → Option Record} {lo hi : ℕ
   pub explain-scan : (os : List Observation) (es : List Event) (w : ℕ) (b : Places) → Explains os es
       → Explains (scanOf indexed current lo hi ∷ os)
       (es ++ (record { step = scan w lo hi b; answer = listed (shown (eventWrites es) lo hi rows) } ∷ []))
-  unfolding Agrees
+  unfolding Agrees AccessAgrees accessOf
   explain-scan os es w b x =
       explain os (scanOf indexed current lo hi ∷ os) es (scan w lo hi b) (listed (shown (eventWrites es) lo hi rows)) x
       (λ l m o mem. m o (List·Memᴰ·tail mem))

@@ -1,23 +1,23 @@
 -- Demand 3 over the model: every list of steps from a fresh map is a serial run.
 use Prim.Native.Nat.{ℕ, zero, suc, _<_}
 use native.Mathlib.Nat.{le-trans, le-of-eq}
-use mathlib.Core.Path.{_≡_, refl, sym, ap, _∙_}
+use mathlib.Core.Path.{_≡_, refl, sym, ap, _∙_, subst}
 use mathlib.Core.Logic.{⊎-elim}
 use mathlib.Core.Bool.{Bool, true, false, not}
 use mathlib.Core.List.{List, [], _∷_, List·Memᴰ·not-nil}
 use mathlib.Core.Option.{Option, none, some, Option·getD}
 use lib.ListN.{length, replicate}
-use Rattle.lists.specs.Tests.{maybe, less}
+use Rattle.lists.specs.Tests.{pick, maybe, less}
 use Rattle.lists.specs.TestLaws.{cases, clash, less-true, less-false}
 use Rattle.lists.specs.Rows.{Row, look, keys, Different}
 use Rattle.lists.specs.RowLaws.{has-any, look-nil, rising-different}
 use Rattle.spec.specs.declared.Refusal.{Refusal}
 use Rattle.spec.specs.Refusals.{ends}
-use Rattle.spec.specs.Records.{Settings, standard, Payload}
+use Rattle.spec.specs.Records.{Settings, standard}
 use Rattle.spec.specs.Slots.{slotCount, Content, idle, emptySlot, entries, contentOf}
 use Rattle.spec.specs.Maps.{freshMap, outcomeOf, current, contents, oldest}
-use Rattle.spec.specs.Steps.{Worker, State, Places, fresh, workerOf, Step, begin, read, scan, put, remove, lock, validate, install, abort, merge, mergeOldest, stepWorker, refused, isFree, isOpen, isLocked, isChecked, writeKeys, Cause, noWorker, workerFree, wrongStage, causes, firstCause, refusal, granted, effect, afterRefusal, answer, next, final, history}
-use Rattle.spec.specs.Claim.{Reading, nothingRead, isGranted, passed, readGranted, advance, readOn, reading, listAfter, SerialRun}
+use Rattle.spec.specs.Steps.{Worker, State, fresh, workerOf, Step, lock, validate, install, merge, mergeOldest, stepWorker, refused, isFree, isOpen, isLocked, isChecked, writeKeys, Cause, noWorker, workerFree, wrongStage, causes, firstCause, refusal, granted, effect, afterRefusal, answer, next, final, history, Access, act, beginning, access, locking, validating, installing, aborting, begin, accessAnswer}
+use Rattle.spec.specs.Claim.{Reading, nothingRead, isGranted, passed, goesOn, readGranted, advance, readOn, reading, listAfter, SerialRun}
 use Rattle.laws.specs.ContentLaws.{look-contents, rising-contents}
 use Rattle.laws.specs.MapBounds.{lock-room}
 use Rattle.spec.specs.GoodSettings.{GoodSettings}
@@ -25,7 +25,7 @@ use Rattle.laws.specs.WorkerLaws.{standard-settings}
 use Rattle.serial.specs.Stages.{free-free, checked-busy}
 use Rattle.serial.specs.Concluding.{serial}
 use Rattle.serial.specs.Model.{Fine, fine-fresh, worker-fresh, cause-passed, not-false}
-use Rattle.serial.specs.Continuing.{Sound, IsOpen, put-sound, remove-sound, read-sound, scan-sound}
+use Rattle.serial.specs.Continuing.{Sound, IsOpen, access-granted, access-sound}
 use Rattle.serial.specs.Locking.{begin-sound, Lockable, lock-sound, dropped-sound}
 use Rattle.serial.specs.Finishing.{Validatable, validate-sound, install-sound, merge-sound, same-sound}
 
@@ -98,21 +98,9 @@ module _ {σ : State} {ρ : Reading} (h : Sound σ ρ) where
       let c = cause-passed (wrongStage isChecked σ w) _ (b .1) in
       not-false (isChecked (workerOf σ w .stage)) (c .0)
 
-  opened-read : (w k : ℕ) → refusal σ (read w k) ≡ none → IsOpen σ w
+  opened : (w : ℕ) (a : Access) → refusal σ (act w (access a)) ≡ none → IsOpen σ w
   unfolding refusal causes
-  opened-read w k e = is-open w _ e .0
-
-  opened-scan : (w lo hi : ℕ) (b : Places) → refusal σ (scan w lo hi b) ≡ none → IsOpen σ w
-  unfolding refusal causes
-  opened-scan w lo hi b e = is-open w _ e .0
-
-  opened-put : (w k : ℕ) (p : Payload) → refusal σ (put w k p) ≡ none → IsOpen σ w
-  unfolding refusal causes
-  opened-put w k p e = is-open w _ e .0
-
-  opened-remove : (w k : ℕ) → refusal σ (remove w k) ≡ none → IsOpen σ w
-  unfolding refusal causes
-  opened-remove w k e = is-open w _ e .0
+  opened w a e = is-open w _ e .0
 
   begins : (w : ℕ) → refusal σ (begin w) ≡ none → w < length (σ .workers)
   unfolding refusal causes
@@ -121,16 +109,15 @@ module _ {σ : State} {ρ : Reading} (h : Sound σ ρ) where
   -- ---- steps
 
   granted-sound : (s : Step) → refusal σ s ≡ none → Sound (effect σ s) (advance ρ (record { step = s; answer = granted σ s }))
-  unfolding effect granted advance isGranted readGranted
-  granted-sound (begin w) e = begin-sound σ ρ w (begins w e) h
-  granted-sound (read w k) e = read-sound h (opened-read w k e) k
-  granted-sound (scan w lo hi b) e = scan-sound h (opened-scan w lo hi b e) lo hi b
-  granted-sound (put w k p) e = put-sound h (opened-put w k p e) k p
-  granted-sound (remove w k) e = remove-sound h (opened-remove w k e) k
-  granted-sound (lock w) e = let l = lockable w e in lock-sound h (l .0) (l .1)
-  granted-sound (validate w) e = validate-sound h (validatable w e)
-  granted-sound (install w) e = install-sound h w (installs-checked w e)
-  granted-sound (abort w) e = dropped-sound w h
+  unfolding effect granted advance readGranted isGranted
+  granted-sound (act w beginning) e = begin-sound σ ρ w (begins w e) h
+  granted-sound (act w (access a)) e =
+      subst (λ (b : Bool). Sound (effect σ (act w (access a))) (pick b (goesOn ρ w (record { step = act w (access a); answer = accessAnswer σ w a })) (passed ρ)))
+      (sym (access-granted σ w a)) (access-sound h (opened w a e) a)
+  granted-sound (act w locking) e = let l = lockable w e in lock-sound h (l .0) (l .1)
+  granted-sound (act w validating) e = validate-sound h (validatable w e)
+  granted-sound (act w installing) e = install-sound h w (installs-checked w e)
+  granted-sound (act w aborting) e = dropped-sound w h
   granted-sound (merge a) e = merge-sound h a
   granted-sound mergeOldest e = merge-sound h (oldest (σ .map))
 

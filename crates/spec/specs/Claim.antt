@@ -13,7 +13,7 @@ use mathlib.Core.Option.{some}
 use Rattle.lists.specs.Tests.{pick, maybe}
 use Rattle.lists.specs.Rows.{Row, row, look, insert, delete, keys, Different}
 use Rattle.spec.specs.Records.{Record}
-use Rattle.spec.specs.Steps.{Step, begin, read, scan, put, remove, lock, validate, install, abort, merge, mergeOldest, Answer, refused, done, found, listed, numbered, counted, Event}
+use Rattle.spec.specs.Steps.{beginning, access, locking, validating, installing, aborting, Step, act, merge, mergeOldest, Answer, refused, done, found, listed, numbered, counted, Event}
 use Rattle.spec.specs.Sequential.{afterSteps, AllAgree}
 
 -- ---- the transactions of a history
@@ -109,15 +109,12 @@ installedNow ρ w t =
 
 -- what a granted step adds
 unfoldable pub readGranted : Reading → Event → Step → Reading
-readGranted ρ e (begin w) = runningNow ρ w (started ρ)
-readGranted ρ e (read w k) = goesOn ρ w e
-readGranted ρ e (scan w lo hi b) = goesOn ρ w e
-readGranted ρ e (put w k p) = goesOn ρ w e
-readGranted ρ e (remove w k) = goesOn ρ w e
-readGranted ρ e (lock w) = goesOn ρ w e
-readGranted ρ e (validate w) = validated ρ w e
-readGranted ρ e (install w) = maybe (look (ρ .running) w) (passed ρ) (installedNow ρ w)
-readGranted ρ e (abort w) = passed ρ
+readGranted ρ e (act w beginning) = runningNow ρ w (started ρ)
+readGranted ρ e (act w (access a)) = goesOn ρ w e
+readGranted ρ e (act w locking) = goesOn ρ w e
+readGranted ρ e (act w validating) = validated ρ w e
+readGranted ρ e (act w installing) = maybe (look (ρ .running) w) (passed ρ) (installedNow ρ w)
+readGranted ρ e (act w aborting) = passed ρ
 readGranted ρ e (merge a) = passed ρ
 readGranted ρ e mergeOldest = passed ρ
 

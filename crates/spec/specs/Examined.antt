@@ -3,18 +3,15 @@
 use mathlib.Core.Bool.{Bool, true, false}
 use Rattle.lists.specs.Tests.{less}
 use Rattle.spec.specs.Refusals.{ends}
-use Rattle.spec.specs.Steps.{Step, begin, read, scan, put, remove, lock, validate, install, abort, merge, mergeOldest, Answer, refused, done, found, listed, numbered, counted, Event}
+use Rattle.spec.specs.Steps.{beginning, access, locking, validating, installing, aborting, Step, act, merge, mergeOldest, Answer, refused, done, found, listed, numbered, counted, Event}
 
 unfoldable pub isAbort : Step → Bool
-isAbort (begin w) = false
-isAbort (read w k) = false
-isAbort (scan w lo hi b) = false
-isAbort (put w k p) = false
-isAbort (remove w k) = false
-isAbort (lock w) = false
-isAbort (validate w) = false
-isAbort (install w) = false
-isAbort (abort w) = true
+isAbort (act w aborting) = true
+isAbort (act w beginning) = false
+isAbort (act w (access a)) = false
+isAbort (act w locking) = false
+isAbort (act w validating) = false
+isAbort (act w installing) = false
 isAbort (merge a) = false
 isAbort mergeOldest = false
 

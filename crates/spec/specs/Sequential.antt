@@ -5,23 +5,21 @@ use Prim.Native.Nat.{ℕ}
 use mathlib.Core.Path.{_≡_}
 use mathlib.Core.List.{List, [], _∷_}
 use mathlib.Core.Option.{Option, none, some}
+use Rattle.lists.specs.Tests.{maybe}
 use Rattle.lists.specs.Rows.{Row, look, assign, between, mapItems}
 use Rattle.spec.specs.Records.{Payload, Record, written, deleted, outcome, payloadOf}
-use Rattle.spec.specs.Steps.{Step, begin, read, scan, put, remove, lock, validate, install, abort, merge, mergeOldest, Answer, refused, done, found, listed, numbered, counted, Event}
+use Rattle.spec.specs.Steps.{Access, readAt, scanOver, putTo, removeAt, Step, accessOf, Answer, refused, done, found, listed, numbered, counted, Event}
 
--- the list after a step of the transaction numbered n
+-- the list after a step of the open transaction numbered n
+unfoldable pub afterAccess : ℕ → List (Row Record) → Access → List (Row Record)
+afterAccess n l (readAt k) = l
+afterAccess n l (scanOver lo hi b) = l
+afterAccess n l (putTo k p) = assign k (outcome n (written p)) l
+afterAccess n l (removeAt k) = assign k (outcome n deleted) l
+
+-- the list after a step of the transaction numbered n: no other one changes it
 unfoldable pub afterStep : ℕ → List (Row Record) → Step → List (Row Record)
-afterStep n l (begin w) = l
-afterStep n l (read w k) = l
-afterStep n l (scan w lo hi b) = l
-afterStep n l (put w k p) = assign k (outcome n (written p)) l
-afterStep n l (remove w k) = assign k (outcome n deleted) l
-afterStep n l (lock w) = l
-afterStep n l (validate w) = l
-afterStep n l (install w) = l
-afterStep n l (abort w) = l
-afterStep n l (merge a) = l
-afterStep n l mergeOldest = l
+afterStep n l s = maybe (accessOf s) l (afterAccess n l)
 
 -- what the list answers to a scan: addresses and values from lo to hi, rising
 unfoldable pub listScan : List (Row Record) → ℕ → ℕ → List (Row Payload)
@@ -37,19 +35,17 @@ valueTold (listed l) = none
 valueTold (numbered n) = none
 valueTold (counted n) = none
 
--- the list answers a step as it was answered. Compared are a read's value or absence and a scan's count and places.
+-- the list answers a step of an open transaction as it was answered. Compared are a read's value or absence and a scan's count
+-- and places.
+unfoldable pub AccessAgrees : List (Row Record) → Answer → Access → Type 0
+AccessAgrees l a (readAt k) = valueTold a ≡ some (payloadOf (look l k))
+AccessAgrees l a (scanOver lo hi b) = a ≡ listed (listScan l lo hi)
+AccessAgrees l a (putTo k p) = Unit {0}
+AccessAgrees l a (removeAt k) = Unit {0}
+
+-- the list answers a step as it was answered: no other one is compared
 unfoldable pub Agrees : List (Row Record) → Step → Answer → Type 0
-Agrees l (begin w) a = Unit {0}
-Agrees l (read w k) a = valueTold a ≡ some (payloadOf (look l k))
-Agrees l (scan w lo hi b) a = a ≡ listed (listScan l lo hi)
-Agrees l (put w k p) a = Unit {0}
-Agrees l (remove w k) a = Unit {0}
-Agrees l (lock w) a = Unit {0}
-Agrees l (validate w) a = Unit {0}
-Agrees l (install w) a = Unit {0}
-Agrees l (abort w) a = Unit {0}
-Agrees l (merge a) b = Unit {0}
-Agrees l mergeOldest b = Unit {0}
+Agrees l s a = maybe (accessOf s) (Unit {0}) (AccessAgrees l a)
 
 -- the list after all steps of the transaction numbered n
 unfoldable pub afterSteps : ℕ → List (Row Record) → List Event → List (Row Record)

@@ -1,5 +1,6 @@
 -- Document 01, "Seats and steps" and "Refusals by number": workers, the eleven steps, when each is refused, what a granted
--- one answers and changes, and a run of steps.
+-- one answers and changes, and a run of steps. A step is an act of a worker or a merge; most acts are accesses of an open
+-- transaction, which rewrite their own worker and nothing else.
 use Prim.Native.Nat.{ℕ, suc, _+_, min}
 use mathlib.Core.Bool.{Bool, true, false, not}
 use mathlib.Core.List.{List, [], _∷_, _++_, map}
@@ -75,33 +76,72 @@ places a v o = record { addresses = a; values = v; owners = o }
 unfoldable pub shortest : Places → ℕ
 shortest b = min (min (b .addresses) (b .values)) (b .owners)
 
--- Each names its worker first but the two merges. A scan has lo, hi and the places of its buffers.
+-- What an open transaction does. A scan has lo, hi and the places of its buffers.
+pub data Access : Type 0 where
+  readAt : ℕ → Access
+  scanOver : ℕ → ℕ → Places → Access
+  putTo : ℕ → Payload → Access
+  removeAt : ℕ → Access
+
+-- What a worker does.
+pub data Act : Type 0 where
+  beginning : Act
+  access : Access → Act
+  locking : Act
+  validating : Act
+  installing : Act
+  aborting : Act
+
+-- An act of a worker, or a merge.
 pub data Step : Type 0 where
-  begin : ℕ → Step
-  read : ℕ → ℕ → Step
-  scan : ℕ → ℕ → ℕ → Places → Step
-  put : ℕ → ℕ → Payload → Step
-  remove : ℕ → ℕ → Step
-  lock : ℕ → Step
-  validate : ℕ → Step
-  install : ℕ → Step
-  abort : ℕ → Step
+  act : ℕ → Act → Step
   merge : ℕ → Step
   mergeOldest : Step  -- request 101: a merge at the address that has waited longest
 
+-- document 01's steps by their names
+abbrev pub begin : ℕ → Step
+begin w = act w beginning
+
+abbrev pub read : ℕ → ℕ → Step
+read w k = act w (access (readAt k))
+
+abbrev pub scan : ℕ → ℕ → ℕ → Places → Step
+scan w lo hi b = act w (access (scanOver lo hi b))
+
+abbrev pub put : ℕ → ℕ → Payload → Step
+put w k p = act w (access (putTo k p))
+
+abbrev pub remove : ℕ → ℕ → Step
+remove w k = act w (access (removeAt k))
+
+abbrev pub lock : ℕ → Step
+lock w = act w locking
+
+abbrev pub validate : ℕ → Step
+validate w = act w validating
+
+abbrev pub install : ℕ → Step
+install w = act w installing
+
+abbrev pub abort : ℕ → Step
+abort w = act w aborting
+
 -- the worker that a step names
 unfoldable pub stepWorker : Step → Option ℕ
-stepWorker (begin w) = some w
-stepWorker (read w k) = some w
-stepWorker (scan w lo hi b) = some w
-stepWorker (put w k p) = some w
-stepWorker (remove w k) = some w
-stepWorker (lock w) = some w
-stepWorker (validate w) = some w
-stepWorker (install w) = some w
-stepWorker (abort w) = some w
+stepWorker (act w a) = some w
 stepWorker (merge a) = none
 stepWorker mergeOldest = none
+
+-- what a step does in an open transaction, if it is such a one
+unfoldable pub accessOf : Step → Option Access
+accessOf (act w (access a)) = some a
+accessOf (act w beginning) = none
+accessOf (act w locking) = none
+accessOf (act w validating) = none
+accessOf (act w installing) = none
+accessOf (act w aborting) = none
+accessOf (merge a) = none
+accessOf mergeOldest = none
 
 pub data Answer : Type 0 where
   refused : Refusal → Answer
@@ -225,25 +265,23 @@ unfoldable pub overlappedPut : State → ℕ → Bool
 overlappedPut σ w =
     guard σ w (overlapped (σ .settings) (workerOf σ w .reads) (workerOf σ w .scans) (workerOf σ w .writes))
 
--- The causes of a step's refusals, in the order in which they are answered: by their numbers, but where a request gives one
--- its place.
-unfoldable pub causes : State → Step → List Cause
-causes σ (begin w) = noWorker σ w ∷ cause (not (isFree (workerOf σ w .stage))) WorkerTaken ∷ []
-causes σ (read w k) =
-    noWorker σ w ∷ workerFree σ w ∷ wrongStage isOpen σ w ∷ cause (readLogFull σ w k) LogFull ∷ []
-causes σ (scan w lo hi b) =
-    noWorker σ w
-    ∷ workerFree σ w
-    ∷ wrongStage isOpen σ w
-    ∷ cause (less hi lo) Backward
+-- the causes that a step has as one of an open transaction's
+unfoldable pub accessCauses : State → ℕ → Access → List Cause
+accessCauses σ w (readAt k) = cause (readLogFull σ w k) LogFull ∷ []
+accessCauses σ w (scanOver lo hi b) =
+    cause (less hi lo) Backward
     ∷ cause (scanLogFull σ w lo hi) LogFull
     ∷ cause (less (shortest b) (length (scanned σ w lo hi))) ShortBuffer
     ∷ []
-causes σ (put w k p) =
-    noWorker σ w ∷ workerFree σ w ∷ wrongStage isOpen σ w ∷ cause (writesFull σ w k) WritesFull ∷ []
-causes σ (remove w k) =
-    noWorker σ w ∷ workerFree σ w ∷ wrongStage isOpen σ w ∷ cause (writesFull σ w k) WritesFull ∷ []
-causes σ (lock w) =
+accessCauses σ w (putTo k p) = cause (writesFull σ w k) WritesFull ∷ []
+accessCauses σ w (removeAt k) = cause (writesFull σ w k) WritesFull ∷ []
+
+-- The causes of a step's refusals, in the order in which they are answered: by their numbers, but where a request gives one
+-- its place.
+unfoldable pub causes : State → Step → List Cause
+causes σ (act w beginning) = noWorker σ w ∷ cause (not (isFree (workerOf σ w .stage))) WorkerTaken ∷ []
+causes σ (act w (access a)) = noWorker σ w ∷ workerFree σ w ∷ wrongStage isOpen σ w ∷ accessCauses σ w a
+causes σ (act w locking) =
     noWorker σ w
     ∷ workerFree σ w
     ∷ wrongStage isOpen σ w
@@ -254,7 +292,7 @@ causes σ (lock w) =
     ∷ cause (less (σ .settings .waitingLimit) (waitingWith (σ .map) (writeKeys σ w))) IndexletFull
     ∷ cause (less (σ .settings .mapLimit) (addressesWith (σ .map) (writeKeys σ w))) MapFull
     ∷ []
-causes σ (validate w) =
+causes σ (act w validating) =
     noWorker σ w
     ∷ workerFree σ w
     ∷ wrongStage isLocked σ w
@@ -263,8 +301,8 @@ causes σ (validate w) =
     ∷ cause (any (phantomIn σ w) (workerOf σ w .versions)) Phantom
     ∷ cause (not (less (σ .counters .number) (σ .settings .lastNumber))) Spent
     ∷ []
-causes σ (install w) = noWorker σ w ∷ workerFree σ w ∷ wrongStage isChecked σ w ∷ []
-causes σ (abort w) = noWorker σ w ∷ workerFree σ w ∷ []
+causes σ (act w installing) = noWorker σ w ∷ workerFree σ w ∷ wrongStage isChecked σ w ∷ []
+causes σ (act w aborting) = noWorker σ w ∷ workerFree σ w ∷ []
 causes σ (merge a) = []
 causes σ mergeOldest = []
 
@@ -282,16 +320,20 @@ refusal σ s = firstCause (causes σ s)
 abbrev pub mergeCount : State → ℕ → Answer
 mergeCount σ a = counted (length (merging (σ .map) a))
 
+-- the answer to a granted step of an open transaction
+unfoldable pub accessAnswer : State → ℕ → Access → Answer
+accessAnswer σ w (readAt k) = found (maybe (ownWrite σ w k) (payloadOf (current (σ .map) k)) ownView) (slotsExamined σ w k)
+accessAnswer σ w (scanOver lo hi b) = listed (scanned σ w lo hi)
+accessAnswer σ w (putTo k p) = done
+accessAnswer σ w (removeAt k) = done
+
 unfoldable pub granted : State → Step → Answer
-granted σ (begin w) = done
-granted σ (read w k) = found (maybe (ownWrite σ w k) (payloadOf (current (σ .map) k)) ownView) (slotsExamined σ w k)
-granted σ (scan w lo hi b) = listed (scanned σ w lo hi)
-granted σ (put w k p) = done
-granted σ (remove w k) = done
-granted σ (lock w) = done
-granted σ (validate w) = numbered (suc (σ .counters .number))
-granted σ (install w) = done
-granted σ (abort w) = done
+granted σ (act w beginning) = done
+granted σ (act w (access a)) = accessAnswer σ w a
+granted σ (act w locking) = done
+granted σ (act w validating) = numbered (suc (σ .counters .number))
+granted σ (act w installing) = done
+granted σ (act w aborting) = done
 granted σ (merge a) = mergeCount σ a
 granted σ mergeOldest = mergeCount σ (oldest (σ .map))
 
@@ -379,21 +421,25 @@ abbrev pub installedMap : State → ℕ → MapState
 installedMap σ w =
     installAll (σ .settings) (workerOf σ w .number) (suc (σ .counters .installs)) (σ .map) (workerOf σ w .writes)
 
+-- the worker after a step of its open transaction, which changes nothing else
+unfoldable pub accessed : State → ℕ → Access → Worker
+accessed σ w (readAt k) = logged (readRows σ w k) [] [] (workerOf σ w)
+accessed σ w (scanOver lo hi b) =
+    logged (scanReads σ lo hi) (scanVersions σ lo hi) (remembered σ w lo hi ∷ []) (workerOf σ w)
+accessed σ w (putTo k p) = writing k (written p) (workerOf σ w)
+accessed σ w (removeAt k) = writing k deleted (workerOf σ w)
+
 -- the state after a granted step
 unfoldable pub effect : State → Step → State
-effect σ (begin w) = withWorker σ w (atStage Open freeWorker)
-effect σ (read w k) = withWorker σ w (logged (readRows σ w k) [] [] (workerOf σ w))
-effect σ (scan w lo hi b) =
-    withWorker σ w (logged (scanReads σ lo hi) (scanVersions σ lo hi) (remembered σ w lo hi ∷ []) (workerOf σ w))
-effect σ (put w k p) = withWorker σ w (writing k (written p) (workerOf σ w))
-effect σ (remove w k) = withWorker σ w (writing k deleted (workerOf σ w))
-effect σ (lock w) =
+effect σ (act w beginning) = withWorker σ w (atStage Open freeWorker)
+effect σ (act w (access a)) = withWorker σ w (accessed σ w a)
+effect σ (act w locking) =
     withWorker (withMap σ (lockAll (σ .settings) w (σ .map) (workerOf σ w .writes))) w (atStage Locked (workerOf σ w))
-effect σ (validate w) =
+effect σ (act w validating) =
     withWorker (withCounters σ (suc (σ .counters .number)) (σ .counters .version)) w
     (checkedAs (suc (σ .counters .number)) (workerOf σ w))
-effect σ (install w) = installCounted (withWorker (withMap σ (installedMap σ w)) w freeWorker)
-effect σ (abort w) = dropped σ w
+effect σ (act w installing) = installCounted (withWorker (withMap σ (installedMap σ w)) w freeWorker)
+effect σ (act w aborting) = dropped σ w
 effect σ (merge a) = mergedAt σ a
 effect σ mergeOldest = mergedAt σ (oldest (σ .map))
 

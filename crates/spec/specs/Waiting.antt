@@ -9,22 +9,14 @@ use Rattle.lists.specs.Tests.{pick, maybe}
 use Rattle.lists.specs.Rows.{keys, has}
 use Rattle.spec.specs.Slots.{Pending, contentOf}
 use Rattle.spec.specs.Maps.{MapState, merging, oldest}
-use Rattle.spec.specs.Steps.{State, Step, begin, read, scan, put, remove, lock, validate, install, abort, merge, mergeOldest, final}
+use Rattle.spec.specs.Steps.{State, Step, act, merge, mergeOldest, final}
 
 -- the install since which a write has waited at an address
 unfoldable pub waitsSince : MapState → ℕ → Option ℕ
 waitsSince m k = maybe (contentOf (m .slots) k .pending) none (λ (p : Pending). some (p .since))
 
 unfoldable pub isMergeOldest : Step → Bool
-isMergeOldest (begin w) = false
-isMergeOldest (read w k) = false
-isMergeOldest (scan w lo hi b) = false
-isMergeOldest (put w k p) = false
-isMergeOldest (remove w k) = false
-isMergeOldest (lock w) = false
-isMergeOldest (validate w) = false
-isMergeOldest (install w) = false
-isMergeOldest (abort w) = false
+isMergeOldest (act w a) = false
 isMergeOldest (merge a) = false
 isMergeOldest mergeOldest = true
 
@@ -35,15 +27,7 @@ oldestMerges (s ∷ ss) = pick (isMergeOldest s) (suc (oldestMerges ss)) (oldest
 
 -- the step merges, and takes the write that waits at k into the index
 unfoldable pub takesIn : State → ℕ → Step → Bool
-takesIn σ k (begin w) = false
-takesIn σ k (read w j) = false
-takesIn σ k (scan w lo hi b) = false
-takesIn σ k (put w j p) = false
-takesIn σ k (remove w j) = false
-takesIn σ k (lock w) = false
-takesIn σ k (validate w) = false
-takesIn σ k (install w) = false
-takesIn σ k (abort w) = false
+takesIn σ k (act w a) = false
 takesIn σ k (merge a) = has k (keys (merging (σ .map) a))
 takesIn σ k mergeOldest = has k (keys (merging (σ .map) (oldest (σ .map))))
 

@@ -15,10 +15,10 @@ use Rattle.lists.specs.TestLaws.{cases, clash, same-yes, same-no, same-true, sa
 use Rattle.lists.specs.Rows.{Row, look}
 use Rattle.lists.specs.Sums.{total, total-most, total-none}
 use Rattle.lists.specs.Options.{options}
+use Rattle.spec.specs.Widths.{addresses}
 use Rattle.spec.specs.Records.{Record}
 use Rattle.spec.specs.Slots.{slotCount, Content, Slot, emptySlot}
 use Rattle.laws.specs.SlotCounts.{entryAt, tally, count, count-cons}
-use Rattle.sets.specs.Sets.{addresses}
 use Rattle.index.specs.Views.{leafPlaces}
 use Rattle.index.specs.declared.leaves.Leaf.{Leaf as LeafWords}
 use Rattle.index.specs.LeafColumns.{LeafRows, lowsOf, leafAt}

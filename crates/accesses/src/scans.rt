@@ -29,7 +29,7 @@ pub enum ScanAnswer {
 // Worker w reads the records from lo to hi into the buffers: its own writes, and for all else the present records of the
 // index's addresses. What it passed is logged, and the scan is remembered. A refused scan writes nothing.
 pub fn scan(
-    addresses: &mut [u32],
+    addresses: &mut [Address],
     values: &mut [u64],
     owners: &mut [u16],
     reads: &mut ReadSets,

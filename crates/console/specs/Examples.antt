@@ -4,7 +4,7 @@ use mathlib.Core.Path.{_≡_, refl}
 use mathlib.Core.List.{[], map}
 use Rattle.lists.specs.Tests.{same, less, atMost, within}
 use Rattle.spec.specs.Computing.{model}
-use Rattle.script.specs.Grammar.{firstWord, moreWords, isDigit, extend, number, numbers, noNumber, oneNumber, twoNumbers, threeNumbers, fourNumbers, lineOf, lettered, meaning}
+use Rattle.script.specs.Grammar.{firstWord, moreWords, isDigit, extend, number, numbers, noNumber, seatLine, oneNumber, twoNumbers, threeNumbers, fourNumbers, lineOf, lettered, meaning}
 use Rattle.script.specs.Examples.{bytes, Case, cases}
 use Rattle.answers.specs.Output.{digitsWithin, decimal, field, triple, triples, answerText, endLine}
 use Rattle.console.specs.Program.{answerLine, writtenFrom, startsGuarded, output}
@@ -38,7 +38,7 @@ pub record Answered : Type 0 where
   pub lines : map (λ (c : Case). answerLine (c .line) (c .answer)) cases ≡ map (λ (c : Case). bytes (c .writes)) cases
 
 pub answered : Answered
-unfolding model same less atMost within firstWord moreWords isDigit extend number numbers noNumber oneNumber twoNumbers threeNumbers fourNumbers lineOf lettered meaning digitsWithin decimal field triple triples answerText answerLine endLine writtenFrom startsGuarded output
+unfolding model same less atMost within firstWord moreWords isDigit extend number numbers noNumber seatLine oneNumber twoNumbers threeNumbers fourNumbers lineOf lettered meaning digitsWithin decimal field triple triples answerText answerLine endLine writtenFrom startsGuarded output
 answered =
     record {
       full-run = refl;

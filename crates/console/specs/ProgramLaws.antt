@@ -14,7 +14,7 @@ use Rattle.spec.specs.Records.{standard}
 use Rattle.spec.specs.Steps.{State, fresh, answer, next}
 use Rattle.script.specs.declared.Line.{Line}
 use Rattle.script.specs.declared.Line.the-variants.{Begin}
-use Rattle.script.specs.Grammar.{firstWord, moreWords, isDigit, extend, number, numbers, oneNumber, lineOf, lettered, meaning, stepOf, isGuard}
+use Rattle.script.specs.Grammar.{firstWord, moreWords, isDigit, extend, number, numbers, seatLine, oneNumber, lineOf, lettered, meaning, stepOf, isGuard}
 use Rattle.script.specs.GrammarLaws.{guard-letter}
 use Rattle.script.specs.Parsing.{filled, Whole, SaysNothing}
 use Rattle.answers.specs.Output.{guardedAnswer, malformedLine}
@@ -98,7 +98,7 @@ spoiled σ line (b ∷ rest) f h =
 
 -- a line can begin with nothing
 begins : meaning (66 ∷ 32 ∷ 48 ∷ []) ≡ some (Begin 0)
-unfolding same less atMost within firstWord moreWords isDigit extend number numbers oneNumber lineOf lettered meaning
+unfolding same less atMost within firstWord moreWords isDigit extend number numbers seatLine oneNumber lineOf lettered meaning
 begins = refl
 
 pub from-spoiled : (σ : State) (seen taken rest : List ℕ) → has 10 (seen ++ taken) ≡ false → ((r : List ℕ) → meaning ((seen ++ taken) ++ r) ≡ none)

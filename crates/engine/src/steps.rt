@@ -141,7 +141,7 @@ fn of_merge(d: MergeDone) -> Outcome
 
 // A step within an open transaction.
 fn take_access(
-    addresses: &mut [u32],
+    addresses: &mut [Address],
     values: &mut [u64],
     owners: &mut [u16],
     reads: &mut ReadSets,
@@ -287,7 +287,7 @@ fn take_ending(
 
 // Any step. A seat may be any number, an address any, the buffers of any lengths.
 pub fn perform(
-    addresses: &mut [u32],
+    addresses: &mut [Address],
     values: &mut [u64],
     owners: &mut [u16],
     rows: &mut Records,

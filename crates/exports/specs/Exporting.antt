@@ -7,11 +7,12 @@ use mathlib.Core.Option.{Option, none, some}
 use lib.ListN.{length, take, getD}
 use Rattle.lists.specs.Tests.{pick}
 use Rattle.lists.specs.Rows.{Row, row}
+use Rattle.spec.specs.Widths.{addresses}
 use Rattle.spec.specs.Payloads.{owners}
 use Rattle.spec.specs.Records.{standard, Payload, Record}
 use Rattle.spec.specs.Steps.{Places, shortest}
 use Rattle.spec.specs.Exports as model
-use Rattle.sets.specs.Sets.{addresses, firstRows}
+use Rattle.sets.specs.Sets.{firstRows}
 use Rattle.ranges.specs.Buffers.{Buffers, placesOf, rowsIn, Unmoved, Beyond, Lends}
 use Rattle.exports.specs.declared.Export.{Export}
 use Rattle.exports.specs.declared.ExportAnswer.{ExportAnswer}

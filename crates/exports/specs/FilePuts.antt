@@ -9,6 +9,7 @@ use lib.Seq.{sets-eq, take-at, getD-append-add, getD-drop}
 use Rattle.lists.specs.Rows.{Row}
 use Rattle.lists.specs.Texts.{Wrote}
 use Rattle.lists.specs.TextLaws.{wrote-join, wrote-length}
+use Rattle.spec.specs.Widths.{addressSize}
 use Rattle.spec.specs.Records.{Payload}
 use Rattle.spec.specs.Files.{littleEndian, addressBytes, entrySize, entryBytes, fileOf}
 use Rattle.laws.specs.FileLaws.{length-number}
@@ -51,7 +52,7 @@ abbrev pub oneEntry : Row Payload → List ℕ
 oneEntry r = littleEndian 8 (r .item .value) ++ littleEndian 2 (r .item .owner)
 
 abbrev pub oneAddress : Row Payload → List ℕ
-oneAddress r = littleEndian 4 (r .key)
+oneAddress r = littleEndian addressSize (r .key)
 
 -- Bytes of records, so many for each.
 pub record EachPut (bytes : List (Row Payload) → List ℕ) (one : Row Payload → List ℕ) (width : ℕ) : Type 0 where
@@ -75,8 +76,8 @@ entries-more (s ∷ rs) r =
     ∙ ap (λ (t : List ℕ). v ++ t) (sym (append-assoc o (entryBytes rs) (oneEntry r)))
     ∙ sym (append-assoc v (o ++ entryBytes rs) (oneEntry r))
 
-pub addresses-each : EachPut addressBytes oneAddress 4
-addresses-each = record { none = (unfold addressBytes in refl); more = addresses-more; size = λ r. length-number 4 (r .key) }
+pub addresses-each : EachPut addressBytes oneAddress addressSize
+addresses-each = record { none = (unfold addressBytes in refl); more = addresses-more; size = λ r. length-number addressSize (r .key) }
 
 entry-size : (r : Row Payload) → length (oneEntry r) ≡ entrySize
 entry-size r =
@@ -84,7 +85,7 @@ entry-size r =
     let o : length (littleEndian 2 (r .item .owner)) ≡ 2 = length-number 2 (r .item .owner) in
     length-append (littleEndian 8 (r .item .value)) (littleEndian 2 (r .item .owner)) ∙ omega (arith, v, o)
 
-pub entries-each : EachPut entryBytes oneEntry 10
+pub entries-each : EachPut entryBytes oneEntry entrySize
 entries-each = record { none = (unfold entryBytes in refl); more = entries-more; size = entry-size }
 
 -- those of the first i records are put, so many bytes each
@@ -128,7 +129,7 @@ putting-end {bytes} {width} {rows} {old} {new} {at} {i} {n} {place} p l g =
 
 -- the file, of its four parts
 pub file-put : (rows : ExportedRows) (n : ℕ) {a b c d e : List ℕ} {i j k l : ℕ} → Wrote a 0 (littleEndian 4 n) b i → Wrote b i (littleEndian 4 entrySize) c j
-    → Putting addressBytes 4 rows c j n d k → Putting entryBytes 10 rows d k n e l → Wrote a 0 (fileOf (exportedIn rows n)) e l
+    → Putting addressBytes addressSize rows c j n d k → Putting entryBytes entrySize rows d k n e l → Wrote a 0 (fileOf (exportedIn rows n)) e l
 unfolding fileOf littleEndian addressBytes entryBytes
 file-put rows n {a} {b} {c} {d} {e} {i} {j} {k} {l} p q r s =
     let rs = exportedIn rows n in

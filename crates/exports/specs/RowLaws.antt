@@ -6,9 +6,9 @@ use mathlib.Core.List.{List, [], _∷_}
 use lib.ListN.{length, take, drop, length-drop}
 use lib.Seq.{length-take-le, getD-take, getD-drop, ext-getD}
 use Rattle.lists.specs.Rows.{Row, row}
+use Rattle.spec.specs.Widths.{addresses}
 use Rattle.spec.specs.Payloads.{owners}
 use Rattle.spec.specs.Records.{Payload}
-use Rattle.sets.specs.Sets.{addresses}
 use Rattle.sets.specs.SetLaws.{length-rows, row-at}
 use Rattle.exports.specs.declared.rows.ExportRecord.{ExportRecord}
 use Rattle.exports.specs.Exporting.{ExportedRows, exportRow, exportedIn}

@@ -14,9 +14,10 @@ use Rattle.lists.specs.Rows.{Row}
 use Rattle.lists.specs.Texts.{Wrote}
 use Rattle.spec.specs.declared.Refusal.{Refusal}
 use Rattle.spec.specs.declared.Refusal.the-variants.{ShortBuffer, ExportOpen, NoExport}
+use Rattle.spec.specs.Widths.{addressSize}
 use Rattle.spec.specs.Records.{standard, Payload, Record}
 use Rattle.spec.specs.Steps.{Places, shortest, firstCause}
-use Rattle.spec.specs.Files.{fileOf, fileSize}
+use Rattle.spec.specs.Files.{entrySize, fileOf, fileSize}
 use Rattle.spec.specs.Exports as model
 use Rattle.sets.specs.SetLaws.{length-rows}
 use Rattle.ranges.specs.Buffers.{Buffers, rowsIn, Unmoved, Beyond, placesOf}
@@ -129,14 +130,14 @@ module _ (contents : List (Row Record)) (rows : ExportedRows) (x : Export) where
     pub no-close : x .open ≡ false → ExportStepped contents model.closeExport rows x s rows (record { export = x; answer = Refused NoExport }) s
     no-close e = declines contents model.closeExport rows x none (none-in rows x e) NoExport s h close-refused
 
-  size-of : fileSize (exportedIn rows (x .count)) ≡ 8 + 14 * x .count
+  size-of : fileSize (exportedIn rows (x .count)) ≡ 8 + (addressSize + entrySize) * x .count
   unfolding fileSize
-  size-of = ap (λ (n : ℕ). 8 + 14 * n) (length-rows exportRow rows (x .count))
+  size-of = ap (λ (n : ℕ). 8 + (addressSize + entrySize) * n) (length-rows exportRow rows (x .count))
 
-  pub file-short : (s : Space) (n : ℕ) → ExportHeld x → x .open ≡ true → n < 8 + 14 * x .count
+  pub file-short : (s : Space) (n : ℕ) → ExportHeld x → x .open ≡ true → n < 8 + (addressSize + entrySize) * x .count
       → ExportStepped contents (model.file n) rows x s rows (record { export = x; answer = Refused ShortBuffer }) s
   file-short s n h e l =
-      let z : fileSize (exportedIn rows (x .count)) ≡ 8 + 14 * x .count = size-of in
+      let z : fileSize (exportedIn rows (x .count)) ≡ 8 + (addressSize + entrySize) * x .count = size-of in
       declines contents (model.file n) rows x (some (openIn rows x)) (open-in rows x e) ShortBuffer s h
       (file-tested (openIn rows x) n true (less-yes (omega arith)))
 
@@ -172,11 +173,11 @@ module _ (contents : List (Row Record)) (rows : ExportedRows) (x : Export) where
       zero-le
       zero-le
 
-  pub files : {bs bs' : List ℕ} {n : ℕ} (b : Buffers) → ExportHeld x → x .open ≡ true → 8 + 14 * x .count ≤ length bs → Wrote bs 0 (fileOf (exportedIn rows (x .count))) bs' n
+  pub files : {bs bs' : List ℕ} {n : ℕ} (b : Buffers) → ExportHeld x → x .open ≡ true → 8 + (addressSize + entrySize) * x .count ≤ length bs → Wrote bs 0 (fileOf (exportedIn rows (x .count))) bs' n
       → ExportStepped contents (model.file (length bs)) rows x (space b bs) rows (record { export = x; answer = Filed n }) (space b bs')
   unfolding exportAnswerIn placesWritten bytesWritten bytesWanted model.exportGranted model.exportEffect model.exportOf
   files {bs} {bs'} {n} b h e l w =
-      let z : fileSize (exportedIn rows (x .count)) ≡ 8 + 14 * x .count = size-of in
+      let z : fileSize (exportedIn rows (x .count)) ≡ 8 + (addressSize + entrySize) * x .count = size-of in
       grants contents (model.file (length bs)) rows x (some (openIn rows x)) (open-in rows x e) {s = space b bs} {s' = space b bs'} {rows' = rows}
       (file-tested (openIn rows x) (length bs) false (less-no (omega arith)))
       h

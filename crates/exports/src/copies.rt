@@ -6,6 +6,7 @@ use map::Records;
 use map::Slots;
 use queries::Next;
 use spec::ADDRESSES;
+use spec::Address;
 use spec::OWNERS;
 ghost use Prim.Native.Nat.{_+_, _≤_};
 ghost use lib.ListN.{length};
@@ -50,7 +51,7 @@ pub fn copy_contents(exported: &mut Exported, rows: &Records, slots: &Slots, n: 
 
 // Writes n records, from row `from` on, to the first places of the buffers.
 pub fn give(
-    addresses: &mut [u32],
+    addresses: &mut [Address],
     values: &mut [u64],
     owners: &mut [u16],
     exported: &Exported,

@@ -7,8 +7,9 @@ ghost use mathlib.Core.List.{[], _∷_};
 ghost use Prim.Native.Nat.{_+_, _*_, _<_, _≤_};
 ghost use lib.ListN.{length};
 ghost use Rattle.lists.specs.Texts.{Wrote};
+ghost use Rattle.spec.specs.Widths.{addressSize};
 ghost use Rattle.spec.specs.Records.{standard};
-ghost use Rattle.spec.specs.Files.{littleEndian, addressBytes, entryBytes, fileOf};
+ghost use Rattle.spec.specs.Files.{littleEndian, addressBytes, entrySize, entryBytes, fileOf};
 ghost use Rattle.exports.specs.Exporting.{exportedIn};
 ghost use Rattle.exports.specs.RowLaws.{rowOf};
 ghost use Rattle.exports.specs.FilePuts.{oneEntry, Putting};
@@ -54,7 +55,7 @@ fn put_eight(out: &mut [u8], at: usize, n: u64) -> usize
 
 // The entry of a record.
 fn put_entry(out: &mut [u8], at: usize, r: ExportRecord) -> usize
-    requires { ⌜ at + 10 ≤ length (now out) ⌝ }
+    requires { ⌜ at + entrySize ≤ length (now out) ⌝ }
     ensures { λ next. ⌜ Wrote (now (out .entry)) at (oneEntry (rowOf r)) (now (out .exit)) next ⌝ }
 {
     let next = put_eight(out, at, r.value);
@@ -63,9 +64,9 @@ fn put_entry(out: &mut [u8], at: usize, r: ExportRecord) -> usize
 
 // The addresses of the first n records.
 fn put_addresses(out: &mut [u8], at: usize, exported: &Exported, n: usize) -> usize
-    requires { ⌜ at + 4 * n ≤ length (now out) ⌝ }
+    requires { ⌜ at + addressSize * n ≤ length (now out) ⌝ }
     requires { ⌜ n ≤ standard .mapLimit ⌝ }
-    ensures { λ r. ⌜ Putting addressBytes 4 (now (exported .entry)) (now (out .entry)) at n (now (out .exit)) r ⌝ }
+    ensures { λ r. ⌜ Putting addressBytes addressSize (now (exported .entry)) (now (out .entry)) at n (now (out .exit)) r ⌝ }
 {
     let mut next = at;
     let mut i = 0;
@@ -79,9 +80,9 @@ fn put_addresses(out: &mut [u8], at: usize, exported: &Exported, n: usize) -> us
 
 // Their entries.
 fn put_entries(out: &mut [u8], at: usize, exported: &Exported, n: usize) -> usize
-    requires { ⌜ at + 10 * n ≤ length (now out) ⌝ }
+    requires { ⌜ at + entrySize * n ≤ length (now out) ⌝ }
     requires { ⌜ n ≤ standard .mapLimit ⌝ }
-    ensures { λ r. ⌜ Putting entryBytes 10 (now (exported .entry)) (now (out .entry)) at n (now (out .exit)) r ⌝ }
+    ensures { λ r. ⌜ Putting entryBytes entrySize (now (exported .entry)) (now (out .entry)) at n (now (out .exit)) r ⌝ }
 {
     let mut next = at;
     let mut i = 0;
@@ -95,7 +96,7 @@ fn put_entries(out: &mut [u8], at: usize, exported: &Exported, n: usize) -> usiz
 
 // The file of the first n records, from the first byte on: how many they are, the bytes of an entry, addresses, entries.
 pub fn put_file(out: &mut [u8], exported: &Exported, n: usize) -> usize
-    requires { ⌜ 8 + 14 * n ≤ length (now out) ⌝ }
+    requires { ⌜ 8 + (addressSize + entrySize) * n ≤ length (now out) ⌝ }
     requires { ⌜ n ≤ standard .mapLimit ⌝ }
     ensures { λ r. ⌜ Wrote (now (out .entry)) 0 (fileOf (exportedIn (now (exported .entry)) n)) (now (out .exit)) r ⌝ }
 {

@@ -6,6 +6,7 @@
 use map::Records;
 use map::Slots;
 use ranges::plans;
+use spec::Address;
 use spec::MAP_LIMIT;
 use spec::Refusal;
 ghost use mathlib.Core.Path.{_≡_};
@@ -100,7 +101,7 @@ pub fn open_export(
 
 // Gives the next records, as many as there are and as the shortest buffer holds.
 pub fn portion(
-    addresses: &mut [u32],
+    addresses: &mut [Address],
     values: &mut [u64],
     owners: &mut [u16],
     exported: &Exported,

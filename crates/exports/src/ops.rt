@@ -4,6 +4,7 @@ use crate::ExportDone;
 use crate::Exported;
 use map::Records;
 use map::Slots;
+use spec::Address;
 ghost use mathlib.Core.List.{List};
 ghost use Prim.Native.Nat.{ℕ, _≤_};
 ghost use lib.ListN.{length};
@@ -26,7 +27,7 @@ pub enum ExportOp {
 
 // A portion to the first m places of the address buffer, the first n of the value buffer and the first q of the owner buffer.
 fn portion_first(
-    addresses: &mut [u32],
+    addresses: &mut [Address],
     values: &mut [u64],
     owners: &mut [u16],
     exported: &Exported,
@@ -62,7 +63,7 @@ fn file_first(bytes: &mut [u8], exported: &Exported, x: Export, n: usize) -> Exp
 
 // Performs a step that wants so many places of each buffer.
 pub fn perform_export(
-    addresses: &mut [u32],
+    addresses: &mut [Address],
     values: &mut [u64],
     owners: &mut [u16],
     bytes: &mut [u8],

@@ -7,6 +7,7 @@ use mathlib.Core.Bool.{Bool, true, false, not}
 use lib.Dec.{leb}
 use Rattle.lists.specs.Tests.{both, either, less, atMost, within}
 use Rattle.lists.specs.TestLaws.{cases, clash, atMost-yes, atMost-no, atMost-true}
+use Rattle.spec.specs.Widths.{addresses}
 use Rattle.spec.specs.Records.{standard}
 use Rattle.spec.specs.Guards.{lastByte, unfit}
 
@@ -23,7 +24,7 @@ module _ (k n : ℕ) where
   pub unfit-long : standard .longest < n → true ≡ unfit standard k n
   unfit-long h = sym (by-length k n true false (atMost-yes {m = 1} {n = n} (omega arith)) (atMost-no {m = n} {n = standard .longest} h))
 
-  pub unfit-end : (n ≡ 0 → ⊥) → n ≤ standard .longest → leb 4294967296 (k + n - 1) ≡ unfit standard k n
+  pub unfit-end : (n ≡ 0 → ⊥) → n ≤ standard .longest → leb addresses (k + n - 1) ≡ unfit standard k n
   unfolding less lastByte
   unfit-end z h =
       sym (by-length k n true true (atMost-yes {m = 1} {n = n} (omega arith)) (atMost-yes {m = n} {n = standard .longest} h))

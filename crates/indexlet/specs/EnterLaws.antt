@@ -13,6 +13,7 @@ use Rattle.lists.specs.Tests.{pick, present, same, less}
 use Rattle.lists.specs.TestLaws.{cases, clash, same-true, same-false, less-true, less-false, less-yes, less-no}
 use Rattle.lists.specs.Rows.{Row, row, look}
 use Rattle.lists.specs.Options.{options}
+use Rattle.spec.specs.Widths.{addressSize, addresses}
 use Rattle.spec.specs.Slots.{slotCount, homeSlot, Content, idle, isIdle, Slot, emptySlot, emptySlots, entries, contentOf, slotAt, vacant, holds, search, Searched, countPassed, withEntry, take, release, enter, kept}
 use Rattle.laws.specs.Probes.{gap, gap-less, gap-back, home-less}
 use Rattle.laws.specs.SlotCounts.{Good, Place, holds-entry, look-held, absent-count, entries-most}
@@ -121,7 +122,7 @@ filter-miss ws a b w z e f l =
 
 -- where a search would end
 sought-hit : (ws : SlotRows) (a j : ℕ) → SlotsHeld ws → j < slotCount → holds a (getD (slotsOf ws) j emptySlot) ≡ true
-    → record { at = j; examined = suc (gap (homeSlot 4 a) j) } ≡ sought (slotsOf ws) a
+    → record { at = j; examined = suc (gap (homeSlot addressSize a) j) } ≡ sought (slotsOf ws) a
 sought-hit ws a j z b h = sought-place (z .good) (place-of {ws = ws} {a = a} j z b h)
 
 sought-miss : (ws : SlotRows) (a : ℕ) → SlotsHeld ws → look (entries (slotsOf ws)) a ≡ none → slotCount ≤ sought (slotsOf ws) a .at
@@ -150,7 +151,7 @@ module _ (ws : SlotRows) (a : ℕ) (c : ContentWords) (z : SlotsHeld ws) (e : co
       q .1 ∙ ap some (sym (content-some (slotsOf ws) a (q .0) (q .1)) ∙ e) ∙ sym (ap (λ (t : Bool). pick t none (some (contentIn c))) busy))
       (options (look (entries (slotsOf ws)) a))
 
-  looks : (n : ℕ) → search 4 (slotsOf ws) a .examined ≡ n → Looks ws a (record { content = c; examined = n })
+  looks : (n : ℕ) → search addressSize (slotsOf ws) a .examined ≡ n → Looks ws a (record { content = c; examined = n })
   unfolding lookedIn
   looks n q =
       record {
@@ -158,9 +159,9 @@ module _ (ws : SlotRows) (a : ℕ) (c : ContentWords) (z : SlotsHeld ws) (e : co
         content = e;
       }
 
-  pub look-hit : (j n : ℕ) → j < slotCount → holds a (getD (slotsOf ws) j emptySlot) ≡ true → n ≡ suc (gap (homeSlot 4 a) j)
+  pub look-hit : (j n : ℕ) → j < slotCount → holds a (getD (slotsOf ws) j emptySlot) ≡ true → n ≡ suc (gap (homeSlot addressSize a) j)
       → Looks ws a (record { content = c; examined = n })
-  look-hit j n b h q = looks n (ap (λ (x : Searched). x .examined) (search-place 4 (slotsOf ws) a (z .good) (place-of {ws = ws} {a = a} j z b h)) ∙ sym q)
+  look-hit j n b h q = looks n (ap (λ (x : Searched). x .examined) (search-place addressSize (slotsOf ws) a (z .good) (place-of {ws = ws} {a = a} j z b h)) ∙ sym q)
 
   pub look-miss : (r : Sought) → r ≡ sought (slotsOf ws) a → Looks ws a (record { content = c; examined = r .examined })
   look-miss r q = looks (r .examined) (search-ends (slotsOf ws) a .examined ∙ sym (ap (λ (x : Sought). x .examined) q))
@@ -175,32 +176,32 @@ vacant-held : (a : ℕ) (s : Slot) → holds a s ≡ true → vacant s ≡ false
 vacant-held a s h = let r = holds-entry a s h in vacant-some s (r .0) (r .1)
 
 -- the distance of an entry that stands in slot j
-stands-there : {ws : SlotRows} (a j : ℕ) → SlotsHeld ws → j < slotCount → holds a (getD (slotsOf ws) j emptySlot) ≡ true → Stands (slotsOf ws) a (gap (homeSlot 4 a) j)
+stands-there : {ws : SlotRows} (a j : ℕ) → SlotsHeld ws → j < slotCount → holds a (getD (slotsOf ws) j emptySlot) ≡ true → Stands (slotsOf ws) a (gap (homeSlot addressSize a) j)
 stands-there {ws} a j z b k = record { place = place-of {ws = ws} {a = a} j z b k; far = refl }
 
-pub stands-at : {ws : SlotRows} (a h j n : ℕ) → SlotsHeld ws → j < slotCount → holds a (getD (slotsOf ws) j emptySlot) ≡ true → h ≡ homeSlot 4 a → n ≡ gap h j
+pub stands-at : {ws : SlotRows} (a h j n : ℕ) → SlotsHeld ws → j < slotCount → holds a (getD (slotsOf ws) j emptySlot) ≡ true → h ≡ homeSlot addressSize a → n ≡ gap h j
     → Stands (slotsOf ws) a n
 stands-at {ws} a h j n z b k e f = subst (Stands (slotsOf ws) a) (ap (λ (x : ℕ). gap x j) (sym e) ∙ sym f) (stands-there a j z b k)
 
 -- the slot of an entry that goes
 pub release-turns : {ws : SlotRows} (a j : ℕ) → SlotsHeld ws → j < slotCount → holds a (getD (slotsOf ws) j emptySlot) ≡ true
-    → Turns false true (slotsOf ws) (release 4 (slotsOf ws) a) j
+    → Turns false true (slotsOf ws) (release addressSize (slotsOf ws) a) j
 release-turns {ws} a j z b h =
     subst (λ (us : List Slot). Turns false true ss us j) (sym (released-as a d z (stands-there a j z b h)))
-    (subst (Turns false true ss (withEntry (countPassed pred ss (homeSlot 4 a) d) (homeSlot 4 a + d) none)) there
+    (subst (Turns false true ss (withEntry (countPassed pred ss (homeSlot addressSize a) d) (homeSlot addressSize a + d) none)) there
     (record { was = ap (λ (n : ℕ). vacant (getD ss n emptySlot)) there ∙ vacant-held a (getD ss j emptySlot) h; is = turns .is; others = turns .others }))
   where
     ss : List Slot
     ss = slotsOf ws
 
     d : ℕ
-    d = gap (homeSlot 4 a) j
+    d = gap (homeSlot addressSize a) j
 
-    there : (homeSlot 4 a + d) % slotCount ≡ j
-    there = gap-back (homeSlot 4 a) j (home-less 4 a) b
+    there : (homeSlot addressSize a + d) % slotCount ≡ j
+    there = gap-back (homeSlot addressSize a) j (home-less addressSize a) b
 
-    turns : Turns (vacant (slotAt ss (homeSlot 4 a + d))) true ss (withEntry (countPassed pred ss (homeSlot 4 a) d) (homeSlot 4 a + d) none) ((homeSlot 4 a + d) % slotCount)
-    turns = entry-turns pred ss (homeSlot 4 a) d none (length-slots ws) (home-less 4 a) (gap-less (homeSlot 4 a) j)
+    turns : Turns (vacant (slotAt ss (homeSlot addressSize a + d))) true ss (withEntry (countPassed pred ss (homeSlot addressSize a) d) (homeSlot addressSize a + d) none) ((homeSlot addressSize a + d) % slotCount)
+    turns = entry-turns pred ss (homeSlot addressSize a) d none (length-slots ws) (home-less addressSize a) (gap-less (homeSlot addressSize a) j)
 
 -- a changed word behind the slots leaves them
 sized-word : (ws : SlotRows) (r p w : ℕ) → Sized ws → slotCount ≤ r → r < slotRows → Sized (wordPut ws r p w)
@@ -220,14 +221,14 @@ bucket-has {ws} a z e =
 
 module _ (ws : SlotRows) (n a : ℕ) (c : ContentWords) (z : SlotsHeld ws) (q : n ≡ length (entries (slotsOf ws))) (room : Room (slotsOf ws) a (contentIn c)) where
   -- the words hold the slots that `enter` leaves, and the number of entries follows
-  enters : (us : SlotRows) (m : ℕ) → Sized us → slotsOf us ≡ enter 4 (slotsOf ws) a (contentIn c) → Filtered us (enter 4 (slotsOf ws) a (contentIn c))
-      → Occupied us (enter 4 (slotsOf ws) a (contentIn c)) → m ≡ length (entries (enter 4 (slotsOf ws) a (contentIn c))) → Enters ws a c us m
+  enters : (us : SlotRows) (m : ℕ) → Sized us → slotsOf us ≡ enter addressSize (slotsOf ws) a (contentIn c) → Filtered us (enter addressSize (slotsOf ws) a (contentIn c))
+      → Occupied us (enter addressSize (slotsOf ws) a (contentIn c)) → m ≡ length (entries (enter addressSize (slotsOf ws) a (contentIn c))) → Enters ws a c us m
   enters us m b v f k e =
       record {
         held =
             record {
               sized = b;
-              good = subst (Good 4) (sym v) (enter-good (z .good) room);
+              good = subst (Good addressSize) (sym v) (enter-good (z .good) room);
               filtered = subst (Filtered us) (sym v) f;
               occupied = subst (Occupied us) (sym v) k;
             };
@@ -236,7 +237,7 @@ module _ (ws : SlotRows) (n a : ℕ) (c : ContentWords) (z : SlotsHeld ws) (q : 
       }
 
   -- the filter, where no cell changes, since an entry neither comes nor goes
-  still-filtered : (us : SlotRows) → BehindStays ws us → isIdle (contentOf (slotsOf ws) a) ≡ isIdle (contentIn c) → Filtered us (enter 4 (slotsOf ws) a (contentIn c))
+  still-filtered : (us : SlotRows) → BehindStays ws us → isIdle (contentOf (slotsOf ws) a) ≡ isIdle (contentIn c) → Filtered us (enter addressSize (slotsOf ws) a (contentIn c))
   still-filtered us s e =
       filter-enter {ws = ws} {us = us} (z .good) room (z .filtered) (λ j p q. ap length (s .rows j p) ∙ z .filtered .wide j p q) (λ b h n. stays-cells s .cells b h)
       (ap (λ (n : ℕ). n / 256 + pick (isIdle (contentOf (slotsOf ws) a)) 0 1) (stays-cells s .cells (bucketOf a) (bucket-less a))
@@ -245,7 +246,7 @@ module _ (ws : SlotRows) (n a : ℕ) (c : ContentWords) (z : SlotsHeld ws) (q : 
   -- the filter, where the cell of the address changes
   cell-filtered : (us : SlotRows) (w : ℕ) → CellsStay ws us → length us ≡ slotRows
       → w / 256 + pick (isIdle (contentOf (slotsOf ws) a)) 0 1 ≡ cellAt ws (bucketOf a) / 256 + pick (isIdle (contentIn c)) 0 1
-      → Filtered (cellPut us (bucketOf a) w) (enter 4 (slotsOf ws) a (contentIn c))
+      → Filtered (cellPut us (bucketOf a) w) (enter addressSize (slotsOf ws) a (contentIn c))
   cell-filtered us w s l e =
       filter-enter {ws = ws} {us = cellPut us (bucketOf a) w} (z .good) room (z .filtered)
       (λ j p q. word-lengths us r (cellPlace (bucketOf a)) w l low high j ∙ s .lengths j p ∙ z .filtered .wide j p q)
@@ -275,9 +276,9 @@ module _ (ws : SlotRows) (n a : ℕ) (c : ContentWords) (z : SlotsHeld ws) (q : 
 
   -- how the number changes, by what was found and what is said
   number : (f g : Bool) → present (look (entries (slotsOf ws)) a) ≡ f → isIdle (contentIn c) ≡ g
-      → length (entries (enter 4 (slotsOf ws) a (contentIn c))) + pick f 1 0 ≡ n + pick g 0 1
+      → length (entries (enter addressSize (slotsOf ws) a (contentIn c))) + pick f 1 0 ≡ n + pick g 0 1
   number f g s t =
-      ap (λ (x : Bool). length (entries (enter 4 (slotsOf ws) a (contentIn c))) + pick x 1 0) (sym s)
+      ap (λ (x : Bool). length (entries (enter addressSize (slotsOf ws) a (contentIn c))) + pick x 1 0) (sym s)
       ∙ count-enter (z .good) room
       ∙ ap (λ (x : Bool). length (entries (slotsOf ws)) + pick x 0 1) t
       ∙ ap (λ (m : ℕ). m + pick g 0 1) (sym q)
@@ -333,9 +334,9 @@ module _ (ws : SlotRows) (n a : ℕ) (c : ContentWords) (z : SlotsHeld ws) (q : 
     -- these words hold what `enter` leaves
     after-enters : {p q : Bool} (m : ℕ) → i < slotCount → Turns p q (slotsOf ws) ss i → bit (i % wordBits) v ≡ pick q 0 1
         → ((j : ℕ) → (j ≡ i % wordBits → ⊥) → bit j v ≡ bit j (bitmapAt us (i / wordBits)))
-        → ss ≡ enter 4 (slotsOf ws) a (contentIn c)
+        → ss ≡ enter addressSize (slotsOf ws) a (contentIn c)
         → w / 256 + pick (isIdle (contentOf (slotsOf ws) a)) 0 1 ≡ cellAt ws (bucketOf a) / 256 + pick (isIdle (contentIn c)) 0 1
-        → m ≡ length (entries (enter 4 (slotsOf ws) a (contentIn c))) → (vs : SlotRows) → vs ≡ after → Enters ws a c vs m
+        → m ≡ length (entries (enter addressSize (slotsOf ws) a (contentIn c))) → (vs : SlotRows) → vs ≡ after → Enters ws a c vs m
     after-enters m h t own bits e load number vs v =
         subst (λ (xs : SlotRows). Enters ws a c xs m) (sym v)
         (enters after m after-sized (after-slots ∙ e) (cell-filtered ms w bitmap-stays (bitmap-sized .size) load)
@@ -343,15 +344,15 @@ module _ (ws : SlotRows) (n a : ℕ) (c : ContentWords) (z : SlotsHeld ws) (q : 
 
   module _ (r : Sought) (e : r ≡ sought (slotsOf ws) a) where
     -- an entry that goes
-    goes-out : isIdle (contentIn c) ≡ true → (b : r .at < slotCount) → Turns false true (slotsOf ws) (release 4 (slotsOf ws) a) (r .at)
+    goes-out : isIdle (contentIn c) ≡ true → (b : r .at < slotCount) → Turns false true (slotsOf ws) (release addressSize (slotsOf ws) a) (r .at)
         → (vs : SlotRows) → TakenOut ws a (r .at) vs → Enters ws a c vs (n - 1)
     goes-out t b turns vs o =
-        after-enters (r .at) v w (release 4 (slotsOf ws) a) us (o .released) ms (o .bit-gone) (n - 1) b turns
+        after-enters (r .at) v w (release addressSize (slotsOf ws) a) us (o .released) ms (o .bit-gone) (n - 1) b turns
         (clear-there (r .at % wordBits) (bitmapAt us (r .at / wordBits)) is-set)
         (λ j f. clear-other (r .at % wordBits) j (bitmapAt us (r .at / wordBits)) f is-set)
-        (sym (enter-idle 4 (slotsOf ws) a (contentIn c) t))
+        (sym (enter-idle addressSize (slotsOf ws) a (contentIn c) t))
         less-one
-        (let x : length (entries (enter 4 (slotsOf ws) a (contentIn c))) + 1 ≡ n + 0 = number true true
+        (let x : length (entries (enter addressSize (slotsOf ws) a (contentIn c))) + 1 ≡ n + 0 = number true true
         (sought-present a (z .good) e b) t in omega arith)
         vs (o .counted)
       where
@@ -375,13 +376,13 @@ module _ (ws : SlotRows) (n a : ℕ) (c : ContentWords) (z : SlotsHeld ws) (q : 
             let x : _≡_ {A = ℕ} (pick (isIdle (contentOf (slotsOf ws) a)) 0 1) 1 = ap (λ (t : Bool). pick t 0 1) (said-idle false (sought-present a (z .good) e b)) in
             let y : _≡_ {A = ℕ} (pick (isIdle (contentIn c)) 0 1) 0 = ap (λ (t : Bool). pick t 0 1) t in
             let k : cellAt ms (bucketOf a) ≡ cellAt ws (bucketOf a)
-            = bitmap-stays (r .at) v w (release 4 (slotsOf ws) a) us (o .released) ms (o .bit-gone) .cells (bucketOf a) (bucket-less a) in
+            = bitmap-stays (r .at) v w (release addressSize (slotsOf ws) a) us (o .released) ms (o .bit-gone) .cells (bucketOf a) (bucket-less a) in
             let m : 256 ≤ cellAt ws (bucketOf a) = bucket-has a z (sought-present a (z .good) e b) in
             omega arith
 
     some-there : isIdle (contentIn c) ≡ true → r .at < slotCount → 1 ≤ n
     some-there t b =
-        let x : length (entries (enter 4 (slotsOf ws) a (contentIn c))) + 1 ≡ n + 0 = number true true
+        let x : length (entries (enter addressSize (slotsOf ws) a (contentIn c))) + 1 ≡ n + 0 = number true true
         (sought-present a (z .good) e b) t in omega arith
 
     -- nothing to do
@@ -390,17 +391,17 @@ module _ (ws : SlotRows) (n a : ℕ) (c : ContentWords) (z : SlotsHeld ws) (q : 
         enters ws n (z .sized) same
         (still-filtered ws (record { rows = λ j b. refl }) (said-idle true (ap present (sought-absent a (z .good) e b)) ∙ sym t))
         (subst (Occupied ws) same (z .occupied))
-        (let x : length (entries (enter 4 (slotsOf ws) a (contentIn c))) + 0 ≡ n + 0 = number false true
+        (let x : length (entries (enter addressSize (slotsOf ws) a (contentIn c))) + 0 ≡ n + 0 = number false true
         (ap present (sought-absent a (z .good) e b)) t in omega arith)
       where
-        same : slotsOf ws ≡ enter 4 (slotsOf ws) a (contentIn c)
+        same : slotsOf ws ≡ enter addressSize (slotsOf ws) a (contentIn c)
         same =
-            sym (enter-idle 4 (slotsOf ws) a (contentIn c) t
-            ∙ release-none 4 (slotsOf ws) a (distance-absent (slotsOf ws) a (homeSlot 4 a) (length-slots ws)
-            (absent-count 4 (slotsOf ws) a (z .good) (ap present (sought-absent a (z .good) e b)))))
+            sym (enter-idle addressSize (slotsOf ws) a (contentIn c) t
+            ∙ release-none addressSize (slotsOf ws) a (distance-absent (slotsOf ws) a (homeSlot addressSize a) (length-slots ws)
+            (absent-count addressSize (slotsOf ws) a (z .good) (ap present (sought-absent a (z .good) e b)))))
 
     -- an entry that says something else
-    goes-over : isIdle (contentIn c) ≡ false → r .at < slotCount → a < 2 ^ 32 → (s : SlotWords) → s ≡ rowAt ws (r .at) → (us : SlotRows)
+    goes-over : isIdle (contentIn c) ≡ false → r .at < slotCount → a < addresses → (s : SlotWords) → s ≡ rowAt ws (r .at) → (us : SlotRows)
         → us ≡ store ws (r .at) (record { key = a; content = c; overflow = s .overflow }) → Enters ws a c us n
     unfolding slotIn
     goes-over t b ab s g us u =
@@ -408,7 +409,7 @@ module _ (ws : SlotRows) (n a : ℕ) (c : ContentWords) (z : SlotsHeld ws) (q : 
         view
         (still-filtered us stays (said-idle false (sought-present a (z .good) e b) ∙ sym t))
         (occupied-still (z .occupied) (λ k. stays-bits k stays) (λ i h. ap (λ (l : List Slot). vacant (getD l i emptySlot)) (sym over) ∙ still i))
-        (let x : length (entries (enter 4 (slotsOf ws) a (contentIn c))) + 1 ≡ n + 1 = number true false
+        (let x : length (entries (enter addressSize (slotsOf ws) a (contentIn c))) + 1 ≡ n + 1 = number true false
         (sought-present a (z .good) e b) t in omega arith)
       where
         new : SlotWords
@@ -423,12 +424,12 @@ module _ (ws : SlotRows) (n a : ℕ) (c : ContentWords) (z : SlotsHeld ws) (q : 
         stays : BehindStays ws us
         stays = subst (BehindStays ws) (sym u) (store-stays ws (r .at) new b)
 
-        over : set (slotsOf ws) (r .at) slot ≡ enter 4 (slotsOf ws) a (contentIn c)
+        over : set (slotsOf ws) (r .at) slot ≡ enter addressSize (slotsOf ws) a (contentIn c)
         over =
             sym (rewrite-at (slotsOf ws) a (contentIn c) (r .at) (z .good .once a) inside (sought-holds (slotsOf ws) a e b))
-            ∙ sym (enter-present 4 (slotsOf ws) a (contentIn c) t (sought-present a (z .good) e b))
+            ∙ sym (enter-present addressSize (slotsOf ws) a (contentIn c) t (sought-present a (z .good) e b))
 
-        view : slotsOf us ≡ enter 4 (slotsOf ws) a (contentIn c)
+        view : slotsOf us ≡ enter addressSize (slotsOf ws) a (contentIn c)
         view =
             ap slotsOf u
             ∙ slots-store ws (r .at) new (z .sized .size) b
@@ -462,12 +463,12 @@ module _ (ws : SlotRows) (n a : ℕ) (c : ContentWords) (z : SlotsHeld ws) (q : 
 
     goes-in : isIdle (contentIn c) ≡ false → slotCount ≤ r .at → (vs : SlotRows) → TakenIn ws a (contentIn c) vs → Enters ws a c vs (n + 1)
     goes-in t b vs o =
-        after-enters i v w (take 4 (slotsOf ws) a (contentIn c)) us (o .taken) ms (o .bit-new) (n + 1) (o .inside) (o .turns)
+        after-enters i v w (take addressSize (slotsOf ws) a (contentIn c)) us (o .taken) ms (o .bit-new) (n + 1) (o .inside) (o .turns)
         (set-there (i % wordBits) (bitmapAt us (i / wordBits)) clear)
         (λ j f. set-other (i % wordBits) j (bitmapAt us (i / wordBits)) f clear)
-        (sym (enter-absent 4 (slotsOf ws) a (contentIn c) t (ap present (sought-absent a (z .good) e b))))
+        (sym (enter-absent addressSize (slotsOf ws) a (contentIn c) t (ap present (sought-absent a (z .good) e b))))
         one-more
-        (let x : length (entries (enter 4 (slotsOf ws) a (contentIn c))) + 0 ≡ n + 1 = number false false
+        (let x : length (entries (enter addressSize (slotsOf ws) a (contentIn c))) + 0 ≡ n + 1 = number false false
         (ap present (sought-absent a (z .good) e b)) t in omega arith)
         vs (o .counted)
       where
@@ -494,14 +495,14 @@ module _ (ws : SlotRows) (n a : ℕ) (c : ContentWords) (z : SlotsHeld ws) (q : 
             let x : _≡_ {A = ℕ} (pick (isIdle (contentOf (slotsOf ws) a)) 0 1) 0 = ap (λ (t : Bool). pick t 0 1) (said-idle true (ap present (sought-absent a (z .good) e b))) in
             let y : _≡_ {A = ℕ} (pick (isIdle (contentIn c)) 0 1) 1 = ap (λ (t : Bool). pick t 0 1) t in
             let k : cellAt ms (bucketOf a) ≡ cellAt ws (bucketOf a)
-            = bitmap-stays i v w (take 4 (slotsOf ws) a (contentIn c)) us (o .taken) ms (o .bit-new) .cells (bucketOf a) (bucket-less a) in
+            = bitmap-stays i v w (take addressSize (slotsOf ws) a (contentIn c)) us (o .taken) ms (o .bit-new) .cells (bucketOf a) (bucket-less a) in
             let l : i < 256 = o .inside in
             omega arith
 
   -- by the slot that was found
   module _ (j : ℕ) (k : Finds ws a j) where
     abbrev at-slot : Sought
-    at-slot = record { at = j; examined = suc (gap (homeSlot 4 a) j) }
+    at-slot = record { at = j; examined = suc (gap (homeSlot addressSize a) j) }
 
     ends-there : (b : j < slotCount) → at-slot ≡ sought (slotsOf ws) a
     ends-there b = sought-hit ws a j z b (k .hit b)
@@ -518,7 +519,7 @@ module _ (ws : SlotRows) (n a : ℕ) (c : ContentWords) (z : SlotsHeld ws) (q : 
     pub enter-nothing : isIdle (contentIn c) ≡ true → slotCount ≤ j → Enters ws a c ws n
     enter-nothing t b = none-there (sought (slotsOf ws) a) refl t (ends-nowhere b)
 
-    pub enter-over : isIdle (contentIn c) ≡ false → j < slotCount → a < 2 ^ 32 → (s : SlotWords) → s ≡ rowAt ws j → (us : SlotRows)
+    pub enter-over : isIdle (contentIn c) ≡ false → j < slotCount → a < addresses → (s : SlotWords) → s ≡ rowAt ws j → (us : SlotRows)
         → us ≡ store ws j (record { key = a; content = c; overflow = s .overflow }) → Enters ws a c us n
     enter-over t b = goes-over at-slot (ends-there b) t b
 
@@ -546,15 +547,15 @@ load-small {ws} {us} z s a =
 
 -- the row of a slot without an entry: its key is no address, so that no leaf reaches it
 abbrev pub emptyRow : List ℕ
-emptyRow = 2 ^ 32 ∷ replicate 8 0
+emptyRow = addresses ∷ replicate 8 0
 
 abbrev pub emptyRows : SlotRows
 emptyRows = replicate slotRows emptyRow
 
-empty-row : (i : ℕ) → i < slotRows → rowAt emptyRows i ≡ record { key = 2 ^ 32; content = unsaid; overflow = 0 }
+empty-row : (i : ℕ) → i < slotRows → rowAt emptyRows i ≡ record { key = addresses; content = unsaid; overflow = 0 }
 empty-row i h = ap rowIn (getD-replicate slotRows i emptyRow [] h)
 
-empty-slot : slotIn (record { key = 2 ^ 32; content = unsaid; overflow = 0 }) ≡ emptySlot
+empty-slot : slotIn (record { key = addresses; content = unsaid; overflow = 0 }) ≡ emptySlot
 unfolding slotIn contentIn isIdle pendingIn holderIn
 empty-slot = refl
 
@@ -594,7 +595,7 @@ fresh-words =
                   size = let e : length emptyRows ≡ slotRows = length-replicate {A = List ℕ} slotRows emptyRow in e;
                   narrow = λ i h t. clash (ap (λ (x : SlotWords). isIdle (contentIn (x .content))) (empty-row i (omega arith)) ∙ idle-zero) t;
                 };
-            good = subst (Good 4) (sym empty-view) (fresh-good 4);
+            good = subst (Good addressSize) (sym empty-view) (fresh-good addressSize);
             filtered =
                 record {
                   wide = λ j p q. ap length (getD-replicate slotRows j emptyRow [] q);

@@ -13,6 +13,7 @@ use Rattle.lists.specs.TestLaws.{cases, same-true, same-false, same-yes, same-n
 use Rattle.lists.specs.Rows.{Row, look}
 use Rattle.lists.specs.RowLaws.{look-nil, look-there}
 use Rattle.lists.specs.Sums.{total}
+use Rattle.spec.specs.Widths.{addressSize}
 use Rattle.spec.specs.Slots.{slotCount, Content, isIdle, Slot, emptySlot, emptySlots, entries, contentOf, enter}
 use Rattle.laws.specs.SlotLaws.{Good, Room, weigh, sum-enter}
 use Rattle.indexlet.specs.declared.Slot.{Slot as SlotWords}
@@ -99,35 +100,35 @@ load-else b k c n =
     go false = refl
 
 -- words whose cells are those of before, but that of k's bucket has one more or less as its entry comes or goes
-pub filter-enter : {ws us : SlotRows} {ss : List Slot} {k : ℕ} {c : Content} → Good 4 ss → Room ss k c → Filtered ws ss
+pub filter-enter : {ws us : SlotRows} {ss : List Slot} {k : ℕ} {c : Content} → Good addressSize ss → Room ss k c → Filtered ws ss
     → ((j : ℕ) → slotCount ≤ j → j < slotRows → length (getD us j []) ≡ slotWords)
     → ((b : ℕ) → b < bucketCount → (b ≡ bucketOf k → ⊥) → cellAt us b ≡ cellAt ws b)
     → cellAt us (bucketOf k) / 256 + pick (isIdle (contentOf ss k)) 0 1 ≡ cellAt ws (bucketOf k) / 256 + pick (isIdle c) 0 1
-    → Filtered us (enter 4 ss k c)
+    → Filtered us (enter addressSize ss k c)
 unfolding load
 filter-enter {ws} {us} {ss} {k} {c} good room f wide others own =
     record { wide = wide; loads = λ b h. ⊎-elim (λ t. here b h (same-true b (bucketOf k) t)) (λ t. there b h (same-false b (bucketOf k) t)) (cases (same b (bucketOf k))) }
   where
-    sums : (b : ℕ) → total (λ (i : ℕ). inBucket b) (entries (enter 4 ss k c)) + weigh (inBucket b) k (contentOf ss k) ≡ total (λ (i : ℕ). inBucket b) (entries ss) + weigh (inBucket b) k c
+    sums : (b : ℕ) → total (λ (i : ℕ). inBucket b) (entries (enter addressSize ss k c)) + weigh (inBucket b) k (contentOf ss k) ≡ total (λ (i : ℕ). inBucket b) (entries ss) + weigh (inBucket b) k c
     sums b = sum-enter good room (inBucket b)
 
-    there : (b : ℕ) → b < bucketCount → (b ≡ bucketOf k → ⊥) → cellAt us b / 256 ≡ total (λ (i : ℕ). inBucket b) (entries (enter 4 ss k c))
+    there : (b : ℕ) → b < bucketCount → (b ≡ bucketOf k → ⊥) → cellAt us b / 256 ≡ total (λ (i : ℕ). inBucket b) (entries (enter addressSize ss k c))
     there b h n =
         let old : cellAt ws b / 256 ≡ total (λ (i : ℕ). inBucket b) (entries ss) = f .loads b h in
         let x : weigh (inBucket b) k (contentOf ss k) ≡ 0 = load-else b k (contentOf ss k) n in
         let y : weigh (inBucket b) k c ≡ 0 = load-else b k c n in
-        let z : total (λ (i : ℕ). inBucket b) (entries (enter 4 ss k c)) + weigh (inBucket b) k (contentOf ss k) ≡ total (λ (i : ℕ). inBucket b) (entries ss) + weigh (inBucket b) k c = sums b in
-        ap (λ (n : ℕ). n / 256) (others b h n) ∙ old ∙ (let q : total (λ (i : ℕ). inBucket b) (entries ss) ≡ total (λ (i : ℕ). inBucket b) (entries (enter 4 ss k c)) = omega arith in q)
+        let z : total (λ (i : ℕ). inBucket b) (entries (enter addressSize ss k c)) + weigh (inBucket b) k (contentOf ss k) ≡ total (λ (i : ℕ). inBucket b) (entries ss) + weigh (inBucket b) k c = sums b in
+        ap (λ (n : ℕ). n / 256) (others b h n) ∙ old ∙ (let q : total (λ (i : ℕ). inBucket b) (entries ss) ≡ total (λ (i : ℕ). inBucket b) (entries (enter addressSize ss k c)) = omega arith in q)
 
-    here : (b : ℕ) → b < bucketCount → b ≡ bucketOf k → cellAt us b / 256 ≡ total (λ (i : ℕ). inBucket b) (entries (enter 4 ss k c))
+    here : (b : ℕ) → b < bucketCount → b ≡ bucketOf k → cellAt us b / 256 ≡ total (λ (i : ℕ). inBucket b) (entries (enter addressSize ss k c))
     here b h e =
         let old : cellAt ws (bucketOf k) / 256 ≡ total (λ (i : ℕ). inBucket (bucketOf k)) (entries ss) = f .loads (bucketOf k) (subst (λ (n : ℕ). n < bucketCount) e h) in
         let x : weigh (inBucket (bucketOf k)) k (contentOf ss k) ≡ pick (isIdle (contentOf ss k)) 0 1 = load-own k (contentOf ss k) in
         let y : weigh (inBucket (bucketOf k)) k c ≡ pick (isIdle c) 0 1 = load-own k c in
-        let z : total (λ (i : ℕ). inBucket (bucketOf k)) (entries (enter 4 ss k c)) + weigh (inBucket (bucketOf k)) k (contentOf ss k)
+        let z : total (λ (i : ℕ). inBucket (bucketOf k)) (entries (enter addressSize ss k c)) + weigh (inBucket (bucketOf k)) k (contentOf ss k)
         ≡ total (λ (i : ℕ). inBucket (bucketOf k)) (entries ss) + weigh (inBucket (bucketOf k)) k c = sums (bucketOf k) in
         let o : cellAt us (bucketOf k) / 256 + pick (isIdle (contentOf ss k)) 0 1 ≡ cellAt ws (bucketOf k) / 256 + pick (isIdle c) 0 1 = own in
-        subst (λ (n : ℕ). cellAt us n / 256 ≡ total (λ (i : ℕ). inBucket n) (entries (enter 4 ss k c))) (sym e) (omega arith)
+        subst (λ (n : ℕ). cellAt us n / 256 ≡ total (λ (i : ℕ). inBucket n) (entries (enter addressSize ss k c))) (sym e) (omega arith)
 
 -- ---- what an empty bucket tells
 

@@ -7,6 +7,7 @@ use mathlib.Core.Option.{none, some}
 use lib.ListN.{length, getD}
 use Rattle.lists.specs.Tests.{pick, same, less}
 use Rattle.lists.specs.Rows.{look}
+use Rattle.spec.specs.Widths.{addressSize, addresses}
 use Rattle.spec.specs.Slots.{slotCount, homeSlot, isIdle, Slot, emptySlot, emptySlots, entries, contentOf, slotAt, holds, countPassed, Searched, search, Content, take, release, enter}
 use Rattle.laws.specs.Probes.{gap}
 use Rattle.laws.specs.SlotCounts.{Good, Place}
@@ -20,7 +21,7 @@ use Rattle.indexlet.specs.Bitmaps.{wordBits, bitmapAt, bitmapPut, Occupi
 
 -- the key of an entry is an address; of a slot without one it is anything
 abbrev pub Narrow : SlotWords → Type 0
-Narrow s = isIdle (contentIn (s .content)) ≡ false → s .key < 2 ^ 32
+Narrow s = isIdle (contentIn (s .content)) ≡ false → s .key < addresses
 
 -- as many rows as there are slots, with those of the filter and of the bitmap behind them; the keys of entries are addresses
 pub record Sized (ws : SlotRows) : Type 0 where
@@ -31,7 +32,7 @@ pub record Sized (ws : SlotRows) : Type 0 where
 -- `fresh_slots` and `content_at` ask it.
 pub record SlotsHeld (ws : SlotRows) : Type 0 where
   pub sized : Sized ws
-  pub good : Good 4 (slotsOf ws)
+  pub good : Good addressSize (slotsOf ws)
   pub filtered : Filtered ws (slotsOf ws)
   pub occupied : Occupied ws (slotsOf ws)
 
@@ -83,7 +84,7 @@ soughtFrom ss k h (suc n) d =
 
 -- where the search for k ends
 unfoldable pub sought : List Slot → ℕ → Sought
-sought ss k = soughtFrom ss k (homeSlot 4 k) slotCount 0
+sought ss k = soughtFrom ss k (homeSlot addressSize k) slotCount 0
 
 -- what a search found: nothing where nothing is said
 unfoldable pub lookedIn : Looked → Searched
@@ -95,7 +96,7 @@ lookedIn r =
 
 -- a search by the search rule, which finds what the indexlet says of the address
 pub record Looks (ws : SlotRows) (a : ℕ) (r : Looked) : Type 0 where
-  pub searched : search 4 (slotsOf ws) a ≡ lookedIn r
+  pub searched : search addressSize (slotsOf ws) a ≡ lookedIn r
   pub content : contentOf (slotsOf ws) a ≡ contentIn (r .content)
 
 -- what is said in a slot; from 256 on, nothing
@@ -111,7 +112,7 @@ pub record Finds (ws : SlotRows) (a at : ℕ) : Type 0 where
 -- the entry of a, in slot r, was taken out: what `release` leaves, its bit cleared, and one less in its bucket
 pub record TakenOut (ws : SlotRows) (a r : ℕ) (vs : SlotRows) : Type 0 where
   pub middle : SlotRows
-  pub released : SlotsBecome ws middle (release 4 (slotsOf ws) a)
+  pub released : SlotsBecome ws middle (release addressSize (slotsOf ws) a)
   pub cleared : SlotRows
   pub bit-gone : cleared ≡ bitmapPut middle (r / wordBits) (bitmapAt middle (r / wordBits) - 2 ^ (r % wordBits))
   pub counted : vs ≡ cellPut cleared (bucketOf a) (cellAt cleared (bucketOf a) - 256)
@@ -119,10 +120,10 @@ pub record TakenOut (ws : SlotRows) (a r : ℕ) (vs : SlotRows) : Type 0 where
 -- a has a new entry: what `take` leaves, its bit set, and one more in its bucket
 pub record TakenIn (ws : SlotRows) (a : ℕ) (c : Content) (vs : SlotRows) : Type 0 where
   pub middle : SlotRows
-  pub taken : SlotsBecome ws middle (take 4 (slotsOf ws) a c)
+  pub taken : SlotsBecome ws middle (take addressSize (slotsOf ws) a c)
   pub slot : ℕ
   pub inside : slot < slotCount
-  pub turns : Turns true false (slotsOf ws) (take 4 (slotsOf ws) a c) slot
+  pub turns : Turns true false (slotsOf ws) (take addressSize (slotsOf ws) a c) slot
   pub bit-set : SlotRows
   pub bit-new : bit-set ≡ bitmapPut middle (slot / wordBits) (bitmapAt middle (slot / wordBits) + 2 ^ (slot % wordBits))
   pub counted : vs ≡ cellPut bit-set (bucketOf a) ((cellAt bit-set (bucketOf a) / 256 + 1) * 256 + slot)
@@ -130,10 +131,10 @@ pub record TakenIn (ws : SlotRows) (a : ℕ) (c : Content) (vs : SlotRows) : Typ
 -- the words after c was said of a, and the number of entries
 pub record Enters (ws : SlotRows) (a : ℕ) (c : ContentWords) (us : SlotRows) (n : ℕ) : Type 0 where
   pub held : SlotsHeld us
-  pub view : slotsOf us ≡ enter 4 (slotsOf ws) a (contentIn c)
+  pub view : slotsOf us ≡ enter addressSize (slotsOf ws) a (contentIn c)
   pub number : n ≡ length (entries (slotsOf us))
 
 -- the entry of k stands d slots after its home slot
 pub record Stands (ss : List Slot) (k d : ℕ) : Type 0 where
   pub place : Place ss k
-  pub far : gap (homeSlot 4 k) (place .at) ≡ d
+  pub far : gap (homeSlot addressSize k) (place .at) ≡ d

@@ -11,6 +11,7 @@ use lib.ListN.{length, getD}
 use Rattle.lists.specs.Tests.{pick, present, same, less}
 use Rattle.lists.specs.TestLaws.{cases, clash, same-true, same-false, same-yes, same-no, less-true, less-false}
 use Rattle.lists.specs.Rows.{Row, look}
+use Rattle.spec.specs.Widths.{addressSize}
 use Rattle.spec.specs.Slots.{slotCount, homeSlot, Content, Slot, emptySlot, entries, slotAt, holds, Searched, searchFrom, search}
 use Rattle.laws.specs.Probes.{gap}
 use Rattle.laws.specs.SlotCounts.{Good, Place, entryAt, holds-entry, holds-yes, only-here}
@@ -28,7 +29,7 @@ pub record Seeking (ws : SlotRows) (k h d : ℕ) : Type 0 where
   pub bound : d ≤ slotCount
   pub rest : soughtFrom (slotsOf ws) k h (slotCount - d) d ≡ sought (slotsOf ws) k
 
-pub seek-start : (ws : SlotRows) (k h : ℕ) → h ≡ homeSlot 4 k → Seeking ws k h 0
+pub seek-start : (ws : SlotRows) (k h : ℕ) → h ≡ homeSlot addressSize k → Seeking ws k h 0
 unfolding sought
 seek-start ws k h e =
     record { bound = omega arith; rest = ap (λ (n : ℕ). soughtFrom (slotsOf ws) k n slotCount 0) e }
@@ -145,16 +146,16 @@ sought-ends ss k h (suc n) d = ⊎-elim here (λ t. ⊎-elim (stops t) (goes t (
         ends-by {r' = soughtFrom ss k h n (suc d)} {q' = searchFrom ss k h n (suc d)}
         (rw (t, z)) (search-on k s d (searchFrom ss k h n (suc d)) t (same-false (s .overflow) 0 z)) g
 
-pub search-ends : (ss : List Slot) (k : ℕ) → Ends ss k (sought ss k) (search 4 ss k)
+pub search-ends : (ss : List Slot) (k : ℕ) → Ends ss k (sought ss k) (search addressSize ss k)
 unfolding sought search
-search-ends ss k = sought-ends ss k (homeSlot 4 k) slotCount 0
+search-ends ss k = sought-ends ss k (homeSlot addressSize k) slotCount 0
 
 -- a search for an entry that stands there ends there
-pub sought-place : {ss : List Slot} {k : ℕ} → Good 4 ss → (p : Place ss k) → record { at = p .at; examined = suc (gap (homeSlot 4 k) (p .at)) } ≡ sought ss k
+pub sought-place : {ss : List Slot} {k : ℕ} → Good addressSize ss → (p : Place ss k) → record { at = p .at; examined = suc (gap (homeSlot addressSize k) (p .at)) } ≡ sought ss k
 sought-place {ss} {k} good p =
-    λ i. record { at = at i; examined = (sym (ap (λ (q : Searched). q .examined) (search-place 4 ss k good p)) ∙ ends .examined) i }
+    λ i. record { at = at i; examined = (sym (ap (λ (q : Searched). q .examined) (search-place addressSize ss k good p)) ∙ ends .examined) i }
   where
-    ends : Ends ss k (sought ss k) (search 4 ss k)
+    ends : Ends ss k (sought ss k) (search addressSize ss k)
     ends = search-ends ss k
 
     long : length ss ≡ slotCount
@@ -164,7 +165,7 @@ sought-place {ss} {k} good p =
     inside =
         ⊎-elim
         (λ t. less-true (sought ss k .at) slotCount t)
-        (λ f. clash (ap (λ (q : Searched). present (q .found)) (search-place 4 ss k good p)) (ap present (ends .miss (less-false (sought ss k .at) slotCount f))))
+        (λ f. clash (ap (λ (q : Searched). present (q .found)) (search-place addressSize ss k good p)) (ap present (ends .miss (less-false (sought ss k .at) slotCount f))))
         (cases (less (sought ss k .at) slotCount))
 
     at : p .at ≡ sought ss k .at
@@ -179,18 +180,18 @@ sought-place {ss} {k} good p =
         (holds-yes k (getD ss (p .at) emptySlot) (p .content) (p .here) (p .own)) (same-false (p .at) (sought ss k .at) f)))
         (cases (same (p .at) (sought ss k .at)))
 
-pub sought-present : {ss : List Slot} (k : ℕ) {r : Sought} → Good 4 ss → r ≡ sought ss k → r .at < slotCount → present (look (entries ss) k) ≡ true
+pub sought-present : {ss : List Slot} (k : ℕ) {r : Sought} → Good addressSize ss → r ≡ sought ss k → r .at < slotCount → present (look (entries ss) k) ≡ true
 sought-present {ss} k {r} good e b =
-    let ends : Ends ss k r (search 4 ss k) = subst (λ (x : Sought). Ends ss k x (search 4 ss k)) (sym e) (search-ends ss k) in
+    let ends : Ends ss k r (search addressSize ss k) = subst (λ (x : Sought). Ends ss k x (search addressSize ss k)) (sym e) (search-ends ss k) in
     ap present (sym (search-finds good k) ∙ ends .hit b .3)
 
-pub sought-absent : {ss : List Slot} (k : ℕ) {r : Sought} → Good 4 ss → r ≡ sought ss k → slotCount ≤ r .at → look (entries ss) k ≡ none
+pub sought-absent : {ss : List Slot} (k : ℕ) {r : Sought} → Good addressSize ss → r ≡ sought ss k → slotCount ≤ r .at → look (entries ss) k ≡ none
 sought-absent {ss} k {r} good e b =
-    let ends : Ends ss k r (search 4 ss k) = subst (λ (x : Sought). Ends ss k x (search 4 ss k)) (sym e) (search-ends ss k) in
+    let ends : Ends ss k r (search addressSize ss k) = subst (λ (x : Sought). Ends ss k x (search addressSize ss k)) (sym e) (search-ends ss k) in
     sym (search-finds good k) ∙ ends .miss b
 
 pub sought-holds : (ss : List Slot) (k : ℕ) {r : Sought} → r ≡ sought ss k → r .at < slotCount → holds k (getD ss (r .at) emptySlot) ≡ true
 sought-holds ss k {r} e b =
-    let ends : Ends ss k r (search 4 ss k) = subst (λ (x : Sought). Ends ss k x (search 4 ss k)) (sym e) (search-ends ss k) in
+    let ends : Ends ss k r (search addressSize ss k) = subst (λ (x : Sought). Ends ss k x (search addressSize ss k)) (sym e) (search-ends ss k) in
     let h = ends .hit b in
     holds-yes k (getD ss (r .at) emptySlot) (h .0) (h .1) (h .2)

@@ -14,6 +14,7 @@ use lib.Count.{trailingZeros}
 use Rattle.lists.specs.Tests.{pick, same, less}
 use Rattle.lists.specs.TestLaws.{cases, clash, same-true, same-false, less-true, less-false, less-yes, less-no}
 use Rattle.lists.specs.Rows.{Row, row}
+use Rattle.spec.specs.Widths.{addressSize, addresses}
 use Rattle.spec.specs.Slots.{slotCount, homeSlot, Content, isIdle, Slot, emptySlot, entries, slotAt, vacant, holds, distance, setSlot, countPassed, withEntry, take, release, kept}
 use Rattle.laws.specs.Probes.{gap, gap-less, home-less, counted, length-countPassed, at-countPassed, First, distance-some, distance-first, countPassed-next, countPassed-ahead}
 use Rattle.laws.specs.SlotCounts.{Good, overflow-most}
@@ -87,7 +88,7 @@ module _ (f : ℕ → ℕ) (old : SlotRows) (h : ℕ) (ws : SlotRows) (d : ℕ) 
       new = record { key = s .key; content = s .content; overflow = n }
 
   -- the slot that is reached says something else
-  going-ends : (k : ℕ) (c : ContentWords) → (isIdle (contentIn c) ≡ false → k < 2 ^ 32) → (us : SlotRows)
+  going-ends : (k : ℕ) (c : ContentWords) → (isIdle (contentIn c) ≡ false → k < addresses) → (us : SlotRows)
       → us ≡ store ws ((h + d) % slotCount) (record { key = k; content = c; overflow = s .overflow })
       → SlotsBecome old us (withEntry (countPassed f (slotsOf old) h d) (h + d) (kept k (contentIn c)))
   unfolding withEntry setSlot slotIn
@@ -111,14 +112,14 @@ module _ (f : ℕ → ℕ) (old : SlotRows) (h : ℕ) (ws : SlotRows) (d : ℕ) 
       new : SlotWords
       new = record { key = k; content = c; overflow = s .overflow }
 
-pub home-inside : (a h : ℕ) → h ≡ homeSlot 4 a → h < slotCount
-home-inside a h e = subst (λ (n : ℕ). n < slotCount) (sym e) (home-less 4 a)
+pub home-inside : (a h : ℕ) → h ≡ homeSlot addressSize a → h < slotCount
+home-inside a h e = subst (λ (n : ℕ). n < slotCount) (sym e) (home-less addressSize a)
 
 slot-around : (ss : List Slot) (i j : ℕ) → i + slotCount ≡ j → slotAt ss i ≡ slotAt ss j
 unfolding slotAt
 slot-around ss i j e = ap (λ (n : ℕ). getD ss n emptySlot) (let q : i % slotCount ≡ j % slotCount = omega arith in q)
 
-count-most : (ss : List Slot) (i : ℕ) → Good 4 ss → slotAt ss i .overflow ≤ slotCount
+count-most : (ss : List Slot) (i : ℕ) → Good addressSize ss → slotAt ss i .overflow ≤ slotCount
 unfolding slotAt
 count-most ss i g = overflow-most g (i % slotCount) (omega arith)
 
@@ -323,7 +324,7 @@ filled-never ws h d g hb q r =
     let f = distance-some vacant (slotsOf ws) h slotCount 0 (v .0) (v .1) in
     clash (f .0 .passes) (g .before (v .0) (let z : v .0 < 0 + slotCount = f .1 in omega arith))
 
-module _ (old : SlotRows) (a h d : ℕ) (e : h ≡ homeSlot 4 a) (first : First vacant (slotsOf old) h 0 d) (db : d < slotCount) where
+module _ (old : SlotRows) (a h d : ℕ) (e : h ≡ homeSlot addressSize a) (first : First vacant (slotsOf old) h 0 d) (db : d < slotCount) where
   -- a count does not wrap
   pub take-counts : SlotsHeld old → Countable 1 0 (slotsOf old) h d
   take-counts z =
@@ -333,16 +334,16 @@ module _ (old : SlotRows) (a h d : ℕ) (e : h ≡ homeSlot 4 a) (first : First 
       }
 
   module _ (c : ContentWords) where
-    taken-as : withEntry (countPassed suc (slotsOf old) h d) (h + d) (some (row a (contentIn c))) ≡ take 4 (slotsOf old) a (contentIn c)
+    taken-as : withEntry (countPassed suc (slotsOf old) h d) (h + d) (some (row a (contentIn c))) ≡ take addressSize (slotsOf old) a (contentIn c)
     taken-as =
         ap (λ (n : ℕ). withEntry (countPassed suc (slotsOf old) n d) (n + d) (some (row a (contentIn c)))) e
-        ∙ sym (take-at 4 (slotsOf old) a (contentIn c) d
+        ∙ sym (take-at addressSize (slotsOf old) a (contentIn c) d
         (ap (λ (n : ℕ). distance vacant (slotsOf old) n slotCount 0) (sym e)
         ∙ distance-first vacant (slotsOf old) h slotCount 0 d first (let z : d < slotCount = db in omega arith)))
 
-    pub take-ends : (ws : SlotRows) → Going (shifted 1 0) old h ws d → (s : SlotWords) → s ≡ rowAt ws ((h + d) % slotCount) → isIdle (contentIn c) ≡ false → a < 2 ^ 32
+    pub take-ends : (ws : SlotRows) → Going (shifted 1 0) old h ws d → (s : SlotWords) → s ≡ rowAt ws ((h + d) % slotCount) → isIdle (contentIn c) ≡ false → a < addresses
         → (us : SlotRows) → us ≡ store ws ((h + d) % slotCount) (record { key = a; content = c; overflow = s .overflow })
-        → SlotsBecome old us (take 4 (slotsOf old) a (contentIn c))
+        → SlotsBecome old us (take addressSize (slotsOf old) a (contentIn c))
     take-ends ws g s f busy ab us u =
         subst (SlotsBecome old us)
         (ap (λ (o : Option (Row Content)). withEntry (countPassed suc (slotsOf old) h d) (h + d) o)
@@ -356,14 +357,14 @@ module _ (old : SlotRows) (a h d : ℕ) (e : h ≡ homeSlot 4 a) (first : First 
         one-more : shifted 1 0 ≡ suc
         one-more j n = more-one n j
 
-    pub take-turns : Turns true false (slotsOf old) (take 4 (slotsOf old) a (contentIn c)) ((h + d) % slotCount)
+    pub take-turns : Turns true false (slotsOf old) (take addressSize (slotsOf old) a (contentIn c)) ((h + d) % slotCount)
     take-turns =
         let t = entry-turns suc (slotsOf old) h d (some (row a (contentIn c))) (length-slots old) (home-inside a h e) db in
         subst (λ (ss : List Slot). Turns true false (slotsOf old) ss ((h + d) % slotCount)) taken-as
         (record { was = t .was ∙ first .passes; is = t .is; others = t .others })
 
 -- the home slot itself is empty
-module _ (old : SlotRows) (a h : ℕ) (e : h ≡ homeSlot 4 a) (z : SlotsHeld old) (s : SlotWords) (q : s ≡ rowAt old h) (t : isIdle (contentIn (s .content)) ≡ true) where
+module _ (old : SlotRows) (a h : ℕ) (e : h ≡ homeSlot addressSize a) (z : SlotsHeld old) (s : SlotWords) (q : s ≡ rowAt old h) (t : isIdle (contentIn (s .content)) ≡ true) where
   home-there : (h + 0) % slotCount ≡ h
   home-there = let b : h < slotCount = home-inside a h e in omega arith
 
@@ -376,30 +377,30 @@ module _ (old : SlotRows) (a h : ℕ) (e : h ≡ homeSlot 4 a) (z : SlotsHeld ol
       }
 
   module _ (c : ContentWords) where
-    pub home-ends : isIdle (contentIn c) ≡ false → a < 2 ^ 32 → (us : SlotRows) → us ≡ store old h (saying a c (rowAt old h)) → SlotsBecome old us (take 4 (slotsOf old) a (contentIn c))
+    pub home-ends : isIdle (contentIn c) ≡ false → a < addresses → (us : SlotRows) → us ≡ store old h (saying a c (rowAt old h)) → SlotsBecome old us (take addressSize (slotsOf old) a (contentIn c))
     home-ends busy ab us u =
         take-ends old a h 0 e home-first (omega arith) c old (going-start (shifted 1 0) old h (z .sized)) (rowAt old h) (ap (rowAt old) (sym home-there)) busy ab us
         (u ∙ ap (λ (i : ℕ). store old i (saying a c (rowAt old h))) (sym home-there))
 
-    pub home-turns : Turns true false (slotsOf old) (take 4 (slotsOf old) a (contentIn c)) h
-    home-turns = subst (Turns true false (slotsOf old) (take 4 (slotsOf old) a (contentIn c))) home-there (take-turns old a h 0 e home-first (omega arith) c)
+    pub home-turns : Turns true false (slotsOf old) (take addressSize (slotsOf old) a (contentIn c)) h
+    home-turns = subst (Turns true false (slotsOf old) (take addressSize (slotsOf old) a (contentIn c))) home-there (take-turns old a h 0 e home-first (omega arith) c)
 
 -- ---- giving a slot back
 
 pub far-less : {ss : List Slot} {k d : ℕ} → Stands ss k d → d < slotCount
-far-less {ss} {k} {d} r = subst (λ (n : ℕ). n < slotCount) (r .far) (gap-less (homeSlot 4 k) (r .place .at))
+far-less {ss} {k} {d} r = subst (λ (n : ℕ). n < slotCount) (r .far) (gap-less (homeSlot addressSize k) (r .place .at))
 
 -- what is left once the entry of a, m slots after its home slot, is taken out
 pub released-as : {ws : SlotRows} (a m : ℕ) → SlotsHeld ws → Stands (slotsOf ws) a m
-    → release 4 (slotsOf ws) a ≡ withEntry (countPassed pred (slotsOf ws) (homeSlot 4 a) m) (homeSlot 4 a + m) none
+    → release addressSize (slotsOf ws) a ≡ withEntry (countPassed pred (slotsOf ws) (homeSlot addressSize a) m) (homeSlot addressSize a + m) none
 released-as {ws} a m z r =
-    release-at 4 (slotsOf ws) a m
-    (distance-first (holds a) (slotsOf ws) (homeSlot 4 a) slotCount 0 m
-    (subst (First (holds a) (slotsOf ws) (homeSlot 4 a) 0) (r .far)
-    (distance-place (slotsOf ws) a (homeSlot 4 a) (length-slots ws) (home-less 4 a) (z .good .once a) (r .place)))
+    release-at addressSize (slotsOf ws) a m
+    (distance-first (holds a) (slotsOf ws) (homeSlot addressSize a) slotCount 0 m
+    (subst (First (holds a) (slotsOf ws) (homeSlot addressSize a) 0) (r .far)
+    (distance-place (slotsOf ws) a (homeSlot addressSize a) (length-slots ws) (home-less addressSize a) (z .good .once a) (r .place)))
     (let y : m < slotCount = far-less r in omega arith))
 
-module _ (old : SlotRows) (a m h : ℕ) (z : SlotsHeld old) (e : h ≡ homeSlot 4 a) (r : Stands (slotsOf old) a m) where
+module _ (old : SlotRows) (a m h : ℕ) (z : SlotsHeld old) (e : h ≡ homeSlot addressSize a) (r : Stands (slotsOf old) a m) where
   -- a slot that was passed has a count
   pub release-counts : Countable 0 1 (slotsOf old) h m
   release-counts =
@@ -413,13 +414,13 @@ module _ (old : SlotRows) (a m h : ℕ) (z : SlotsHeld old) (e : h ≡ homeSlot 
 
       some-there : (d : ℕ) → d < m → slotAt (slotsOf old) (h + d) .overflow ≡ 0 → ⊥
       some-there d b q =
-          passed-counts 4 (slotsOf old) a (z .good) (r .place) d (subst (λ (n : ℕ). d < n) (sym (r .far)) b)
+          passed-counts addressSize (slotsOf old) a (z .good) (r .place) d (subst (λ (n : ℕ). d < n) (sym (r .far)) b)
           (ap (λ (n : ℕ). slotAt (slotsOf old) (n + d) .overflow) (sym e) ∙ q)
 
   -- all were passed, and the entry goes
   pub release-ends : (ws : SlotRows) → Going (shifted 0 1) old h ws m → (s : SlotWords) → s ≡ rowAt ws ((h + m) % slotCount) → (k : ℕ) (c : ContentWords) → isIdle (contentIn c) ≡ true
       → (us : SlotRows) → us ≡ store ws ((h + m) % slotCount) (record { key = k; content = c; overflow = s .overflow })
-      → SlotsBecome old us (release 4 (slotsOf old) a)
+      → SlotsBecome old us (release addressSize (slotsOf old) a)
   release-ends ws g s f k c t us u =
       subst (SlotsBecome old us)
       (ap (λ (o : Option (Row Content)). withEntry (countPassed pred (slotsOf old) h m) (h + m) o)

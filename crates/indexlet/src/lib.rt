@@ -10,6 +10,7 @@ ghost use mathlib.Core.Bool.{true, false};
 ghost use Prim.Native.Nat.{_+_, _-_, _*_, _/_, _%_, _^_, _<_, _≤_};
 ghost use lib.ListN.{length, getD};
 ghost use lib.Count.{trailingZeros};
+ghost use Rattle.spec.specs.Widths.{addressSize};
 ghost use Rattle.spec.specs.Slots.{slotCount, tableEntry, homeSlot, isIdle, vacant, holds, emptySlot, entries};
 ghost use Rattle.spec.specs.Slots as model;
 ghost use Rattle.laws.specs.Probes.{gap, First};
@@ -80,7 +81,7 @@ pub fn table_entry(i: u8) -> u8
 
 // The home slot of an address: its bytes, highest first, each but the first exclusive-or the result so far.
 fn home(a: Address) -> usize
-    ensures { λ r. ⌜ r ≡ homeSlot 4 a ⌝ }
+    ensures { λ r. ⌜ r ≡ homeSlot addressSize a ⌝ }
 {
     let b3 = (a / 16777216) as u8;
     let b2 = (a / 65536 % 256) as u8;
@@ -300,7 +301,7 @@ pub fn slot_at(t: &Slots, i: usize) -> Slot
 
 // The search rule of document 01: from the home slot h on, up to the slot with the entry or a count of 0.
 fn seek(t: &Slots, a: Address, h: usize) -> Sought
-    requires { ⌜ h ≡ homeSlot 4 a ⌝ }
+    requires { ⌜ h ≡ homeSlot addressSize a ⌝ }
     ensures { λ r. ⌜ r ≡ sought (slotsOf (now (t .entry))) a ⌝ }
 {
     let mut d = 0;
@@ -488,11 +489,11 @@ fn say_at(t: &mut Slots, i: usize, a: Address, c: Content)
 // slot itself.
 fn take(t: &mut Slots, a: Address, h: usize, c: Content) -> usize
     requires { ⌜ SlotsHeld (now t) ⌝ }
-    requires { ⌜ h ≡ homeSlot 4 a ⌝ }
+    requires { ⌜ h ≡ homeSlot addressSize a ⌝ }
     requires { ⌜ length (entries (slotsOf (now t))) < slotCount ⌝ }
     requires { ⌜ isIdle (contentIn c) ≡ false ⌝ }
-    ensures { λ r. ⌜ (SlotsBecome (now (t .entry)) (now (t .exit)) (model.take 4 (slotsOf (now (t .entry))) a (contentIn c))) × (r < slotCount) ⌝ }
-    ensures { λ r. ⌜ Turns true false (slotsOf (now (t .entry))) (model.take 4 (slotsOf (now (t .entry))) a (contentIn c)) r ⌝ }
+    ensures { λ r. ⌜ (SlotsBecome (now (t .entry)) (now (t .exit)) (model.take addressSize (slotsOf (now (t .entry))) a (contentIn c))) × (r < slotCount) ⌝ }
+    ensures { λ r. ⌜ Turns true false (slotsOf (now (t .entry))) (model.take addressSize (slotsOf (now (t .entry))) a (contentIn c)) r ⌝ }
 {
     let s = get(t, h);
     let said = s.content;
@@ -511,9 +512,9 @@ fn take(t: &mut Slots, a: Address, h: usize, c: Content) -> usize
 // one. Its key goes too, so that a search for it or a walk is not led to look further here.
 fn release(t: &mut Slots, a: Address, h: usize, passed: usize)
     requires { ⌜ SlotsHeld (now t) ⌝ }
-    requires { ⌜ h ≡ homeSlot 4 a ⌝ }
+    requires { ⌜ h ≡ homeSlot addressSize a ⌝ }
     requires { ⌜ Stands (slotsOf (now t)) a passed ⌝ }
-    ensures { λ _. ⌜ SlotsBecome (now (t .entry)) (now (t .exit)) (model.release 4 (slotsOf (now (t .entry))) a) ⌝ }
+    ensures { λ _. ⌜ SlotsBecome (now (t .entry)) (now (t .exit)) (model.release addressSize (slotsOf (now (t .entry))) a) ⌝ }
 {
     recount_passed(t, h, passed, 0, 1);
     let i = (h + passed) % SLOTS;

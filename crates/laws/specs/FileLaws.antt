@@ -10,6 +10,7 @@ use lib.Seq.{drop-at, drop-drop}
 use Rattle.lists.specs.Tests.{pick, both, same}
 use Rattle.lists.specs.TestLaws.{same-yes}
 use Rattle.lists.specs.Rows.{Row, row}
+use Rattle.spec.specs.Widths.{addressSize, addresses}
 use Rattle.spec.specs.Records.{Payload}
 use Rattle.spec.specs.Files.{littleEndian, addressBytes, entrySize, entryBytes, fileOf, fileSize, numberIn, joined, parsed}
 
@@ -39,7 +40,7 @@ number-over count n tail = drop-at (littleEndian count n) tail count (length-num
 
 -- What its fields of the file can hold.
 pub record FileFits (r : Row Payload) : Type 0 where
-  pub address : r .key < 2 ^ 32
+  pub address : r .key < addresses
   pub value : r .item .value < 2 ^ 64
   pub owner : r .item .owner < 2 ^ 16
 
@@ -57,23 +58,23 @@ rows-back (more-fit {r} {rs} f h) ks es =
     let after : drop 8 (v ++ o ++ entryBytes rs ++ es) ≡ o ++ entryBytes rs ++ es = number-over 8 (r .item .value) (o ++ entryBytes rs ++ es) in
     let over : drop entrySize (v ++ o ++ entryBytes rs ++ es) ≡ entryBytes rs ++ es
     = sym (drop-drop 2 8 (v ++ o ++ entryBytes rs ++ es)) ∙ ap (drop 2) after ∙ number-over 2 (r .item .owner) (entryBytes rs ++ es) in
-    let address : numberIn 4 (littleEndian 4 (r .key) ++ addressBytes rs ++ ks) ≡ r .key = number-back 4 (r .key) (addressBytes rs ++ ks) (f .address) in
+    let address : numberIn addressSize (littleEndian addressSize (r .key) ++ addressBytes rs ++ ks) ≡ r .key = number-back addressSize (r .key) (addressBytes rs ++ ks) (f .address) in
     let value : numberIn 8 (v ++ o ++ entryBytes rs ++ es) ≡ r .item .value = number-back 8 (r .item .value) (o ++ entryBytes rs ++ es) (f .value) in
     let owner : numberIn 2 (drop 8 (v ++ o ++ entryBytes rs ++ es)) ≡ r .item .owner
     = ap (numberIn 2) after ∙ number-back 2 (r .item .owner) (entryBytes rs ++ es) (f .owner) in
-    let others : joined (length rs) (drop 4 (littleEndian 4 (r .key) ++ addressBytes rs ++ ks)) (drop entrySize (v ++ o ++ entryBytes rs ++ es)) ≡ rs
-    = (λ i. joined (length rs) (number-over 4 (r .key) (addressBytes rs ++ ks) i) (over i)) ∙ rows-back h ks es in
+    let others : joined (length rs) (drop addressSize (littleEndian addressSize (r .key) ++ addressBytes rs ++ ks)) (drop entrySize (v ++ o ++ entryBytes rs ++ es)) ≡ rs
+    = (λ i. joined (length rs) (number-over addressSize (r .key) (addressBytes rs ++ ks) i) (over i)) ∙ rows-back h ks es in
     λ i. row (address i) (record { value = value i; owner = owner i }) ∷ others i
 
 -- ---- the file
 
-length-addresses : (rs : List (Row Payload)) → length (addressBytes rs) ≡ 4 * length rs
+length-addresses : (rs : List (Row Payload)) → length (addressBytes rs) ≡ addressSize * length rs
 unfolding addressBytes
 length-addresses [] = refl
 length-addresses (r ∷ rs) =
-    let p : length (littleEndian 4 (r .key)) ≡ 4 = length-number 4 (r .key) in
-    let q : length (addressBytes rs) ≡ 4 * length rs = length-addresses rs in
-    length-append (littleEndian 4 (r .key)) (addressBytes rs) ∙ omega (arith, p, q)
+    let p : length (littleEndian addressSize (r .key)) ≡ addressSize = length-number addressSize (r .key) in
+    let q : length (addressBytes rs) ≡ addressSize * length rs = length-addresses rs in
+    length-append (littleEndian addressSize (r .key)) (addressBytes rs) ∙ omega (arith, p, q)
 
 length-entries : (rs : List (Row Payload)) → length (entryBytes rs) ≡ entrySize * length rs
 unfolding entryBytes littleEndian
@@ -93,7 +94,7 @@ length-file rs =
     let b = littleEndian 4 entrySize in
     let p : length a ≡ 4 = length-number 4 (length rs) in
     let q : length b ≡ 4 = length-number 4 entrySize in
-    let k : length (addressBytes rs) ≡ 4 * length rs = length-addresses rs in
+    let k : length (addressBytes rs) ≡ addressSize * length rs = length-addresses rs in
     let e : length (entryBytes rs) ≡ entrySize * length rs = length-entries rs in
     length-append a (b ++ addressBytes rs ++ entryBytes rs)
     ∙ ap (λ (n : ℕ). length a + n) (length-append b (addressBytes rs ++ entryBytes rs))
@@ -112,13 +113,13 @@ file-parsed {rs} h l =
     let over : drop 4 (fileOf rs) ≡ b ++ body = ap (drop 4) f ∙ number-over 4 (length rs) (b ++ body) in
     let size : numberIn 4 (drop 4 (fileOf rs)) ≡ entrySize = ap (numberIn 4) over ∙ number-back 4 entrySize body (omega arith) in
     let rest : drop 8 (fileOf rs) ≡ body = sym (drop-drop 4 4 (fileOf rs)) ∙ ap (drop 4) over ∙ number-over 4 entrySize body in
-    let entries : drop (8 + 4 * length rs) (fileOf rs) ≡ entryBytes rs
-    = sym (drop-drop (4 * length rs) 8 (fileOf rs)) ∙ ap (drop (4 * length rs)) rest ∙ drop-at (addressBytes rs) (entryBytes rs) (4 * length rs) (length-addresses rs) in
-    let whole : length (fileOf rs) ≡ 8 + (4 + entrySize) * length rs = length-file rs ∙ (unfold fileSize in refl) in
-    let right : both (same (numberIn 4 (drop 4 (fileOf rs))) entrySize) (same (length (fileOf rs)) (8 + (4 + entrySize) * numberIn 4 (fileOf rs))) ≡ true
-    = λ i. both (same-yes size i) (same-yes (whole ∙ ap (λ (m : ℕ). 8 + (4 + entrySize) * m) (sym n)) i) in
-    ap (λ (b : Bool). pick b (some (joined (numberIn 4 (fileOf rs)) (drop 8 (fileOf rs)) (drop (8 + 4 * numberIn 4 (fileOf rs)) (fileOf rs)))) none) right
+    let entries : drop (8 + addressSize * length rs) (fileOf rs) ≡ entryBytes rs
+    = sym (drop-drop (addressSize * length rs) 8 (fileOf rs)) ∙ ap (drop (addressSize * length rs)) rest ∙ drop-at (addressBytes rs) (entryBytes rs) (addressSize * length rs) (length-addresses rs) in
+    let whole : length (fileOf rs) ≡ 8 + (addressSize + entrySize) * length rs = length-file rs ∙ (unfold fileSize in refl) in
+    let right : both (same (numberIn 4 (drop 4 (fileOf rs))) entrySize) (same (length (fileOf rs)) (8 + (addressSize + entrySize) * numberIn 4 (fileOf rs))) ≡ true
+    = λ i. both (same-yes size i) (same-yes (whole ∙ ap (λ (m : ℕ). 8 + (addressSize + entrySize) * m) (sym n)) i) in
+    ap (λ (b : Bool). pick b (some (joined (numberIn 4 (fileOf rs)) (drop 8 (fileOf rs)) (drop (8 + addressSize * numberIn 4 (fileOf rs)) (fileOf rs)))) none) right
     ∙ ap some
-    ((λ i. joined (n i) (rest i) (drop (8 + 4 * n i) (fileOf rs)))
+    ((λ i. joined (n i) (rest i) (drop (8 + addressSize * n i) (fileOf rs)))
     ∙ ap (λ (es : List ℕ). joined (length rs) body es) (entries ∙ sym (append-nil (entryBytes rs)))
     ∙ rows-back h (entryBytes rs) [])

@@ -14,6 +14,7 @@ use Rattle.lists.specs.Tests.{pick, both, either, maybe, present, same}
 use Rattle.lists.specs.TestLaws.{cases, clash, same-true, same-false, same-yes, same-no}
 use Rattle.lists.specs.Rows.{Row, row, look}
 use Rattle.lists.specs.Sums.{total-most}
+use Rattle.spec.specs.Widths.{addressSize}
 use Rattle.spec.specs.Records.{isPut}
 use Rattle.spec.specs.Leaves.{Leaf, firstLeaf, versionAt, live}
 use Rattle.spec.specs.Slots.{slotCount, Pending, Content, isIdle, Slot, entries, contentOf, enter, kept}
@@ -255,7 +256,7 @@ module _ (l : Lent) (z : Sizes) (v : ℕ) (t : Tables l z v) (a : ℕ) (c : Cont
   inside-words = let h = q .place .inside in let e = t .lows .room in omega arith
 
   after : List Slot
-  after = enter 4 (slotsOf (l .slots)) a c
+  after = enter addressSize (slotsOf (l .slots)) a c
 
   -- what comes and goes by the change has the balance of what the address adds to the count and took
   Balanced : (Row Content → Bool) → ℕ → ℕ → Type 0
@@ -264,7 +265,7 @@ module _ (l : Lent) (z : Sizes) (v : ℕ) (t : Tables l z v) (a : ℕ) (c : Cont
   moves : (p : Row Content → Bool) (up down : ℕ) → Balanced p up down → howMany p after + down ≡ howMany p (slotsOf (l .slots)) + up
   unfolding after Balanced
   moves p up down b =
-      let m : howMany p (enter 4 (slotsOf (l .slots)) a c) + weigh p (kept a (contentOf (slotsOf (l .slots)) a)) ≡ howMany p (slotsOf (l .slots)) + weigh p (kept a c)
+      let m : howMany p (enter addressSize (slotsOf (l .slots)) a c) + weigh p (kept a (contentOf (slotsOf (l .slots)) a)) ≡ howMany p (slotsOf (l .slots)) + weigh p (kept a c)
       = many-change (t .words .good) room p in
       omega arith
 
@@ -387,7 +388,7 @@ module _ (l : Lent) (z : Sizes) (v : ℕ) (t : Tables l z v) (a : ℕ) (c : Cont
   unfolding among outsideAny
   any-among ss ts = refl
 
-  module _ (os ps : List ℕ) (us : SlotRows) (n : ℕ) (ox : os ≡ adjusted (l .hidden) (r .at) (r .hide) (r .unhide)) (px : ps ≡ adjusted (l .pending) (r .at) (r .pend) (r .unpend)) (held : indexlet.SlotsHeld us) (view : slotsOf us ≡ enter 4 (slotsOf (l .slots)) a c) (number : n ≡ length (entries (slotsOf us))) where
+  module _ (os ps : List ℕ) (us : SlotRows) (n : ℕ) (ox : os ≡ adjusted (l .hidden) (r .at) (r .hide) (r .unhide)) (px : ps ≡ adjusted (l .pending) (r .at) (r .pend) (r .unpend)) (held : indexlet.SlotsHeld us) (view : slotsOf us ≡ enter addressSize (slotsOf (l .slots)) a c) (number : n ≡ length (entries (slotsOf us))) where
     tables-now : Tables (byColumns (l .rows) (l .lows) (l .versions) os ps us) (sizesWith z n (z .outside + r .join - r .leave)) v
     unfolding among
     tables-now =
@@ -415,7 +416,7 @@ module _ (l : Lent) (z : Sizes) (v : ℕ) (t : Tables l z v) (a : ℕ) (c : Cont
         seen : slotsOf us ≡ after
         seen = unfold after in view
 
-    pub content-set : ContentSet l (byColumns (l .rows) (l .lows) (l .versions) os ps us) z (sizesWith z n (z .outside + r .join - r .leave)) v (enter 4 (slotsOf (l .slots)) a c)
+    pub content-set : ContentSet l (byColumns (l .rows) (l .lows) (l .versions) os ps us) z (sizesWith z n (z .outside + r .join - r .leave)) v (enter addressSize (slotsOf (l .slots)) a c)
     unfolding withSlots
     content-set =
         record {

@@ -12,6 +12,7 @@ use lib.Dec.{eqb}
 use Rattle.lists.specs.Tests.{pick, maybe, present, same}
 use Rattle.lists.specs.Rows.{Row, look, keys, any, Different}
 use Rattle.lists.specs.RowLaws.{look-here}
+use Rattle.spec.specs.Widths.{addressSize}
 use Rattle.spec.specs.Payloads.{payloadIn}
 use Rattle.spec.specs.declared.PayloadWords.{PayloadWords}
 use Rattle.spec.specs.Records.{standard, Write, written, deleted, isPut}
@@ -41,7 +42,7 @@ pub record Going {A : Type 0} (f : List Slot → A → List Slot) (Inv : List Sl
   pub run : withSlots (mapOf l z) (each f (slotsOf (l .slots)) xs) ≡ goal
   pub inv : Inv (slotsOf (l .slots)) xs
 
-module _ {A : Type 0} {f : List Slot → A → List Slot} {key : A → ℕ} {g : A → Content → Content} {Inv : List Slot → List A → Type 0} (h : Changes 4 A f key g Inv) where
+module _ {A : Type 0} {f : List Slot → A → List Slot} {key : A → ℕ} {g : A → Content → Content} {Inv : List Slot → List A → Type 0} (h : Changes addressSize A f key g Inv) where
   pub going-on : {l l' : Lent} {z r : Sizes} {v : ℕ} {goal : MapState} (x : A) (xs ys : List A) → xs ≡ x ∷ ys → Going f Inv l z v xs goal
       → ContentSet l l' z r v (f (slotsOf (l .slots)) x) → Going f Inv l' r v ys goal
   unfolding withSlots each
@@ -128,39 +129,39 @@ module _ (c : ContentWords) (w : ℕ) where
 pub said-as : {l l' : Lent} {z r : Sizes} {v : ℕ} {ss ts : List Slot} → ContentSet l l' z r v ss → ss ≡ ts → ContentSet l l' z r v ts
 said-as {l} {l'} {z} {r} {v} s e = subst (ContentSet l l' z r v) e s
 
-entered-as : (ss : List Slot) {a b : ℕ} {c d : Content} → a ≡ b → c ≡ d → enter 4 ss a c ≡ enter 4 ss b d
-entered-as ss p q = λ i. enter 4 ss (p i) (q i)
+entered-as : (ss : List Slot) {a b : ℕ} {c d : Content} → a ≡ b → c ≡ d → enter addressSize ss a c ≡ enter addressSize ss b d
+entered-as ss p q = λ i. enter addressSize ss (p i) (q i)
 
 module _ (ss : List Slot) (a b : ℕ) (old c : Content) (e : a ≡ b) (o : contentOf ss a ≡ old) where
   there : contentOf ss b ≡ old
   there = ap (contentOf ss) (sym e) ∙ o
 
-  unlock-picks : (w : ℕ) → unlockKey 4 w ss b ≡ pick (heldBy w old) (enter 4 ss b (withoutLock old)) ss
+  unlock-picks : (w : ℕ) → unlockKey addressSize w ss b ≡ pick (heldBy w old) (enter addressSize ss b (withoutLock old)) ss
   unfolding unlockKey heldBy
   unlock-picks w =
-      ap (λ (x : Content). maybe (x .holder) ss (λ (h : ℕ). pick (same h w) (enter 4 ss b (withoutLock x)) ss)) there ∙ go (old .holder)
+      ap (λ (x : Content). maybe (x .holder) ss (λ (h : ℕ). pick (same h w) (enter addressSize ss b (withoutLock x)) ss)) there ∙ go (old .holder)
     where
       go : (h : Option ℕ)
-          → maybe h ss (λ (x : ℕ). pick (same x w) (enter 4 ss b (withoutLock old)) ss)
-          ≡ pick (maybe h false (λ (x : ℕ). same x w)) (enter 4 ss b (withoutLock old)) ss
+          → maybe h ss (λ (x : ℕ). pick (same x w) (enter addressSize ss b (withoutLock old)) ss)
+          ≡ pick (maybe h false (λ (x : ℕ). same x w)) (enter addressSize ss b (withoutLock old)) ss
       go none = refl
       go (some x) = refl
 
-  pub unlock-said : (w : ℕ) → true ≡ heldBy w old → c ≡ holding 0 0 old → enter 4 ss a c ≡ unlockKey 4 w ss b
+  pub unlock-said : (w : ℕ) → true ≡ heldBy w old → c ≡ holding 0 0 old → enter addressSize ss a c ≡ unlockKey addressSize w ss b
   unlock-said w t q =
-      entered-as ss e (q ∙ holding-none old) ∙ sym (unlock-picks w ∙ ap (λ (x : Bool). pick x (enter 4 ss b (withoutLock old)) ss) (sym t))
+      entered-as ss e (q ∙ holding-none old) ∙ sym (unlock-picks w ∙ ap (λ (x : Bool). pick x (enter addressSize ss b (withoutLock old)) ss) (sym t))
 
-  pub unlock-other : (w : ℕ) → false ≡ heldBy w old → unlockKey 4 w ss b ≡ ss
-  unlock-other w t = unlock-picks w ∙ ap (λ (x : Bool). pick x (enter 4 ss b (withoutLock old)) ss) (sym t)
+  pub unlock-other : (w : ℕ) → false ≡ heldBy w old → unlockKey addressSize w ss b ≡ ss
+  unlock-other w t = unlock-picks w ∙ ap (λ (x : Bool). pick x (enter addressSize ss b (withoutLock old)) ss) (sym t)
 
   -- an entry that loses its lock has room
-  pub unlock-room : Good 4 ss → c ≡ holding 0 0 old → Room ss a c
+  pub unlock-room : Good addressSize ss → c ≡ holding 0 0 old → Room ss a c
   unlock-room g q =
       room-old g a c
       (λ t. ap isIdle (q ∙ holding-none old ∙ ap withoutLock (sym o)) ∙ (unfold isIdle in rw (idle-pending (contentOf ss a) t)))
 
 pub lock-said : (ss : List Slot) (w : ℕ) (x : Row Write) (r : Entry) (old c : Content) → entryIn r ≡ x → contentOf ss (r .address) ≡ old
-    → c ≡ holding (w + 1) (r .kind) old → enter 4 ss (r .address) c ≡ lockRow 4 w ss x
+    → c ≡ holding (w + 1) (r .kind) old → enter addressSize ss (r .address) c ≡ lockRow addressSize w ss x
 unfolding lockRow
 lock-said ss w x r old c e o q =
     entered-as ss (ap (λ (y : Row Write). y .key) e)
@@ -168,13 +169,13 @@ lock-said ss w x r old c e o q =
     ∙ ap (λ (y : Row Write). lockedFor w (y .item) (contentOf ss (y .key))) e)
 
 pub install-said : (ss : List Slot) (n t : ℕ) (x : Row Write) (r : Entry) (old c : Content) → entryIn r ≡ x → contentOf ss (r .address) ≡ old
-    → c ≡ installedAs n t (entryIn r) old → enter 4 ss (r .address) c ≡ installRow 4 n t ss x
+    → c ≡ installedAs n t (entryIn r) old → enter addressSize ss (r .address) c ≡ installRow addressSize n t ss x
 unfolding installRow
 install-said ss n t x r old c e o q =
     entered-as ss (ap (λ (y : Row Write). y .key) e)
     (q ∙ ap (installedAs n t (entryIn r)) (sym o) ∙ ap (λ (y : Row Write). installedAs n t y (contentOf ss (y .key))) e)
 
-pub install-room : (ss : List Slot) (x : Row Write) (r : Entry) (c : Content) → Good 4 ss → entryIn r ≡ x → isIdle (contentOf ss (x .key)) ≡ false → Room ss (r .address) c
+pub install-room : (ss : List Slot) (x : Row Write) (r : Entry) (c : Content) → Good addressSize ss → entryIn r ≡ x → isIdle (contentOf ss (x .key)) ≡ false → Room ss (r .address) c
 install-room ss x r c g e b = stands (has-entry g (r .address) (ap (λ (y : Row Write). isIdle (contentOf ss (y .key))) e ∙ b))
 
 -- the kind of the pending write that a write of this kind leaves
@@ -251,13 +252,13 @@ pub record Lockable (m : MapState) (ws : List (Row Write)) : Type 0 where
 
 -- what is left to lock, to unlock and to install
 abbrev pub Locking : ℕ → Lent → Sizes → ℕ → WriteRows → ℕ → ℕ → MapState → Type 0
-Locking w l z v ws i n goal = Going (lockRow 4 w) LockRoom l z v (rest ws i n) goal
+Locking w l z v ws i n goal = Going (lockRow addressSize w) LockRoom l z v (rest ws i n) goal
 
 abbrev pub Unlocking : ℕ → Lent → Sizes → ℕ → WriteRows → ℕ → ℕ → MapState → Type 0
-Unlocking w l z v ws i n goal = Going (unlockKey 4 w) (Always {X = ℕ}) l z v (restKeys ws i n) goal
+Unlocking w l z v ws i n goal = Going (unlockKey addressSize w) (Always {X = ℕ}) l z v (restKeys ws i n) goal
 
 abbrev pub Installing : ℕ → ℕ → Lent → Sizes → ℕ → WriteRows → ℕ → ℕ → MapState → Type 0
-Installing c t l z v ws i n goal = Going (installRow 4 c t) Installable l z v (rest ws i n) goal
+Installing c t l z v ws i n goal = Going (installRow addressSize c t) Installable l z v (rest ws i n) goal
 
 few-slots : standard .waitingLimit < slotCount
 few-slots = omega arith
@@ -269,7 +270,7 @@ module _ (w : ℕ) (ws : WriteRows) (n v : ℕ) where
   lock-start l z h t =
       record {
         tables = h .tables;
-        run = ap (λ (rs : List (Row Write)). withSlots (mapOf l z) (each (lockRow 4 w) (slotsOf (l .slots)) rs)) (rest-all ws n);
+        run = ap (λ (rs : List (Row Write)). withSlots (mapOf l z) (each (lockRow addressSize w) (slotsOf (l .slots)) rs)) (rest-all ws n);
         inv = subst (LockRoom (slotsOf (l .slots))) (sym (rest-all ws n)) (lock-room standard (mapOf l z) (writesOf ws n) few-slots (t .once) (t .waiting));
       }
 
@@ -277,8 +278,8 @@ module _ (w : ℕ) (ws : WriteRows) (n v : ℕ) where
   lock-fits i q = lt-of-le-of-lt (entry-count (q .tables .words .good) (keys (rest ws i n))) (q .inv .room)
 
   pub lock-on : {l l' : Lent} {z r : Sizes} {goal : MapState} (i : ℕ) → i < n → Locking w l z v ws i n goal
-      → ContentSet l l' z r v (lockRow 4 w (slotsOf (l .slots)) (writeAt ws i)) → Locking w l' r v ws (i + 1) n goal
-  lock-on i h q s = going-on (locking 4 w) (writeAt ws i) (rest ws i n) (rest ws (i + 1) n) (rest-cons ws i n h) q s
+      → ContentSet l l' z r v (lockRow addressSize w (slotsOf (l .slots)) (writeAt ws i)) → Locking w l' r v ws (i + 1) n goal
+  lock-on i h q s = going-on (locking addressSize w) (writeAt ws i) (rest ws i n) (rest ws (i + 1) n) (rest-cons ws i n h) q s
 
   pub lock-end : {l l' : Lent} {z r : Sizes} (i : ℕ) → n ≤ i → MapHeld l z v → Lockable (mapOf l z) (writesOf ws n)
       → Locking w l' r v ws i n (lockAll standard w (mapOf l z) (writesOf ws n))
@@ -292,13 +293,13 @@ module _ (w : ℕ) (ws : WriteRows) (n v : ℕ) where
   unlock-start l z h =
       record {
         tables = h .tables;
-        run = ap (λ (ks : List ℕ). withSlots (mapOf l z) (each (unlockKey 4 w) (slotsOf (l .slots)) ks)) (keys-all ws n);
+        run = ap (λ (ks : List ℕ). withSlots (mapOf l z) (each (unlockKey addressSize w) (slotsOf (l .slots)) ks)) (keys-all ws n);
         inv = tt;
       }
 
   pub unlock-on : {l l' : Lent} {z r : Sizes} {goal : MapState} (i : ℕ) → i < n → Unlocking w l z v ws i n goal
-      → ContentSet l l' z r v (unlockKey 4 w (slotsOf (l .slots)) (writeAt ws i .key)) → Unlocking w l' r v ws (i + 1) n goal
-  unlock-on i h q s = going-on (unlocking 4 w) (writeAt ws i .key) (restKeys ws i n) (restKeys ws (i + 1) n) (keys-cons ws i n h) q s
+      → ContentSet l l' z r v (unlockKey addressSize w (slotsOf (l .slots)) (writeAt ws i .key)) → Unlocking w l' r v ws (i + 1) n goal
+  unlock-on i h q s = going-on (unlocking addressSize w) (writeAt ws i .key) (restKeys ws i n) (restKeys ws (i + 1) n) (keys-cons ws i n h) q s
 
   pub unlock-end : {l l' : Lent} {z r : Sizes} (i : ℕ) → n ≤ i → MapHeld l z v → Unlocking w l' r v ws i n (unlockAll standard w (mapOf l z) (keys (writesOf ws n)))
       → MapBecomes l' r v (unlockAll standard w (mapOf l z) (keys (writesOf ws n)))
@@ -312,7 +313,7 @@ module _ (w t : ℕ) (ws : WriteRows) (n v : ℕ) where
   install-start l z h f =
       record {
         tables = h .tables;
-        run = ap (λ (rs : List (Row Write)). withSlots (mapOf l z) (each (installRow 4 w t) (slotsOf (l .slots)) rs)) (rest-all ws n);
+        run = ap (λ (rs : List (Row Write)). withSlots (mapOf l z) (each (installRow addressSize w t) (slotsOf (l .slots)) rs)) (rest-all ws n);
         inv = subst (Installable (slotsOf (l .slots))) (sym (rest-all ws n)) f;
       }
 
@@ -324,8 +325,8 @@ module _ (w t : ℕ) (ws : WriteRows) (n v : ℕ) where
       ∙ ap present (look-here (writeAt ws i) (rest ws (i + 1) n) (writeAt ws i .key) refl))
 
   pub install-on : {l l' : Lent} {z r : Sizes} {goal : MapState} (i : ℕ) → i < n → Installing w t l z v ws i n goal
-      → ContentSet l l' z r v (installRow 4 w t (slotsOf (l .slots)) (writeAt ws i)) → Installing w t l' r v ws (i + 1) n goal
-  install-on i h q s = going-on (installing 4 w t) (writeAt ws i) (rest ws i n) (rest ws (i + 1) n) (rest-cons ws i n h) q s
+      → ContentSet l l' z r v (installRow addressSize w t (slotsOf (l .slots)) (writeAt ws i)) → Installing w t l' r v ws (i + 1) n goal
+  install-on i h q s = going-on (installing addressSize w t) (writeAt ws i) (rest ws i n) (rest ws (i + 1) n) (rest-cons ws i n h) q s
 
   pub install-end : {l l' : Lent} {z r : Sizes} (i : ℕ) → n ≤ i → MapHeld l z v → Installable (slotsOf (l .slots)) (writesOf ws n)
       → Installing w t l' r v ws i n (installAll standard w t (mapOf l z) (writesOf ws n))

@@ -1,8 +1,9 @@
 -- The invariant of the lent arrays. `Tables` is what every change of one address keeps; `MapHeld` adds the limits of
 -- document 01. `fresh_map` establishes it, and every public function that changes the arrays keeps it.
-use Prim.Native.Nat.{ℕ, _^_, _<_}
+use Prim.Native.Nat.{ℕ, _<_}
 use mathlib.Core.Path.{_≡_}
 use lib.ListN.{length, getD}
+use Rattle.spec.specs.Widths.{addresses}
 use Rattle.spec.specs.Records.{standard}
 use Rattle.spec.specs.Slots.{entries}
 use Rattle.laws.specs.LeafVersions.{GoodLeaves}
@@ -23,10 +24,10 @@ perLeaf = index.leafPlaces
 pub record Tables (l : Lent) (z : Sizes) (v : ℕ) : Type 0 where
   -- the records: there is room for them, they rise, and their keys are addresses
   pub rows : index.RecordsSorted (l .rows) (z .records)
-  pub rows-narrow : (i : ℕ) → i < z .records → index.rowAt (l .rows) i .key < 2 ^ 32
+  pub rows-narrow : (i : ℕ) → i < z .records → index.rowAt (l .rows) i .key < addresses
   -- the leaves
   pub lows : Listed (l .lows) (z .leaves)
-  pub lows-narrow : (i : ℕ) → i < z .leaves → getD (l .lows) i 0 < 2 ^ 32
+  pub lows-narrow : (i : ℕ) → i < z .leaves → getD (l .lows) i 0 < addresses
   pub lows-size : length (l .lows) ≡ perLeaf
   pub versions-size : length (l .versions) ≡ perLeaf
   pub leaves : GoodLeaves v (mapOf l z .leaves)

@@ -3,7 +3,7 @@ use Prim.Native.Nat.{ℕ, _<_}
 use native.Mathlib.Nat.{lt-of-lt-of-le}
 use mathlib.Core.List.{List}
 use lib.ListN.{getD}
-use Rattle.sets.specs.Sets.{addresses}
+use Rattle.spec.specs.Widths.{addresses}
 use Rattle.indexlet.specs.Promises as indexlet
 use Rattle.index.specs.Views as index
 use Rattle.index.specs.LeafPlaces.{Listed}

@@ -9,6 +9,7 @@ use index::leaves::Leaf;
 use phantomlet::recount;
 use spec::Address;
 ghost use mathlib.Core.Path.{_≡_};
+ghost use Rattle.spec.specs.Widths.{addressSize};
 ghost use Rattle.spec.specs.Slots.{contentOf, enter};
 ghost use Rattle.spec.specs.Maps.{freshMap};
 ghost use Rattle.laws.specs.SlotLaws.{Room};
@@ -171,7 +172,7 @@ pub fn set_content(
     requires { ⌜ indexlet.Finds (now slots) a at ⌝ }
     requires { ⌜ Room (slotsOf (now slots)) a (contentIn c) ⌝ }
     requires { ⌜ Terms (contentOf (slotsOf (now slots)) a) (now rows) (lowsOf (now leaves)) z a (contentIn c) t ⌝ }
-    ensures { λ r. ⌜ ContentSet (lent (now (rows .entry)) (now (leaves .entry)) (now (slots .entry))) (lent (now (rows .entry)) (now (leaves .exit)) (now (slots .exit))) z (r .sizes) (k .version) (enter 4 (slotsOf (now (slots .entry))) a (contentIn c)) ⌝ }
+    ensures { λ r. ⌜ ContentSet (lent (now (rows .entry)) (now (leaves .entry)) (now (slots .entry))) (lent (now (rows .entry)) (now (leaves .exit)) (now (slots .exit))) z (r .sizes) (k .version) (enter addressSize (slotsOf (now (slots .entry))) a (contentIn c)) ⌝ }
 {
     adjust(leaves, t);
     let entries = indexlet::enter(slots, z.entries, a, at, c);

@@ -21,6 +21,7 @@ ghost use Prim.Native.Nat.{ℕ, _+_, _^_, _<_};
 ghost use lib.ListN.{length};
 ghost use Rattle.lists.specs.Tests.{pick};
 ghost use Rattle.lists.specs.Rows.{any, keys, Rising};
+ghost use Rattle.spec.specs.Widths.{addressSize};
 ghost use Rattle.spec.specs.Records.{standard};
 ghost use Rattle.spec.specs.Slots.{slotCount, isIdle, entries, contentOf};
 ghost use Rattle.spec.specs.Slots as model;
@@ -116,7 +117,7 @@ fn lock_one(
     requires { ⌜ Tables (lent (now rows) (now leaves) (now slots)) z (k .version) ⌝ }
     requires { ⌜ Writing (now ws) n ⌝ }
     requires { ⌜ (i < n) × (w + 1 < 2 ^ 64) × (length (entries (slotsOf (now slots))) < slotCount) ⌝ }
-    ensures { λ r. ⌜ ContentSet (lent (now (rows .entry)) (now (leaves .entry)) (now (slots .entry))) (lent (now (rows .entry)) (now (leaves .exit)) (now (slots .exit))) z (r .sizes) (k .version) (lockRow 4 w (slotsOf (now (slots .entry))) (writeAt (now (ws .entry)) i)) ⌝ }
+    ensures { λ r. ⌜ ContentSet (lent (now (rows .entry)) (now (leaves .entry)) (now (slots .entry))) (lent (now (rows .entry)) (now (leaves .exit)) (now (slots .exit))) z (r .sizes) (k .version) (lockRow addressSize w (slotsOf (now (slots .entry))) (writeAt (now (ws .entry)) i)) ⌝ }
 {
     let row = writes::write_at(ws, i);
     let a = row.address;
@@ -144,7 +145,7 @@ fn unlock_one(
     requires { ⌜ Tables (lent (now rows) (now leaves) (now slots)) z (k .version) ⌝ }
     requires { ⌜ Writing (now ws) n ⌝ }
     requires { ⌜ i < n ⌝ }
-    ensures { λ r. ⌜ ContentSet (lent (now (rows .entry)) (now (leaves .entry)) (now (slots .entry))) (lent (now (rows .entry)) (now (leaves .exit)) (now (slots .exit))) z (r .sizes) (k .version) (unlockKey 4 w (slotsOf (now (slots .entry))) (writeAt (now (ws .entry)) i .key)) ⌝ }
+    ensures { λ r. ⌜ ContentSet (lent (now (rows .entry)) (now (leaves .entry)) (now (slots .entry))) (lent (now (rows .entry)) (now (leaves .exit)) (now (slots .exit))) z (r .sizes) (k .version) (unlockKey addressSize w (slotsOf (now (slots .entry))) (writeAt (now (ws .entry)) i .key)) ⌝ }
 {
     let a = key_at(ws, n, i);
     let at = indexlet::find(slots, a);
@@ -211,7 +212,7 @@ fn install_one(
     requires { ⌜ Tables (lent (now rows) (now leaves) (now slots)) z (k .version) ⌝ }
     requires { ⌜ Writing (now ws) n ⌝ }
     requires { ⌜ (i < n) × (isIdle (contentOf (slotsOf (now slots)) (writeAt (now ws) i .key)) ≡ false) ⌝ }
-    ensures { λ r. ⌜ ContentSet (lent (now (rows .entry)) (now (leaves .entry)) (now (slots .entry))) (lent (now (rows .entry)) (now (leaves .exit)) (now (slots .exit))) z (r .sizes) (k .version) (installRow 4 number t (slotsOf (now (slots .entry))) (writeAt (now (ws .entry)) i)) ⌝ }
+    ensures { λ r. ⌜ ContentSet (lent (now (rows .entry)) (now (leaves .entry)) (now (slots .entry))) (lent (now (rows .entry)) (now (leaves .exit)) (now (slots .exit))) z (r .sizes) (k .version) (installRow addressSize number t (slotsOf (now (slots .entry))) (writeAt (now (ws .entry)) i)) ⌝ }
 {
     let row = writes::write_at(ws, i);
     let a = row.address;

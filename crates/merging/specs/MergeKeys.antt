@@ -1,5 +1,5 @@
 -- What the arrays hold are addresses: the keys of entries and records, and the lows of leaves, of which the first is 0.
-use Prim.Native.Nat.{ℕ, suc, _^_, _<_, _≤_}
+use Prim.Native.Nat.{ℕ, suc, _<_, _≤_}
 use native.Mathlib.Omega.{arith}
 use mathlib.Core.Path.{_≡_, refl, sym, ap, _∙_, subst}
 use mathlib.Core.Bool.{true}
@@ -11,6 +11,7 @@ use Rattle.lists.specs.Rows.{Row, keys, has}
 use Rattle.lists.specs.Ascending.{mem-getD, mem-keys, keys-mem}
 use Rattle.lists.specs.Memberships.{member-has, has-member}
 use Rattle.lists.specs.Shifts.{getD-tab}
+use Rattle.spec.specs.Widths.{addresses}
 use Rattle.spec.specs.Records.{Record}
 use Rattle.spec.specs.Leaves.{Leaf, firstLeaf}
 use Rattle.spec.specs.Slots.{slotCount, Content, Slot, emptySlot, entries, kept}
@@ -37,7 +38,7 @@ unfolding Covers
 covers-first [] c = refl
 covers-first (l ∷ ls) c = c
 
-pub entry-narrow : (ws : SlotRows) → indexlet.SlotsHeld ws → (k : ℕ) → has k (keys (entries (slotsOf ws))) ≡ true → k < 2 ^ 32
+pub entry-narrow : (ws : SlotRows) → indexlet.SlotsHeld ws → (k : ℕ) → has k (keys (entries (slotsOf ws))) ≡ true → k < addresses
 unfolding slotsOf slotIn
 entry-narrow ws h k e =
     let q = mem-keys (entries (slotsOf ws)) (has-member k (keys (entries (slotsOf ws))) e) in
@@ -47,22 +48,22 @@ entry-narrow ws h k e =
     let s : kept (rowAt ws (r .0) .key) (contentIn (rowAt ws (r .0) .content)) ≡ some (q .0)
     = sym (ap (λ (s : Slot). s .entry) (getD-tab (λ (i : ℕ). slotIn (rowAt ws i)) slotCount (r .0) emptySlot b)) ∙ r .2 in
     let t = kept-entry (rowAt ws (r .0) .key) (contentIn (rowAt ws (r .0) .content)) (q .0) s in
-    subst (λ (x : ℕ). x < 2 ^ 32) (ap (λ (x : Row Content). x .key) (t .1) ∙ q .2) (h .sized .narrow (r .0) b (t .0))
+    subst (λ (x : ℕ). x < addresses) (ap (λ (x : Row Content). x .key) (t .1) ∙ q .2) (h .sized .narrow (r .0) b (t .0))
 
-pub record-narrow : (ws : RecordRows) (n : ℕ) → index.RecordsSorted ws n → ((i : ℕ) → i < n → index.rowAt ws i .key < 2 ^ 32)
-    → (k : ℕ) → has k (keys (recordsOf ws n)) ≡ true → k < 2 ^ 32
+pub record-narrow : (ws : RecordRows) (n : ℕ) → index.RecordsSorted ws n → ((i : ℕ) → i < n → index.rowAt ws i .key < addresses)
+    → (k : ℕ) → has k (keys (recordsOf ws n)) ≡ true → k < addresses
 record-narrow ws n held h k e =
     let q = mem-keys (recordsOf ws n) (has-member k (keys (recordsOf ws n)) e) in
     let r = mem-place (recordsOf ws n) noRow (q .1) in
     let f : length (recordsOf ws n) ≡ n = length-records ws n (held .room) in
     let b : r .0 < n = (let g : r .0 < length (recordsOf ws n) = r .1 in omega arith) in
-    subst (λ (x : ℕ). x < 2 ^ 32) (ap (λ (x : Row Record). x .key) (sym (record-at ws n (r .0) (held .room) b) ∙ r .2) ∙ q .2) (h (r .0) b)
+    subst (λ (x : ℕ). x < addresses) (ap (λ (x : Row Record). x .key) (sym (record-at ws n (r .0) (held .room) b) ∙ r .2) ∙ q .2) (h (r .0) b)
 
-pub rows-narrow : (ws : RecordRows) (n : ℕ) → index.RecordsSorted ws n → ((k : ℕ) → has k (keys (recordsOf ws n)) ≡ true → k < 2 ^ 32)
-    → (i : ℕ) → i < n → index.rowAt ws i .key < 2 ^ 32
+pub rows-narrow : (ws : RecordRows) (n : ℕ) → index.RecordsSorted ws n → ((k : ℕ) → has k (keys (recordsOf ws n)) ≡ true → k < addresses)
+    → (i : ℕ) → i < n → index.rowAt ws i .key < addresses
 rows-narrow ws n held h i b =
     let f : length (recordsOf ws n) ≡ n = length-records ws n (held .room) in
-    subst (λ (x : Row Record). x .key < 2 ^ 32) (record-at ws n i (held .room) b)
+    subst (λ (x : Row Record). x .key < addresses) (record-at ws n i (held .room) b)
     (h (getD (recordsOf ws n) i noRow .key) (member-has (keys-mem (getD (recordsOf ws n) i noRow) (recordsOf ws n) (mem-getD (recordsOf ws n) i noRow (omega arith)))))
 
 pub low-at : (lows versions : List ℕ) (m i : ℕ) → length lows ≡ leafPlaces → length versions ≡ leafPlaces → m ≤ leafPlaces → i < m

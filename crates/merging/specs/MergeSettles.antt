@@ -13,6 +13,7 @@ use Rattle.lists.specs.TestLaws.{cases, less-true, less-false}
 use Rattle.lists.specs.Rows.{Row, keys, has, filter}
 use Rattle.lists.specs.Ascending.{Ascends, mem-getD, mem-filter, mem-keys, keys-mem}
 use Rattle.lists.specs.Memberships.{member-has}
+use Rattle.spec.specs.Widths.{addresses}
 use Rattle.spec.specs.Records.{Settings, Record, standard}
 use Rattle.spec.specs.Leaves.{Leaf, firstLeaf, cuts, starts, newLows, freshLeaves, Around, around, widened, settled, settle, versionsTaken}
 use Rattle.laws.specs.LeafParts.{LowsFrom, Covers}
@@ -116,7 +117,7 @@ settle-room v ls a ks c h l =
 
 pub Narrow : List Leaf → Type 0
 Narrow [] = Unit {0}
-Narrow (l ∷ ls) = (l .low < 2 ^ 32) × Narrow ls
+Narrow (l ∷ ls) = (l .low < addresses) × Narrow ls
 
 narrow-left : (xs ys : List Leaf) → Narrow (xs ++ ys) → Narrow xs
 unfolding Narrow
@@ -133,13 +134,13 @@ unfolding Narrow
 narrow-join [] ys m n = n
 narrow-join (x ∷ xs) ys m n = (m .0, narrow-join xs ys (m .1) n)
 
-narrow-starts : (v : ℕ) (ns ks : List ℕ) → ((i : ℕ) → getD ks i 0 < 2 ^ 32) → Narrow (freshLeaves v (starts ns ks))
+narrow-starts : (v : ℕ) (ns ks : List ℕ) → ((i : ℕ) → getD ks i 0 < addresses) → Narrow (freshLeaves v (starts ns ks))
 unfolding Narrow starts freshLeaves
 narrow-starts v [] ks h = tt
 narrow-starts v (n ∷ []) ks h = tt
-narrow-starts v (n ∷ m ∷ ns) ks h = (h n, narrow-starts (suc v) (m ∷ ns) (drop n ks) (λ i. subst (λ (x : ℕ). x < 2 ^ 32) (sym (lib.Seq.getD-drop n ks i 0)) (h (n + i))))
+narrow-starts v (n ∷ m ∷ ns) ks h = (h n, narrow-starts (suc v) (m ∷ ns) (drop n ks) (λ i. subst (λ (x : ℕ). x < addresses) (sym (lib.Seq.getD-drop n ks i 0)) (h (n + i))))
 
-narrow-fresh : (s : Settings) (v low : ℕ) (ks : List ℕ) → low < 2 ^ 32 → ((i : ℕ) → getD ks i 0 < 2 ^ 32) → Narrow (freshLeaves v (newLows s low ks))
+narrow-fresh : (s : Settings) (v low : ℕ) (ks : List ℕ) → low < addresses → ((i : ℕ) → getD ks i 0 < addresses) → Narrow (freshLeaves v (newLows s low ks))
 unfolding Narrow newLows freshLeaves
 narrow-fresh s v low ks l h = (l, narrow-starts (suc v) (cuts s (length ks)) ks h)
 
@@ -148,13 +149,13 @@ unfolding Narrow widened
 narrow-widened v l [] n = (n .0, tt)
 narrow-widened v l (m ∷ ms) n = (n .0, narrow-widened v m ms (n .1))
 
-narrow-settled : (s : Settings) (v : ℕ) (before : List Leaf) (own : Leaf) (ks : List ℕ) → Narrow before → own .low < 2 ^ 32 → ((i : ℕ) → getD ks i 0 < 2 ^ 32) → Narrow (settled s v before own ks)
+narrow-settled : (s : Settings) (v : ℕ) (before : List Leaf) (own : Leaf) (ks : List ℕ) → Narrow before → own .low < addresses → ((i : ℕ) → getD ks i 0 < addresses) → Narrow (settled s v before own ks)
 unfolding settled
 narrow-settled s v [] own ks b o h = narrow-fresh s v (own .low) ks o h
 narrow-settled s v (l ∷ ls) own [] b o h = narrow-widened v l ls b
 narrow-settled s v (l ∷ ls) own (k ∷ ks) b o h = narrow-join (l ∷ ls) (freshLeaves v (newLows s (own .low) (k ∷ ks))) b (narrow-fresh s v (own .low) (k ∷ ks) o h)
 
-pub settle-narrow : (s : Settings) (v : ℕ) (ls : List Leaf) (a : ℕ) (ks : List ℕ) → Covers ls → Narrow ls → ((i : ℕ) → getD ks i 0 < 2 ^ 32) → Narrow (settle s v ls a ks)
+pub settle-narrow : (s : Settings) (v : ℕ) (ls : List Leaf) (a : ℕ) (ks : List ℕ) → Covers ls → Narrow ls → ((i : ℕ) → getD ks i 0 < addresses) → Narrow (settle s v ls a ks)
 unfolding settle Narrow
 settle-narrow s v ls a ks c n h =
     let p : Around = around a ls in
@@ -163,25 +164,25 @@ settle-narrow s v ls a ks c n h =
     narrow-join (settled s v (around a ls .before) (around a ls .own) ks) (around a ls .after)
     (narrow-settled s v (around a ls .before) (around a ls .own) ks (narrow-left (around a ls .before) (around a ls .own ∷ around a ls .after) w) (r .0) h) (r .1)
 
-pub narrow-leaves : (ls : List Leaf) → ((i : ℕ) → i < length ls → getD ls i firstLeaf .low < 2 ^ 32) → Narrow ls
+pub narrow-leaves : (ls : List Leaf) → ((i : ℕ) → i < length ls → getD ls i firstLeaf .low < addresses) → Narrow ls
 unfolding Narrow
 narrow-leaves [] h = tt
 narrow-leaves (l ∷ ls) h = (h 0 (omega arith), narrow-leaves ls (λ i g. h (suc i) (suc-le-suc g)))
 
-pub narrow-at : (ls : List Leaf) (i : ℕ) → Narrow ls → i < length ls → getD ls i firstLeaf .low < 2 ^ 32
+pub narrow-at : (ls : List Leaf) (i : ℕ) → Narrow ls → i < length ls → getD ls i firstLeaf .low < addresses
 unfolding Narrow
 narrow-at [] i n h = absurd (not-suc-le-zero h)
 narrow-at (l ∷ ls) zero n h = n .0
 narrow-at (l ∷ ls) (suc i) n h = narrow-at ls i (n .1) (le-of-suc-le-suc h)
 
 -- the keys of records that are addresses
-pub keys-narrow : (p : Row Record → Bool) (rs : List (Row Record)) → ((k : ℕ) → has k (keys rs) ≡ true → k < 2 ^ 32) → (i : ℕ) → getD (keys (filter p rs)) i 0 < 2 ^ 32
+pub keys-narrow : (p : Row Record → Bool) (rs : List (Row Record)) → ((k : ℕ) → has k (keys rs) ≡ true → k < addresses) → (i : ℕ) → getD (keys (filter p rs)) i 0 < addresses
 keys-narrow p rs h i =
     ⊎-elim
     (λ t.
     let q = mem-keys (filter p rs) (mem-getD (keys (filter p rs)) i 0 (less-true i (length (keys (filter p rs))) t)) in
     let r = mem-filter p rs (q .1) in
-    subst (λ (k : ℕ). k < 2 ^ 32) (q .2) (h (q .0 .key) (member-has (keys-mem (q .0) rs (r .0)))))
+    subst (λ (k : ℕ). k < addresses) (q .2) (h (q .0 .key) (member-has (keys-mem (q .0) rs (r .0)))))
     (λ f. let z : getD (keys (filter p rs)) i 0 ≡ 0 = List·getD-eq-default (keys (filter p rs)) 0 {n = i} (less-false i (length (keys (filter p rs))) f) in omega arith)
     (cases (less i (length (keys (filter p rs)))))
 

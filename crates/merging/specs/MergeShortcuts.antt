@@ -1,6 +1,6 @@
 -- What a merge need not walk over: slots whose keys lie elsewhere, and, where one pending write is all of a leaf that matters,
 -- all slots but its own.
-use Prim.Native.Nat.{ℕ, _+_, _-_, _^_, _<_, _≤_, zero-le}
+use Prim.Native.Nat.{ℕ, _+_, _-_, _<_, _≤_, zero-le}
 use native.Mathlib.Nat.{le-refl}
 use native.Mathlib.Omega.{arith}
 use mathlib.Core.Path.{_≡_, refl, sym, ap, _∙_, subst}
@@ -13,6 +13,7 @@ use Rattle.lists.specs.Tests.{pick, both, present, same, less}
 use Rattle.lists.specs.TestLaws.{cases, clash, same-true, same-false, less-true, less-false}
 use Rattle.lists.specs.Rows.{Row, row, look}
 use Rattle.lists.specs.Sums.{total-at, total-two}
+use Rattle.spec.specs.Widths.{addresses}
 use Rattle.spec.specs.Records.{Record}
 use Rattle.spec.specs.Slots.{slotCount, Content, isIdle, Slot, emptySlot, vacant, kept}
 use Rattle.laws.specs.SlotCounts.{entryAt, tally, only-here, holds-yes}
@@ -36,7 +37,7 @@ use Rattle.merging.specs.MergeWalks.{passing, hiders, Walking, Clear, Un
 pub record Skips (slots : SlotRows) (r : Reach) (from j : ℕ) : Type 0 where
   pub forth : from ≤ j
   pub there : j ≤ slotCount
-  pub passed : (i : ℕ) → from ≤ i → i < j → (e : Row Content) → entryAt (slotsOf slots) i ≡ some e → (e .key < 2 ^ 32) × (reached r (e .key) ≡ false)
+  pub passed : (i : ℕ) → from ≤ i → i < j → (e : Row Content) → entryAt (slotsOf slots) i ≡ some e → (e .key < addresses) × (reached r (e .key) ≡ false)
 
 -- Slot j has a pending write at an address that passes, and no other entry at such an address hides it.
 pub record Alone (p : ℕ → Bool) (rows : RecordRows) (n : ℕ) (slots : SlotRows) (j : ℕ) : Type 0 where
@@ -67,7 +68,7 @@ kept-key k c e q = ap (λ (x : Row Content). x .key) (kept-entry k c e q .1)
 
 -- an entry in slot i, if there is one, lies elsewhere
 abbrev pub Elsewhere : SlotRows → Reach → ℕ → Type 0
-Elsewhere slots r i = (e : Row Content) → entryAt (slotsOf slots) i ≡ some e → (e .key < 2 ^ 32) × (reached r (e .key) ≡ false)
+Elsewhere slots r i = (e : Row Content) → entryAt (slotsOf slots) i ≡ some e → (e .key < addresses) × (reached r (e .key) ≡ false)
 
 pub elsewhere-empty : (slots : SlotRows) (r : Reach) (i : ℕ) → vacant (getD (slotsOf slots) i emptySlot) ≡ true → Elsewhere slots r i
 unfolding vacant
@@ -77,7 +78,7 @@ pub elsewhere-read : {slots : SlotRows} (r : Reach) {j : ℕ} (s : SlotWords) �
 elsewhere-read {slots} r {j} s reads f e q =
     let there : kept (s .key) (contentIn (s .content)) ≡ some e = sym (entry-of slots j s reads) ∙ q in
     let own : s .key ≡ e .key = kept-key (s .key) (contentIn (s .content)) e there in
-    (subst (λ (x : ℕ). x < 2 ^ 32) own (reads .narrow (kept-entry (s .key) (contentIn (s .content)) e there .0)), ap (reached r) (sym own) ∙ f)
+    (subst (λ (x : ℕ). x < addresses) own (reads .narrow (kept-entry (s .key) (contentIn (s .content)) e there .0)), ap (reached r) (sym own) ∙ f)
 
 pub skips-all : {slots : SlotRows} {r : Reach} {from j : ℕ} → from ≤ j → j ≤ slotCount → ((i : ℕ) → from ≤ i → i < j → Elsewhere slots r i) → Skips slots r from j
 skips-all a b f = record { forth = a; there = b; passed = f }

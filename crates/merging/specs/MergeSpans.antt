@@ -20,6 +20,7 @@ use Rattle.lists.specs.Shifts.{over, moved, drop-take}
 use Rattle.lists.specs.Sums.{total}
 use Rattle.lists.specs.Counting.{Within, distinct-within}
 use Rattle.lists.specs.Memberships.{has-left, has-right, has-parts}
+use Rattle.spec.specs.Widths.{addressSize}
 use Rattle.spec.specs.Records.{Record}
 use Rattle.spec.specs.Leaves.{Leaf}
 use Rattle.spec.specs.Slots.{slotCount, Content, Slot, entries, contentOf, enter}
@@ -48,7 +49,7 @@ abbrev fronted : List (Row Record) → MapState → MapState
 fronted behind m = parts (m .records ++ behind) (m .leaves) (m .slots)
 
 entry-front : (behind xs : List (Row Record)) (ls : List Leaf) (ss : List Slot) (e : Row Content) → From (suc (e .key)) behind
-    → mergeEntry 4 (parts (xs ++ behind) ls ss) e ≡ fronted behind (mergeEntry 4 (parts xs ls ss) e)
+    → mergeEntry addressSize (parts (xs ++ behind) ls ss) e ≡ fronted behind (mergeEntry addressSize (parts xs ls ss) e)
 unfolding mergeEntry current
 entry-front behind xs ls ss e f =
     let away : look (xs ++ behind) (e .key) ≡ look xs (e .key) = look-front xs behind (e .key) (look-low behind (e .key) (le-refl (suc (e .key))) f) in
@@ -57,7 +58,7 @@ entry-front behind xs ls ss e f =
           (ap (λ (o : Option Record). assign (e .key) (maybe (contentOf ss (e .key) .pending) o outcomeOf) (xs ++ behind)) away
           ∙ assign-front (e .key) (maybe (contentOf ss (e .key) .pending) (look xs (e .key)) outcomeOf) xs behind f) i;
       leaves = ls;
-      slots = enter 4 ss (e .key) (takenIn (contentOf ss (e .key)));
+      slots = enter addressSize ss (e .key) (takenIn (contentOf ss (e .key)));
     }
 
 module _ (p : ℕ → Bool) where
@@ -70,50 +71,50 @@ module _ (p : ℕ → Bool) where
       go false q = clash q refl
 
   each-front : (behind : List (Row Record)) → ((k : ℕ) → p k ≡ true → From (suc k) behind) → (es : List (Row Content)) (m : MapState)
-      → each (mergeEntry 4) (fronted behind m) (filter (takes p) es) ≡ fronted behind (each (mergeEntry 4) m (filter (takes p) es))
+      → each (mergeEntry addressSize) (fronted behind m) (filter (takes p) es) ≡ fronted behind (each (mergeEntry addressSize) m (filter (takes p) es))
   unfolding each filter
   each-front behind above [] m = refl
   each-front behind above (e ∷ es) m =
       ⊎-elim
       (λ t. rw t
-      (ap (λ (x : MapState). each (mergeEntry 4) x (filter (takes p) es)) (entry-front behind (m .records) (m .leaves) (m .slots) e (above (e .key) (passes e t)))
-      ∙ each-front behind above es (mergeEntry 4 m e)))
+      (ap (λ (x : MapState). each (mergeEntry addressSize) x (filter (takes p) es)) (entry-front behind (m .records) (m .leaves) (m .slots) e (above (e .key) (passes e t)))
+      ∙ each-front behind above es (mergeEntry addressSize m e)))
       (λ t. rw t (each-front behind above es m))
       (cases (takes p e))
 
   -- addresses that pass lie from lo on
   each-over : (lo : ℕ) → ((k : ℕ) → p k ≡ true → lo ≤ k) → (es : List (Row Content)) (m : MapState) → Rising (m .records)
-      → place lo (each (mergeEntry 4) m (filter (takes p) es) .records) ≡ place lo (m .records)
+      → place lo (each (mergeEntry addressSize) m (filter (takes p) es) .records) ≡ place lo (m .records)
   unfolding each filter mergeEntry Rising
   each-over lo low [] m r = refl
   each-over lo low (e ∷ es) m r =
       ⊎-elim
       (λ t. rw t
-      (each-over lo low es (mergeEntry 4 m e) (rising-assign (e .key) (current m (e .key)) (m .records) r)
+      (each-over lo low es (mergeEntry addressSize m e) (rising-assign (e .key) (current m (e .key)) (m .records) r)
       ∙ place-over lo (e .key) (current m (e .key)) (m .records) 0 r (low (e .key) (passes e t))))
       (λ t. rw t (each-over lo low es m r))
       (cases (takes p e))
 
   -- ... and below hi
   each-under : (hi : ℕ) → ((k : ℕ) → p k ≡ true → k < hi) → (es : List (Row Content)) (m : MapState) → Rising (m .records)
-      → place hi (each (mergeEntry 4) m (filter (takes p) es) .records) + length (m .records) ≡ place hi (m .records) + length (each (mergeEntry 4) m (filter (takes p) es) .records)
+      → place hi (each (mergeEntry addressSize) m (filter (takes p) es) .records) + length (m .records) ≡ place hi (m .records) + length (each (mergeEntry addressSize) m (filter (takes p) es) .records)
   unfolding each filter mergeEntry Rising
   each-under hi high [] m r = refl
   each-under hi high (e ∷ es) m r =
       ⊎-elim
       (λ t.
-      let a : place hi (each (mergeEntry 4) (mergeEntry 4 m e) (filter (takes p) es) .records) + length (mergeEntry 4 m e .records) ≡ place hi (mergeEntry 4 m e .records) + length (each (mergeEntry 4) (mergeEntry 4 m e) (filter (takes p) es) .records)
-      = each-under hi high es (mergeEntry 4 m e) (rising-assign (e .key) (current m (e .key)) (m .records) r) in
-      let b : place hi (mergeEntry 4 m e .records) + length (m .records) ≡ place hi (m .records) + length (mergeEntry 4 m e .records)
+      let a : place hi (each (mergeEntry addressSize) (mergeEntry addressSize m e) (filter (takes p) es) .records) + length (mergeEntry addressSize m e .records) ≡ place hi (mergeEntry addressSize m e .records) + length (each (mergeEntry addressSize) (mergeEntry addressSize m e) (filter (takes p) es) .records)
+      = each-under hi high es (mergeEntry addressSize m e) (rising-assign (e .key) (current m (e .key)) (m .records) r) in
+      let b : place hi (mergeEntry addressSize m e .records) + length (m .records) ≡ place hi (m .records) + length (mergeEntry addressSize m e .records)
       = place-under hi (e .key) (current m (e .key)) (m .records) 0 r (high (e .key) (passes e t)) in
       rw t (omega arith))
       (λ t. rw t (each-under hi high es m r))
       (cases (takes p e))
 
-  each-rising : (es : List (Row Content)) (m : MapState) → Rising (m .records) → Rising (each (mergeEntry 4) m es .records)
+  each-rising : (es : List (Row Content)) (m : MapState) → Rising (m .records) → Rising (each (mergeEntry addressSize) m es .records)
   unfolding each mergeEntry
   each-rising [] m r = r
-  each-rising (e ∷ es) m r = each-rising es (mergeEntry 4 m e) (rising-assign (e .key) (current m (e .key)) (m .records) r)
+  each-rising (e ∷ es) m r = each-rising es (mergeEntry addressSize m e) (rising-assign (e .key) (current m (e .key)) (m .records) r)
 
 -- ---- the rows of the leaf
 
@@ -180,7 +181,7 @@ module _ {lows : List ℕ} {rows : RecordRows} {n m i from to : ℕ} (s : LeafSp
     abbrev before : MapState
     before = parts (recordsOf rows n) [] (slotsOf slots)
 
-    merged-is : recordsOf rows' (w .records) ≡ each (mergeEntry 4) before (filter (takes (placed lows m i)) (entries (slotsOf slots))) .records
+    merged-is : recordsOf rows' (w .records) ≡ each (mergeEntry addressSize) before (filter (takes (placed lows m i)) (entries (slotsOf slots))) .records
     merged-is = ap (λ (x : MapState). x .records) (took .after [])
 
     low-stays : place (getD lows i 0) (recordsOf rows' (w .records)) ≡ place (getD lows i 0) (recordsOf rows n)
@@ -432,12 +433,12 @@ module _ {lows : List ℕ} {rows : RecordRows} {slots : SlotRows} {n e o m i fro
         now-is : recordsOf rows₃ (w .records + (n - to)) ≡ recordsOf rows₂ (w .records) ++ behind
         now-is = down .all ∙ ap (λ (rs : List (Row Record)). recordsOf rows₂ (w .records) ++ rs) behind-kept
 
-        after : (ls : List Leaf) → parts (recordsOf rows₃ (w .records + (n - to))) ls (slotsOf slots') ≡ each (mergeEntry 4) (parts (recordsOf rows n) ls (slotsOf slots)) (filter (takes p) (entries (slotsOf slots)))
+        after : (ls : List Leaf) → parts (recordsOf rows₃ (w .records + (n - to))) ls (slotsOf slots') ≡ each (mergeEntry addressSize) (parts (recordsOf rows n) ls (slotsOf slots)) (filter (takes p) (entries (slotsOf slots)))
         after ls =
             ap (λ (rs : List (Row Record)). parts rs ls (slotsOf slots')) now-is
             ∙ ap (fronted behind) (walk-after (took .walking) (le-refl slotCount) ls)
             ∙ sym (each-front p behind (behind-above s (start .rows-held)) (entries (slotsOf slots)) (parts (recordsOf rows₁ to) ls (slotsOf slots)))
-            ∙ ap (λ (rs : List (Row Record)). each (mergeEntry 4) (parts rs ls (slotsOf slots)) (filter (takes p) (entries (slotsOf slots)))) lifted-rows
+            ∙ ap (λ (rs : List (Row Record)). each (mergeEntry addressSize) (parts rs ls (slotsOf slots)) (filter (takes p) (entries (slotsOf slots)))) lifted-rows
 
         sorted : index.RecordsSorted rows₃ (w .records + (n - to))
         sorted =

@@ -20,6 +20,7 @@ use Rattle.lists.specs.Ascending.{keys-mem}
 use Rattle.lists.specs.Counting.{Within, different-within}
 use Rattle.lists.specs.Memberships.{member-has, has-left, has-right}
 use Rattle.lists.specs.Sums.{total-at, total-except}
+use Rattle.spec.specs.Widths.{addressSize}
 use Rattle.spec.specs.declared.PayloadWords.{PayloadWords}
 use Rattle.spec.specs.Records.{Record, isPut, outcome}
 use Rattle.spec.specs.Leaves.{Leaf}
@@ -240,8 +241,8 @@ pub record Walking (p : ℕ → Bool) (o : ℕ) (rs : List (Row Record)) (ss : L
   pub elsewhere : (q : Row Content → Bool) → ((e : Row Content) → p (e .key) ≡ true → q e ≡ false) → howMany q (slotsOf slots) ≡ howMany q ss
   -- the rest of the run is the whole run
   pub rest :
-      (ls : List Leaf) → each (mergeEntry 4) (parts (recordsOf rows (w .records)) ls (slotsOf slots)) (left p ss j)
-      ≡ each (mergeEntry 4) (parts rs ls ss) (filter (takes p) (entries ss))
+      (ls : List Leaf) → each (mergeEntry addressSize) (parts (recordsOf rows (w .records)) ls (slotsOf slots)) (left p ss j)
+      ≡ each (mergeEntry addressSize) (parts rs ls ss) (filter (takes p) (entries ss))
   pub counted : w .count + length (left p ss j) ≡ length (filter (takes p) (entries ss))
   -- so many entries lie outside of the index now, whatever stands behind
   pub outside-is : (behind : List (Row Record)) → Behind p rs ss o behind → w .outside ≡ howMany (lacking (recordsOf rows (w .records) ++ behind)) (slotsOf slots)
@@ -315,7 +316,7 @@ pub record Took (p : ℕ → Bool) (rows : RecordRows) (slots : SlotRows) (n : �
   pub elsewhere : (q : Row Content → Bool) → ((e : Row Content) → p (e .key) ≡ true → q e ≡ false) → howMany q (slotsOf slots') ≡ howMany q (slotsOf slots)
   pub after :
       (ls : List Leaf) → parts (recordsOf rows' (w .records)) ls (slotsOf slots')
-      ≡ each (mergeEntry 4) (parts (recordsOf rows n) ls (slotsOf slots)) (filter (takes p) (entries (slotsOf slots)))
+      ≡ each (mergeEntry addressSize) (parts (recordsOf rows n) ls (slotsOf slots)) (filter (takes p) (entries (slotsOf slots)))
   pub count : w .count ≡ length (filter (takes p) (entries (slotsOf slots)))
   pub outside-is : w .outside ≡ howMany (lacking (recordsOf rows' (w .records))) (slotsOf slots')
   -- with no lock counted, an entry that is left at an address that passes counts for nothing
@@ -372,7 +373,7 @@ walk-start {p} {rows} {slots} {n} {e} {o} s =
       inside = λ k h. has-left k (keys (recordsOf rows n)) (keys (entries (slotsOf slots))) h;
       apart = λ k h. refl;
       elsewhere = λ q h. refl;
-      rest = λ ls. ap (each (mergeEntry 4) (parts (recordsOf rows n) ls (slotsOf slots))) (left-start p (slotsOf slots));
+      rest = λ ls. ap (each (mergeEntry addressSize) (parts (recordsOf rows n) ls (slotsOf slots))) (left-start p (slotsOf slots));
       counted = (let z : length (left p (slotsOf slots) 0) ≡ length (filter (takes p) (entries (slotsOf slots))) = ap length (left-start p (slotsOf slots)) in omega arith);
       outside-is = λ b x. x .outside;
     }
@@ -403,9 +404,9 @@ module _ {p : ℕ → Bool} {o : ℕ} {rs : List (Row Record)} {ss : List Slot} 
   none-after : left p ss j ≡ []
   none-after = let f : length ss ≡ slotCount = r .full in left-end p ss j (omega arith)
 
-  pub walk-after : (ls : List Leaf) → parts (recordsOf rows (w .records)) ls (slotsOf slots) ≡ each (mergeEntry 4) (parts rs ls ss) (filter (takes p) (entries ss))
+  pub walk-after : (ls : List Leaf) → parts (recordsOf rows (w .records)) ls (slotsOf slots) ≡ each (mergeEntry addressSize) (parts rs ls ss) (filter (takes p) (entries ss))
   unfolding each
-  walk-after ls = sym (ap (each (mergeEntry 4) (parts (recordsOf rows (w .records)) ls (slotsOf slots))) none-after) ∙ r .rest ls
+  walk-after ls = sym (ap (each (mergeEntry addressSize) (parts (recordsOf rows (w .records)) ls (slotsOf slots))) none-after) ∙ r .rest ls
 
   pub walk-count : w .count ≡ length (filter (takes p) (entries ss))
   walk-count =
@@ -471,7 +472,7 @@ walk-past {p} {rows} {slots} {w} {j} r f reads h t least most gone =
             inside = g .inside;
             apart = g .apart;
             elsewhere = g .elsewhere;
-            rest = λ ls. ap (each (mergeEntry 4) (parts (recordsOf rows (w .records)) ls (slotsOf slots))) d ∙ g .rest ls;
+            rest = λ ls. ap (each (mergeEntry addressSize) (parts (recordsOf rows (w .records)) ls (slotsOf slots))) d ∙ g .rest ls;
             counted = (let y : w .count + length (left p ss j) ≡ length (filter (takes p) (entries ss)) = g .counted in let x : length (left p ss (j + 1)) ≡ length (left p ss j) = ap length d in omega arith);
             outside-is = g .outside-is;
           };
@@ -500,7 +501,7 @@ walk-skip {p} {o} {rs} {ss} {rows} {slots} {w} {j} g h f =
       inside = g .inside;
       apart = g .apart;
       elsewhere = g .elsewhere;
-      rest = λ ls. ap (each (mergeEntry 4) (parts (recordsOf rows (w .records)) ls (slotsOf slots))) (sym e) ∙ g .rest ls;
+      rest = λ ls. ap (each (mergeEntry addressSize) (parts (recordsOf rows (w .records)) ls (slotsOf slots))) (sym e) ∙ g .rest ls;
       counted = (let y : w .count + length (left p ss j) ≡ length (filter (takes p) (entries ss)) = g .counted in let x : length (left p ss j) ≡ length (left p ss (suc j)) = ap length e in omega arith);
       outside-is = g .outside-is;
     }
@@ -599,8 +600,8 @@ module _ {slots : SlotRows} {j : ℕ} (r : SlotWords) (held : indexlet.SlotsHeld
   -- what enters the index and the indexlet is what the model merges
   merged-is : (rs rs' : List (Row Record)) (ls : List Leaf) (ss' : List Slot)
       → rs' ≡ assign (r .key) (leaving (r .content .kind) (r .content .payload) (r .content .commit)) rs
-      → ss' ≡ enter 4 (slotsOf slots) (r .key) (takenIn (contentIn (r .content)))
-      → parts rs' ls ss' ≡ mergeEntry 4 (parts rs ls (slotsOf slots)) (row (r .key) (contentIn (r .content)))
+      → ss' ≡ enter addressSize (slotsOf slots) (r .key) (takenIn (contentIn (r .content)))
+      → parts rs' ls ss' ≡ mergeEntry addressSize (parts rs ls (slotsOf slots)) (row (r .key) (contentIn (r .content)))
   unfolding mergeEntry current leaving contentIn
   merged-is rs rs' ls ss' e f =
       let cur : current (parts rs ls (slotsOf slots)) (r .key) ≡ leaving (r .content .kind) (r .content .payload) (r .content .commit)
@@ -610,7 +611,7 @@ module _ {slots : SlotRows} {j : ℕ} (r : SlotWords) (held : indexlet.SlotsHeld
       λ i. record {
         records = (e ∙ ap (λ (o : Option Record). assign (r .key) o rs) (sym cur)) i;
         leaves = ls;
-        slots = (f ∙ ap (λ (c : Content). enter 4 (slotsOf slots) (r .key) (takenIn c)) (sym content-is)) i;
+        slots = (f ∙ ap (λ (c : Content). enter addressSize (slotsOf slots) (r .key) (takenIn c)) (sym content-is)) i;
       }
 
   pub taken-yes : (p : ℕ → Bool) → p (r .key) ≡ true → takes p (row (r .key) (contentIn (r .content))) ≡ true
@@ -618,9 +619,9 @@ module _ {slots : SlotRows} {j : ℕ} (r : SlotWords) (held : indexlet.SlotsHeld
   taken-yes p t = ap (λ (o : Option Pending). both (present o) (p (r .key))) pending-is ∙ t
 
   -- a count that does not look at the entry's address stays
-  many-apart : (q : Row Content → Bool) (c : Content) → ((x : Content) → q (row (r .key) x) ≡ false) → howMany q (enter 4 (slotsOf slots) (r .key) c) ≡ howMany q (slotsOf slots)
+  many-apart : (q : Row Content → Bool) (c : Content) → ((x : Content) → q (row (r .key) x) ≡ false) → howMany q (enter addressSize (slotsOf slots) (r .key) c) ≡ howMany q (slotsOf slots)
   many-apart q c f =
-      let e : howMany q (enter 4 (slotsOf slots) (r .key) c) + weigh q (kept (r .key) (contentOf (slotsOf slots) (r .key))) ≡ howMany q (slotsOf slots) + weigh q (kept (r .key) c) = many-change (held .good) (slot-room c) q in
+      let e : howMany q (enter addressSize (slotsOf slots) (r .key) c) + weigh q (kept (r .key) (contentOf (slotsOf slots) (r .key))) ≡ howMany q (slotsOf slots) + weigh q (kept (r .key) c) = many-change (held .good) (slot-room c) q in
       let a : weigh q (kept (r .key) (contentOf (slotsOf slots) (r .key))) ≡ 0 = weigh-nothing q (r .key) (contentOf (slotsOf slots) (r .key)) (f (contentOf (slotsOf slots) (r .key))) in
       let b : weigh q (kept (r .key) c) ≡ 0 = weigh-nothing q (r .key) c (f c) in
       omega arith
@@ -666,11 +667,11 @@ module _ {slots : SlotRows} {j : ℕ} (r : SlotWords) (held : indexlet.SlotsHeld
 
   -- a count before and after the entry is taken in, by a test that changes at its address alone
   counts-moved : j < slotCount → (q q' : Row Content → Bool) → ((e : Row Content) → (e .key ≡ r .key → ⊥) → q' e ≡ q e)
-      → howMany q' (enter 4 (slotsOf slots) (r .key) (takenIn (contentIn (r .content)))) + weigh q (some (row (r .key) (contentIn (r .content))))
+      → howMany q' (enter addressSize (slotsOf slots) (r .key) (takenIn (contentIn (r .content)))) + weigh q (some (row (r .key) (contentIn (r .content))))
       ≡ howMany q (slotsOf slots) + weigh q' (kept (r .key) (takenIn (contentIn (r .content))))
   counts-moved inside q q' f =
       let c : Content = contentIn (r .content) in
-      let change : howMany q' (enter 4 (slotsOf slots) (r .key) (takenIn c)) + weigh q' (kept (r .key) (contentOf (slotsOf slots) (r .key))) ≡ howMany q' (slotsOf slots) + weigh q' (kept (r .key) (takenIn c))
+      let change : howMany q' (enter addressSize (slotsOf slots) (r .key) (takenIn c)) + weigh q' (kept (r .key) (contentOf (slotsOf slots) (r .key))) ≡ howMany q' (slotsOf slots) + weigh q' (kept (r .key) (takenIn c))
       = many-change (held .good) (slot-room (takenIn c)) q' in
       let was : weigh q' (kept (r .key) (contentOf (slotsOf slots) (r .key))) ≡ weigh q' (some (row (r .key) c))
       = ap (λ (x : Content). weigh q' (kept (r .key) x)) content-is ∙ ap (λ (b : Bool). weigh q' (pick b none (some (row (r .key) c)))) busy in
@@ -679,14 +680,14 @@ module _ {slots : SlotRows} {j : ℕ} (r : SlotWords) (held : indexlet.SlotsHeld
 
   -- what the entry counts before, and what is left of it after
   outside-moved : j < slotCount → (behind : List (Row Record)) → look behind (r .key) ≡ none → (rs : List (Row Record))
-      → howMany (lacking (assigned rs ++ behind)) (enter 4 (slotsOf slots) (r .key) (takenIn (contentIn (r .content)))) + pick (not (present (look rs (r .key)))) 1 0
+      → howMany (lacking (assigned rs ++ behind)) (enter addressSize (slotsOf slots) (r .key) (takenIn (contentIn (r .content)))) + pick (not (present (look rs (r .key)))) 1 0
       ≡ howMany (lacking (rs ++ behind)) (slotsOf slots)
       + pick (not (present (contentIn (r .content) .holder))) 0 (pick (not (present (leaving (r .content .kind) (r .content .payload) (r .content .commit)))) 1 0)
   unfolding lacking weigh
   outside-moved inside behind away rs =
       let c : Content = contentIn (r .content) in
       let q' : Row Content → Bool = lacking (assigned rs ++ behind) in
-      let both-counts : howMany q' (enter 4 (slotsOf slots) (r .key) (takenIn c)) + weigh (lacking (rs ++ behind)) (some (row (r .key) c)) ≡ howMany (lacking (rs ++ behind)) (slotsOf slots) + weigh q' (kept (r .key) (takenIn c))
+      let both-counts : howMany q' (enter addressSize (slotsOf slots) (r .key) (takenIn c)) + weigh (lacking (rs ++ behind)) (some (row (r .key) c)) ≡ howMany (lacking (rs ++ behind)) (slotsOf slots) + weigh q' (kept (r .key) (takenIn c))
       = counts-moved inside (lacking (rs ++ behind)) q' (λ e n. ap (λ (o : Option Record). not (present o)) (look-alike (assigned rs) rs behind (e .key) (assigned-elsewhere rs (e .key) n))) in
       let stays : weigh q' (kept (r .key) (takenIn c)) ≡ pick (not (present (c .holder))) 0 (pick (not (present (leaving (r .content .kind) (r .content .payload) (r .content .commit)))) 1 0)
       = weigh-kept q' (r .key) (takenIn c)
@@ -700,7 +701,7 @@ module _ {slots : SlotRows} {j : ℕ} (r : SlotWords) (held : indexlet.SlotsHeld
   one-of false = refl
 
   -- by the number of records: a put brings its address into the index
-  outside-put : j < slotCount → (behind : List (Row Record)) → look behind (r .key) ≡ none → (rs rs' : List (Row Record)) (ss' : List Slot) → Rising rs → rs' ≡ assigned rs → ss' ≡ enter 4 (slotsOf slots) (r .key) (takenIn (contentIn (r .content)))
+  outside-put : j < slotCount → (behind : List (Row Record)) → look behind (r .key) ≡ none → (rs rs' : List (Row Record)) (ss' : List Slot) → Rising rs → rs' ≡ assigned rs → ss' ≡ enter addressSize (slotsOf slots) (r .key) (takenIn (contentIn (r .content)))
       → r .content .kind ≡ 1 → howMany (lacking (rs' ++ behind)) ss' + length rs' ≡ howMany (lacking (rs ++ behind)) (slotsOf slots) + length rs
   outside-put inside behind away rs rs' ss' f e v k =
       let here : present (leaving (r .content .kind) (r .content .payload) (r .content .commit)) ≡ true = ap present (sym (leaving-put (r .content .kind) (r .content .payload) (r .content .commit) k)) in
@@ -722,7 +723,7 @@ module _ {slots : SlotRows} {j : ℕ} (r : SlotWords) (held : indexlet.SlotsHeld
       zeros false = refl
 
   -- a deletion takes it out, and leaves an entry there for a lock alone
-  outside-drop : j < slotCount → (behind : List (Row Record)) → look behind (r .key) ≡ none → (rs rs' : List (Row Record)) (ss' : List Slot) → Rising rs → rs' ≡ assigned rs → ss' ≡ enter 4 (slotsOf slots) (r .key) (takenIn (contentIn (r .content)))
+  outside-drop : j < slotCount → (behind : List (Row Record)) → look behind (r .key) ≡ none → (rs rs' : List (Row Record)) (ss' : List Slot) → Rising rs → rs' ≡ assigned rs → ss' ≡ enter addressSize (slotsOf slots) (r .key) (takenIn (contentIn (r .content)))
       → (r .content .kind ≡ 1 → ⊥) → howMany (lacking (rs' ++ behind)) ss' + length rs' + 1 ≡ howMany (lacking (rs ++ behind)) (slotsOf slots) + pick (present (contentIn (r .content) .holder)) 1 0 + length rs
   outside-drop inside behind away rs rs' ss' f e v k =
       let gone : present (leaving (r .content .kind) (r .content .payload) (r .content .commit)) ≡ false = ap present (sym (leaving-drop (r .content .kind) (r .content .payload) (r .content .commit) k)) in
@@ -760,13 +761,13 @@ module _ {slots : SlotRows} {j : ℕ} (r : SlotWords) (held : indexlet.SlotsHeld
 
   -- records and entries of the leaf that hide their address, together
   hiders-fewer : j < slotCount → (p : ℕ → Bool) → p (r .key) ≡ true → (rs : List (Row Record)) → Rising rs
-      → length (assigned rs) + howMany (passing p (hidingAt (assigned rs))) (enter 4 (slotsOf slots) (r .key) (takenIn (contentIn (r .content))))
+      → length (assigned rs) + howMany (passing p (hidingAt (assigned rs))) (enter addressSize (slotsOf slots) (r .key) (takenIn (contentIn (r .content))))
       ≤ length rs + howMany (passing p (hidingAt rs)) (slotsOf slots)
   unfolding passing hidingAt lacking weigh
   hiders-fewer inside p t rs f =
       let c : Content = contentIn (r .content) in
       let o : Option Record = leaving (r .content .kind) (r .content .payload) (r .content .commit) in
-      let counts : howMany (passing p (hidingAt (assigned rs))) (enter 4 (slotsOf slots) (r .key) (takenIn c)) + weigh (passing p (hidingAt rs)) (some (row (r .key) c))
+      let counts : howMany (passing p (hidingAt (assigned rs))) (enter addressSize (slotsOf slots) (r .key) (takenIn c)) + weigh (passing p (hidingAt rs)) (some (row (r .key) c))
       ≡ howMany (passing p (hidingAt rs)) (slotsOf slots) + weigh (passing p (hidingAt (assigned rs))) (kept (r .key) (takenIn c))
       = counts-moved inside (passing p (hidingAt rs)) (passing p (hidingAt (assigned rs)))
       (λ e n. ap (λ (x : Option Record). both (p (e .key)) (both (not (present x)) (hidesSome (e .item)))) (assigned-elsewhere rs (e .key) n)) in
@@ -821,12 +822,12 @@ module _ {slots : SlotRows} {j : ℕ} (r : SlotWords) (held : indexlet.SlotsHeld
       record {
         small = omega arith;
         put = λ k.
-            let z : howMany (lacking (recordsOf rows' n ++ u .behind)) (enter 4 (slotsOf slots) (r .key) (takenIn (contentIn (r .content)))) + length (recordsOf rows' n)
+            let z : howMany (lacking (recordsOf rows' n ++ u .behind)) (enter addressSize (slotsOf slots) (r .key) (takenIn (contentIn (r .content)))) + length (recordsOf rows' n)
             ≡ howMany (lacking (recordsOf rows (w .records) ++ u .behind)) (slotsOf slots) + length (recordsOf rows (w .records))
             = outside-put inside (u .behind) away (recordsOf rows (w .records)) (recordsOf rows' n) _ (g .rows-held .rising) (hold .same) refl k in
             omega arith;
         drop = λ k.
-            let z : howMany (lacking (recordsOf rows' n ++ u .behind)) (enter 4 (slotsOf slots) (r .key) (takenIn (contentIn (r .content)))) + length (recordsOf rows' n) + 1
+            let z : howMany (lacking (recordsOf rows' n ++ u .behind)) (enter addressSize (slotsOf slots) (r .key) (takenIn (contentIn (r .content)))) + length (recordsOf rows' n) + 1
             ≡ howMany (lacking (recordsOf rows (w .records) ++ u .behind)) (slotsOf slots) + pick (present (contentIn (r .content) .holder)) 1 0 + length (recordsOf rows (w .records))
             = outside-drop inside (u .behind) away (recordsOf rows (w .records)) (recordsOf rows' n) _ (g .rows-held .rising) (hold .same) refl k in
             omega arith;
@@ -865,8 +866,8 @@ module _ {slots : SlotRows} {j : ℕ} (r : SlotWords) (held : indexlet.SlotsHeld
             let was : entryAt ss j ≡ some x = sym (g .untouched j (le-refl j) h) ∙ entry-is in
             let d : left p ss j ≡ x ∷ left p ss (suc j) = left-some p ss j (omega arith) x was ∙ ap (λ (b : Bool). pick b (x ∷ left p ss (suc j)) (left p ss (suc j))) (taken-yes p t) in
             let s : suc j ≡ j + 1 = omega arith in
-            let view : slotsOf slots' ≡ enter 4 (slotsOf slots) (r .key) (takenIn (contentIn (r .content)))
-            = ent .view ∙ ap (enter 4 (slotsOf slots) (r .key)) ce in
+            let view : slotsOf slots' ≡ enter addressSize (slotsOf slots) (r .key) (takenIn (contentIn (r .content)))
+            = ent .view ∙ ap (enter addressSize (slotsOf slots) (r .key)) ce in
             record {
               rows-held = hold .held;
               words = ent .held;
@@ -895,10 +896,10 @@ module _ {slots : SlotRows} {j : ℕ} (r : SlotWords) (held : indexlet.SlotsHeld
               elsewhere = λ q f. ap (howMany q) (ent .view) ∙ many-apart q (contentIn c) (λ x. f (row (r .key) x) t) ∙ g .elsewhere q f;
               rest =
                   λ ls.
-                  ap (λ (m : MapState). each (mergeEntry 4) m (left p ss (j + 1)))
+                  ap (λ (m : MapState). each (mergeEntry addressSize) m (left p ss (j + 1)))
                   (merged-is (recordsOf rows (w .records)) (recordsOf rows' n) ls (slotsOf slots') (hold .same) view)
-                  ∙ ap (λ (k : ℕ). each (mergeEntry 4) (parts (recordsOf rows (w .records)) ls (slotsOf slots)) (x ∷ left p ss k)) (sym s)
-                  ∙ ap (each (mergeEntry 4) (parts (recordsOf rows (w .records)) ls (slotsOf slots))) (sym d)
+                  ∙ ap (λ (k : ℕ). each (mergeEntry addressSize) (parts (recordsOf rows (w .records)) ls (slotsOf slots)) (x ∷ left p ss k)) (sym s)
+                  ∙ ap (each (mergeEntry addressSize) (parts (recordsOf rows (w .records)) ls (slotsOf slots))) (sym d)
                   ∙ g .rest ls;
               counted =
                   (let y : w .count + length (left p ss j) ≡ length (filter (takes p) (entries ss)) = g .counted in
@@ -930,8 +931,8 @@ module _ {slots : SlotRows} {j : ℕ} (r : SlotWords) (held : indexlet.SlotsHeld
             (same-no {m = r .key} {n = k} (λ e. m (sym e ∙ own)));
       }
     where
-      view : slotsOf slots' ≡ enter 4 (slotsOf slots) (r .key) (takenIn (contentIn (r .content)))
-      view = ent .view ∙ ap (enter 4 (slotsOf slots) (r .key)) ce
+      view : slotsOf slots' ≡ enter addressSize (slotsOf slots) (r .key) (takenIn (contentIn (r .content)))
+      view = ent .view ∙ ap (enter addressSize (slotsOf slots) (r .key)) ce
 
       fewer : n + hiders p rows' n slots' ≤ w .records + hiders p rows (w .records) slots
       fewer =

@@ -15,6 +15,7 @@ use Rattle.lists.specs.Rows.{Row, look, keys, has, filter}
 use Rattle.lists.specs.RowLaws.{length-keys}
 use Rattle.lists.specs.Ascending.{Ascends}
 use Rattle.lists.specs.Memberships.{has-parts}
+use Rattle.spec.specs.Widths.{addressSize, addresses}
 use Rattle.spec.specs.Records.{Settings, Record, standard}
 use Rattle.spec.specs.Leaves.{Leaf, firstLeaf, versionAt, settle, versionsTaken}
 use Rattle.spec.specs.Slots.{slotCount, Content, Slot, entries}
@@ -244,9 +245,9 @@ module _ {l : Lent} {z : Sizes} (k : Counters) (h : MapHeld l z (k .version)) (a
     after : MapState
     after = parts (recordsOf rows (w .records)) (mapOf l z .leaves) (slotsOf slots)
 
-    after-is : after ≡ each (mergeEntry 4) (mapOf l z) (merging (mapOf l z) a)
+    after-is : after ≡ each (mergeEntry addressSize) (mapOf l z) (merging (mapOf l z) a)
     unfolding after
-    after-is = took .after (mapOf l z .leaves) ∙ ap (each (mergeEntry 4) (mapOf l z)) (sym merging-is)
+    after-is = took .after (mapOf l z .leaves) ∙ ap (each (mergeEntry addressSize) (mapOf l z)) (sym merging-is)
 
     keys-in : keys (recordsIn after a) ≡ ks
     unfolding recordsIn leafKeys after ks
@@ -300,7 +301,7 @@ module _ {l : Lent} {z : Sizes} (k : Counters) (h : MapHeld l z (k .version)) (a
         }
 
     -- the keys of the index are addresses
-    keys-fit : (j : ℕ) → has j (keys (recordsOf rows (w .records))) ≡ true → j < 2 ^ 32
+    keys-fit : (j : ℕ) → has j (keys (recordsOf rows (w .records))) ≡ true → j < addresses
     keys-fit j e =
         ⊎-elim
         (record-narrow (l .rows) (z .records) (h .tables .rows) (h .tables .rows-narrow) j)
@@ -311,7 +312,7 @@ module _ {l : Lent} {z : Sizes} (k : Counters) (h : MapHeld l z (k .version)) (a
     old-narrow =
         narrow-leaves (mapOf l z .leaves) (λ j b.
         let g : j < z .leaves = subst (λ (n : ℕ). j < n) many-leaves b in
-        subst (λ (x : ℕ). x < 2 ^ 32) (sym (low-at (l .lows) (l .versions) (z .leaves) j (h .tables .lows-size) (h .tables .versions-size) (h .tables .lows .room) g)) (h .tables .lows-narrow j g))
+        subst (λ (x : ℕ). x < addresses) (sym (low-at (l .lows) (l .versions) (z .leaves) j (h .tables .lows-size) (h .tables .versions-size) (h .tables .lows .room) g)) (h .tables .lows-narrow j g))
 
     -- the leaf has settled
     module _ (ls : LeafRows) (m v : ℕ) (all : length ls ≡ leafPlaces)
@@ -606,7 +607,7 @@ module _ {l : Lent} {z : Sizes} (k : Counters) (h : MapHeld l z (k .version)) (a
               lows = now-listed;
               lows-narrow =
                   λ j g.
-                  subst (λ (x : ℕ). x < 2 ^ 32) (low-at lows versions m j al av (settled .room) g) (narrow-at (leavesOf lows versions m) j now-narrow (rw count-is g));
+                  subst (λ (x : ℕ). x < addresses) (low-at lows versions m j al av (settled .room) g) (narrow-at (leavesOf lows versions m) j now-narrow (rw count-is g));
               lows-size = al;
               versions-size = av;
               leaves = now-good;

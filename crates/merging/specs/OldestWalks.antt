@@ -1,5 +1,5 @@
 -- A walk over the slots for the pending write that has waited longest.
-use Prim.Native.Nat.{ℕ, zero, suc, _+_, _-_, _^_, _<_, _≤_}
+use Prim.Native.Nat.{ℕ, zero, suc, _+_, _-_, _<_, _≤_}
 use native.Mathlib.Nat.{le-refl}
 use native.Mathlib.Omega.{arith}
 use mathlib.Core.Path.{_≡_, refl, sym, ap, _∙_, subst}
@@ -13,6 +13,7 @@ use lib.Seq.{drop-cons}
 use Rattle.lists.specs.Tests.{pick, either, both, maybe, present, same, less}
 use Rattle.lists.specs.TestLaws.{clash, same-yes, same-no, less-no}
 use Rattle.lists.specs.Rows.{Row, row}
+use Rattle.spec.specs.Widths.{addresses}
 use Rattle.spec.specs.Slots.{slotCount, Pending, Content, isIdle, Slot, emptySlot, vacant, entries}
 use Rattle.spec.specs.Maps.{ages, older, oldestOf, oldestKey}
 use Rattle.indexlet.specs.declared.Content.{Content as ContentWords}
@@ -42,7 +43,7 @@ agesFrom ss j = ages (entries (drop j ss))
 -- The walk went past slot j: the oldest of what it found by then and of the rest stays the same.
 pub record Elder (ss : List Slot) (j : ℕ) (o r : Oldest) : Type 0 where
   pub same-oldest : oldestAfter (oldestSo r) (agesFrom ss (j + 1)) ≡ oldestAfter (oldestSo o) (agesFrom ss j)
-  pub narrow : r .key < 2 ^ 32
+  pub narrow : r .key < addresses
   pub nothing : (o .there ≡ false → o .key ≡ 0) → r .there ≡ false → r .key ≡ 0
 
 -- the install since which a write waits, the largest number where none does
@@ -58,7 +59,7 @@ pub record Passes (ss : List Slot) (o : Oldest) (from j : ℕ) : Type 0 where
 -- How far the walk is.
 pub record Walking (ss : List Slot) (j : ℕ) (o : Oldest) : Type 0 where
   pub oldest-is : oldestAfter (oldestSo o) (agesFrom ss j) ≡ oldestKey (ages (entries ss))
-  pub narrow : o .key < 2 ^ 32
+  pub narrow : o .key < addresses
   pub nothing : o .there ≡ false → o .key ≡ 0
   pub inside : j ≤ slotCount
 
@@ -91,7 +92,7 @@ ages-here s ss n =
     go (suc zero) n = refl
     go (suc (suc k)) n = refl
 
-module _ (slots : List (List ℕ)) (j : ℕ) (o : Oldest) (s : SlotWords) (reads : indexlet.IsSlot slots j s) (inside : j < slotCount) (narrow : o .key < 2 ^ 32) where
+module _ (slots : List (List ℕ)) (j : ℕ) (o : Oldest) (s : SlotWords) (reads : indexlet.IsSlot slots j s) (inside : j < slotCount) (narrow : o .key < addresses) where
   from-here : agesFrom (slotsOf slots) j ≡ ages (entries (slotIn s ∷ drop (j + 1) (slotsOf slots)))
   from-here =
       let z : length (slotsOf slots) ≡ slotCount = length-slots slots in
@@ -209,7 +210,7 @@ younger-empty slots o i h t =
     go none t = refl
     go (some e) t = clash t refl
 
-pub younger-read : (slots : List (List ℕ)) (j : ℕ) (o : Oldest) (s : SlotWords) → indexlet.IsSlot slots j s → j < slotCount → o .key < 2 ^ 32 → o .there ≡ true
+pub younger-read : (slots : List (List ℕ)) (j : ℕ) (o : Oldest) (s : SlotWords) → indexlet.IsSlot slots j s → j < slotCount → o .key < addresses → o .there ≡ true
     → o .since < ageIn (s .content) → Younger (slotsOf slots) o j
 unfolding less
 younger-read slots j o s reads inside narrow t l = go (eqb (s .content .kind) 0) refl .same-oldest

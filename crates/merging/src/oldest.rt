@@ -4,7 +4,8 @@ use map::Slots;
 use spec::Address;
 ghost use mathlib.Core.Path.{_≡_};
 ghost use mathlib.Core.Bool.{true, false};
-ghost use Prim.Native.Nat.{_^_, _<_, _≤_};
+ghost use Prim.Native.Nat.{_<_, _≤_};
+ghost use Rattle.spec.specs.Widths.{addresses};
 ghost use Rattle.spec.specs.Slots.{slotCount, entries};
 ghost use Rattle.spec.specs.Maps.{oldestKey, ages};
 ghost use Rattle.indexlet.specs.Words.{slotsOf};
@@ -36,7 +37,7 @@ fn is_older(o: Oldest, key: u64, since: u64) -> bool
 // The oldest, slot j included.
 fn with_slot(slots: &Slots, j: usize, o: Oldest) -> Oldest
     requires { ⌜ indexlet.SlotsHeld (now slots) ⌝ }
-    requires { ⌜ (j < slotCount) × (o .key < 2 ^ 32) ⌝ }
+    requires { ⌜ (j < slotCount) × (o .key < addresses) ⌝ }
     ensures { λ r. ⌜ Elder (slotsOf (now (slots .entry))) j o r ⌝ }
 {
     let s = indexlet::slot_at(slots, j);
@@ -68,7 +69,7 @@ fn age(c: indexlet::Content) -> u64
 // of their word if there is none. Whether a slot has a write is hard to guess, whether it has an older one is not.
 fn older_in(slots: &Slots, o: Oldest, from: usize, bits: u64) -> usize
     requires { ⌜ indexlet.SlotsHeld (now slots) ⌝ }
-    requires { ⌜ (from < slotCount) × (o .key < 2 ^ 32) × (o .there ≡ true) × (BitsFrom false (now slots) from bits) ⌝ }
+    requires { ⌜ (from < slotCount) × (o .key < addresses) × (o .there ≡ true) × (BitsFrom false (now slots) from bits) ⌝ }
     ensures { λ j. ⌜ Passes (slotsOf (now (slots .entry))) o from j ⌝ }
 {
     let mut w = bits;
@@ -87,7 +88,7 @@ fn older_in(slots: &Slots, o: Oldest, from: usize, bits: u64) -> usize
 // The same of all slots from this one on; 256 if there is none.
 fn next_older(slots: &Slots, o: Oldest, from: usize) -> usize
     requires { ⌜ indexlet.SlotsHeld (now slots) ⌝ }
-    requires { ⌜ (from ≤ slotCount) × (o .key < 2 ^ 32) ⌝ }
+    requires { ⌜ (from ≤ slotCount) × (o .key < addresses) ⌝ }
     ensures { λ j. ⌜ Passes (slotsOf (now (slots .entry))) o from j ⌝ }
 {
     let mut next = from;

@@ -17,6 +17,7 @@ use Rattle.lists.specs.Ascending.{mem-filter, filter-mem, mem-keys, keys-mem}
 use Rattle.lists.specs.Memberships.{member-has, has-member, different-length}
 use Rattle.lists.specs.Counting.{Within}
 use Rattle.lists.specs.Options.{options}
+use Rattle.spec.specs.Widths.{addressSize}
 use Rattle.spec.specs.Leaves.{versionAt}
 use Rattle.spec.specs.Slots.{Content, isIdle, Slot, entries, contentOf}
 use Rattle.spec.specs.Maps.{MapState, heldByOther, putPending, hiding, hiddenIn, hides}
@@ -197,7 +198,7 @@ pub record Locking (ss : List Slot) (w : ℕ) (ks : List ℕ) : Type 0 where
   pub mine : (k : ℕ) → has k ks ≡ true → (contentOf ss k .holder ≡ some w) × (contentOf ss k .forPut ≡ true)
   pub only : (k : ℕ) → contentOf ss k .holder ≡ some w → contentOf ss k .forPut ≡ true → has k ks ≡ true
 
-module _ (m : MapState) (w v : ℕ) (ks : List ℕ) (good : Good 4 (m .slots)) (own : Locking (m .slots) w ks) where
+module _ (m : MapState) (w v : ℕ) (ks : List ℕ) (good : Good addressSize (m .slots)) (own : Locking (m .slots) w ks) where
   forth : Within (keys (filter (quietIn m w v) (entries (m .slots)))) (filter (lockOnlyAt m v) ks)
   unfolding quietIn hidingIn outsideAny lockOnlyAt
   forth k e =

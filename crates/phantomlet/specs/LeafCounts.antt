@@ -15,10 +15,10 @@ use Rattle.lists.specs.TestLaws.{cases, clash, same-yes, same-no, same-true, sa
 use Rattle.lists.specs.Rows.{Row, look}
 use Rattle.lists.specs.Sums.{total, total-most, total-none}
 use Rattle.lists.specs.Options.{options}
+use Rattle.spec.specs.Widths.{addresses}
 use Rattle.spec.specs.Records.{Record}
 use Rattle.spec.specs.Slots.{slotCount, Content, Slot, emptySlot}
 use Rattle.laws.specs.SlotCounts.{entryAt, tally, count, count-cons}
-use Rattle.sets.specs.Sets.{addresses}
 use Rattle.index.specs.Views.{leafPlaces}
 use Rattle.index.specs.declared.leaves.Leaf.{Leaf as LeafWords}
 use Rattle.index.specs.LeafColumns.{LeafRows, lowsOf, leafAt}
@@ -90,7 +90,7 @@ weigh-leaf lows m t i e = ⊎-elim (λ q. rw q) (λ q. rw q) (cases (placed lows
 -- The leaves at the places from `from` up to `to` hold the addresses from low up to high.
 pub record Range (lows : List ℕ) (m : ℕ) (r : Reach) : Type 0 where
   pub below : (k : ℕ) → k < r .low → lowPlace k (take m lows) < r .from
-  pub above : (k : ℕ) → r .high ≤ k → k < 2 ^ 32 → r .to ≤ lowPlace k (take m lows)
+  pub above : (k : ℕ) → r .high ≤ k → k < addresses → r .to ≤ lowPlace k (take m lows)
   pub inside : (k : ℕ) → r .low ≤ k → k < r .high → (r .from ≤ lowPlace k (take m lows)) × (lowPlace k (take m lows) < r .to)
   pub span : r .span ≡ r .high - r .low
 
@@ -192,14 +192,14 @@ module _ {lows : List ℕ} {m i : ℕ} {r : Reach} (h : OneLeaf lows m i r) wher
       let b : r .from ≡ i = h .from in
       same-no {m = lowPlace k (take m lows)} {n = i} (λ e. let z : ⊥ = omega arith in z)
 
-  pub leaf-above : (k : ℕ) → r .high ≤ k → k < 2 ^ 32 → placed lows m i k ≡ false
+  pub leaf-above : (k : ℕ) → r .high ≤ k → k < addresses → placed lows m i k ≡ false
   unfolding placed
   leaf-above k l f =
       let a : r .to ≤ lowPlace k (take m lows) = h .range .above k l f in
       let b : r .to ≡ i + 1 = h .to in
       same-no {m = lowPlace k (take m lows)} {n = i} (λ e. let z : ⊥ = omega arith in z)
 
-  pub leaf-outside : (k : ℕ) → k < 2 ^ 32 → reached r k ≡ false → placed lows m i k ≡ false
+  pub leaf-outside : (k : ℕ) → k < addresses → reached r k ≡ false → placed lows m i k ≡ false
   leaf-outside k f e = ⊎-elim (λ l. leaf-below k l) (λ l. leaf-above k l f) (reached-no r k e)
 
   pub leaf-inside : (k : ℕ) → r .low ≤ k → k < r .high → placed lows m i k ≡ true

@@ -1,5 +1,5 @@
 -- The records of a leaf stand in a row: from the place of its low on, up to the place of the next low.
-use Prim.Native.Nat.{ℕ, zero, suc, _+_, _-_, _^_, _<_, _≤_, zero-le}
+use Prim.Native.Nat.{ℕ, zero, suc, _+_, _-_, _<_, _≤_, zero-le}
 use native.Mathlib.Nat.{not-suc-le-zero}
 use native.Mathlib.Omega.{arith}
 use mathlib.Core.Path.{_≡_, sym, ap, _∙_, subst}
@@ -14,6 +14,7 @@ use Rattle.lists.specs.Rows.{Row, keys, filter, Rising}
 use Rattle.lists.specs.Ascending.{Ascends, ascends-at, ascends-drop}
 use Rattle.lists.specs.Places.{place, place-most, place-below, place-above}
 use Rattle.lists.specs.Shifts.{drop-take}
+use Rattle.spec.specs.Widths.{addresses}
 use Rattle.spec.specs.Records.{Record}
 use Rattle.index.specs.Views.{leafPlaces, RecordRows, noRow, rowsOf, recordsOf, keysBetween, RecordsSorted}
 use Rattle.index.specs.RecordPlaces.{AtPlace}
@@ -132,7 +133,7 @@ module _ (lows : List ℕ) (m i : ℕ) (listed : Listed lows m) (al : length low
 pub record Lows (lows : List ℕ) (m : ℕ) : Type 0 where
   pub listed : Listed lows m
   pub first : getD lows 0 0 ≡ 0
-  pub narrow : (i : ℕ) → i < m → getD lows i 0 < 2 ^ 32
+  pub narrow : (i : ℕ) → i < m → getD lows i 0 < addresses
 
 -- the records at addresses that pass the test stand in the rows from `from` up to `to`
 pub record Spans (p : ℕ → Bool) (ws : RecordRows) (n from to : ℕ) : Type 0 where

@@ -199,7 +199,7 @@ fn tally_slot(
     if indexlet::idle(c) {
         return;
     }
-    let a = key as u32;
+    let a = key as Address;
     let at = leaves::find_leaf(leaves, m, a);
     let x = hides_at(rows, n, a, c);
     let w = waits(c);

@@ -14,6 +14,7 @@ use Rattle.lists.specs.Rows.{Row, row, look, From, Rising}
 use Rattle.lists.specs.RowLaws.{look-here, look-there, look-low, look-nil}
 use Rattle.lists.specs.Options.{both-options, some-same}
 use Rattle.lists.specs.Places.{place}
+use Rattle.spec.specs.Widths.{addressSize}
 use Rattle.spec.specs.declared.PayloadWords.{PayloadWords}
 use Rattle.spec.specs.Records.{Record}
 use Rattle.spec.specs.Leaves.{Leaf}
@@ -186,7 +187,7 @@ module _ (slots : SlotRows) (from : ℕ) where
             ⊎-elim
             (λ q. q .1)
             (λ q. absurd (far k g h (q .0)))
-            (lookup 4 (slotsOf slots) k (held .good));
+            (lookup addressSize (slotsOf slots) k (held .good));
       }
     where
       far : (k : ℕ) → from ≤ k → k < best → Place (slotsOf slots) k → ⊥
@@ -219,7 +220,7 @@ module _ (rows : RecordRows) (n : ℕ) (slots : SlotRows) where
         (λ i q. let l : i < n = omega arith in subst (λ (x : Row Record). x .key < end) (sym (record-at rows n i (whole .held .room) l)) (whole .narrow i l)) h
 
     beyond-slots : (k : ℕ) → end ≤ k → look (entries (slotsOf slots)) k ≡ none
-    beyond-slots k h = ⊎-elim (λ q. q .1) (λ q. absurd (far (q .0))) (lookup 4 (slotsOf slots) k (sound .good))
+    beyond-slots k h = ⊎-elim (λ q. q .1) (λ q. absurd (far (q .0))) (lookup addressSize (slotsOf slots) k (sound .good))
       where
         far : Place (slotsOf slots) k → ⊥
         far p =

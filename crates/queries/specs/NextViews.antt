@@ -6,12 +6,12 @@ use mathlib.Core.Option.{Option, none, some}
 use lib.ListN.{length}
 use Rattle.lists.specs.Tests.{pick, less}
 use Rattle.lists.specs.Rows.{Row, row, look}
+use Rattle.spec.specs.Widths.{addresses}
 use Rattle.spec.specs.Records.{Record}
 use Rattle.spec.specs.Leaves.{Leaf}
 use Rattle.spec.specs.Slots.{Content, entries}
 use Rattle.spec.specs.Maps.{current, contents}
 use Rattle.laws.specs.SlotCounts.{entryAt}
-use Rattle.sets.specs.Sets.{addresses}
 use Rattle.indexlet.specs.declared.Slot.{Slot as SlotWords}
 use Rattle.indexlet.specs.Words.{slotIn, slotsOf}
 use Rattle.index.specs.Views.{recordFrom, recordsOf}

@@ -1,5 +1,5 @@
 -- What a scan walks over, on words: the places of a range's records and of the leaves that meet it.
-use Prim.Native.Nat.{ℕ, zero, suc, _+_, _-_, _^_, _<_, _≤_, zero-le, suc-le-suc}
+use Prim.Native.Nat.{ℕ, zero, suc, _+_, _-_, _<_, _≤_, zero-le, suc-le-suc}
 use native.Mathlib.Nat.{le-refl}
 use native.Mathlib.Omega.{arith}
 use mathlib.Core.Path.{_≡_, refl, sym, ap, _∙_, subst}
@@ -11,6 +11,7 @@ use Rattle.lists.specs.Tests.{pick, present}
 use Rattle.lists.specs.Rows.{Row, row, look, between, From, Rising, filter}
 use Rattle.lists.specs.RowLaws.{look-here, look-there}
 use Rattle.lists.specs.Places.{place, place-most, Absent, look-present, look-absent}
+use Rattle.spec.specs.Widths.{addresses}
 use Rattle.spec.specs.Records.{Record}
 use Rattle.spec.specs.Leaves.{Leaf, firstLeaf, leafOf, versionAt, startsIn, meeting}
 use Rattle.spec.specs.Maps.{current, indexedBetween}
@@ -94,8 +95,8 @@ module _ (rows : RecordRows) (n lo hi p : ℕ) (held : RecordsSorted rows n) (fi
 
 -- ---- a record and its current record
 
-pub narrow-address : (rows : RecordRows) (n i : ℕ) (r : RecordRow) → RecordsHeld rows n → i < n → rowOf r ≡ rowAt rows i → r .address < 2 ^ 32
-narrow-address rows n i r f h e = subst (λ (x : Row Record). x .key < 2 ^ 32) (sym e) (f .narrow i h)
+pub narrow-address : (rows : RecordRows) (n i : ℕ) (r : RecordRow) → RecordsHeld rows n → i < n → rowOf r ≡ rowAt rows i → r .address < addresses
+narrow-address rows n i r f h e = subst (λ (x : Row Record). x .key < addresses) (sym e) (f .narrow i h)
 
 pub seen-there : (rows : RecordRows) (n : ℕ) (slots : SlotRows) (i : ℕ) (r : RecordRow) (s : Current) → RecordsSorted rows n → i < n → rowOf r ≡ rowAt rows i
     → Sees rows n slots (r .address) s → SeenAt rows n slots i (record { address = r .address; current = s })

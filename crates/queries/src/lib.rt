@@ -291,7 +291,7 @@ pub fn phantom(
     (own as u64) < out
 }
 
-// The first address of the index from an address on, or 2 to the 32 if there is none.
+// The first address of the index from an address on, or past all addresses if there is none.
 fn index_from(rows: &Records, n: usize, from: Address) -> u64
     requires { ⌜ index.RecordsSorted (now rows) n ⌝ }
     ensures { λ r. ⌜ IndexFrom (now (rows .entry)) n from r ⌝ }
@@ -321,7 +321,7 @@ fn nearer(s: indexlet::Slot, from: u64, best: u64) -> u64
     s.key
 }
 
-// The first address from an address on of which the indexlet says something, or 2 to the 32 if there is none.
+// The first address from an address on of which the indexlet says something, or past all addresses if there is none.
 fn slot_from(slots: &Slots, from: Address) -> u64
     requires { ⌜ indexlet.SlotsHeld (now slots) ⌝ }
     ensures { λ r. ⌜ SlotFrom (now (slots .entry)) from r ⌝ }

@@ -126,7 +126,7 @@ pub fn measure(
 
 // Logs what the scan from lo to hi passed, writes the records shown, and remembers the scan.
 pub fn carry_out(
-    addresses: &mut [u32],
+    addresses: &mut [Address],
     values: &mut [u64],
     owners: &mut [u16],
     reads: &mut ReadSet,

@@ -185,7 +185,7 @@ pub fn exceeds(
 }
 
 // Writes what a turn shows behind the first `at` places. Answers how many are written now.
-fn show(addresses: &mut [u32], values: &mut [u64], owners: &mut [u16], at: usize, x: Turn) -> usize
+fn show(addresses: &mut [Address], values: &mut [u64], owners: &mut [u16], at: usize, x: Turn) -> usize
     requires { ⌜ Fits (buffers (now addresses) (now values) (now owners)) at x ⌝ }
     ensures { λ r. ⌜ Shows (buffers (now (addresses .entry)) (now (values .entry)) (now (owners .entry))) at x
         (buffers (now (addresses .exit)) (now (values .exit)) (now (owners .exit))) r ⌝ }
@@ -203,7 +203,7 @@ fn show(addresses: &mut [u32], values: &mut [u64], owners: &mut [u16], at: usize
 // Writes what the walk shows, addresses, values and owners, from the first place on. Answers how many. The index's records are
 // those that the scan has just logged, from row `first` of the read set on, so that none is looked up again.
 pub fn fill(
-    addresses: &mut [u32],
+    addresses: &mut [Address],
     values: &mut [u64],
     owners: &mut [u16],
     reads: &ReadSet,

@@ -18,7 +18,7 @@ use Rattle.spec.specs.Runs.{fullRun, oldestMerged}
 use Rattle.spec.specs.declared.Refusal.the-variants.{NoWorker, Phantom}
 use Rattle.script.specs.declared.Line.{Line}
 use Rattle.script.specs.declared.Line.the-variants.{Begin, Read, Scan, Put, Remove, Lock, Validate, Install, Abort, Merge, MergeOldest}
-use Rattle.script.specs.Grammar.{firstWord, moreWords, isDigit, extend, number, numbers, noNumber, oneNumber, twoNumbers, threeNumbers, fourNumbers, lineOf, lettered, meaning, stepOf, guardLine, isGuard}
+use Rattle.script.specs.Grammar.{firstWord, moreWords, isDigit, extend, number, numbers, noNumber, seatLine, oneNumber, twoNumbers, threeNumbers, fourNumbers, lineOf, lettered, meaning, stepOf, guardLine, isGuard}
 
 -- the bytes of a text; every character here is one byte
 abbrev pub bytes : String → List ℕ
@@ -144,7 +144,7 @@ pub record Understood : Type 0 where
   pub not-guard : map (λ (s : String). isGuard (bytes s)) malformed ≡ map (λ (s : String). false) malformed
 
 pub understood : Understood
-unfolding same less atMost within firstWord moreWords isDigit extend number numbers noNumber oneNumber twoNumbers threeNumbers fourNumbers lineOf lettered meaning isGuard
+unfolding same less atMost within firstWord moreWords isDigit extend number numbers noNumber seatLine oneNumber twoNumbers threeNumbers fourNumbers lineOf lettered meaning isGuard
 understood =
     record {
       model = refl;

@@ -5,6 +5,7 @@ use mathlib.Core.Bool.{Bool, false}
 use mathlib.Core.List.{List, [], _∷_}
 use mathlib.Core.Option.{Option, none, some}
 use Rattle.lists.specs.Tests.{pick, both, maybe, same, less, within}
+use Rattle.spec.specs.Widths.{addresses, workerNames}
 use Rattle.spec.specs.Steps.{places, Step, begin, read, scan, put, remove, lock, validate, install, abort, merge, mergeOldest}
 use Rattle.script.specs.declared.Line.{Line}
 use Rattle.script.specs.declared.Line.the-variants.{Begin, Read, Scan, Put, Remove, Lock, Validate, Install, Abort, Merge, MergeOldest}
@@ -48,15 +49,20 @@ numbers (w ∷ ws) = maybe (number w) none (λ (n : ℕ). maybe (numbers ws) non
 unfoldable pub noNumber : ℕ → Option Line
 noNumber c = pick (same c 84) (some MergeOldest) none
 
--- B, L, V, I, A seat; M address
-unfoldable pub oneNumber : ℕ → ℕ → Option Line
-oneNumber c a =
+-- B, L, V, I, A seat
+unfoldable pub seatLine : ℕ → ℕ → Option Line
+seatLine c a =
     pick (same c 66) (some (Begin a))
     (pick (same c 76) (some (Lock a))
     (pick (same c 86) (some (Validate a))
     (pick (same c 73) (some (Install a))
-    (pick (same c 65) (some (Abort a))
-    (pick (same c 77) (some (Merge a)) none)))))
+    (pick (same c 65) (some (Abort a)) none))))
+
+-- M address, or a seat's line
+unfoldable pub oneNumber : ℕ → ℕ → Option Line
+oneNumber c a =
+    pick (same c 77) (pick (less a addresses) (some (Merge a)) none)
+    (pick (less a workerNames) (seatLine c a) none)
 
 -- R, D seat address
 unfoldable pub twoNumbers : ℕ → ℕ → ℕ → Option Line
@@ -64,20 +70,20 @@ twoNumbers c a b = pick (same c 82) (some (Read a b)) (pick (same c 68) (some (R
 
 -- S seat lo hi
 unfoldable pub threeNumbers : ℕ → ℕ → ℕ → ℕ → Option Line
-threeNumbers c a b d = pick (same c 83) (pick (less d (2 ^ 32)) (some (Scan a b d)) none) none
+threeNumbers c a b d = pick (same c 83) (pick (less d addresses) (some (Scan a b d)) none) none
 
 -- P seat address value owner; the value has 64 bits, and the owner, request 106's, 16
 unfoldable pub fourNumbers : ℕ → ℕ → ℕ → ℕ → ℕ → Option Line
 fourNumbers c a b d e =
     pick (same c 80) (pick (both (less d (2 ^ 64)) (less e (2 ^ 16))) (some (Put a b d e)) none) none
 
--- a letter with its numbers; seat and address have 32 bits
+-- a letter with its numbers
 unfoldable pub lineOf : ℕ → List ℕ → Option Line
 lineOf c [] = noNumber c
-lineOf c (a ∷ []) = pick (less a (2 ^ 32)) (oneNumber c a) none
-lineOf c (a ∷ b ∷ []) = pick (both (less a (2 ^ 32)) (less b (2 ^ 32))) (twoNumbers c a b) none
-lineOf c (a ∷ b ∷ d ∷ []) = pick (both (less a (2 ^ 32)) (less b (2 ^ 32))) (threeNumbers c a b d) none
-lineOf c (a ∷ b ∷ d ∷ e ∷ []) = pick (both (less a (2 ^ 32)) (less b (2 ^ 32))) (fourNumbers c a b d e) none
+lineOf c (a ∷ []) = oneNumber c a
+lineOf c (a ∷ b ∷ []) = pick (both (less a workerNames) (less b addresses)) (twoNumbers c a b) none
+lineOf c (a ∷ b ∷ d ∷ []) = pick (both (less a workerNames) (less b addresses)) (threeNumbers c a b d) none
+lineOf c (a ∷ b ∷ d ∷ e ∷ []) = pick (both (less a workerNames) (less b addresses)) (fourNumbers c a b d e) none
 lineOf c (a ∷ b ∷ d ∷ e ∷ f ∷ ns) = none
 
 -- the first word is a letter

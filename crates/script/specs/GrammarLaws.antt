@@ -9,9 +9,10 @@ use mathlib.Core.Option.{Option, none, some}
 use Rattle.lists.specs.Tests.{pick, both, maybe, same, less, within, atMost}
 use Rattle.lists.specs.TestLaws.{cases, clash, same-no, same-refl, less-no, atMost-yes, atMost-no, atMost-true}
 use lib.Seq.{append-snoc}
+use Rattle.spec.specs.Widths.{addresses, workerNames}
 use Rattle.script.specs.declared.Line.{Line}
-use Rattle.script.specs.declared.Line.the-variants.{Put, MergeOldest}
-use Rattle.script.specs.Grammar.{firstWord, moreWords, isDigit, extend, number, numbers, noNumber, oneNumber, twoNumbers, threeNumbers, fourNumbers, lineOf, lettered, meaning, isGuard}
+use Rattle.script.specs.declared.Line.the-variants.{Put, Merge, MergeOldest}
+use Rattle.script.specs.Grammar.{firstWord, moreWords, isDigit, extend, number, numbers, noNumber, seatLine, oneNumber, twoNumbers, threeNumbers, fourNumbers, lineOf, lettered, meaning, isGuard}
 use Rattle.script.specs.Parsing.{Before, noneBefore, oneBefore, twoBefore, threeBefore, filled, values, numberOn, fieldsOn, letterOn, aloneOn}
 
 -- ---- bytes
@@ -85,7 +86,7 @@ pick-same false x = refl
 
 three-wide : (c a b m : ℕ) → 2 ^ 64 ≤ m → threeNumbers c a b m ≡ none
 unfolding threeNumbers
-three-wide c a b m h = rw (less-no {m = m} {n = 2 ^ 32} (omega arith)) (pick-same (same c 83) none)
+three-wide c a b m h = rw (less-no {m = m} {n = addresses} (omega arith)) (pick-same (same c 83) none)
 
 four-wide : (c a b m x : ℕ) → 2 ^ 64 ≤ m → fourNumbers c a b m x ≡ none
 unfolding fourNumbers
@@ -101,22 +102,29 @@ four-wide' c a b d m h =
     none-wide true = refl
     none-wide false = refl
 
+one-wide : (c m : ℕ) → 2 ^ 64 ≤ m → oneNumber c m ≡ none
+unfolding oneNumber
+one-wide c m h =
+    let p : less m addresses ≡ false = less-no (omega arith) in
+    let q : less m workerNames ≡ false = less-no (omega arith) in
+    (λ i. pick (same c 77) (pick (p i) (some (Merge m)) none) (pick (q i) (seatLine c m) none)) ∙ pick-same (same c 77) none
+
 -- no number of a line has more than 64 bits
 line-wide : (c : ℕ) (f : Before) (m : ℕ) (ms : List ℕ) → 2 ^ 64 ≤ m → lineOf c (values f ++ (m ∷ ms)) ≡ none
 unfolding lineOf
-line-wide c noneBefore m [] h = rw (less-no {m = m} {n = 2 ^ 32} (omega arith))
-line-wide c noneBefore m (x ∷ []) h = rw (less-no {m = m} {n = 2 ^ 32} (omega arith))
-line-wide c noneBefore m (x ∷ y ∷ []) h = rw (less-no {m = m} {n = 2 ^ 32} (omega arith))
-line-wide c noneBefore m (x ∷ y ∷ z ∷ []) h = rw (less-no {m = m} {n = 2 ^ 32} (omega arith))
+line-wide c noneBefore m [] h = one-wide c m h
+line-wide c noneBefore m (x ∷ []) h = rw (less-no {m = m} {n = workerNames} (omega arith))
+line-wide c noneBefore m (x ∷ y ∷ []) h = rw (less-no {m = m} {n = workerNames} (omega arith))
+line-wide c noneBefore m (x ∷ y ∷ z ∷ []) h = rw (less-no {m = m} {n = workerNames} (omega arith))
 line-wide c noneBefore m (x ∷ y ∷ z ∷ u ∷ ms) h = refl
-line-wide c (oneBefore a) m [] h = ⊎-elim (λ t. rw (t, less-no {m = m} {n = 2 ^ 32} (omega arith))) (λ t. rw t) (cases (less a (2 ^ 32)))
-line-wide c (oneBefore a) m (x ∷ []) h = ⊎-elim (λ t. rw (t, less-no {m = m} {n = 2 ^ 32} (omega arith))) (λ t. rw t) (cases (less a (2 ^ 32)))
-line-wide c (oneBefore a) m (x ∷ y ∷ []) h = ⊎-elim (λ t. rw (t, less-no {m = m} {n = 2 ^ 32} (omega arith))) (λ t. rw t) (cases (less a (2 ^ 32)))
+line-wide c (oneBefore a) m [] h = ⊎-elim (λ t. rw (t, less-no {m = m} {n = addresses} (omega arith))) (λ t. rw t) (cases (less a workerNames))
+line-wide c (oneBefore a) m (x ∷ []) h = ⊎-elim (λ t. rw (t, less-no {m = m} {n = addresses} (omega arith))) (λ t. rw t) (cases (less a workerNames))
+line-wide c (oneBefore a) m (x ∷ y ∷ []) h = ⊎-elim (λ t. rw (t, less-no {m = m} {n = addresses} (omega arith))) (λ t. rw t) (cases (less a workerNames))
 line-wide c (oneBefore a) m (x ∷ y ∷ z ∷ ms) h = refl
-line-wide c (twoBefore a b) m [] h = ap (λ (o : Option Line). pick (both (less a (2 ^ 32)) (less b (2 ^ 32))) o none) (three-wide c a b m h) ∙ pick-same (both (less a (2 ^ 32)) (less b (2 ^ 32))) none
-line-wide c (twoBefore a b) m (x ∷ []) h = ap (λ (o : Option Line). pick (both (less a (2 ^ 32)) (less b (2 ^ 32))) o none) (four-wide c a b m x h) ∙ pick-same (both (less a (2 ^ 32)) (less b (2 ^ 32))) none
+line-wide c (twoBefore a b) m [] h = ap (λ (o : Option Line). pick (both (less a workerNames) (less b addresses)) o none) (three-wide c a b m h) ∙ pick-same (both (less a workerNames) (less b addresses)) none
+line-wide c (twoBefore a b) m (x ∷ []) h = ap (λ (o : Option Line). pick (both (less a workerNames) (less b addresses)) o none) (four-wide c a b m x h) ∙ pick-same (both (less a workerNames) (less b addresses)) none
 line-wide c (twoBefore a b) m (x ∷ y ∷ ms) h = refl
-line-wide c (threeBefore a b d) m [] h = ap (λ (o : Option Line). pick (both (less a (2 ^ 32)) (less b (2 ^ 32))) o none) (four-wide' c a b d m h) ∙ pick-same (both (less a (2 ^ 32)) (less b (2 ^ 32))) none
+line-wide c (threeBefore a b d) m [] h = ap (λ (o : Option Line). pick (both (less a workerNames) (less b addresses)) o none) (four-wide' c a b d m h) ∙ pick-same (both (less a workerNames) (less b addresses)) none
 line-wide c (threeBefore a b d) m (x ∷ ms) h = refl
 
 module _ (c : ℕ) (ns : List ℕ) where
@@ -253,11 +261,11 @@ unfolding lineOf noNumber same
 oldest-alone = refl
 
 oldest-numbers : (m : ℕ) (ms : List ℕ) → lineOf 84 (m ∷ ms) ≡ none
-unfolding lineOf oneNumber twoNumbers threeNumbers fourNumbers same
-oldest-numbers a [] = pick-same (less a (2 ^ 32)) none
-oldest-numbers a (b ∷ []) = pick-same (both (less a (2 ^ 32)) (less b (2 ^ 32))) none
-oldest-numbers a (b ∷ d ∷ []) = pick-same (both (less a (2 ^ 32)) (less b (2 ^ 32))) none
-oldest-numbers a (b ∷ d ∷ e ∷ []) = pick-same (both (less a (2 ^ 32)) (less b (2 ^ 32))) none
+unfolding lineOf oneNumber seatLine twoNumbers threeNumbers fourNumbers same
+oldest-numbers a [] = pick-same (less a workerNames) none
+oldest-numbers a (b ∷ []) = pick-same (both (less a workerNames) (less b addresses)) none
+oldest-numbers a (b ∷ d ∷ []) = pick-same (both (less a workerNames) (less b addresses)) none
+oldest-numbers a (b ∷ d ∷ e ∷ []) = pick-same (both (less a workerNames) (less b addresses)) none
 oldest-numbers a (b ∷ d ∷ e ∷ f ∷ ms) = refl
 
 pub oldest-letter : (l : List ℕ) → meaning (84 ∷ l) ≡ aloneOn MergeOldest l
@@ -272,11 +280,11 @@ other-alone c t = rw (same-no t)
 
 -- G
 guard-numbers : (m : ℕ) (ms : List ℕ) → lineOf 71 (m ∷ ms) ≡ none
-unfolding lineOf oneNumber twoNumbers threeNumbers fourNumbers same
-guard-numbers a [] = pick-same (less a (2 ^ 32)) none
-guard-numbers a (b ∷ []) = pick-same (both (less a (2 ^ 32)) (less b (2 ^ 32))) none
-guard-numbers a (b ∷ d ∷ []) = pick-same (both (less a (2 ^ 32)) (less b (2 ^ 32))) none
-guard-numbers a (b ∷ d ∷ e ∷ []) = pick-same (both (less a (2 ^ 32)) (less b (2 ^ 32))) none
+unfolding lineOf oneNumber seatLine twoNumbers threeNumbers fourNumbers same
+guard-numbers a [] = pick-same (less a workerNames) none
+guard-numbers a (b ∷ []) = pick-same (both (less a workerNames) (less b addresses)) none
+guard-numbers a (b ∷ d ∷ []) = pick-same (both (less a workerNames) (less b addresses)) none
+guard-numbers a (b ∷ d ∷ e ∷ []) = pick-same (both (less a workerNames) (less b addresses)) none
 guard-numbers a (b ∷ d ∷ e ∷ f ∷ ms) = refl
 
 -- no step begins with it

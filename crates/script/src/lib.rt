@@ -1,7 +1,9 @@
 // Script lines: the parser, which takes a line byte by byte from slices of any size and keeps no line. What a line says is
 // `meaning`, in specs/Grammar.antt.
+use spec::ADDRESSES;
+use spec::Address;
 use spec::OWNERS;
-use spec::WIDE;
+use spec::WORKER_NAMES;
 ghost use mathlib.Core.Path.{_≡_};
 ghost use mathlib.Core.Bool.{true, not};
 ghost use mathlib.Core.List.{List, [], _∷_};
@@ -15,15 +17,15 @@ ghost use Rattle.script.specs.Tokens.{Advances, ParsesPart, Digits, told
 // A line of a script, with its numbers.
 pub enum Line {
     Begin(u32),
-    Read(u32, u32),
-    Scan(u32, u32, u32),
-    Put(u32, u32, u64, u16),
-    Remove(u32, u32),
+    Read(u32, Address),
+    Scan(u32, Address, Address),
+    Put(u32, Address, u64, u16),
+    Remove(u32, Address),
     Lock(u32),
     Validate(u32),
     Install(u32),
     Abort(u32),
-    Merge(u32),
+    Merge(Address),
     MergeOldest,
 }
 
@@ -140,21 +142,26 @@ pub fn at_line_start(p: Parser) -> bool
     }
 }
 
-// A line of one number.
+// A line of one number: the address of a fold, or a seat.
 fn one(letter: u8, a: u64) -> Event
     ensures { λ r. ⌜ r ≡ told (lineOf letter (a ∷ [])) ⌝ }
 {
-    if a >= WIDE {
+    if letter == b'M' {
+        if a >= ADDRESSES {
+            return Event::Malformed;
+        }
+        return Event::Line(Line::Merge(a as Address));
+    }
+    if a >= WORKER_NAMES {
         return Event::Malformed;
     }
-    let n = a as u32;
+    let w = a as u32;
     match letter {
-        b'B' => Event::Line(Line::Begin(n)),
-        b'L' => Event::Line(Line::Lock(n)),
-        b'V' => Event::Line(Line::Validate(n)),
-        b'I' => Event::Line(Line::Install(n)),
-        b'A' => Event::Line(Line::Abort(n)),
-        b'M' => Event::Line(Line::Merge(n)),
+        b'B' => Event::Line(Line::Begin(w)),
+        b'L' => Event::Line(Line::Lock(w)),
+        b'V' => Event::Line(Line::Validate(w)),
+        b'I' => Event::Line(Line::Install(w)),
+        b'A' => Event::Line(Line::Abort(w)),
         _ => Event::Malformed,
     }
 }
@@ -163,14 +170,14 @@ fn one(letter: u8, a: u64) -> Event
 fn two(letter: u8, a: u64, b: u64) -> Event
     ensures { λ r. ⌜ r ≡ told (lineOf letter (a ∷ b ∷ [])) ⌝ }
 {
-    if a >= WIDE {
+    if a >= WORKER_NAMES {
         return Event::Malformed;
     }
-    if b >= WIDE {
+    if b >= ADDRESSES {
         return Event::Malformed;
     }
     let m = a as u32;
-    let n = b as u32;
+    let n = b as Address;
     match letter {
         b'R' => Event::Line(Line::Read(m, n)),
         b'D' => Event::Line(Line::Remove(m, n)),
@@ -185,16 +192,16 @@ fn three(letter: u8, a: u64, b: u64, c: u64) -> Event
     if letter != b'S' {
         return Event::Malformed;
     }
-    if a >= WIDE {
+    if a >= WORKER_NAMES {
         return Event::Malformed;
     }
-    if b >= WIDE {
+    if b >= ADDRESSES {
         return Event::Malformed;
     }
-    if c >= WIDE {
+    if c >= ADDRESSES {
         return Event::Malformed;
     }
-    Event::Line(Line::Scan(a as u32, b as u32, c as u32))
+    Event::Line(Line::Scan(a as u32, b as Address, c as Address))
 }
 
 // A line of four numbers.
@@ -204,16 +211,16 @@ fn four(letter: u8, a: u64, b: u64, c: u64, d: u64) -> Event
     if letter != b'P' {
         return Event::Malformed;
     }
-    if a >= WIDE {
+    if a >= WORKER_NAMES {
         return Event::Malformed;
     }
-    if b >= WIDE {
+    if b >= ADDRESSES {
         return Event::Malformed;
     }
     if d >= OWNERS {
         return Event::Malformed;
     }
-    Event::Line(Line::Put(a as u32, b as u32, c, d as u16))
+    Event::Line(Line::Put(a as u32, b as Address, c, d as u16))
 }
 
 // The number with one more digit has 64 bits at most.

@@ -6,12 +6,12 @@ use mathlib.Core.Bool.{Bool}
 use mathlib.Core.List.{List, [], _∷_, _++_, append-assoc, append-nil}
 use lib.ListN.{length, getD, set, replicate}
 use mir.Val.{boolByte}
+use Rattle.spec.specs.Widths.{addresses}
 use Rattle.spec.specs.Records.{standard}
 use Rattle.spec.specs.Guards.{Scan}
 use Rattle.sets.specs.declared.leaves.LoggedLeaf.{LoggedLeaf}
 use Rattle.sets.specs.declared.leaves.Scanned.{Scanned}
 use Rattle.sets.specs.declared.leaves.Mark.{Mark}
-use Rattle.sets.specs.Sets.{addresses}
 use Rattle.sets.specs.Leaves.{LeafSetRows, leafSetWords, versionIn, lowIn, scannedIn, rememberedIf, markIn, scansAt, marksOf, joined, scansOf, LeafSetHeld, LeavesHeld, LogsLeaf, GivesLeaf, GivesMark}
 use Rattle.sets.specs.ReadLaws.{flag-back}
 use Rattle.sets.specs.SetLaws.{each-set, each-alike, row-at, rows-snoc, row-appended}

@@ -8,10 +8,10 @@ use lib.Dec.{eqb}
 use lib.ListN.{length, getD, set, replicate}
 use mir.Val.{boolByte}
 use Rattle.lists.specs.Rows.{row}
+use Rattle.spec.specs.Widths.{addresses}
 use Rattle.spec.specs.Records.{standard}
 use Rattle.spec.specs.declared.Current.{Current}
 use Rattle.sets.specs.declared.reads.Observed.{Observed}
-use Rattle.sets.specs.Sets.{addresses}
 use Rattle.sets.specs.Reads.{ReadRows, readWords, recordOf, observedIn, noRead, readIn, readsOf, ReadSetHeld, ReadsHeld, LogsRead, GivesRead}
 use Rattle.sets.specs.SetLaws.{each-set, each-alike, row-at, row-appended}
 

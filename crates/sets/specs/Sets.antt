@@ -1,13 +1,10 @@
 -- What read sets, leaf sets and write sets share: rows of words for one worker, and such rows for all workers.
-use Prim.Native.Nat.{ℕ, _^_, _<_}
+use Prim.Native.Nat.{ℕ, _<_}
 use mathlib.Core.Path.{_≡_}
 use mathlib.Core.List.{List, []}
 use lib.ListN.{length, getD}
 use Rattle.lists.specs.Tabulation.{tab}
-
--- how many addresses there are: a stored address is below
-abbrev pub addresses : ℕ
-addresses = 2 ^ 32
+use Rattle.spec.specs.Widths.{addresses}
 
 -- word k of a row is an address
 abbrev pub AddressAt : ℕ → List ℕ → Type 0

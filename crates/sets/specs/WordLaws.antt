@@ -1,5 +1,5 @@
 -- The laws of workers in words: a worker put is the worker found, and the others stay.
-use Prim.Native.Nat.{ℕ, zero, suc, _/_, _%_, _^_, _<_}
+use Prim.Native.Nat.{ℕ, zero, suc, _/_, _%_, _<_}
 use native.Mathlib.Omega.{arith}
 use mathlib.Core.Path.{_≡_, refl, sym, ap, _∙_}
 use mathlib.Core.List.{List, _∷_, map}
@@ -10,7 +10,7 @@ use Rattle.lists.specs.TestLaws.{same-no}
 use Rattle.spec.specs.declared.Stage.{Stage}
 use Rattle.spec.specs.declared.Stage.the-variants.{Free, Open, Locked, Checked}
 use Rattle.sets.specs.declared.workers.Worker.{Worker}
-use Rattle.sets.specs.Workers.{freed, rankOf, stageAt, packedAt, packed, unpackedAt, unpacked, workersOf}
+use Rattle.sets.specs.Workers.{numberField, freed, rankOf, stageAt, packedAt, packed, unpackedAt, unpacked, workersOf}
 
 rank-small : (s : Stage) → rankOf s < 256
 rank-small Free = omega arith
@@ -34,7 +34,7 @@ pub stage-checked : {n : ℕ} → (n ≡ 0 → ⊥) → (n ≡ 1 → ⊥) → (n
 unfolding stageAt
 stage-checked f g h = sym (rw (same-no f, same-no g, same-no h))
 
-pub unpack-is : (n : ℕ) {s : Stage} → s ≡ stageAt (n / 2 ^ 32 % 256) → unpackedAt n s ≡ unpacked n
+pub unpack-is : (n : ℕ) {s : Stage} → s ≡ stageAt (n / numberField % 256) → unpackedAt n s ≡ unpacked n
 unfolding unpacked
 unpack-is n e = ap (unpackedAt n) e
 
@@ -46,7 +46,7 @@ pack-is x e = ap (packedAt x) e
 
 -- The fields of a worker have their bits.
 pub record Narrow (x : Worker) : Type 0 where
-  pub number : x .number < 2 ^ 32
+  pub number : x .number < numberField
   pub reads : x .reads < 256
   pub leaves : x .leaves < 256
   pub writes : x .writes < 256
@@ -56,19 +56,19 @@ unfolding packed unpacked
 unpack-pack x h =
     λ i. record { number = number i; stage = (ap stageAt stage ∙ rank-stage (x .stage)) i; reads = reads i; leaves = leaves i; writes = writes i }
   where
-    number : packed x % 2 ^ 32 ≡ x .number
+    number : packed x % numberField ≡ x .number
     number = let a = h .number in omega arith
 
-    stage : packed x / 2 ^ 32 % 256 ≡ rankOf (x .stage)
+    stage : packed x / numberField % 256 ≡ rankOf (x .stage)
     stage = let a = h .number in let b = rank-small (x .stage) in omega arith
 
-    reads : packed x / 2 ^ 32 / 256 % 256 ≡ x .reads
+    reads : packed x / numberField / 256 % 256 ≡ x .reads
     reads = let a = h .number in let b = rank-small (x .stage) in let c = h .reads in omega arith
 
-    leaves : packed x / 2 ^ 32 / 256 / 256 % 256 ≡ x .leaves
+    leaves : packed x / numberField / 256 / 256 % 256 ≡ x .leaves
     leaves = let a = h .number in let b = rank-small (x .stage) in let c = h .reads in let d = h .leaves in omega arith
 
-    writes : packed x / 2 ^ 32 / 256 / 256 / 256 % 256 ≡ x .writes
+    writes : packed x / numberField / 256 / 256 / 256 % 256 ≡ x .writes
     writes = let a = h .number in let b = rank-small (x .stage) in let c = h .reads in let d = h .leaves in let e = h .writes in omega arith
 
 -- ---- the workers of lent words

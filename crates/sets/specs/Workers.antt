@@ -57,9 +57,13 @@ rankOf Checked = 3
 unfoldable pub stageAt : ℕ → Stage
 stageAt n = pick (same n 0) Free (pick (same n 1) Open (pick (same n 2) Locked Checked))
 
--- a worker's word: from its lowest bits on the number, of 32, then the rank of its stage and the three counts, of 8 each
+-- how many values the commit number can have in a worker's word: 32 bits
+abbrev pub numberField : ℕ
+numberField = 2 ^ 32
+
+-- a worker's word: from its lowest bits on the number, then the rank of its stage and the three counts, of 8 each
 abbrev pub packedAt : Worker → ℕ → ℕ
-packedAt x rank = x .number + 2 ^ 32 * (rank + 256 * (x .reads + 256 * (x .leaves + 256 * x .writes)))
+packedAt x rank = x .number + numberField * (rank + 256 * (x .reads + 256 * (x .leaves + 256 * x .writes)))
 
 unfoldable pub packed : Worker → ℕ
 packed x = packedAt x (rankOf (x .stage))
@@ -68,16 +72,16 @@ packed x = packedAt x (rankOf (x .stage))
 abbrev pub unpackedAt : ℕ → Stage → Worker
 unpackedAt n s =
     record {
-      number = n % 2 ^ 32;
+      number = n % numberField;
       stage = s;
-      reads = n / 2 ^ 32 / 256 % 256;
-      leaves = n / 2 ^ 32 / 256 / 256 % 256;
-      writes = n / 2 ^ 32 / 256 / 256 / 256 % 256;
+      reads = n / numberField / 256 % 256;
+      leaves = n / numberField / 256 / 256 % 256;
+      writes = n / numberField / 256 / 256 / 256 % 256;
     }
 
 -- any word is a worker's
 unfoldable pub unpacked : ℕ → Worker
-unpacked n = unpackedAt n (stageAt (n / 2 ^ 32 % 256))
+unpacked n = unpackedAt n (stageAt (n / numberField % 256))
 
 -- the workers of lent words
 unfoldable pub workersOf : List ℕ → List Worker

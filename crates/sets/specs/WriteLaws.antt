@@ -15,10 +15,10 @@ use Rattle.lists.specs.Rows.{Row, row, look, insert, assign, Rising}
 use Rattle.lists.specs.RowLaws.{rising-assign}
 use Rattle.lists.specs.Shifts.{moved, Raising, raising-start, raising-on, raising-end}
 use Rattle.lists.specs.Places.{place, place-most, place-below, place-above, Present, Absent, look-present, look-absent, insert-present, insert-absent}
+use Rattle.spec.specs.Widths.{addresses}
 use Rattle.spec.specs.Records.{standard, Write, written, deleted}
 use Rattle.sets.specs.declared.writes.Line.{Line}
 use Rattle.sets.specs.declared.writes.Entry.{Entry}
-use Rattle.sets.specs.Sets.{addresses}
 use Rattle.spec.specs.Payloads.{payloadIn}
 use Rattle.spec.specs.declared.PayloadWords.{PayloadWords}
 use Rattle.sets.specs.Writes.{WriteRows, writeWords, writeOf, noWrite, lineAt, wordsOf, writeIn, writesOf, WriteSetHeld, WritesHeld, WriteSetOrdered, WritesBecome, PutsWrite, GivesWrite}

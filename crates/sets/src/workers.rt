@@ -2,14 +2,15 @@
 // The eight stand in lent words; one function gives a worker by value and one puts it.
 use crate::Workers;
 use spec::Stage;
-use spec::WIDE;
 ghost use mathlib.Core.Path.{_≡_};
 ghost use Prim.Native.Nat.{_<_};
 ghost use lib.ListN.{length, getD, set};
 ghost use Rattle.spec.specs.Records.{standard};
 ghost use Rattle.sets.specs.Workers.{begun, atLock, atCheck, freed, rankOf, stageAt, packed, unpacked, workersOf};
 
-// How many values a field of a worker's word can have, but the lowest one, which is 32 bits wide.
+// How many values the commit number can have in a worker's word, and each of the other fields.
+const NUMBER_FIELD: u64 = 0x1_0000_0000;
+
 const FIELD: u64 = 256;
 
 // The stage, the commit number once checked, and how many rows of the three sets are in use: 64 bits in all.
@@ -116,19 +117,19 @@ fn pack(x: Worker) -> u64
 {
     let stage = x.stage;
     let counts = x.reads as u64 + FIELD * (x.leaves as u64 + FIELD * x.writes as u64);
-    x.number as u64 + WIDE * (rank(stage) as u64 + FIELD * counts)
+    x.number as u64 + NUMBER_FIELD * (rank(stage) as u64 + FIELD * counts)
 }
 
 // The worker of a word, whatever it is.
 fn unpack(n: u64) -> Worker
     ensures { λ r. ⌜ r ≡ unpacked n ⌝ }
 {
-    let upper = n / WIDE;
+    let upper = n / NUMBER_FIELD;
     let counts = upper / FIELD;
     let others = counts / FIELD;
     let stage = stage_at(upper % FIELD);
     Worker {
-        number: (n % WIDE) as u32,
+        number: (n % NUMBER_FIELD) as u32,
         stage,
         reads: (counts % FIELD) as u8,
         leaves: (others % FIELD) as u8,

@@ -11,8 +11,8 @@ ghost use lib.ListN.{set};
 ghost use Rattle.lists.specs.Tests.{present};
 ghost use Rattle.lists.specs.Rows.{look};
 ghost use Rattle.lists.specs.Shifts.{moved};
+ghost use Rattle.spec.specs.Widths.{addresses};
 ghost use Rattle.spec.specs.Records.{standard};
-ghost use Rattle.sets.specs.Sets.{addresses};
 ghost use Rattle.sets.specs.Writes.{lineAt, wordsOf, writesOf, foundIn, WriteSetHeld, WriteSetOrdered, WritesBecome, PutsWrite, GivesWrite};
 ghost use Rattle.sets.specs.WritePlaces.{PlaceOf, WritesHave};
 

@@ -5,6 +5,7 @@ use mathlib.Core.Option.{Option, none, some}
 use lib.ListN.{length, drop}
 use Rattle.lists.specs.Tests.{pick, both, same}
 use Rattle.lists.specs.Rows.{Row, row}
+use Rattle.spec.specs.Widths.{addressSize}
 use Rattle.spec.specs.Records.{Payload}
 
 -- ---- written
@@ -14,10 +15,10 @@ unfoldable pub littleEndian : ℕ → ℕ → List ℕ
 littleEndian zero n = []
 littleEndian (suc count) n = n % 256 ∷ littleEndian count (n / 256)
 
--- all addresses, 32 bits each
+-- all addresses
 unfoldable pub addressBytes : List (Row Payload) → List ℕ
 addressBytes [] = []
-addressBytes (r ∷ rs) = littleEndian 4 (r .key) ++ addressBytes rs
+addressBytes (r ∷ rs) = littleEndian addressSize (r .key) ++ addressBytes rs
 
 -- the bytes of an entry: value, 64 bits, and owner, 16 bits
 abbrev pub entrySize : ℕ
@@ -33,7 +34,7 @@ fileOf rs = littleEndian 4 (length rs) ++ littleEndian 4 entrySize ++ addressByt
 
 -- how many bytes that are
 unfoldable pub fileSize : List (Row Payload) → ℕ
-fileSize rs = 8 + (4 + entrySize) * length rs
+fileSize rs = 8 + (addressSize + entrySize) * length rs
 
 -- ---- read
 
@@ -47,13 +48,13 @@ numberIn (suc count) (b ∷ bs) = b + 256 * numberIn count bs
 unfoldable pub joined : ℕ → List ℕ → List ℕ → List (Row Payload)
 joined zero ks es = []
 joined (suc n) ks es =
-    row (numberIn 4 ks) (record { value = numberIn 8 es; owner = numberIn 2 (drop 8 es) })
-    ∷ joined n (drop 4 ks) (drop entrySize es)
+    row (numberIn addressSize ks) (record { value = numberIn 8 es; owner = numberIn 2 (drop 8 es) })
+    ∷ joined n (drop addressSize ks) (drop entrySize es)
 
 -- The records of a file; none, if the bytes of an entry are not those of a value and an owner, or not as many bytes are there.
 unfoldable pub parsed : List ℕ → Option (List (Row Payload))
 parsed bs =
     let n = numberIn 4 bs in
-    pick (both (same (numberIn 4 (drop 4 bs)) entrySize) (same (length bs) (8 + (4 + entrySize) * n)))
-    (some (joined n (drop 8 bs) (drop (8 + 4 * n) bs)))
+    pick (both (same (numberIn 4 (drop 4 bs)) entrySize) (same (length bs) (8 + (addressSize + entrySize) * n)))
+    (some (joined n (drop 8 bs) (drop (8 + addressSize * n) bs)))
     none

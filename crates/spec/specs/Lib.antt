@@ -1,4 +1,5 @@
 pub mod Refusals
+pub mod Widths
 pub mod Records
 pub mod Payloads
 pub mod Leaves

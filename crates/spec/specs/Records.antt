@@ -1,11 +1,12 @@
 -- Document 01, "Map words": addresses, values, records, the limits.
 --
--- Addresses, values and numbers are natural numbers: no width stands here. What a record carries besides its commit
+-- Addresses, values and numbers are natural numbers: of widths only the limits speak. What a record carries besides its commit
 -- number is one type, `Payload`, compared by one test.
-use Prim.Native.Nat.{ℕ}
+use Prim.Native.Nat.{ℕ, _-_}
 use mathlib.Core.Bool.{Bool, true, false}
 use mathlib.Core.Option.{Option, none, some}
 use Rattle.lists.specs.Tests.{both, same}
+use Rattle.spec.specs.Widths.{addressSize, addresses}
 
 -- The limits of a map, as document 01 and the requests give them.
 pub record Settings : Type 0 where
@@ -34,8 +35,8 @@ standard =
       leafLimit = 16;
       run = 8;
       lastNumber = 1000000;
-      bytes = 4;
-      highest = 4294967295;
+      bytes = addressSize;
+      highest = addresses - 1;
       longest = 65536;
     }
 

@@ -4,6 +4,7 @@ use native.Mathlib.Numerals.{add-one}
 use native.Mathlib.Omega.{arith}
 use mathlib.Core.Path.{sym, ap, _∙_, subst}
 use borrow.Author.Needs.{needs}
+use Rattle.spec.specs.Widths.{addressSize}
 use Rattle.spec.specs.Slots.{slotCount}
 use Rattle.laws.specs.Probes.{gap, gap-less, home-less}
 use Rattle.indexlet.specs.EnterLaws.{said-at, look-hit, look-miss}
@@ -20,7 +21,7 @@ home-requires : tie.Need-home-requires
 home-requires c κs = search needs
 
 passed-requires : tie.Need-passed-requires
-passed-requires c κs = (subst (λ (n : ℕ). n < slotCount) (sym (c .before .home .ensures)) (home-less 4 (c .before .before .before .before .args .a)), c .if1 .taken)
+passed-requires c κs = (subst (λ (n : ℕ). n < slotCount) (sym (c .before .home .ensures)) (home-less addressSize (c .before .before .before .before .args .a)), c .if1 .taken)
 
 add-t9 : tie.Need-add-t9
 add-t9 c = omega (arith, c .passed .ensures, gap-less (c .before .before .home .result) (c .before .before .before .before .find .result))

@@ -3,6 +3,7 @@ use native.Mathlib.Omega.{arith}
 use mathlib.Core.Path.{ap, _∙_}
 use borrow.Author.Needs.{needs}
 use Rattle.laws.specs.Probes.{home-less}
+use Rattle.spec.specs.Widths.{addressSize}
 use Rattle.spec.specs.Slots.{isIdle}
 use Rattle.indexlet.specs.declared.Content.{Content as ContentWords}
 use Rattle.indexlet.specs.Words.{contentIn}
@@ -16,7 +17,7 @@ recount-passed-requires c κs =
     ((c .before .pre .0 .sized, home-inside (c .before .args .a) _ (c .before .pre .1 .0), far-less (c .before .pre .1 .1)), release-counts _ _ _ _ (c .before .pre .0) (c .before .pre .1 .0) (c .before .pre .1 .1))
 
 add-i : tie.Need-add-i
-add-i c = omega (arith, c .before .before .pre .1 .0, home-less 4 (c .before .before .args .a), far-less (c .before .before .pre .1 .1))
+add-i c = omega (arith, c .before .before .pre .1 .0, home-less addressSize (c .before .before .args .a), far-less (c .before .before .pre .1 .1))
 
 get-requires : tie.Need-get-requires
 get-requires c κs = omega arith

@@ -3,6 +3,7 @@ use Prim.Native.Nat.{_-_}
 use native.Mathlib.Omega.{arith}
 use mathlib.Core.Path.{sym, _∙_}
 use borrow.Author.Needs.{needs}
+use Rattle.spec.specs.Widths.{addressSize}
 use Rattle.spec.specs.Slots.{slotCount}
 use Rattle.laws.specs.Probes.{home-less}
 use Rattle.indexlet.specs.SeekLaws.{Seeking, seek-start, seek-hit, seek-stop, seek-on, seek-end}
@@ -19,7 +20,7 @@ loop-holds : tie.Need-loop-holds Inv-loop μ-loop
 loop-holds c = seek-start _ _ _ (c .pre)
 
 add-i : tie.Need-add-i Inv-loop μ-loop
-add-i c = omega (arith, c .before .before .pre, home-less 4 (c .before .before .args .a))
+add-i c = omega (arith, c .before .before .pre, home-less addressSize (c .before .before .args .a))
 
 get-requires : tie.Need-get-requires Inv-loop μ-loop
 get-requires c κs = omega arith

@@ -3,6 +3,7 @@
 use native.Mathlib.Omega.{arith}
 use mathlib.Core.Path.{refl, sym, _∙_}
 use borrow.Author.Needs.{needs}
+use Rattle.spec.specs.Widths.{addressSize}
 use Rattle.laws.specs.Probes.{home-less}
 use Rattle.indexlet.specs.WalkLaws.{home-inside, take-counts, take-ends, take-turns, home-ends, home-turns}
 use Rattle.indexlet.proofs.take.Statement.{statement}
@@ -37,7 +38,7 @@ recount-passed-requires c κs = (
 )
 
 add-i : tie.Need-add-i
-add-i c = omega (arith, c .before .before .before .before .before .before .before .before .before .pre .1 .0, home-less 4 (c .before .before .before .before .before .before .before .before .before .args .a), c .before .before .passed-by-new .ensures .1)
+add-i c = omega (arith, c .before .before .before .before .before .before .before .before .before .pre .1 .0, home-less addressSize (c .before .before .before .before .before .before .before .before .before .args .a), c .before .before .passed-by-new .ensures .1)
 
 say-at-requires-2 : tie.Need-say-at-requires-2
 say-at-requires-2 c κs = omega arith

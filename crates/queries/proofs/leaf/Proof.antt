@@ -1,6 +1,7 @@
 -- `queries::leaf` meets its contract.
-use Prim.Native.Nat.{ℕ, _^_, _<_}
+use Prim.Native.Nat.{ℕ, _<_}
 use mathlib.Core.Path.{sym, subst}
+use Rattle.spec.specs.Widths.{addresses}
 use Rattle.index.specs.LeafColumnLaws.{column-places}
 use Rattle.phantomlet.specs.LeafCounts.{low-of}
 use Rattle.queries.specs.ScanLaws.{logged-at}
@@ -19,7 +20,7 @@ leaf-at-requires c κs = search needs
 cast-t5 : tie.Need-cast-t5
 cast-t5 c =
     let s = c .before .before .before in
-    record { fits = subst (λ (x : ℕ). x < 2 ^ 32) (sym (low-of (s .args .leaves .now) (s .args .i) (c .before .leaf-at .ensures))) (s .pre .narrow) }
+    record { fits = subst (λ (x : ℕ). x < addresses) (sym (low-of (s .args .leaves .now) (s .args .i) (c .before .leaf-at .ensures))) (s .pre .narrow) }
 
 returns : tie.Need-returns
 returns c =

@@ -7,7 +7,7 @@ use Rattle.lists.specs.TextLaws.{wrote-length}
 use Rattle.queries.specs.Contents.{allRecords}
 use Rattle.queries.specs.ContentsLaws.{rising-all, next-at, next-done}
 use Rattle.queries.specs.NextLaws.{passed-start, follows-done}
-use Rattle.sets.specs.Sets.{addresses}
+use Rattle.spec.specs.Widths.{addresses}
 use Rattle.console.specs.Closings.{Listing, listing-start, listing-room, listing-above, listing-on, listing-end}
 use Rattle.console.proofs.closing.put_records.Statement.{statement}
 use Rattle.console.proofs.closing.put_records.Tie as tie

@@ -2,7 +2,7 @@
 use Prim.Native.Nat.{_-_}
 use native.Mathlib.Omega.{arith}
 use mathlib.Core.Path.{refl}
-use Rattle.sets.specs.Sets.{addresses}
+use Rattle.spec.specs.Widths.{addresses}
 use Rattle.queries.specs.Contents.{allRecords}
 use Rattle.queries.specs.ContentsLaws.{rising-all, next-at, next-done}
 use Rattle.queries.specs.NextLaws.{passed-start, follows-done}

@@ -2,6 +2,7 @@
 use Prim.Native.Nat.{_-_, _≤_}
 use native.Mathlib.Omega.{arith}
 use Rattle.lists.specs.TextLaws.{wrote-length}
+use Rattle.spec.specs.Widths.{addressSize}
 use Rattle.spec.specs.Files.{addressBytes}
 use Rattle.exports.specs.FilePuts.{addresses-each, Putting, putting-none, putting-on, putting-end}
 use borrow.Author.Needs.{needs}
@@ -9,7 +10,7 @@ use Rattle.exports.proofs.files.put_addresses.Statement.{statement}
 use Rattle.exports.proofs.files.put_addresses.Tie as tie
 
 abbrev Inv-loop : tie.InvT-loop
-Inv-loop out₀ at exported n next₀ i₀ out next i = Putting addressBytes 4 exported out₀ at i out next × (i ≤ n)
+Inv-loop out₀ at exported n next₀ i₀ out next i = Putting addressBytes addressSize exported out₀ at i out next × (i ≤ n)
 
 abbrev μ-loop : tie.MeasureT-loop
 μ-loop out₀ at exported n next₀ i₀ out next i = n - i

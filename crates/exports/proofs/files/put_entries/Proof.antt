@@ -2,13 +2,13 @@
 use Prim.Native.Nat.{_-_, _≤_}
 use native.Mathlib.Omega.{arith}
 use Rattle.lists.specs.TextLaws.{wrote-length}
-use Rattle.spec.specs.Files.{entryBytes}
+use Rattle.spec.specs.Files.{entrySize, entryBytes}
 use Rattle.exports.specs.FilePuts.{entries-each, Putting, putting-none, putting-on, putting-end}
 use Rattle.exports.proofs.files.put_entries.Statement.{statement}
 use Rattle.exports.proofs.files.put_entries.Tie as tie
 
 abbrev Inv-loop : tie.InvT-loop
-Inv-loop out₀ at exported n next₀ i₀ out next i = Putting entryBytes 10 exported out₀ at i out next × (i ≤ n)
+Inv-loop out₀ at exported n next₀ i₀ out next i = Putting entryBytes entrySize exported out₀ at i out next × (i ≤ n)
 
 abbrev μ-loop : tie.MeasureT-loop
 μ-loop out₀ at exported n next₀ i₀ out next i = n - i

@@ -1,7 +1,8 @@
 -- `map::merge::leaf_rows` meets its contract: the rows from the place of the leaf's low to that of the next low.
-use Prim.Native.Nat.{ℕ, _+_, _^_, _<_}
+use Prim.Native.Nat.{ℕ, _+_, _<_}
 use native.Mathlib.Omega.{arith}
 use mathlib.Core.Path.{refl, sym, subst}
+use Rattle.spec.specs.Widths.{addresses}
 use Rattle.index.specs.LeafColumnLaws.{column-places}
 use Rattle.phantomlet.specs.LeafCounts.{low-of}
 use Rattle.merging.specs.MergeSettles.{at-low}
@@ -21,7 +22,7 @@ leaf-at-requires c κs = search needs
 cast-low : tie.Need-cast-low
 cast-low c =
     let s = c .before .before .before in
-    record { fits = subst (λ (x : ℕ). x < 2 ^ 32) (sym (low-of (s .args .leaves .now) (s .args .i) (c .before .leaf-at .ensures))) (s .pre .1 .0 .narrow (s .args .i) (s .pre .1 .1)) }
+    record { fits = subst (λ (x : ℕ). x < addresses) (sym (low-of (s .args .leaves .now) (s .args .i) (c .before .leaf-at .ensures))) (s .pre .1 .0 .narrow (s .args .i) (s .pre .1 .1)) }
 
 locate-requires : tie.Need-locate-requires
 locate-requires c κs = search needs
@@ -38,7 +39,7 @@ leaf-at-requires-2 c κs = search needs
 cast-high : tie.Need-cast-high
 cast-high c =
     let s = c .before .before .before .before .before .before .before in
-    record { fits = subst (λ (x : ℕ). x < 2 ^ 32) (sym (low-of (s .args .leaves .now) (s .args .i + 1) (c .before .leaf-at2 .ensures))) (s .pre .1 .0 .narrow (s .args .i + 1) (c .before .before .if1 .taken)) }
+    record { fits = subst (λ (x : ℕ). x < addresses) (sym (low-of (s .args .leaves .now) (s .args .i + 1) (c .before .leaf-at2 .ensures))) (s .pre .1 .0 .narrow (s .args .i + 1) (c .before .before .if1 .taken)) }
 
 locate-requires-2 : tie.Need-locate-requires-2
 locate-requires-2 c κs = search needs

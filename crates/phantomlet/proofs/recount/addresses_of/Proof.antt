@@ -4,7 +4,7 @@ use Prim.Native.Nat.{ℕ, _-_}
 use Rattle.index.specs.declared.leaves.Leaf.{Leaf as LeafWords}
 use Rattle.index.specs.LeafColumns.{lowsOf}
 use Rattle.index.specs.LeafColumnLaws.{column-places, column-getD}
-use Rattle.sets.specs.Sets.{addresses}
+use Rattle.spec.specs.Widths.{addresses}
 use Rattle.phantomlet.specs.LeafCounts.{Range, low-of, range-next, range-last}
 use borrow.Author.Needs.{needs}
 use Rattle.phantomlet.proofs.recount.addresses_of.Statement.{statement}

@@ -20,7 +20,7 @@ use Rattle.spec.specs.Steps as model
 use Rattle.spec.specs.Steps.{State, Step, put, remove, Answer, done, isOpen, workerOf, ownWrite, cause, noWorker, workerFree, wrongStage, writesFull, causes, firstCause, refusal, granted, effect, withWorker, writing, accessCauses, accessAnswer, accessed}
 use Rattle.laws.specs.WorkerLaws.{mild-cause}
 use Rattle.sets.specs.declared.workers.Worker.{Worker}
-use Rattle.sets.specs.declared.writes.Found.{Found}
+use Rattle.sets.specs.declared.writes.FoundWrite.{FoundWrite}
 use Rattle.sets.specs.Workers.{workerIn, withWrites}
 use Rattle.sets.specs.WorkerLaws.{write-in}
 use Rattle.sets.specs.Reads.{ReadRows}
@@ -67,11 +67,11 @@ module _ (ws : WriteRows) (n a : ℕ) where
       both-last (not (present (look (writesOf ws n) a)))
       ∙ ap (λ (b : Bool). both (not (present (look (writesOf ws n) a))) (not b)) (sym (less-yes {m = n} {n = standard .writeLimit} h))
 
-  pub full-there : (f g : Found) → f ≡ g → present (foundIn g) ≡ true → foundIn f ≡ look (writesOf ws n) a → false ≡ fullAt ws n a
+  pub full-there : (f g : FoundWrite) → f ≡ g → present (foundIn g) ≡ true → foundIn f ≡ look (writesOf ws n) a → false ≡ fullAt ws n a
   full-there f g e t q =
       ap (λ (b : Bool). both (not b) (not (less n (standard .writeLimit)))) (sym (ap present (sym q ∙ ap foundIn e) ∙ t))
 
-  pub full-none : (f g : Found) → f ≡ g → foundIn g ≡ none → foundIn f ≡ look (writesOf ws n) a → standard .writeLimit ≤ n → true ≡ fullAt ws n a
+  pub full-none : (f g : FoundWrite) → f ≡ g → foundIn g ≡ none → foundIn f ≡ look (writesOf ws n) a → standard .writeLimit ≤ n → true ≡ fullAt ws n a
   full-none f g e t q h =
       ap (λ (b : Bool). not b) (sym (less-no {m = n} {n = standard .writeLimit} h))
       ∙ ap (λ (o : Option Write). both (not (present o)) (not (less n (standard .writeLimit)))) (sym (sym q ∙ ap foundIn e ∙ t))

@@ -23,8 +23,8 @@ use Rattle.spec.specs.Steps as model
 use Rattle.spec.specs.Steps.{State, read, Answer, found, isOpen, workerOf, freeWorker, ownWrite, slotsExamined, cause, noWorker, workerFree, wrongStage, readLogFull, causes, firstCause, refusal, granted, effect, withWorker, logged, readRows, accessCauses, accessAnswer, accessed}
 use Rattle.laws.specs.WorkerLaws.{mild-cause}
 use Rattle.sets.specs.declared.workers.Worker.{Worker}
-use Rattle.sets.specs.declared.writes.Found.{Found}
-use Rattle.sets.specs.declared.writes.Found.the-variants.{Put, Deletion, Nothing}
+use Rattle.sets.specs.declared.writes.FoundWrite.{FoundWrite}
+use Rattle.sets.specs.declared.writes.FoundWrite.the-variants.{Put, Deletion, Nothing}
 use Rattle.sets.specs.Workers.{workerIn, withReads}
 use Rattle.sets.specs.WorkerLaws.{read-in}
 use Rattle.sets.specs.Reads.{ReadRows, recordIn, readsOf, ReadsHeld, LogsRead}
@@ -212,21 +212,21 @@ read-own {rs} {rows} {slots} {ws} {c} {w} {a} {x} e v t q s =
           (sym (ap (withWorker σ w) (logged-none (workerOf σ w)) ∙ worker-back σ w)) (k .stored));
     }
 
-pub read-put : {rs : List ReadRows} {rows : RecordRows} {slots : SlotRows} {ws : List WriteRows} {c : Core} {w a : ℕ} {v : PayloadWords} {x : Worker} {f : Found}
+pub read-put : {rs : List ReadRows} {rows : RecordRows} {slots : SlotRows} {ws : List WriteRows} {c : Core} {w a : ℕ} {v : PayloadWords} {x : Worker} {f : FoundWrite}
     → Entered isOpen (c .workers) w x → f ≡ Put v → foundIn f ≡ look (writesIn ws w (x .writes)) a
     → Tells rs rows slots ws c w a rs c (Value (v .value) (v .owner % owners) 0)
 unfolding ownView
 read-put {v} t e q =
     read-own (written (payloadIn v)) (Value (v .value) (v .owner % owners) 0) t (sym q ∙ ap foundIn e) refl
 
-pub read-deletion : {rs : List ReadRows} {rows : RecordRows} {slots : SlotRows} {ws : List WriteRows} {c : Core} {w a : ℕ} {x : Worker} {f : Found}
+pub read-deletion : {rs : List ReadRows} {rows : RecordRows} {slots : SlotRows} {ws : List WriteRows} {c : Core} {w a : ℕ} {x : Worker} {f : FoundWrite}
     → Entered isOpen (c .workers) w x → f ≡ Deletion → foundIn f ≡ look (writesIn ws w (x .writes)) a
     → Tells rs rows slots ws c w a rs c (Absent 0)
 unfolding ownView
 read-deletion t e q =
     read-own deleted (Absent 0) t (sym q ∙ ap foundIn e) refl
 
-pub read-nothing : {rs us : List ReadRows} {rows : RecordRows} {slots : SlotRows} {ws : List WriteRows} {c c' : Core} {w a : ℕ} {x : Worker} {f : Found} {r : ReadAnswer}
+pub read-nothing : {rs us : List ReadRows} {rows : RecordRows} {slots : SlotRows} {ws : List WriteRows} {c c' : Core} {w a : ℕ} {x : Worker} {f : FoundWrite} {r : ReadAnswer}
     → f ≡ Nothing → foundIn f ≡ look (writesIn ws w (x .writes)) a
     → TellsCurrent rs rows slots c w x a us c' r → Tells rs rows slots ws c w a us c' r
 read-nothing {ws = ws} e q k = k .tells ws (sym q ∙ ap foundIn e)

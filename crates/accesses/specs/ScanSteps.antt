@@ -22,7 +22,7 @@ use Rattle.sets.specs.declared.workers.Worker.{Worker}
 use Rattle.sets.specs.Workers.{workerIn}
 use Rattle.sets.specs.Sets.{firstRows}
 use Rattle.sets.specs.Reads.{ReadRows, readIn, readsOf, readsIn}
-use Rattle.sets.specs.Leaves.{LeafSetRows, versionsOf, lowsOf, versionsIn, scannedIn, marksOf, joined, scansOf, scansIn}
+use Rattle.sets.specs.Leaves.{LeafSetRows, versionsOf, lowsOf, versionsIn, scannedIn, notesOf, joined, scansOf, scansIn}
 use Rattle.sets.specs.Leaves as leaves
 use Rattle.sets.specs.Writes.{writesIn}
 use Rattle.sets.specs.LeafLaws.{joined-append}
@@ -35,7 +35,7 @@ use Rattle.ranges.specs.declared.plans.Task.{Task}
 use Rattle.ranges.specs.declared.plans.Done.{Done}
 use Rattle.ranges.specs.Parts.{length-walk, getD-walk}
 use Rattle.ranges.specs.Buffers.{Buffers, placesOf, rowsIn}
-use Rattle.ranges.specs.Scanning.{span, across, seenIn, lowIn, marked}
+use Rattle.ranges.specs.Scanning.{span, across, seenIn, lowIn, noted}
 use Rattle.ranges.specs.LogLaws.{scan-remembered}
 use Rattle.ranges.specs.Plans.{scanMade, Carried}
 use Rattle.transactions.specs.Cores.{Core}
@@ -168,8 +168,8 @@ module _ {l : Lent} {g : Logs} {c : Core} {w : ℕ} {x : Worker} (k : Ready l g 
       logged-scan : scansIn (set (g .leaves) w ls) w (y .leaves) ≡ scansIn (g .leaves) w (x .leaves) ++ (remembered (stateOf l g c) w lo hi ∷ [])
       logged-scan =
           own-set (λ (s : LeafSetRows). scansOf s (y .leaves)) (g .leaves) w ls (k .stored .leaves) (e .inside)
-          ∙ ap joined (d .logs-leaves .marks-are)
-          ∙ joined-append (marksOf (getD (g .leaves) w []) (x .leaves)) (across (marked (t .met .from) (scanMade x t lo hi)) (t .met))
+          ∙ ap joined (d .logs-leaves .notes-are)
+          ∙ joined-append (notesOf (getD (g .leaves) w []) (x .leaves)) (across (noted (t .met .from) (scanMade x t lo hi)) (t .met))
           ∙ ap (λ (cs : List Scan). scansIn (g .leaves) w (x .leaves) ++ cs) (scan-remembered (scanMade x t lo hi) (t .met) met-one)
           ∙ ap (λ (s : Scan). scansIn (g .leaves) w (x .leaves) ++ (s ∷ [])) same-scan
 

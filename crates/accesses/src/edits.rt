@@ -10,7 +10,7 @@ use sets::WriteSets;
 use sets::workers;
 use sets::workers::Worker;
 use sets::writes;
-use sets::writes::Found;
+use sets::writes::FoundWrite;
 use spec::Address;
 use spec::PayloadWords;
 use spec::Refusal;
@@ -40,9 +40,9 @@ fn full(writes: &WriteSet, n: usize, a: Address) -> bool
         return false;
     }
     match writes::find_write(writes, n, a) {
-        Found::Put(_) => false,
-        Found::Deletion => false,
-        Found::Nothing => true,
+        FoundWrite::Put(_) => false,
+        FoundWrite::Deletion => false,
+        FoundWrite::Nothing => true,
     }
 }
 

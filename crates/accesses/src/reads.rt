@@ -11,7 +11,7 @@ use sets::reads;
 use sets::workers;
 use sets::workers::Worker;
 use sets::writes;
-use sets::writes::Found;
+use sets::writes::FoundWrite;
 use spec::Address;
 use spec::Current;
 use spec::OWNERS;
@@ -139,9 +139,9 @@ fn tell(
             let v = w as usize;
             let own = writes::find_write(&writes[v], x.writes as usize, a);
             match own {
-                Found::Put(p) => ReadAnswer::Value(p.value, (p.owner % OWNERS) as u16, 0),
-                Found::Deletion => ReadAnswer::Absent(0),
-                Found::Nothing => read_current(reads, workers, rows, slots, c, w, x, a),
+                FoundWrite::Put(p) => ReadAnswer::Value(p.value, (p.owner % OWNERS) as u16, 0),
+                FoundWrite::Deletion => ReadAnswer::Absent(0),
+                FoundWrite::Nothing => read_current(reads, workers, rows, slots, c, w, x, a),
             }
         }
     }

@@ -17,11 +17,11 @@ use Rattle.spec.specs.declared.Refusal.the-variants.{Changed, UnderLock, Phanto
 use Rattle.spec.specs.Steps.{numbered, cause, firstCause}
 use Rattle.spec.specs.Records.{standard, Record, Write, isPut, samePayload, sameRecord}
 use Rattle.spec.specs.Slots.{contentOf}
-use Rattle.spec.specs.Maps.{MapState, current, heldByOther}
+use Rattle.spec.specs.Maps.{MapState, current, heldByOther, phantomIn}
 use Rattle.counters.specs.declared.Counters.{Counters}
 use Rattle.map.specs.declared.Sizes.{Sizes}
 use Rattle.queries.specs.QueryViews.{mapWith, Sees}
-use Rattle.queries.specs.PhantomViews.{Holding, phantomAt, Logged}
+use Rattle.queries.specs.PhantomViews.{Holding, Logged}
 use Rattle.sets.specs.declared.workers.Worker.{Worker}
 use Rattle.sets.specs.Workers.{atCheck}
 use Rattle.sets.specs.declared.reads.Observed.{Observed}
@@ -80,7 +80,7 @@ judged l reads leaves z x w =
     firstOf
     (any (changedIn (l .rows) (z .records) (l .slots)) (readsOf reads (x .reads)))
     (any (lockedIn (l .slots) w) (keys (readsOf reads (x .reads))))
-    (any (phantomAt (mapOf l z) w) (versionsOf leaves (x .leaves)))
+    (any (phantomIn (mapOf l z) w) (versionsOf leaves (x .leaves)))
 
 abbrev pub verdictIn : Verdict → Option Refusal
 verdictIn Passed = none
@@ -183,10 +183,10 @@ row-locked {reads} {i} {l} {b} {c} slots w k h g e q =
     ap (rowLocked slots w) (sym (g .at k h)) ∙ sym e ∙ q
 
 pub row-phantom : {leaves : LeafSetRows} {i : ℕ} {r : LoggedLeaf} {b c : Bool} (m : MapState) (w k : ℕ) → i < k
-    → GivesLeaf leaves i r → b ≡ phantomAt m w (r .version) → b ≡ c
-    → phantomAt m w (getD (versionsOf leaves k) i 0) ≡ c
+    → GivesLeaf leaves i r → b ≡ phantomIn m w (r .version) → b ≡ c
+    → phantomIn m w (getD (versionsOf leaves k) i 0) ≡ c
 row-phantom {leaves} {i} {r} {b} {c} m w k h g e q =
-    ap (phantomAt m w) (sym (g .version k h)) ∙ sym e ∙ q
+    ap (phantomIn m w) (sym (g .version k h)) ∙ sym e ∙ q
 
 pub row-logged : {l : Lent} {leaves : LeafSetRows} {z : Sizes} {i : ℕ} {m : LoggedLeaf} (k : ℕ) → i < k → LoggedAll l leaves z k
     → GivesLeaf leaves i m → Logged (mapOf l z .leaves) (m .version) (m .low)

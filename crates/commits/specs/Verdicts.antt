@@ -16,9 +16,9 @@ use Rattle.spec.specs.declared.Stage.{Stage}
 use Rattle.spec.specs.Refusals.{ends}
 use Rattle.spec.specs.Records.{standard, Record, Write}
 use Rattle.spec.specs.Slots.{contentOf}
-use Rattle.spec.specs.Maps.{current}
+use Rattle.spec.specs.Maps.{current, phantomIn}
 use Rattle.spec.specs.Steps as model
-use Rattle.spec.specs.Steps.{State, Answer, validate, refused, numbered, isLocked, workerOf, writeKeys, changedSince, lockedByOther, phantomIn, Cause, cause, noWorker, workerFree, wrongStage, causes, firstCause, refusal, granted, effect, withWorker, withCounters, checkedAs, dropped, afterRefusal, answer, next}
+use Rattle.spec.specs.Steps.{State, Answer, validate, refused, numbered, isLocked, workerOf, writeKeys, changedSince, lockedByOther, Cause, cause, noWorker, workerFree, wrongStage, causes, firstCause, refusal, granted, effect, withWorker, withCounters, checkedAs, dropped, afterRefusal, answer, next}
 use Rattle.laws.specs.WorkerLaws.{mild-cause, hasLocks, locked-locks}
 use Rattle.sets.specs.declared.workers.Worker.{Worker}
 use Rattle.sets.specs.Workers.{workerIn, atCheck}
@@ -28,7 +28,7 @@ use Rattle.sets.specs.Leaves.{LeafSetRows, versionsOf, versionsIn}
 use Rattle.sets.specs.Writes.{WriteRows, writesIn}
 use Rattle.map.specs.declared.Sizes.{Sizes}
 use Rattle.map.specs.Views.{slotsIn, mapOf, Lent}
-use Rattle.queries.specs.PhantomViews.{phantomAt, Owns}
+use Rattle.queries.specs.PhantomViews.{Owns}
 use Rattle.transactions.specs.Cores.{Core}
 use Rattle.commits.specs.declared.validates.Verdict.{Verdict}
 use Rattle.commits.specs.declared.validates.Verdict.the-variants as verdict
@@ -87,7 +87,7 @@ first-then false false false cs = refl
 -- what the model's tests say
 abbrev tested : State → ℕ → Option Refusal
 tested σ w =
-    firstOf (any (changedSince σ) (workerOf σ w .reads)) (any (lockedByOther σ w) (keys (workerOf σ w .reads))) (any (phantomIn σ w) (workerOf σ w .versions))
+    firstOf (any (changedSince σ) (workerOf σ w .reads)) (any (lockedByOther σ w) (keys (workerOf σ w .reads))) (any (phantomIn (σ .map) w) (workerOf σ w .versions))
 
 abbrev spent : State → Option Refusal
 spent σ = firstCause (cause (not (less (σ .counters .number) (σ .settings .lastNumber))) Spent ∷ [])
@@ -97,7 +97,7 @@ unfolding refusal causes
 refusal-is σ w =
     front-first isLocked σ w _
     ∙ ap (λ (o : Option Refusal). maybe (front isLocked σ w) o some)
-    (first-then (any (changedSince σ) (workerOf σ w .reads)) (any (lockedByOther σ w) (keys (workerOf σ w .reads))) (any (phantomIn σ w) (workerOf σ w .versions)) _)
+    (first-then (any (changedSince σ) (workerOf σ w .reads)) (any (lockedByOther σ w) (keys (workerOf σ w .reads))) (any (phantomIn (σ .map) w) (workerOf σ w .versions)) _)
 
 -- the causes that most steps share do not end a transaction
 front-mild : (right : Stage → Bool) (σ : State) (w : ℕ) (r : Refusal) → front right σ w ≡ some r → ends r ≡ false
@@ -125,7 +125,7 @@ module _ (l : Lent) (reads : ReadRows) (leaves : LeafSetRows) (z : Sizes) (x : W
   lockedNow = any (lockedIn (l .slots) w) (keys (readsOf reads (x .reads)))
 
   abbrev phantomNow : Bool
-  phantomNow = any (phantomAt (mapOf l z) w) (versionsOf leaves (x .leaves))
+  phantomNow = any (phantomIn (mapOf l z) w) (versionsOf leaves (x .leaves))
 
   pub judge-changed : (a : Bool) → a ≡ changedNow → a ≡ true → some Changed ≡ judged l reads leaves z x w
   unfolding judged
@@ -217,8 +217,8 @@ module _ {l : Lent} {rs : List ReadRows} {ls : List LeafSetRows} {ws : List Writ
     locked-same us = refl
 
     phantom-same : (us : List ℕ)
-        → any (phantomAt (mapOf l (c .sizes)) w) us ≡ any (phantomIn now w) us
-    unfolding phantomAt phantomIn stateOf
+        → any (phantomIn (mapOf l (c .sizes)) w) us ≡ any (phantomIn (now .map) w) us
+    unfolding phantomIn phantomIn stateOf
     phantom-same us = refl
 
     reads-of : readsIn rs w (x .reads) ≡ workerOf now w .reads
@@ -234,7 +234,7 @@ module _ {l : Lent} {rs : List ReadRows} {ls : List LeafSetRows} {ws : List Writ
         firstOf
         ((changed-same (readsIn rs w (x .reads)) ∙ ap (any (changedSince now)) reads-of) i)
         ((locked-same (keys (readsIn rs w (x .reads))) ∙ ap (λ (us : List (Row (Option Record))). any (lockedByOther now w) (keys us)) reads-of) i)
-        ((phantom-same (versionsIn ls w (x .leaves)) ∙ ap (any (phantomIn now w)) versions-of) i)
+        ((phantom-same (versionsIn ls w (x .leaves)) ∙ ap (any (phantomIn (now .map) w)) versions-of) i)
 
     refusal-by : (o : Option Refusal) → o ≡ judged l (getD rs w []) (getD ls w []) (c .sizes) x w
         → refusal now (validate w) ≡ maybe o (spent now) some

@@ -27,13 +27,14 @@ use transactions::admits::Admit;
 ghost use mathlib.Core.Path.{_≡_};
 ghost use mathlib.Core.Bool.{not};
 ghost use Prim.Native.Nat.{_<_, _≤_};
+ghost use Rattle.spec.specs.Maps.{phantomIn};
 ghost use Rattle.lists.specs.Rows.{any, keys};
 ghost use Rattle.spec.specs.Payloads.{payloadIn};
 ghost use Rattle.spec.specs.Records.{samePayload, standard, sameRecord};
 ghost use Rattle.spec.specs.Steps as model;
 ghost use Rattle.map.specs.Parts.{RecordsHeld, SlotsHeld};
 ghost use Rattle.map.specs.Views.{lent, mapOf};
-ghost use Rattle.queries.specs.PhantomViews.{Holding, Owns, phantomAt};
+ghost use Rattle.queries.specs.PhantomViews.{Holding, Owns};
 ghost use Rattle.sets.specs.Reads.{recordIn, readsOf, ReadSetHeld};
 ghost use Rattle.sets.specs.Leaves.{versionsOf, LeafSetHeld};
 ghost use Rattle.transactions.specs.Views.{logs, coreOf};
@@ -143,7 +144,7 @@ fn phantoms(
     requires { ⌜ LeafSetHeld (now leafset) ⌝ }
     requires { ⌜ LoggedAll (lent (now rows) (now leaves) (now slots)) (now leafset) z k ⌝ }
     requires { ⌜ k ≤ standard .leafSetLimit ⌝ }
-    ensures { λ r. ⌜ r ≡ any (phantomAt (mapOf (lent (now (rows .entry)) (now (leaves .entry)) (now (slots .entry))) z) w) (versionsOf (now (leafset .entry)) k) ⌝ }
+    ensures { λ r. ⌜ r ≡ any (phantomIn (mapOf (lent (now (rows .entry)) (now (leaves .entry)) (now (slots .entry))) z) w) (versionsOf (now (leafset .entry)) k) ⌝ }
 {
     let mut i = 0;
     while i < k {

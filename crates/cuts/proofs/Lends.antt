@@ -37,19 +37,19 @@ use denote.Triple.Statement.{Triple}
 use denote.Triple.Call.{calls-at}
 use denote.Triple.Clauses.{ensured, lasts}
 use denote.Triple.Walked.{says}
-use Rattle.cuts.specs.declared.Leaf.{Leaf}
+use Rattle.cuts.specs.declared.MadeLeaf.{MadeLeaf}
 use Rattle.cuts.specs.Making.{changed}
 use Rattle.cuts.proofs.Swaps.{swap, swaps, Swaps}
-use Rattle.cuts.proofs.Leaf as T
-use Rattle.cuts.proofs.Leaf.Laws as T′
+use Rattle.cuts.proofs.MadeLeaf as T
+use Rattle.cuts.proofs.MadeLeaf.Laws as T′
 
-module _ {M : Type 1} (𝓤 : URA M) (H : Heap 𝓤) (A : Atoms 𝓤) (W : Given 𝓤 H A) (f : Leaf → ℕ → Leaf) (ys : List Leaf) (room : Room T.the-row (length ys)) (i x : ℕ) (l : i < length ys) (i-fits : i < 2 ^ 64) (x-fits : x < 2 ^ 64) (b : ℕ) where
+module _ {M : Type 1} (𝓤 : URA M) (H : Heap 𝓤) (A : Atoms 𝓤) (W : Given 𝓤 H A) (f : MadeLeaf → ℕ → MadeLeaf) (ys : List MadeLeaf) (room : Room T.the-row (length ys)) (i x : ℕ) (l : i < length ys) (i-fits : i < 2 ^ 64) (x-fits : x < 2 ^ 64) (b : ℕ) where
   -- the leaves once they come back
-  abbrev zs : List Leaf
+  abbrev zs : List MadeLeaf
   zs = changed f ys i x
 
   -- the reference to the local, for the lifetime α under the name δ, and what the callee's triple binds outside
-  abbrev lent : GName → RefT (List Leaf)
+  abbrev lent : GName → RefT (List MadeLeaf)
   lent δ = record { ptr = (b, 0); name = δ; now = ys }
 
   abbrev own-at : ℕ → GName → Fml
@@ -75,17 +75,17 @@ module _ {M : Type 1} (𝓤 : URA M) (H : Heap 𝓤) (A : Atoms 𝓤) (W : Given
         calls-at ! fm (Swaps 𝓤 H A f) known (to α δ) (opds _ _) (λ v.
         use1 W (later (some (λ (r : Unit {0}). ((‵ (flft (α ∷ []) fullShare) ⊛ ‵ ftrue) ⊛ ‵ (unit .own r (v ∷ []))) ⊛ raw (ensured 𝓤 H A swap (swaps 𝓤 f) (α ∷ [], tt) (lent δ, (i, (x, tt))) tt r)))) (id⊢ 𝓤 _) $ await ! tt $ pick ! (λ r.
         split ! $ split ! $ move ! (1 ∷ []) $ peeks ! unit (Is unit) (shows 𝓤 H A unit) r (v ∷ []) (λ is. drop ! $ split ! $ move ! (2 ∷ []) $
-        use1 W (some (λ (ws : List Leaf × (Unit {0} × (Unit {0} × Unit {0}))). ‵ (lasts swap (α ∷ [], tt) (lent δ, (i, (x, tt))) ws) ⊛ raw (fact 𝓤 (ws .0 ≡ zs)))) (id⊢ 𝓤 _) $ pick ! (λ ws.
-        split ! $ move ! (1 ∷ []) $ heard ! (ws .0 ≡ zs) (λ e. fsplit ! $ fsplit ! $ rewrite ! 0 (λ (us : List Leaf). ‵ (finally T.the-row δ us)) e refl $
+        use1 W (some (λ (ws : List MadeLeaf × (Unit {0} × (Unit {0} × Unit {0}))). ‵ (lasts swap (α ∷ [], tt) (lent δ, (i, (x, tt))) ws) ⊛ raw (fact 𝓤 (ws .0 ≡ zs)))) (id⊢ 𝓤 _) $ pick ! (λ ws.
+        split ! $ move ! (1 ∷ []) $ heard ! (ws .0 ≡ zs) (λ e. fsplit ! $ fsplit ! $ rewrite ! 0 (λ (us : List MadeLeaf). ‵ (finally T.the-row δ us)) e refl $
         -- [the last leaves; their length; true; the token; true; the lender's part; …]
         move ! (3 ∷ []) $ lft-end ! tt $ move ! (0 ∷ 5 ∷ 1 ∷ []) $ use3 W (later (‵ (Arr (mem T.the-row) (length ys) .lies zs b 0))) (slice-back 𝓤 H A W T.the-row (α ∷ []) δ zs (length ys) b 0) $ await ! tt $
         fsplit ! $ drop ! $ move ! (1 ∷ []) $ drop ! $ move ! (1 ∷ []) $ drop ! $ move ! (1 ∷ []) $ drop ! $ after v (nothing-lawful 𝓤 H A W .typed r (v ∷ []) is .0))))))))
 
 -- ---- an array of leaves in a local: from its cell and what it owns to the leaves side by side, and back
-abbrev pub mach : List Leaf → Val
+abbrev pub mach : List MadeLeaf → Val
 mach ys = only (array-vals (LL.vals T.the-type T′.the-laws) ys)
 
-module _ {M : Type 1} (𝓤 : URA M) (H : Heap 𝓤) (A : Atoms 𝓤) (W : Given 𝓤 H A) (n : ℕ) (ys : List Leaf) (b : ℕ) where
+module _ {M : Type 1} (𝓤 : URA M) (H : Heap 𝓤) (A : Atoms 𝓤) (W : Given 𝓤 H A) (n : ℕ) (ys : List MadeLeaf) (b : ℕ) where
   pub apart : ent 𝓤 (sep 𝓤 (sem 𝓤 H A (fat fullShare (tyArray T′.mir n) b 0 (mach ys))) (sem 𝓤 H A (Array T.the-row n .own ys (mach ys ∷ [])))) (sem 𝓤 H A (cells (mem T.the-row) ys b 0))
   unfolding partOf
   apart =

@@ -38,29 +38,29 @@ use denote.Triple.Clauses.{Clauses, Ended, closing, ensured, lasts}
 use denote.Triple.Entry.{Vals, onEntry}
 use denote.Triple.Spec.{Meets, tripleOf}
 use denote.Triple.Walked.{says, needs, Stays, stay-slice, stay-dropped, walkOf, Walks, ends-at, walked, goes-slice, goes-dropped, walk-meets}
-use Rattle.cuts.specs.declared.Leaf.{Leaf}
+use Rattle.cuts.specs.declared.MadeLeaf.{MadeLeaf}
 use Rattle.cuts.specs.Making.{leaf, changed}
-use Rattle.cuts.proofs.Leaf as T
-use Rattle.cuts.proofs.Leaf.Laws as T′
+use Rattle.cuts.proofs.MadeLeaf as T
+use Rattle.cuts.proofs.MadeLeaf.Laws as T′
 
 -- ---- the method, from a leaf and a number to a leaf: its parameters, its clauses and its contract
 abbrev method : Ended
 method = record { signature = record { lifetimes = 0; outlives = []; params = plain (λ _. T.the-row) ∷ plain (λ _. u64) ∷ []; result = plain (λ _. T.the-row) }; kept = (yes, (yes, tt)) }
 
-abbrev makes : {M : Type 1} (𝓤 : URA M) → (Leaf → ℕ → Leaf) → Clauses 𝓤 method
+abbrev makes : {M : Type 1} (𝓤 : URA M) → (MadeLeaf → ℕ → MadeLeaf) → Clauses 𝓤 method
 makes 𝓤 f κs a = record { ghost = Unit {0}; requires = λ _. emp 𝓤; ensures = λ _ r _. fact 𝓤 (r ≡ f (a .0) (a .1 .0)) }
 
-abbrev pub Makes : {M : Type 1} (𝓤 : URA M) (H : Heap 𝓤) (A : Atoms 𝓤) → (Leaf → ℕ → Leaf) → Contract 𝓤
+abbrev pub Makes : {M : Type 1} (𝓤 : URA M) (H : Heap 𝓤) (A : Atoms 𝓤) → (MadeLeaf → ℕ → MadeLeaf) → Contract 𝓤
 Makes 𝓤 H A f = tripleOf 𝓤 H A (method .signature) (closing 𝓤 H A method (makes 𝓤 f))
 
 -- ---- the function that swaps: its parameters, its clauses, its contract, and its MIR with g for the method
 abbrev pub swap : Ended
 swap = record { signature = record { lifetimes = 1; outlives = []; params = SliceRefMutOf (0 ∷ []) tt (plain (λ _. T.the-row)) (λ _. tt) ∷ plain (λ _. usize) ∷ plain (λ _. u64) ∷ []; result = plain (λ _. unit) }; kept = (yes, (yes, (yes, tt))) }
 
-abbrev pub swaps : {M : Type 1} (𝓤 : URA M) → (Leaf → ℕ → Leaf) → Clauses 𝓤 swap
+abbrev pub swaps : {M : Type 1} (𝓤 : URA M) → (MadeLeaf → ℕ → MadeLeaf) → Clauses 𝓤 swap
 swaps 𝓤 f κs a = record { ghost = Unit {0}; requires = λ _. fact 𝓤 (a .1 .0 < length (now (a .0))); ensures = λ _ _ e. fact 𝓤 (now (e .0) ≡ changed f (now (a .0)) (a .1 .0) (a .1 .1 .0)) }
 
-abbrev pub Swaps : {M : Type 1} (𝓤 : URA M) (H : Heap 𝓤) (A : Atoms 𝓤) → (Leaf → ℕ → Leaf) → Contract 𝓤
+abbrev pub Swaps : {M : Type 1} (𝓤 : URA M) (H : Heap 𝓤) (A : Atoms 𝓤) → (MadeLeaf → ℕ → MadeLeaf) → Contract 𝓤
 Swaps 𝓤 H A f = tripleOf 𝓤 H A (swap .signature) (closing 𝓤 H A swap (swaps 𝓤 f))
 
 -- the locals: the result, made, i, x, what the method gives; where leaf i lies (in bytes, and its place), what is read there; where it is stored
@@ -86,13 +86,13 @@ abbrev stayed : Stays (swap .signature .params) (swap .kept)
 stayed = (stay-slice (0 ∷ []) tt (plain (λ _. T.the-row)), (stay-dropped (plain (λ _. usize)) yes, (stay-dropped (plain (λ _. u64)) yes, tt)))
 
 -- the machine value of a leaf
-abbrev mach : Leaf → Val
+abbrev mach : MadeLeaf → Val
 mach h = LL.val T.the-type T′.the-laws h
 
-module _ {M : Type 1} (𝓤 : URA M) (H : Heap 𝓤) (A : Atoms 𝓤) (W : Given 𝓤 H A) (f : Leaf → ℕ → Leaf) (κ : Lft) (q : Share) (b o : ℕ) (γ : GName) (ys : List Leaf) (i x : ℕ)
+module _ {M : Type 1} (𝓤 : URA M) (H : Heap 𝓤) (A : Atoms 𝓤) (W : Given 𝓤 H A) (f : MadeLeaf → ℕ → MadeLeaf) (κ : Lft) (q : Share) (b o : ℕ) (γ : GName) (ys : List MadeLeaf) (i x : ℕ)
     (room : Room T.the-row (length ys)) (i-fits : i < 2 ^ 64) (x-fits : x < 2 ^ 64) (l : i < length ys) where
   -- the arguments, their machine values, what the triple binds outside, and what is to hold at exit
-  abbrev a : RefT (List Leaf) × (ℕ × (ℕ × Unit {0}))
+  abbrev a : RefT (List MadeLeaf) × (ℕ × (ℕ × Unit {0}))
   a = (record { ptr = (b, o); name = γ; now = ys }, (i, (x, tt)))
 
   abbrev at : Vals (swap .signature) (κ, tt)
@@ -105,13 +105,13 @@ module _ {M : Type 1} (𝓤 : URA M) (H : Heap 𝓤) (A : Atoms 𝓤) (W : Given
   Post = walkOf 𝓤 H A swap stayed (swaps 𝓤 f) .post bound
 
   -- the leaf before, the leaf after, and the leaves after
-  abbrev h : Leaf
+  abbrev h : MadeLeaf
   h = getD ys i (leaf 0 0)
 
-  abbrev h′ : Leaf
+  abbrev h′ : MadeLeaf
   h′ = f h x
 
-  abbrev zs : List Leaf
+  abbrev zs : List MadeLeaf
   zs = set ys i h′
 
   -- the bytes before leaf i
@@ -133,7 +133,7 @@ module _ {M : Type 1} (𝓤 : URA M) (H : Heap 𝓤) (A : Atoms 𝓤) (W : Given
   goes : ent 𝓤 (sem 𝓤 H A (T.the-row .own h (mach h ∷ []))) (Makes 𝓤 H A f .pre to)
   goes = qed W (‵ (T.the-row .own h (mach h ∷ [])) ∷ []) ∵ nothing ! $ owned ! u64 (Is u64) (uint-makes 𝓤 H A W w64) x _ (refl, x-fits) $ fjoin ! $ move ! (1 ∷ 0 ∷ []) $ fjoin ! $ nothing ! $ join ! $ nothing ! $ move ! (1 ∷ 0 ∷ []) $ done !
 
-  of-method : (r : Leaf) → ent 𝓤 (ensured 𝓤 H A method (makes 𝓤 f) tt (h, (x, tt)) tt r) (fact 𝓤 (r ≡ h′))
+  of-method : (r : MadeLeaf) → ent 𝓤 (ensured 𝓤 H A method (makes 𝓤 f) tt (h, (x, tt)) tt r) (fact 𝓤 (r ≡ h′))
   of-method r = exE 𝓤 _ (λ ws. snd∗ 𝓤 (sem 𝓤 H A (lasts method tt (h, (x, tt)) ws)) (fact 𝓤 (r ≡ h′)))
 
   module _ (C : Calls 𝓤 H) (Λ : Loops 𝓤 H) (fm : FmC 𝓤 H (W .laws) C) (g : Name) (known : Triple 𝓤 (C g) (Makes 𝓤 H A f)) where
@@ -156,9 +156,9 @@ module _ {M : Type 1} (𝓤 : URA M) (H : Heap 𝓤) (A : Atoms 𝓤) (W : Given
         move ! (1 ∷ []) $ use1 W (raw (Makes 𝓤 H A f .pre to)) goes $
         -- [what the call asks; leaf i's cell; the others; the open borrow; obs; auth; _9; …]
         calls-at ! fm (Makes 𝓤 H A f) known to (and-then ! (load ! (from ! (stop !)) (look ! 10 refl)) (and-then ! (load ! (from ! (stop !)) (look ! 18 refl)) (no-more !))) (λ v.
-        use1 W (later (some (λ (r : Leaf). (‵ ftrue ⊛ ‵ (T.the-row .own r (v ∷ []))) ⊛ raw (ensured 𝓤 H A method (makes 𝓤 f) tt (h, (x, tt)) tt r)))) (id⊢ 𝓤 _) $ await ! tt $ pick ! (λ r.
+        use1 W (later (some (λ (r : MadeLeaf). (‵ ftrue ⊛ ‵ (T.the-row .own r (v ∷ []))) ⊛ raw (ensured 𝓤 H A method (makes 𝓤 f) tt (h, (x, tt)) tt r)))) (id⊢ 𝓤 _) $ await ! tt $ pick ! (λ r.
         split ! $ move ! (1 ∷ []) $ use1 W (raw (fact 𝓤 (r ≡ h′))) (of-method r) $ heard ! (r ≡ h′) (λ e. split ! $ drop ! $
-        rewrite ! 0 (λ (k : Leaf). ‵ (T.the-row .own k (v ∷ []))) e refl $
+        rewrite ! 0 (λ (k : MadeLeaf). ‵ (T.the-row .own k (v ∷ []))) e refl $
         peeks ! T.the-row (Is T.the-row) (shows 𝓤 H A T.the-row) h′ (v ∷ []) (λ is. land ! (from ! (stop !)) (init ! 16 refl (LL.lawful T.the-type T′.the-laws 𝓤 H A W .typed h′ _ is .0)) $
         assigns ! (bin ! (load ! (from ! (stop !)) (look ! 20 refl)) (lit ! tt) far) (from ! (stop !)) (init ! 8 refl (tt, far)) $
         assigns ! (bin ! (load ! (from ! (fld ! refl (stop !))) (look-in ! 22 (sub ! 0 refl (whole !)))) (load ! (from ! (stop !)) (look ! 8 refl)) tt) (from ! (stop !)) (init ! 6 refl (tt, tt)) $
@@ -170,7 +170,7 @@ module _ {M : Type 1} (𝓤 : URA M) (H : Heap 𝓤) (A : Atoms 𝓤) (W : Given
         forget ! 3 refl $ forget ! 5 refl $ forget ! 7 refl $ forget ! 9 refl $ forget ! 11 refl $ forget ! 13 refl $ forget ! 15 refl $ forget ! 17 refl $ forget ! 19 refl $ forget ! 21 refl $
         move ! (21 ∷ 22 ∷ []) $ free1 ! $ move ! (19 ∷ 20 ∷ []) $ free1 ! $ move ! (17 ∷ 18 ∷ []) $ free1 ! $ move ! (15 ∷ 16 ∷ []) $ free1 ! $ move ! (13 ∷ 14 ∷ []) $ free1 ! $ move ! (11 ∷ 12 ∷ []) $ free1 ! $ move ! (9 ∷ 10 ∷ []) $ free1 ! $ move ! (7 ∷ 8 ∷ []) $ free1 ! $ move ! (5 ∷ 6 ∷ []) $ free1 ! $ move ! (3 ∷ 4 ∷ []) $ free1 ! $ free0 ! $ by ! exits)))))))))))))))
 
-module _ {M : Type 1} (𝓤 : URA M) (H : Heap 𝓤) (A : Atoms 𝓤) (W : Given 𝓤 H A) (f : Leaf → ℕ → Leaf) (g : Name) where
+module _ {M : Type 1} (𝓤 : URA M) (H : Heap 𝓤) (A : Atoms 𝓤) (W : Given 𝓤 H A) (f : MadeLeaf → ℕ → MadeLeaf) (g : Name) where
   walks : (C : Calls 𝓤 H) (Λ : Loops 𝓤 H) → FmC 𝓤 H (W .laws) C → Triple 𝓤 (C g) (Makes 𝓤 H A f) → Walks 𝓤 H A swap stayed (WpFn 𝓤 H C Λ (function g)) (swaps 𝓤 f)
   walks C Λ fm known = walked 𝓤 H A swap stayed (swaps 𝓤 f) (WpFn 𝓤 H C Λ (function g)) (λ κs. (slice-vals, (uint-vals w64, (uint-vals w64, tt)))) (λ κs. (mut-slice-tells (named 0) (κs .0) T.the-row, (uint-tells w64, (uint-tells w64, tt))))
       (λ κs qs bounds a _ are. needs 𝓤 (a .1 .0 < length (now (a .0))) _

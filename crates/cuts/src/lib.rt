@@ -8,7 +8,7 @@ ghost use lib.ListN.{length, set};
 ghost use Rattle.cuts.specs.Making.{mostRuns, lowered, versioned, withLow, withVersion, leaf};
 
 // A leaf that a merge makes: its low address and its version (document 01: leaf, low address and mark).
-pub struct Leaf {
+pub struct MadeLeaf {
     pub low: u64,
     pub version: u64,
 }
@@ -18,24 +18,24 @@ pub struct Leaf {
 pub const MOST_RUNS: usize = 129;
 
 // The leaves that a merge has made so far, from the left.
-pub type Made = [Leaf; MOST_RUNS];
+pub type Made = [MadeLeaf; MOST_RUNS];
 
-impl Leaf {
+impl MadeLeaf {
     // The leaf from another low address on.
-    fn lowered(self, low: u64) -> Leaf
+    fn lowered(self, low: u64) -> MadeLeaf
         ensures { λ r. ⌜ r ≡ lowered self low ⌝ }
     {
-        Leaf {
+        MadeLeaf {
             low,
             version: self.version,
         }
     }
 
     // The leaf under another version.
-    fn versioned(self, version: u64) -> Leaf
+    fn versioned(self, version: u64) -> MadeLeaf
         ensures { λ r. ⌜ r ≡ versioned self version ⌝ }
     {
-        Leaf {
+        MadeLeaf {
             low: self.low,
             version,
         }
@@ -43,7 +43,7 @@ impl Leaf {
 }
 
 // The low address of leaf i.
-fn set_low(made: &mut [Leaf], i: usize, low: u64)
+fn set_low(made: &mut [MadeLeaf], i: usize, low: u64)
     requires { ⌜ i < length (now made) ⌝ }
     ensures { λ _. ⌜ now (made .exit) ≡ withLow (now (made .entry)) i low ⌝ }
 {
@@ -51,14 +51,14 @@ fn set_low(made: &mut [Leaf], i: usize, low: u64)
 }
 
 // The version of leaf i.
-fn set_version(made: &mut [Leaf], i: usize, version: u64)
+fn set_version(made: &mut [MadeLeaf], i: usize, version: u64)
     requires { ⌜ i < length (now made) ⌝ }
     ensures { λ _. ⌜ now (made .exit) ≡ withVersion (now (made .entry)) i version ⌝ }
 {
     made[i] = made[i].versioned(version);
 }
 
-// Leaf i is made, where the leaves go by value.
+// MadeLeaf i is made, where the leaves go by value.
 pub fn make_run(made: Made, i: usize, low: u64, version: u64) -> Made
     requires { ⌜ i < mostRuns ⌝ }
     ensures { λ r. ⌜ r ≡ set made i (leaf low version) ⌝ }

@@ -17,7 +17,7 @@ use Rattle.spec.specs.Records.{standard, Payload, Record, Write, written, delet
 use Rattle.spec.specs.Guards.{Scan, stretch, lastByte, share, deciding, standing, untouched, laidOver, overlaps, overlapped, ofPut, anyPut}
 use Rattle.sets.specs.declared.leaves.Scanned.{Scanned}
 use Rattle.sets.specs.declared.reads.Observed.{Observed}
-use Rattle.sets.specs.declared.writes.Found.{Found}
+use Rattle.sets.specs.declared.writes.FoundWrite.{FoundWrite}
 use Rattle.sets.specs.Reads.{ReadRows, recordOf, observedIn, noRead, readIn, readsOf, GivesRead}
 use Rattle.sets.specs.Leaves.{scannedIn}
 use Rattle.sets.specs.SetLaws.{length-rows}
@@ -191,7 +191,7 @@ module _ (ws : List (Row Write)) (k n : ℕ) (o : Observed) where
   read-apart e f g = sym (with-false (not (present (look ws (o .address))))) ∙ by-parts true false e (sym f ∙ g)
 
   -- by what a look-up of the own write finds
-  pub read-found : {b : Bool} {f g : Found} → o .current .there ≡ true → b ≡ overlapsAt k n (o .address) (o .current .payload .value) → b ≡ true
+  pub read-found : {b : Bool} {f g : FoundWrite} → o .current .there ≡ true → b ≡ overlapsAt k n (o .address) (o .current .payload .value) → b ≡ true
       → f ≡ g → foundIn f ≡ look ws (o .address) → not (present (foundIn g)) ≡ overlapsLogged ws k n (observedIn o)
   read-found {g = g} e m t q h =
       sym (with-true (not (present (foundIn g))))

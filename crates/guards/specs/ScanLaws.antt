@@ -11,8 +11,8 @@ use Rattle.lists.specs.Tests.{pick, both, maybe, present, atMost}
 use Rattle.lists.specs.TestLaws.{atMost-yes, atMost-no}
 use Rattle.spec.specs.Records.{standard}
 use Rattle.spec.specs.Guards.{Scan, lastByte, covers, latest, deciding, uncovered}
-use Rattle.sets.specs.declared.leaves.Mark.{Mark}
-use Rattle.sets.specs.Leaves.{LeafSetRows, scannedIn, rememberedIf, scansAt, marksOf, joined, scansOf, GivesMark}
+use Rattle.sets.specs.declared.leaves.ScanNote.{ScanNote}
+use Rattle.sets.specs.Leaves.{LeafSetRows, scannedIn, rememberedIf, scansAt, notesOf, joined, scansOf, GivesNote}
 use Rattle.sets.specs.LeafLaws.{scans-snoc}
 use Rattle.sets.specs.SetLaws.{rows-none}
 use Rattle.guards.specs.declared.scans.Decision.{Decision}
@@ -56,13 +56,13 @@ latest-one f false s = refl
 -- ---- which decides
 
 -- one row more: its scan, if that covers the section, else what decided before
-decide-row : (rs : LeafSetRows) (i k n : ℕ) (m : Mark) → GivesMark rs i m
+decide-row : (rs : LeafSetRows) (i k n : ℕ) (m : ScanNote) → GivesNote rs i m
     → deciding standard (scansOf rs (suc i)) k n
     ≡ maybe (pick (both (m .first) (covers standard k n (scannedIn (m .scan)))) (some (scannedIn (m .scan))) none) (deciding standard (scansOf rs i) k n) some
 unfolding deciding
 decide-row rs i k n m g =
     ap (latest (covers standard k n)) (scans-snoc rs i)
-    ∙ latest-append (covers standard k n) (scansOf rs i) (getD (marksOf rs (suc i)) i [])
+    ∙ latest-append (covers standard k n) (scansOf rs i) (getD (notesOf rs (suc i)) i [])
     ∙ ap (λ (o : Option Scan). maybe o (latest (covers standard k n) (scansOf rs i)) some)
     (ap (latest (covers standard k n)) (sym (g .mark (suc i) (omega arith))) ∙ latest-one (covers standard k n) (m .first) (scannedIn (m .scan)))
 
@@ -76,7 +76,7 @@ decide-start rs k n m = record { within = omega arith; rest = refl }
 
 module _ {rs : LeafSetRows} {k n m i : ℕ} (s : Deciding rs k n m i) where
   -- row i - 1 is looked at, and its test says b
-  last : {r : Mark} {b c : Bool} → 0 < i → GivesMark rs (i - 1) r → b ≡ both (r .first) (covers standard k n (scannedIn (r .scan))) → b ≡ c
+  last : {r : ScanNote} {b c : Bool} → 0 < i → GivesNote rs (i - 1) r → b ≡ both (r .first) (covers standard k n (scannedIn (r .scan))) → b ≡ c
       → maybe (pick c (some (scannedIn (r .scan))) none) (deciding standard (scansOf rs (i - 1)) k n) some ≡ deciding standard (scansOf rs m) k n
   last {r} {b} {c} h g e f =
       let q : suc (i - 1) ≡ i = omega arith in
@@ -85,11 +85,11 @@ module _ {rs : LeafSetRows} {k n m i : ℕ} (s : Deciding rs k n m i) where
       ∙ ap (λ (j : ℕ). deciding standard (scansOf rs j) k n) q
       ∙ s .rest
 
-  pub decide-on : {r : Mark} {b : Bool} → 0 < i → GivesMark rs (i - 1) r → b ≡ both (r .first) (covers standard k n (scannedIn (r .scan))) → b ≡ false
+  pub decide-on : {r : ScanNote} {b : Bool} → 0 < i → GivesNote rs (i - 1) r → b ≡ both (r .first) (covers standard k n (scannedIn (r .scan))) → b ≡ false
       → Deciding rs k n m (i - 1)
   decide-on h g e f = let w : i ≤ m = s .within in record { within = omega arith; rest = last h g e f }
 
-  pub decide-hit : {r : Mark} {b : Bool} → 0 < i → GivesMark rs (i - 1) r → b ≡ both (r .first) (covers standard k n (scannedIn (r .scan))) → b ≡ true
+  pub decide-hit : {r : ScanNote} {b : Bool} → 0 < i → GivesNote rs (i - 1) r → b ≡ both (r .first) (covers standard k n (scannedIn (r .scan))) → b ≡ true
       → some (scannedIn (r .scan)) ≡ deciding standard (scansOf rs m) k n
   decide-hit h g e f = last h g e f
 

@@ -10,7 +10,7 @@ use sets::reads;
 use sets::reads::Observed;
 use sets::writes;
 use sets::writes::Entry;
-use sets::writes::Found;
+use sets::writes::FoundWrite;
 use spec::Address;
 ghost use mathlib.Core.Path.{_≡_};
 ghost use mathlib.Core.Bool.{false};
@@ -74,9 +74,9 @@ fn read_overlaps(writes: &WriteSet, n: usize, o: Observed, a: Address, len: u64)
         let v = c.payload;
         if overlaps(a, len, o.address, v.value) {
             return match writes::find_write(writes, n, o.address) {
-                Found::Put(_) => false,
-                Found::Deletion => false,
-                Found::Nothing => true,
+                FoundWrite::Put(_) => false,
+                FoundWrite::Deletion => false,
+                FoundWrite::Nothing => true,
             };
         }
         return false;

@@ -2,7 +2,7 @@
 use sets::LeafSet;
 use sets::WriteSet;
 use sets::leaves;
-use sets::leaves::Mark;
+use sets::leaves::ScanNote;
 use sets::leaves::Scanned;
 use sets::writes;
 use sets::writes::Entry;
@@ -47,12 +47,12 @@ fn covers(s: Scanned, a: Address, len: u64) -> bool
 }
 
 // The row remembers a scan that covers the section.
-fn decides(mark: Mark, a: Address, len: u64) -> bool
+fn decides(note: ScanNote, a: Address, len: u64) -> bool
     requires { ⌜ unfit standard a len ≡ false ⌝ }
-    ensures { λ r. ⌜ r ≡ both (mark .first) (covers standard a len (scannedIn (mark .scan))) ⌝ }
+    ensures { λ r. ⌜ r ≡ both (note .first) (covers standard a len (scannedIn (note .scan))) ⌝ }
 {
-    if mark.first {
-        return covers(mark.scan, a, len);
+    if note.first {
+        return covers(note.scan, a, len);
     }
     false
 }
@@ -66,9 +66,9 @@ pub fn deciding(leafset: &LeafSet, m: usize, a: Address, len: u64) -> Decision
 {
     let mut i = m;
     while 0 < i {
-        let mark = leaves::mark_at(leafset, i - 1);
-        if decides(mark, a, len) {
-            let s = mark.scan;
+        let note = leaves::note_at(leafset, i - 1);
+        if decides(note, a, len) {
+            let s = note.scan;
             return Decision::By(s);
         }
         i -= 1;

@@ -2,7 +2,7 @@
 use Prim.Native.Nat.{ℕ}
 use mathlib.Core.List.{List, [], _∷_, map}
 use lib.ListN.{getD, set}
-use Rattle.index.specs.declared.leaves.Leaf.{Leaf as LeafWords}
+use Rattle.index.specs.declared.leaves.LeafWords.{LeafWords}
 
 -- the lent rows of leaves, as lists of words
 abbrev pub LeafRows : Type 0

@@ -14,9 +14,9 @@ use Rattle.lists.specs.TestLaws.{less-true, less-false, cases}
 use Rattle.lists.specs.Tabulation.{tab}
 use Rattle.lists.specs.Shifts.{over, moved, tab-same, length-tab, getD-tab, length-over, getD-over-left, getD-over-in, getD-over-right, length-moved, getD-moved-left, getD-moved-in, over-cons, filled-before}
 use Rattle.spec.specs.Records.{standard}
-use Rattle.cuts.specs.declared.Leaf.{Leaf as Run}
+use Rattle.cuts.specs.declared.MadeLeaf.{MadeLeaf as Run}
 use Rattle.cuts.specs.Making.{mostRuns, leaf}
-use Rattle.index.specs.declared.leaves.Leaf.{Leaf as LeafWords}
+use Rattle.index.specs.declared.leaves.LeafWords.{LeafWords}
 use Rattle.index.specs.Views.{recordPlaces, leafPlaces, RecordRows, keysBetween}
 use Rattle.index.specs.LeafColumns.{LeafRows, column, lowsOf, versionsOf, hiddenOf, pendingOf, leafAt, leafWords, leafPut}
 use Rattle.index.specs.LeafColumnLaws.{column-places, column-getD, column-set, column-kept, column-moved, column-filled}

@@ -11,8 +11,8 @@ use Rattle.spec.specs.Payloads.{payloadIn, noPayload}
 use Rattle.spec.specs.declared.PayloadWords.{PayloadWords}
 use Rattle.spec.specs.Leaves.{Leaf}
 use Rattle.index.specs.declared.rows.RecordRow.{RecordRow}
-use Rattle.index.specs.declared.records.Found.{Found}
-use Rattle.index.specs.declared.records.Found.the-variants.{At, Nothing}
+use Rattle.index.specs.declared.records.FoundRecord.{FoundRecord}
+use Rattle.index.specs.declared.records.FoundRecord.the-variants.{At, Nothing}
 
 -- how many records there is room for
 abbrev pub recordPlaces : ℕ
@@ -81,7 +81,7 @@ pub record RecordsSorted (rows : RecordRows) (n : ℕ) : Type 0 where
   pub rising : Rising (recordsOf rows n)
 
 -- the record found, or none
-abbrev pub foundOf : Found → Option Record
+abbrev pub foundOf : FoundRecord → Option Record
 foundOf (At v commit) = some (recordFrom v commit)
 foundOf Nothing = none
 

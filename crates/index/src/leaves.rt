@@ -17,7 +17,7 @@ ghost use Rattle.index.specs.LeafColumns.{lowsOf, leafAt, leafPut};
 
 // A leaf in words: its low and its version (document 01: mark), and the phantomlet's numbers of the keys that it hides from somebody
 // and of the pending writes in it, which only move along with their leaf here.
-pub struct Leaf {
+pub struct LeafWords {
     pub low: u64,
     pub version: u64,
     pub hidden: u64,
@@ -38,11 +38,11 @@ pub fn leaf_places(leaves: &Leaves)
 }
 
 // The leaf at place i.
-pub fn leaf_at(leaves: &Leaves, i: usize) -> Leaf
+pub fn leaf_at(leaves: &Leaves, i: usize) -> LeafWords
     requires { ⌜ i < leafPlaces ⌝ }
     ensures { λ r. ⌜ r ≡ leafAt (now (leaves .entry)) i ⌝ }
 {
-    Leaf {
+    LeafWords {
         low: leaves[i][0],
         version: leaves[i][1],
         hidden: leaves[i][2],
@@ -51,7 +51,7 @@ pub fn leaf_at(leaves: &Leaves, i: usize) -> Leaf
 }
 
 // Another leaf at place i.
-pub fn put_leaf(leaves: &mut Leaves, i: usize, l: Leaf)
+pub fn put_leaf(leaves: &mut Leaves, i: usize, l: LeafWords)
     requires { ⌜ i < leafPlaces ⌝ }
     ensures { λ _. ⌜ now (leaves .exit) ≡ leafPut (now (leaves .entry)) i l ⌝ }
 {

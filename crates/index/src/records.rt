@@ -21,7 +21,7 @@ ghost use Rattle.index.specs.RecordPlaces.{AtPlace};
 ghost use Rattle.index.specs.Searches.{probed};
 
 // What a look-up finds.
-pub enum Found {
+pub enum FoundRecord {
     At { payload: PayloadWords, commit: u64 },
     Nothing,
 }
@@ -102,23 +102,23 @@ pub fn locate(rows: &Records, n: usize, a: Address) -> usize
 }
 
 // The record at an address.
-pub fn find(rows: &Records, n: usize, a: Address) -> Found
+pub fn find(rows: &Records, n: usize, a: Address) -> FoundRecord
     requires { ⌜ RecordsSorted (now rows) n ⌝ }
     ensures { λ r. ⌜ foundOf r ≡ look (recordsOf (now (rows .entry)) n) a ⌝ }
 {
     let p = locate(rows, n, a);
     if n <= p {
-        return Found::Nothing;
+        return FoundRecord::Nothing;
     }
     let r = rows::get(rows, p);
     if r.address == a as u64 {
         let payload = r.payload;
-        return Found::At {
+        return FoundRecord::At {
             payload,
             commit: r.commit,
         };
     }
-    Found::Nothing
+    FoundRecord::Nothing
 }
 
 // Puts a row in at place p, before the records that stand there and after it. Answers how many records there are now.

@@ -3,7 +3,7 @@
 use crate::Leaves;
 use crate::Records;
 use crate::leaves;
-use crate::leaves::Leaf;
+use crate::leaves::LeafWords;
 use crate::rows;
 use cuts::MOST_RUNS;
 use cuts::Made;
@@ -25,10 +25,10 @@ pub struct Settled {
 }
 
 // A leaf as a merge makes it.
-fn made_leaf(low: u64, version: u64) -> Leaf
+fn made_leaf(low: u64, version: u64) -> LeafWords
     ensures { λ r. ⌜ r ≡ madeLeaf low version ⌝ }
 {
-    Leaf {
+    LeafWords {
         low,
         version,
         hidden: 0,
@@ -43,7 +43,7 @@ fn make_all(rows: &Records, i: usize, n: usize, v: u64) -> Made
     requires { ⌜ v + n < 2 ^ 64 ⌝ }
     ensures { λ r. ⌜ MadeRuns (now (rows .entry)) i v n r ⌝ }
 {
-    let mut made = [cuts::Leaf { low: 0, version: 0 }; MOST_RUNS];
+    let mut made = [cuts::MadeLeaf { low: 0, version: 0 }; MOST_RUNS];
     let mut x = 0;
     while x < n {
         let r = rows::get(rows, i + (x + 1) * RUN);
@@ -91,7 +91,7 @@ fn join(leaves: &mut Leaves, m: usize, p: usize, v: u64) -> Settled
 {
     leaves::shift_left(leaves, p + 1, p, m - p - 1);
     let left = leaves::leaf_at(leaves, p - 1);
-    let l = Leaf {
+    let l = LeafWords {
         low: left.low,
         version: v + 1,
         hidden: left.hidden,

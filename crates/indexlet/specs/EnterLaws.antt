@@ -18,7 +18,7 @@ use Rattle.spec.specs.Slots.{slotCount, homeSlot, Content, idle, isIdle, Slot, 
 use Rattle.laws.specs.Probes.{gap, gap-less, gap-back, home-less}
 use Rattle.laws.specs.SlotCounts.{Good, Place, holds-entry, look-held, absent-count, entries-most}
 use Rattle.laws.specs.SlotChanges.{release-none, distance-absent, rewrite-at}
-use Rattle.laws.specs.SlotLaws.{Room, goes, stands, fits, enter-idle, enter-present, enter-absent, enter-good, count-enter, fresh-good, kept-entry, content-none, content-some, present-content}
+use Rattle.laws.specs.SlotLaws.{EntryRoom, goes, stands, fits, enter-idle, enter-present, enter-absent, enter-good, count-enter, fresh-good, kept-entry, content-none, content-some, present-content}
 use Rattle.laws.specs.Searches.{search-finds, search-place}
 use Rattle.indexlet.specs.declared.Content.{Content as ContentWords}
 use Rattle.indexlet.specs.declared.Slot.{Slot as SlotWords}
@@ -219,7 +219,7 @@ bucket-has {ws} a z e =
     (λ t. less-false (cellAt ws (bucketOf a)) 256 t)
     (cases (less (cellAt ws (bucketOf a)) 256))
 
-module _ (ws : SlotRows) (n a : ℕ) (c : ContentWords) (z : SlotsHeld ws) (q : n ≡ length (entries (slotsOf ws))) (room : Room (slotsOf ws) a (contentIn c)) where
+module _ (ws : SlotRows) (n a : ℕ) (c : ContentWords) (z : SlotsHeld ws) (q : n ≡ length (entries (slotsOf ws))) (room : EntryRoom (slotsOf ws) a (contentIn c)) where
   -- the words hold the slots that `enter` leaves, and the number of entries follows
   enters : (us : SlotRows) (m : ℕ) → Sized us → slotsOf us ≡ enter addressSize (slotsOf ws) a (contentIn c) → Filtered us (enter addressSize (slotsOf ws) a (contentIn c))
       → Occupied us (enter addressSize (slotsOf ws) a (contentIn c)) → m ≡ length (entries (enter addressSize (slotsOf ws) a (contentIn c))) → Enters ws a c us m
@@ -456,7 +456,7 @@ module _ (ws : SlotRows) (n a : ℕ) (c : ContentWords) (z : SlotsHeld ws) (q : 
     room-there : isIdle (contentIn c) ≡ false → slotCount ≤ r .at → length (entries (slotsOf ws)) < slotCount
     room-there t b = go room
       where
-        go : Room (slotsOf ws) a (contentIn c) → length (entries (slotsOf ws)) < slotCount
+        go : EntryRoom (slotsOf ws) a (contentIn c) → length (entries (slotsOf ws)) < slotCount
         go (goes x) = clash x t
         go (stands x) = clash x (ap present (sought-absent a (z .good) e b))
         go (fits x) = x

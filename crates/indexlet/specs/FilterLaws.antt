@@ -15,7 +15,7 @@ use Rattle.lists.specs.RowLaws.{look-nil, look-there}
 use Rattle.lists.specs.Sums.{total}
 use Rattle.spec.specs.Widths.{addressSize}
 use Rattle.spec.specs.Slots.{slotCount, Content, isIdle, Slot, emptySlot, emptySlots, entries, contentOf, enter}
-use Rattle.laws.specs.SlotLaws.{Good, Room, weigh, sum-enter}
+use Rattle.laws.specs.SlotLaws.{Good, EntryRoom, weigh, sum-enter}
 use Rattle.indexlet.specs.declared.Slot.{Slot as SlotWords}
 use Rattle.indexlet.specs.Words.{SlotRows, slotWords, slotIn, rowIn, rowAt, wordsOf, store, wordPut, slotsOf}
 use Rattle.indexlet.specs.WordLaws.{length-slots, slots-at}
@@ -100,7 +100,7 @@ load-else b k c n =
     go false = refl
 
 -- words whose cells are those of before, but that of k's bucket has one more or less as its entry comes or goes
-pub filter-enter : {ws us : SlotRows} {ss : List Slot} {k : ℕ} {c : Content} → Good addressSize ss → Room ss k c → Filtered ws ss
+pub filter-enter : {ws us : SlotRows} {ss : List Slot} {k : ℕ} {c : Content} → Good addressSize ss → EntryRoom ss k c → Filtered ws ss
     → ((j : ℕ) → slotCount ≤ j → j < slotRows → length (getD us j []) ≡ slotWords)
     → ((b : ℕ) → b < bucketCount → (b ≡ bucketOf k → ⊥) → cellAt us b ≡ cellAt ws b)
     → cellAt us (bucketOf k) / 256 + pick (isIdle (contentOf ss k)) 0 1 ≡ cellAt ws (bucketOf k) / 256 + pick (isIdle c) 0 1

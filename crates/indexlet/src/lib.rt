@@ -14,7 +14,7 @@ ghost use Rattle.spec.specs.Widths.{addressSize};
 ghost use Rattle.spec.specs.Slots.{slotCount, tableEntry, homeSlot, isIdle, vacant, holds, emptySlot, entries};
 ghost use Rattle.spec.specs.Slots as model;
 ghost use Rattle.laws.specs.Probes.{gap, First};
-ghost use Rattle.laws.specs.SlotLaws.{Room};
+ghost use Rattle.laws.specs.SlotLaws.{EntryRoom};
 ghost use Rattle.indexlet.specs.Words.{contentIn, slotIn, rowAt, saying, store, slotsOf};
 ghost use Rattle.indexlet.specs.Filters.{bucketCount, bucketOf, cellAt, cellPut};
 ghost use Rattle.indexlet.specs.Bits.{bit, rest};
@@ -558,7 +558,7 @@ fn take_in(t: &mut Slots, a: Address, c: Content)
 pub fn enter(t: &mut Slots, n: usize, a: Address, at: usize, c: Content) -> usize
     requires { ⌜ SlotsHeld (now t) ⌝ }
     requires { ⌜ n ≡ length (entries (slotsOf (now t))) ⌝ }
-    requires { ⌜ Room (slotsOf (now t)) a (contentIn c) ⌝ }
+    requires { ⌜ EntryRoom (slotsOf (now t)) a (contentIn c) ⌝ }
     requires { ⌜ Finds (now t) a at ⌝ }
     ensures { λ r. ⌜ Enters (now (t .entry)) a c (now (t .exit)) r ⌝ }
 {

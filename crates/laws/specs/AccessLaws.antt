@@ -3,7 +3,7 @@
 use Prim.Native.Nat.{ℕ, _+_, _<_, _≤_}
 use native.Mathlib.Nat.{le-trans, le-of-eq}
 use native.Mathlib.Omega.{arith}
-use mathlib.Core.Path.{_≡_, refl, sym, ap, _∙_}
+use mathlib.Core.Path.{_≡_, refl, ap}
 use mathlib.Core.Logic.{_⊎_, inl, inr, ⊎-elim}
 use mathlib.Core.Bool.{Bool, true, false, not}
 use mathlib.Core.List.{List, [], _∷_, _++_, List·Memᴰ, List·Memᴰ·not-nil, List·Memᴰ·append-cases}
@@ -20,6 +20,7 @@ use Rattle.spec.specs.Guards.{Scan}
 use Rattle.spec.specs.Steps.{Worker, freeWorker, State, workerOf, Access, readAt, scanOver, putTo, removeAt, isFree, isChecked, ownWrite, scanReads, scanVersions, remembered, Cause, readLogFull, scanLogFull, writesFull, accessCauses, firstCause, logged, writing, readRows, accessed}
 use Rattle.laws.specs.LeafLaws.{GoodLeaves, meeting-old}
 use Rattle.laws.specs.WorkerLaws.{not-false, cause-passed}
+
 -- A worker within the limits s, n the last commit number given.
 pub record GoodWorker (s : Settings) (n : ℕ) (x : Worker) : Type 0 where
   pub rising : Rising (x .writes)

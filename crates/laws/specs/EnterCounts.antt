@@ -12,7 +12,7 @@ use Rattle.lists.specs.Rows.{Row, row, look}
 use Rattle.spec.specs.Slots.{Content, idle, isIdle, Slot, entries, contentOf, enter, kept}
 use Rattle.laws.specs.SlotCounts.{Good, entryAt, count, keyed, look-absent, slot-member}
 use Rattle.laws.specs.SlotChanges.{changed-tally, Entered}
-use Rattle.laws.specs.Entering.{Room, Entering, entering}
+use Rattle.laws.specs.Entering.{EntryRoom, Entering, entering}
 use Rattle.laws.specs.SlotLaws.{member-content}
 
 content-absent : (ss : List Slot) (k : ℕ) → look (entries ss) k ≡ none → contentOf ss k ≡ idle
@@ -52,7 +52,7 @@ entered-old {bytes} {ss} {ts} {k} {c} good r = go (r .old) refl
         lively = good .lively (r .at) x here
 
 -- a count over the entries, before and after c is said of k
-pub count-change : {bytes : ℕ} {ss : List Slot} {k : ℕ} {c : Content} → Good bytes ss → Room ss k c
+pub count-change : {bytes : ℕ} {ss : List Slot} {k : ℕ} {c : Content} → Good bytes ss → EntryRoom ss k c
     → (g : Option (Row Content) → ℕ) → count g (enter bytes ss k c) + g (kept k (contentOf ss k)) ≡ count g ss + g (kept k c)
 unfolding Entering
 count-change {bytes} {ss} {k} {c} good room g = ⊎-elim changed same-slots (entering good room)

@@ -20,13 +20,13 @@ use Rattle.laws.specs.SlotCounts.{Good}
 -- ---- entering
 
 -- there is room to say c of k
-pub data Room (ss : List Slot) (k : ℕ) (c : Content) : Type 0 where
+pub data EntryRoom (ss : List Slot) (k : ℕ) (c : Content) : Type 0 where
   -- nothing is to be said
-  goes : isIdle c ≡ true → Room ss k c
+  goes : isIdle c ≡ true → EntryRoom ss k c
   -- it has an entry
-  stands : present (look (entries ss) k) ≡ true → Room ss k c
+  stands : present (look (entries ss) k) ≡ true → EntryRoom ss k c
   -- a slot is empty
-  fits : length (entries ss) < slotCount → Room ss k c
+  fits : length (entries ss) < slotCount → EntryRoom ss k c
 
 pub enter-idle : (bytes : ℕ) (ss : List Slot) (k : ℕ) (c : Content) → isIdle c ≡ true → enter bytes ss k c ≡ release bytes ss k
 unfolding enter
@@ -47,7 +47,7 @@ unfoldable pub Entering : (bytes : ℕ) (ss : List Slot) (k : ℕ) (c : Content)
 Entering bytes ss k c =
     Entered bytes ss k c (enter bytes ss k c) ⊎ ((enter bytes ss k c ≡ ss) × (count (keyed k) ss ≡ 0) × (isIdle c ≡ true))
 
-pub entering : {bytes : ℕ} {ss : List Slot} {k : ℕ} {c : Content} → Good bytes ss → Room ss k c → Entering bytes ss k c
+pub entering : {bytes : ℕ} {ss : List Slot} {k : ℕ} {c : Content} → Good bytes ss → EntryRoom ss k c → Entering bytes ss k c
 unfolding Entering
 entering {bytes} {ss} {k} {c} good room = ⊎-elim idling busy (cases (isIdle c))
   where
@@ -58,7 +58,7 @@ entering {bytes} {ss} {k} {c} good room = ⊎-elim idling busy (cases (isIdle c)
         (λ q. inl (subst (Entered bytes ss k c) (sym (enter-idle bytes ss k c t)) (release-entered bytes ss k c good t (q .0))))
         (lookup bytes ss k good)
 
-    free : (r : Room ss k c) → isIdle c ≡ false → present (look (entries ss) k) ≡ false → length (entries ss) < slotCount
+    free : (r : EntryRoom ss k c) → isIdle c ≡ false → present (look (entries ss) k) ≡ false → length (entries ss) < slotCount
     free (goes q) t a = clash q t
     free (stands q) t a = clash q a
     free (fits q) t a = q
@@ -134,7 +134,7 @@ entered-good {bytes} {ss} {k} {c} {ts} good r =
         let b : getD ss i emptySlot .overflow ≡ tally (passing bytes i) ss = good .passed i q in
         omega arith
 
-pub enter-good : {bytes : ℕ} {ss : List Slot} {k : ℕ} {c : Content} → Good bytes ss → Room ss k c → Good bytes (enter bytes ss k c)
+pub enter-good : {bytes : ℕ} {ss : List Slot} {k : ℕ} {c : Content} → Good bytes ss → EntryRoom ss k c → Good bytes (enter bytes ss k c)
 unfolding Entering
 enter-good {bytes} {ss} {k} {c} good room =
     ⊎-elim (λ r. entered-good good r) (λ r. subst (Good bytes) (sym (r .0)) good) (entering good room)

@@ -17,7 +17,7 @@ use Rattle.spec.specs.Records.{Settings, Write}
 use Rattle.spec.specs.Slots.{Pending, Content, isIdle, Slot, slotCount, entries, contentOf, enter}
 use Rattle.spec.specs.Maps.{MapState, lockedFor, lockRow, withoutLock, unlockKey, writtenOver, installRow, each, withSlots, lockAll, unlockAll, installAll}
 use Rattle.laws.specs.SlotCounts.{Good}
-use Rattle.laws.specs.SlotLaws.{Room, goes, stands, fits, enter-good, content-said, content-enter, present-content, keys-differ}
+use Rattle.laws.specs.SlotLaws.{EntryRoom, goes, stands, fits, enter-good, content-said, content-enter, present-content, keys-differ}
 
 -- ---- contents by cases
 
@@ -44,7 +44,7 @@ has-entry g k e = present-content g k ∙ ap not e
 
 -- an entry that still says something, or nothing, has room
 pub room-old : {bytes : ℕ} {ss : List Slot} → Good bytes ss → (k : ℕ) (c : Content)
-    → (isIdle (contentOf ss k) ≡ true → isIdle c ≡ true) → Room ss k c
+    → (isIdle (contentOf ss k) ≡ true → isIdle c ≡ true) → EntryRoom ss k c
 room-old {ss = ss} g k c h =
     ⊎-elim (λ e. goes (h e)) (λ e. stands (has-entry g k e)) (cases (isIdle (contentOf ss k)))
 
@@ -94,7 +94,7 @@ pub record LockRoom (ss : List Slot) (ws : List (Row Write)) : Type 0 where
   pub once : Different (keys ws)
 
 -- a change at k gives no other address an entry
-entries-after : {bytes : ℕ} {ss : List Slot} → Good bytes ss → (k : ℕ) (c : Content) → Room ss k c
+entries-after : {bytes : ℕ} {ss : List Slot} → Good bytes ss → (k : ℕ) (c : Content) → EntryRoom ss k c
     → (j : ℕ) → has j (keys (entries (enter bytes ss k c))) ≡ true → (has j (keys (entries ss)) ≡ true) ⊎ (k ≡ j)
 entries-after {bytes} {ss} a k c r j e =
     ⊎-elim
@@ -114,7 +114,7 @@ entry-count {ss = ss} a ks =
     (different-within (keys (entries ss)) (keys (entries ss) ++ ks) (keys-differ a) (λ j e. has-append j (keys (entries ss)) ks ∙ (rw e)))
 
 -- room stays for the addresses that are left
-lock-rest : {bytes : ℕ} {ss : List Slot} → Good bytes ss → (k : ℕ) (ks : List ℕ) (c : Content) → Room ss k c
+lock-rest : {bytes : ℕ} {ss : List Slot} → Good bytes ss → (k : ℕ) (ks : List ℕ) (c : Content) → EntryRoom ss k c
     → distinct (keys (entries ss) ++ (k ∷ ks)) < slotCount → distinct (keys (entries (enter bytes ss k c)) ++ ks) < slotCount
 lock-rest {bytes} {ss} a k ks c r l =
     lt-of-le-of-lt
@@ -141,7 +141,7 @@ lock-rest {bytes} {ss} a k ks c r l =
         (cases (has j (keys (entries (enter bytes ss k c)))))
 
 lock-room : {bytes : ℕ} {ss : List Slot} → Good bytes ss → (c : Content) (r : Row Write) (ws : List (Row Write)) → LockRoom ss (r ∷ ws)
-    → Room ss (r .key) c
+    → EntryRoom ss (r .key) c
 lock-room a c r ws l = fits (lt-of-le-of-lt (entry-count a (keys (r ∷ ws))) (l .room))
 
 at-own : {A : Type 0} (P : ℕ → A) (Q : ℕ → A) (k : ℕ) (j : ℕ) → ((e : k ≡ j) → P k ≡ P j) → pick (same k j) (P k) (Q j) ≡ pick (same k j) (P j) (Q j)
@@ -296,7 +296,7 @@ unlocked-pending w c = go (c .holder) refl
         (λ t. ap (λ (x : Content). x .pending) (unlocked-other w c h (same-false h w t) e))
         (cases (same h w))
 
-unlock-room : {bytes : ℕ} {ss : List Slot} → Good bytes ss → (k : ℕ) → Room ss k (withoutLock (contentOf ss k))
+unlock-room : {bytes : ℕ} {ss : List Slot} → Good bytes ss → (k : ℕ) → EntryRoom ss k (withoutLock (contentOf ss k))
 unlock-room {ss = ss} a k =
     room-old a k (withoutLock (contentOf ss k)) (λ e. unfold isIdle in rw (idle-pending (contentOf ss k) e))
 
@@ -345,7 +345,7 @@ abbrev pub writtenBy : ℕ → ℕ → Option Write → Content → Content
 writtenBy n t o c = maybe o c (λ (e : Write). writtenOver n t e c)
 
 install-room : {bytes : ℕ} {ss : List Slot} → Good bytes ss → (c : Content) (r : Row Write) (ws : List (Row Write)) → Installable ss (r ∷ ws)
-    → Room ss (r .key) c
+    → EntryRoom ss (r .key) c
 install-room a c r ws i = stands (has-entry a (r .key) (i .held (r .key) (ap present (look-here r ws (r .key) refl))))
 
 pub installing : (bytes n t : ℕ) → Changes bytes (Row Write) (installRow bytes n t) rowKey (installedAs n t) Installable

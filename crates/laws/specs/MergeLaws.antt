@@ -17,7 +17,7 @@ use Rattle.spec.specs.Leaves.{Leaf, versionAt, settle, versionsTaken}
 use Rattle.spec.specs.Slots.{Pending, Content, isIdle, entries, contentOf}
 use Rattle.spec.specs.Maps.{MapState, outcomeOf, current, each, mergesAt, merging, takenIn, mergeEntry, recordsIn, Merged, settleMap, mergeAll, mergeAt}
 use Rattle.laws.specs.SlotCounts.{Good}
-use Rattle.laws.specs.SlotLaws.{Room, enter-good, said, said-pending, said-holder, said-kind, content-said}
+use Rattle.laws.specs.SlotLaws.{EntryRoom, enter-good, said, said-pending, said-holder, said-kind, content-said}
 use Rattle.laws.specs.MapLaws.{idle-holder, room-old}
 use Rattle.laws.specs.LeafLaws.{GoodLeaves}
 use Rattle.spec.specs.GoodSettings.{GoodCut}
@@ -27,7 +27,7 @@ use Rattle.laws.specs.SettleLaws.{InLeaf, records-in-leaf, settle-good, 
 -- ---- one entry enters the index
 
 module _ (bytes : ℕ) (m : MapState) (e : Row Content) (a : Good bytes (m .slots)) where
-  room : Room (m .slots) (e .key) (takenIn (contentOf (m .slots) (e .key)))
+  room : EntryRoom (m .slots) (e .key) (takenIn (contentOf (m .slots) (e .key)))
   room =
       room-old a (e .key) (takenIn (contentOf (m .slots) (e .key)))
       (λ i. unfold isIdle in rw (idle-holder (contentOf (m .slots) (e .key)) i))

@@ -21,7 +21,7 @@ use Rattle.laws.specs.SlotCounts.{entryAt, tally, count, keyed, entries-
 pub use Rattle.laws.specs.SlotCounts.{Good}
 pub use Rattle.laws.specs.Searches.{search-finds}
 use Rattle.laws.specs.Entering.{Entering, entering, keyed-other, entered-good}
-pub use Rattle.laws.specs.Entering.{Room, goes, stands, fits, enter-idle, enter-present, enter-absent, kept-entry, enter-good, fresh-good}
+pub use Rattle.laws.specs.Entering.{EntryRoom, goes, stands, fits, enter-idle, enter-present, enter-absent, kept-entry, enter-good, fresh-good}
 
 -- ---- what the indexlet says of an address
 
@@ -125,7 +125,7 @@ content-own {bytes} {ss} {k} {c} {ts} good r =
         let b : keyed k (kept k c) ≡ 0 = ap (λ (t : Bool). keyed k (pick t none (some (row k c)))) t in
         omega arith
 
-pub content-said : {bytes : ℕ} {ss : List Slot} {k : ℕ} {c : Content} → Good bytes ss → Room ss k c
+pub content-said : {bytes : ℕ} {ss : List Slot} {k : ℕ} {c : Content} → Good bytes ss → EntryRoom ss k c
     → (j : ℕ) → contentOf (enter bytes ss k c) j ≡ pick (same k j) (said c) (contentOf ss j)
 unfolding contentOf Entering
 content-said {bytes} {ss} {k} {c} good room j =
@@ -153,7 +153,7 @@ content-said {bytes} {ss} {k} {c} good room j =
         (cases (same k j))
 
 -- all of it is said, if there is something to say or it is not for a put
-pub content-enter : {bytes : ℕ} {ss : List Slot} {k : ℕ} {c : Content} → Good bytes ss → Room ss k c → (isIdle c ≡ false) ⊎ (c .forPut ≡ false)
+pub content-enter : {bytes : ℕ} {ss : List Slot} {k : ℕ} {c : Content} → Good bytes ss → EntryRoom ss k c → (isIdle c ≡ false) ⊎ (c .forPut ≡ false)
     → (j : ℕ) → contentOf (enter bytes ss k c) j ≡ pick (same k j) c (contentOf ss j)
 content-enter {ss = ss} {k} {c} good room p j =
     content-said good room j ∙ ap (λ (x : Content). pick (same k j) x (contentOf ss j)) (⊎-elim (said-busy c) (said-plain c) p)
@@ -275,7 +275,7 @@ sum-entries f (s ∷ ss) =
     (options (s .entry))
 
 -- a sum over the entries changes by what the entry of k counted for and counts for now
-pub sum-enter : {bytes : ℕ} {ss : List Slot} {k : ℕ} {c : Content} → Good bytes ss → Room ss k c → (f : Row Content → ℕ)
+pub sum-enter : {bytes : ℕ} {ss : List Slot} {k : ℕ} {c : Content} → Good bytes ss → EntryRoom ss k c → (f : Row Content → ℕ)
     → total (λ (i : ℕ). f) (entries (enter bytes ss k c)) + weigh f k (contentOf ss k) ≡ total (λ (i : ℕ). f) (entries ss) + weigh f k c
 unfolding Entering
 sum-enter {bytes} {ss} {k} {c} good room f = ⊎-elim changed unchanged (entering good room)
@@ -313,7 +313,7 @@ length-sum [] = refl
 length-sum (x ∷ xs) = let e : total (λ (i : ℕ) (x : _). 1) xs ≡ length xs = length-sum xs in omega arith
 
 -- how the number of entries changes: one more if k gets its entry, one less if it loses it
-pub count-enter : {bytes : ℕ} {ss : List Slot} {k : ℕ} {c : Content} → Good bytes ss → Room ss k c
+pub count-enter : {bytes : ℕ} {ss : List Slot} {k : ℕ} {c : Content} → Good bytes ss → EntryRoom ss k c
     → length (entries (enter bytes ss k c)) + pick (present (look (entries ss) k)) 1 0 ≡ length (entries ss) + pick (isIdle c) 0 1
 count-enter {bytes} {ss} {k} {c} good room =
     let sums : total (λ (i : ℕ) (e : Row Content). 1) (entries (enter bytes ss k c)) + pick (isIdle (contentOf ss k)) 0 1

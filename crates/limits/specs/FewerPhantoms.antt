@@ -13,8 +13,8 @@ use Rattle.spec.specs.declared.Refusal.the-variants.{Changed, UnderLock, Phanto
 use Rattle.spec.specs.Records.{isPut}
 use Rattle.spec.specs.Leaves.{versionAt, live}
 use Rattle.spec.specs.Slots.{Pending, Content, entries}
-use Rattle.spec.specs.Maps.{MapState, heldByOther, putPending, hiding, hiddenIn, hides}
-use Rattle.spec.specs.Steps.{State, workerOf, validate, Cause, cause, isLocked, noWorker, workerFree, wrongStage, lockedByOther, changedSince, phantomIn, causes, firstCause, refusal}
+use Rattle.spec.specs.Maps.{MapState, heldByOther, putPending, hiding, hiddenIn, hides, phantomIn}
+use Rattle.spec.specs.Steps.{State, workerOf, validate, Cause, cause, isLocked, noWorker, workerFree, wrongStage, lockedByOther, changedSince, causes, firstCause, refusal}
 use Rattle.laws.specs.WorkerLaws.{cause-passed, cause-passes}
 
 -- ---- hidden keys as they were
@@ -69,7 +69,7 @@ hiding-narrower w c e = go (c .pending) e
     go none t = held (c .forPut) t
     go (some p) t = clash refl t
 
-phantom-narrower : (σ : State) (w v : ℕ) → phantomInAny σ w v ≡ false → phantomIn σ w v ≡ false
+phantom-narrower : (σ : State) (w v : ℕ) → phantomInAny σ w v ≡ false → phantomIn (σ .map) w v ≡ false
 unfolding phantomIn hides hiddenIn
 phantom-narrower σ w v =
     either-narrower (not (live (σ .map .leaves) v)) (any (hiddenInAny (σ .map) w v) (entries (σ .map .slots))) (any (hiddenIn (σ .map) w v) (entries (σ .map .slots)))
@@ -79,8 +79,8 @@ phantom-narrower σ w v =
     (entries (σ .map .slots)))
 
 -- no phantom in the wider sense, none in the narrower
-fewer-phantoms : (σ : State) (w : ℕ) → any (phantomInAny σ w) (workerOf σ w .versions) ≡ false → any (phantomIn σ w) (workerOf σ w .versions) ≡ false
-fewer-phantoms σ w = any-narrower (phantomInAny σ w) (phantomIn σ w) (phantom-narrower σ w) (workerOf σ w .versions)
+fewer-phantoms : (σ : State) (w : ℕ) → any (phantomInAny σ w) (workerOf σ w .versions) ≡ false → any (phantomIn (σ .map) w) (workerOf σ w .versions) ≡ false
+fewer-phantoms σ w = any-narrower (phantomInAny σ w) (phantomIn (σ .map) w) (phantom-narrower σ w) (workerOf σ w .versions)
 
 pub still-granted : (σ : State) (w : ℕ) → firstCause (causesAny σ w) ≡ none → refusal σ (validate w) ≡ none
 unfolding refusal causes

@@ -16,8 +16,8 @@ use Rattle.spec.specs.declared.Stage.the-variants.{Locked, Checked}
 use Rattle.spec.specs.Records.{Record, isPut, sameRecord}
 use Rattle.spec.specs.Leaves.{Leaf, versionAt, live}
 use Rattle.spec.specs.Slots.{Pending, Content, isIdle, entries, contentOf}
-use Rattle.spec.specs.Maps.{MapState, current, heldByOther, putPending, hiding, hiddenIn, hides}
-use Rattle.spec.specs.Steps.{State, workerOf, validate, install, isFree, isLocked, isChecked, lockedByOther, changedSince, phantomIn, causes, refusal}
+use Rattle.spec.specs.Maps.{MapState, current, heldByOther, putPending, hiding, hiddenIn, hides, phantomIn}
+use Rattle.spec.specs.Steps.{State, workerOf, validate, install, isFree, isLocked, isChecked, lockedByOther, changedSince, causes, refusal}
 use Rattle.laws.specs.SlotLaws.{Good, member-content, content-member}
 use Rattle.laws.specs.MapLaws.{idle-holder, idle-pending}
 use Rattle.laws.specs.RecordLaws.{both-left, both-right, sameRecord-true, sameRecord-refl}
@@ -167,7 +167,7 @@ module _ (σ : State) (w : ℕ) where
         (λ e m. ⊎-elim (λ t. absurd (f e m (hidden-test (σ .map) w v e t))) (λ t. t) (cases (hiddenIn (σ .map) w v e))),
   )
 
-  phantom-is : (v : ℕ) → (phantomIn σ w v ≡ false)
+  phantom-is : (v : ℕ) → (phantomIn (σ .map) w v ≡ false)
       ↔ (((l : Leaf) × List·Memᴰ l (σ .map .leaves) × (l .version ≡ v))
       × ((e : Row Content) → List·Memᴰ e (entries (σ .map .slots)) → Hidden (σ .map) w v (e .key) (e .item) → ⊥))
   unfolding phantomIn
@@ -192,8 +192,8 @@ module _ (σ : State) (w : ℕ) where
         stage = locked-stage (workerOf σ w .stage) (a .1);
         unchanged = unchanged-is .0 (b .0);
         unlocked = unlocked-is .0 (c .0);
-        same-leaf = λ v m. phantom-is v .0 (any-false (phantomIn σ w) (workerOf σ w .versions) (d .0) v m) .0;
-        no-phantom = λ v m. phantom-is v .0 (any-false (phantomIn σ w) (workerOf σ w .versions) (d .0) v m) .1;
+        same-leaf = λ v m. phantom-is v .0 (any-false (phantomIn (σ .map) w) (workerOf σ w .versions) (d .0) v m) .0;
+        no-phantom = λ v m. phantom-is v .0 (any-false (phantomIn (σ .map) w) (workerOf σ w .versions) (d .0) v m) .1;
         number-left = less-true (σ .counters .number) (σ .settings .lastNumber) (not-false (less (σ .counters .number) (σ .settings .lastNumber)) (f .0));
       }
 
@@ -203,7 +203,7 @@ module _ (σ : State) (w : ℕ) where
       stage-passes σ isLocked w _ (r .inside) (ap isFree (r .stage)) (ap isLocked (r .stage))
       (cause-passes _ _ (unchanged-is .1 (r .unchanged))
       (cause-passes _ _ (unlocked-is .1 (r .unlocked))
-      (cause-passes _ _ (none-any (phantomIn σ w) (workerOf σ w .versions) (λ v m. phantom-is v .1 (r .same-leaf v m, r .no-phantom v m)))
+      (cause-passes _ _ (none-any (phantomIn (σ .map) w) (workerOf σ w .versions) (λ v m. phantom-is v .1 (r .same-leaf v m, r .no-phantom v m)))
       (cause-passes _ _ (ap not (less-yes (r .number-left))) no-causes))))
 
   -- validation is granted exactly when the log is valid

@@ -20,7 +20,7 @@ use Rattle.spec.specs.Leaves.{Leaf, firstLeaf, versionAt, live}
 use Rattle.spec.specs.Slots.{slotCount, Pending, Content, isIdle, Slot, entries, contentOf, enter, kept}
 use Rattle.spec.specs.Maps.{MapState, putPending, withSlots}
 use Rattle.laws.specs.SlotCounts.{Good, tally}
-use Rattle.laws.specs.SlotLaws.{Room}
+use Rattle.laws.specs.SlotLaws.{EntryRoom}
 use Rattle.laws.specs.LeafParts.{Apart, live-head, live-later}
 use Rattle.laws.specs.RecordLaws.{both-left, both-right}
 use Rattle.laws.specs.MapLaws.{idle-holder, idle-pending}
@@ -245,7 +245,7 @@ pub terms-of : {rows : RecordRows} {lows : List ℕ} {z : Sizes} {a : ℕ} {c : 
     → Terms was rows lows z a c r
 terms-of {rows} {lows} {z} {a} {c} {r} e t = subst (λ (x : Content). Terms x rows lows z a c r) (sym e) t
 
-module _ (l : Lent) (z : Sizes) (v : ℕ) (t : Tables l z v) (a : ℕ) (c : Content) (room : Room (slotsOf (l .slots)) a c) (r : Change) (q : Terms (contentOf (slotsOf (l .slots)) a) (l .rows) (l .lows) z a c r) where
+module _ (l : Lent) (z : Sizes) (v : ℕ) (t : Tables l z v) (a : ℕ) (c : Content) (room : EntryRoom (slotsOf (l .slots)) a c) (r : Change) (q : Terms (contentOf (slotsOf (l .slots)) a) (l .rows) (l .lows) z a c r) where
   own : same (versionAt (mapOf l z .leaves) a) (versionOf (mapOf l z) (r .at)) ≡ true
   own = same-yes {m = versionAt (mapOf l z .leaves) a} {n = versionOf (mapOf l z) (r .at)} (sym (place-version l z v t a (r .at) (q .place)))
 

@@ -19,7 +19,7 @@ use Rattle.spec.specs.Records.{standard, Write, written, deleted, isPut}
 use Rattle.spec.specs.Slots.{slotCount, Pending, Content, isIdle, Slot, entries, contentOf, enter}
 use Rattle.spec.specs.Maps.{MapState, heldByOther, waitingWith, addressesWith, lockedFor, lockRow, withoutLock, unlockKey, waitingSince, installRow, each, withSlots, lockAll, unlockAll, installAll}
 use Rattle.laws.specs.SlotCounts.{Good}
-use Rattle.laws.specs.SlotLaws.{Room, stands}
+use Rattle.laws.specs.SlotLaws.{EntryRoom, stands}
 use Rattle.laws.specs.MapLaws.{Changes, LockRoom, Installable, Always, installedAs, idle-pending, has-entry, room-old, entry-count, locking, unlocking, installing}
 use Rattle.laws.specs.MapBounds.{Bounded, lock-room, lock-bounded, unlock-bounded, install-bounded}
 use Rattle.indexlet.specs.declared.Content.{Content as ContentWords}
@@ -155,7 +155,7 @@ module _ (ss : List Slot) (a b : ℕ) (old c : Content) (e : a ≡ b) (o : conte
   unlock-other w t = unlock-picks w ∙ ap (λ (x : Bool). pick x (enter addressSize ss b (withoutLock old)) ss) (sym t)
 
   -- an entry that loses its lock has room
-  pub unlock-room : Good addressSize ss → c ≡ holding 0 0 old → Room ss a c
+  pub unlock-room : Good addressSize ss → c ≡ holding 0 0 old → EntryRoom ss a c
   unlock-room g q =
       room-old g a c
       (λ t. ap isIdle (q ∙ holding-none old ∙ ap withoutLock (sym o)) ∙ (unfold isIdle in rw (idle-pending (contentOf ss a) t)))
@@ -175,7 +175,7 @@ install-said ss n t x r old c e o q =
     entered-as ss (ap (λ (y : Row Write). y .key) e)
     (q ∙ ap (installedAs n t (entryIn r)) (sym o) ∙ ap (λ (y : Row Write). installedAs n t y (contentOf ss (y .key))) e)
 
-pub install-room : (ss : List Slot) (x : Row Write) (r : Entry) (c : Content) → Good addressSize ss → entryIn r ≡ x → isIdle (contentOf ss (x .key)) ≡ false → Room ss (r .address) c
+pub install-room : (ss : List Slot) (x : Row Write) (r : Entry) (c : Content) → Good addressSize ss → entryIn r ≡ x → isIdle (contentOf ss (x .key)) ≡ false → EntryRoom ss (r .address) c
 install-room ss x r c g e b = stands (has-entry g (r .address) (ap (λ (y : Row Write). isIdle (contentOf ss (y .key))) e ∙ b))
 
 -- the kind of the pending write that a write of this kind leaves

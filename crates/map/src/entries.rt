@@ -5,14 +5,14 @@ use crate::Sizes;
 use crate::Slots;
 use counters::Counters;
 use index::leaves;
-use index::leaves::Leaf;
+use index::leaves::LeafWords;
 use phantomlet::recount;
 use spec::Address;
 ghost use mathlib.Core.Path.{_≡_};
 ghost use Rattle.spec.specs.Widths.{addressSize};
 ghost use Rattle.spec.specs.Slots.{contentOf, enter};
 ghost use Rattle.spec.specs.Maps.{freshMap};
-ghost use Rattle.laws.specs.SlotLaws.{Room};
+ghost use Rattle.laws.specs.SlotLaws.{EntryRoom};
 ghost use Rattle.indexlet.specs.Words.{contentIn, slotsOf};
 ghost use Rattle.indexlet.specs.Promises as indexlet;
 ghost use Rattle.index.specs.Views as index;
@@ -170,7 +170,7 @@ pub fn set_content(
 ) -> Placed
     requires { ⌜ Tables (lent (now rows) (now leaves) (now slots)) z (k .version) ⌝ }
     requires { ⌜ indexlet.Finds (now slots) a at ⌝ }
-    requires { ⌜ Room (slotsOf (now slots)) a (contentIn c) ⌝ }
+    requires { ⌜ EntryRoom (slotsOf (now slots)) a (contentIn c) ⌝ }
     requires { ⌜ Terms (contentOf (slotsOf (now slots)) a) (now rows) (lowsOf (now leaves)) z a (contentIn c) t ⌝ }
     ensures { λ r. ⌜ ContentSet (lent (now (rows .entry)) (now (leaves .entry)) (now (slots .entry))) (lent (now (rows .entry)) (now (leaves .exit)) (now (slots .exit))) z (r .sizes) (k .version) (enter addressSize (slotsOf (now (slots .entry))) a (contentIn c)) ⌝ }
 {

@@ -22,7 +22,7 @@ use Rattle.laws.specs.SettleLaws.{around-parts}
 use Rattle.index.specs.Views.{leafPlaces, recordPlaces, recordsOf, keysBetween}
 use Rattle.index.specs.Views as index
 use Rattle.index.specs.RecordPlaces.{AtPlace}
-use Rattle.index.specs.declared.leaves.Leaf.{Leaf as LeafWords}
+use Rattle.index.specs.declared.leaves.LeafWords.{LeafWords}
 use Rattle.index.specs.LeafColumns.{lowsOf, pendingOf, leafAt}
 use Rattle.index.specs.LeafColumnLaws.{column-getD}
 use Rattle.index.specs.Settles.{Settling}

@@ -22,7 +22,7 @@ use Rattle.indexlet.specs.Words.{contentIn, slotIn, slotsOf}
 use Rattle.indexlet.specs.declared.Slot.{Slot as SlotWords}
 use Rattle.indexlet.specs.Promises as indexlet
 use Rattle.index.specs.Views.{leafPlaces, recordsOf}
-use Rattle.index.specs.declared.leaves.Leaf.{Leaf as LeafWords}
+use Rattle.index.specs.declared.leaves.LeafWords.{LeafWords}
 use Rattle.index.specs.LeafColumns.{lowsOf, hiddenOf, pendingOf, leafAt}
 use Rattle.index.specs.LeafColumnLaws.{column-getD}
 use Rattle.merging.specs.declared.merge.Walk.{Walk}

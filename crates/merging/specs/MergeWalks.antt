@@ -28,7 +28,7 @@ use Rattle.spec.specs.Slots.{slotCount, Pending, Content, isIdle, Slot, emptySl
 use Rattle.spec.specs.Maps.{MapState, outcomeOf, current, putPending, each, takenIn, mergeEntry}
 use Rattle.laws.specs.SlotCounts.{Good, entryAt, tally, count, keyed, keyed-here, keyed-holds, holds-yes, only-here, entries-some, entries-none, slot-member}
 use Rattle.laws.specs.Entering.{Entering, entering, kept-entry}
-use Rattle.laws.specs.SlotLaws.{Room, stands, member-content}
+use Rattle.laws.specs.SlotLaws.{EntryRoom, stands, member-content}
 use Rattle.laws.specs.MapLaws.{has-entry}
 use Rattle.indexlet.specs.Words.{pendingIn, holderIn, contentIn, slotIn, slotsOf}
 use Rattle.indexlet.specs.declared.Content.{Content as ContentWords}
@@ -182,7 +182,7 @@ module _ {bytes : ℕ} {ss : List Slot} {e : Row Content} (j : ℕ) (c : Content
       (cases (same at j))
 
   -- there stands what is said
-  enter-here : Room ss (e .key) c → entryAt (enter bytes ss (e .key) c) j ≡ kept (e .key) c
+  enter-here : EntryRoom ss (e .key) c → entryAt (enter bytes ss (e .key) c) j ≡ kept (e .key) c
   unfolding Entering
   enter-here room =
       ⊎-elim
@@ -190,7 +190,7 @@ module _ {bytes : ℕ} {ss : List Slot} {e : Row Content} (j : ℕ) (c : Content
       (λ r. absurd (let a : 1 ≤ count (keyed (e .key)) ss = stands-here in let b : count (keyed (e .key)) ss ≡ 0 = r .1 in let q : ⊥ = omega arith in q))
       (entering good room)
 
-  enter-others : Room ss (e .key) c → (i : ℕ) → i < length ss → (i ≡ j → ⊥) → entryAt (enter bytes ss (e .key) c) i ≡ entryAt ss i
+  enter-others : EntryRoom ss (e .key) c → (i : ℕ) → i < length ss → (i ≡ j → ⊥) → entryAt (enter bytes ss (e .key) c) i ≡ entryAt ss i
   unfolding Entering
   enter-others room i l n =
       ⊎-elim
@@ -594,7 +594,7 @@ module _ {slots : SlotRows} {j : ℕ} (r : SlotWords) (held : indexlet.SlotsHeld
   content-is : contentOf (slotsOf slots) (r .key) ≡ contentIn (r .content)
   content-is = member-content (held .good) (slot-member (slotsOf slots) j (row (r .key) (contentIn (r .content))) entry-is)
 
-  pub slot-room : (c : Content) → Room (slotsOf slots) (r .key) c
+  pub slot-room : (c : Content) → EntryRoom (slotsOf slots) (r .key) c
   slot-room c = stands (has-entry (held .good) (r .key) (ap isIdle content-is ∙ busy))
 
   -- what enters the index and the indexlet is what the model merges

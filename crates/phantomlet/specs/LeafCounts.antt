@@ -20,7 +20,7 @@ use Rattle.spec.specs.Records.{Record}
 use Rattle.spec.specs.Slots.{slotCount, Content, Slot, emptySlot}
 use Rattle.laws.specs.SlotCounts.{entryAt, tally, count, count-cons}
 use Rattle.index.specs.Views.{leafPlaces}
-use Rattle.index.specs.declared.leaves.Leaf.{Leaf as LeafWords}
+use Rattle.index.specs.declared.leaves.LeafWords.{LeafWords}
 use Rattle.index.specs.LeafColumns.{LeafRows, lowsOf, leafAt}
 use Rattle.index.specs.LeafColumnLaws.{column-getD}
 use Rattle.index.specs.LeafPlaces.{lowPlace, AtLeaf, Listed}
@@ -88,7 +88,7 @@ weigh-leaf lows m t i e = ⊎-elim (λ q. rw q) (λ q. rw q) (cases (placed lows
 -- ---- which leaves
 
 -- The leaves at the places from `from` up to `to` hold the addresses from low up to high.
-pub record Range (lows : List ℕ) (m : ℕ) (r : Reach) : Type 0 where
+pub record ReachIs (lows : List ℕ) (m : ℕ) (r : Reach) : Type 0 where
   pub below : (k : ℕ) → k < r .low → lowPlace k (take m lows) < r .from
   pub above : (k : ℕ) → r .high ≤ k → k < addresses → r .to ≤ lowPlace k (take m lows)
   pub inside : (k : ℕ) → r .low ≤ k → k < r .high → (r .from ≤ lowPlace k (take m lows)) × (lowPlace k (take m lows) < r .to)
@@ -150,7 +150,7 @@ pub record Ranging (lows : List ℕ) (m from to : ℕ) : Type 0 where
 module _ (lows : List ℕ) (m from to : ℕ) (al : length lows ≡ leafPlaces) (r : Ranging lows m from to) where
   -- up to the next leaf
   pub range-next : (low high s : ℕ) → low ≡ getD lows from 0 → high ≡ getD lows to 0 → s ≡ high - low → to < m
-      → Range lows m (record { from = from; to = to; low = low; high = high; span = s })
+      → ReachIs lows m (record { from = from; to = to; low = low; high = high; span = s })
   range-next low high s x y e n =
       let g : from < to = r .some in
       record {
@@ -162,7 +162,7 @@ module _ (lows : List ℕ) (m from to : ℕ) (al : length lows ≡ leafPlaces) (
 
   -- up to the last address
   pub range-last : (low s : ℕ) → low ≡ getD lows from 0 → s ≡ addresses - low → m ≤ to
-      → Range lows m (record { from = from; to = to; low = low; high = addresses; span = s })
+      → ReachIs lows m (record { from = from; to = to; low = low; high = addresses; span = s })
   range-last low s x e n =
       record {
         below = λ k l. low-below lows m (r .listed) al from k (r .first) (r .inside) (omega arith);
@@ -180,7 +180,7 @@ low-of ls i e = ap (λ (x : LeafWords). x .low) e ∙ sym (column-getD 0 ls i)
 
 -- The leaf at place i holds the addresses of r.
 pub record OneLeaf (lows : List ℕ) (m i : ℕ) (r : Reach) : Type 0 where
-  pub range : Range lows m r
+  pub range : ReachIs lows m r
   pub from : r .from ≡ i
   pub to : r .to ≡ i + 1
 

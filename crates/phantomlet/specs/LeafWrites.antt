@@ -3,7 +3,7 @@ use Prim.Native.Nat.{ℕ, _+_, _<_, _≤_}
 use native.Mathlib.Omega.{arith}
 use mathlib.Core.Path.{_≡_, refl, sym, ap, _∙_, subst}
 use lib.ListN.{length, getD, set, length-set}
-use Rattle.index.specs.declared.leaves.Leaf.{Leaf as LeafWords}
+use Rattle.index.specs.declared.leaves.LeafWords.{LeafWords}
 use Rattle.index.specs.LeafColumns.{LeafRows, lowsOf, versionsOf, hiddenOf, pendingOf, leafAt, leafPut, leafWords}
 use Rattle.index.specs.LeafColumnLaws.{column-length, column-getD, column-set, column-kept}
 use Rattle.phantomlet.specs.LeafNumbers.{Clearing, clear-start, clear-on}

@@ -30,7 +30,7 @@ use Rattle.phantomlet.specs.LeafTests.{placed}
 use Rattle.phantomlet.specs.declared.recount.Reach.{Reach}
 use Rattle.phantomlet.specs.LeafNumbers.{Clearing}
 use Rattle.phantomlet.specs.LeafWrites.{Renumbered, same-leaves, renumbered-on, Cleared, Raised}
-use Rattle.phantomlet.specs.LeafCounts.{Ranging, lacking, hidingAt, waiting, inLeaf, weigh-none, weigh-leaf, Range, reached, reached-no, Adding, Keeping, Bare, bare-numbers, adding-start, adding-end, adding-small, adding-past, adding-some}
+use Rattle.phantomlet.specs.LeafCounts.{Ranging, lacking, hidingAt, waiting, inLeaf, weigh-none, weigh-leaf, ReachIs, reached, reached-no, Adding, Keeping, Bare, bare-numbers, adding-start, adding-end, adding-small, adding-past, adding-some}
 
 -- ---- the walk
 
@@ -56,7 +56,7 @@ pub record Tallying (rows : RecordRows) (lows : List ℕ) (slots : SlotRows) (n 
   pub rows-held : index.RecordsSorted rows n
   pub listed : Listed lows m
   pub words : indexlet.SlotsHeld slots
-  pub range : Range lows m r
+  pub range : ReachIs lows m r
   pub there : j ≤ slotCount
   pub hidden-adds : Adding lows m (hidingAt (recordsOf rows n)) (slotsOf slots) (r .from) (r .to) hidden j
   pub pending-adds : Adding lows m waiting (slotsOf slots) (r .from) (r .to) pending j
@@ -79,7 +79,7 @@ pub record Numbering (rows : RecordRows) (ls : LeafRows) (slots : SlotRows) (n m
   pub numbers : Numbers rows (lowsOf ls') slots n m (hiddenOf ls') (pendingOf ls')
 
 pub tally-start : {rows : RecordRows} {ls ls' : LeafRows} {slots : SlotRows} {n m i old left from to : ℕ} (r : Reach)
-    → Recounting rows ls slots n m i old left → length ls ≡ leafPlaces → Range (lowsOf ls') m r → r .from ≡ from → from ≡ i - 1 → r .to ≡ to → to ≡ i + 1 + m - old
+    → Recounting rows ls slots n m i old left → length ls ≡ leafPlaces → ReachIs (lowsOf ls') m r → r .from ≡ from → from ≡ i - 1 → r .to ≡ to → to ≡ i + 1 + m - old
     → Cleared ls ls' from to → Tallying rows (lowsOf ls') slots n m r (hiddenOf ls') (pendingOf ls') 0
 tally-start {rows} {ls} {ls'} {slots} {n} {m} {i} {old} {left} {from} {to} r c z g a f b t p =
     record {

@@ -13,7 +13,7 @@ use Rattle.spec.specs.Leaves.{firstLeaf, versionAt}
 use Rattle.spec.specs.Slots.{Content, isIdle, Slot, contentOf, enter, kept}
 use Rattle.spec.specs.Maps.{MapState, putPending}
 use Rattle.laws.specs.SlotCounts.{Good, count}
-use Rattle.laws.specs.SlotLaws.{Room}
+use Rattle.laws.specs.SlotLaws.{EntryRoom}
 use Rattle.laws.specs.EnterCounts.{count-change}
 
 -- 1 for an entry that passes the test
@@ -51,7 +51,7 @@ pub record Phantomlet (m : MapState) (hidden pending : List ℕ) : Type 0 where
   pub pending-is : (i : ℕ) → i < length (m .leaves) → getD pending i 0 ≡ howMany (pendingIn m (versionOf m i)) (m .slots)
 
 -- a count before and after c is said of k
-pub many-change : {bytes : ℕ} {ss : List Slot} {k : ℕ} {c : Content} → Good bytes ss → Room ss k c → (p : Row Content → Bool)
+pub many-change : {bytes : ℕ} {ss : List Slot} {k : ℕ} {c : Content} → Good bytes ss → EntryRoom ss k c → (p : Row Content → Bool)
     → howMany p (enter bytes ss k c) + weigh p (kept k (contentOf ss k)) ≡ howMany p ss + weigh p (kept k c)
 unfolding howMany
 many-change good room p = count-change good room (weigh p)

@@ -5,7 +5,7 @@
 use index::Leaves;
 use index::Records;
 use index::leaves;
-use index::leaves::Leaf;
+use index::leaves::LeafWords;
 use indexlet::SLOTS;
 use indexlet::Slots;
 use spec::ADDRESSES;
@@ -22,7 +22,7 @@ ghost use Rattle.index.specs.Views.{leafPlaces, RecordsSorted, recordsOf};
 ghost use Rattle.index.specs.LeafColumns.{lowsOf, hiddenOf, pendingOf};
 ghost use Rattle.phantomlet.specs.Phantoms.{hidesSome};
 ghost use Rattle.phantomlet.specs.LeafWrites.{Cleared, Raised};
-ghost use Rattle.phantomlet.specs.LeafCounts.{Range, Ranging, reached};
+ghost use Rattle.phantomlet.specs.LeafCounts.{ReachIs, Ranging, reached};
 ghost use Rattle.phantomlet.specs.MergeCounts.{Recounting, Tallying, Tallied, Numbering};
 
 // Which leaves are counted: the places from `from` up to, not including, `to`, which hold the addresses from `low` up to,
@@ -78,7 +78,7 @@ fn between(low: u64, high: u64) -> u64
 // The addresses of the leaves at these places.
 pub fn addresses_of(leaves: &Leaves, m: usize, from: usize, to: usize) -> Reach
     requires { ⌜ Ranging (lowsOf (now leaves)) m from to ⌝ }
-    ensures { λ r. ⌜ (Range (lowsOf (now (leaves .entry))) m r) × (r .from ≡ from) × (r .to ≡ to) ⌝ }
+    ensures { λ r. ⌜ (ReachIs (lowsOf (now (leaves .entry))) m r) × (r .from ≡ from) × (r .to ≡ to) ⌝ }
 {
     leaves::leaf_places(leaves);
     let first = leaves::leaf_at(leaves, from);
@@ -128,8 +128,8 @@ pub fn lacks(rows: &Records, n: usize, a: Address) -> bool
 {
     let there = index::records::find(rows, n, a);
     match there {
-        index::records::Found::At { payload, commit } => false,
-        index::records::Found::Nothing => true,
+        index::records::FoundRecord::At { payload, commit } => false,
+        index::records::FoundRecord::Nothing => true,
     }
 }
 

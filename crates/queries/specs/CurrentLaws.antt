@@ -18,8 +18,8 @@ use Rattle.indexlet.specs.declared.Content.{Content as ContentWords}
 use Rattle.indexlet.specs.declared.Looked.{Looked}
 use Rattle.indexlet.specs.Words.{pendingIn, contentIn, slotsOf}
 use Rattle.indexlet.specs.Promises.{lookedIn, Looks}
-use Rattle.index.specs.declared.records.Found.{Found}
-use Rattle.index.specs.declared.records.Found.the-variants.{At, Nothing}
+use Rattle.index.specs.declared.records.FoundRecord.{FoundRecord}
+use Rattle.index.specs.declared.records.FoundRecord.the-variants.{At, Nothing}
 use Rattle.index.specs.Views.{foundOf, recordsOf}
 use Rattle.spec.specs.declared.Current.{Current}
 use Rattle.sets.specs.Reads.{recordIn}
@@ -54,11 +54,11 @@ module _ (rows : RecordRows) (n : ℕ) (slots : SlotRows) (a : ℕ) (c : Content
       }
 
   -- nothing is pending: the record of the index
-  pub sees-found : (f : Found) (v : PayloadWords) (u : ℕ) → c .kind ≡ 0 → f ≡ At v u → foundOf f ≡ look (recordsOf rows n) a
+  pub sees-found : (f : FoundRecord) (v : PayloadWords) (u : ℕ) → c .kind ≡ 0 → f ≡ At v u → foundOf f ≡ look (recordsOf rows n) a
       → Sees rows n slots a (record { there = true; payload = v; commit = u })
   sees-found f v u k e g = in-index (record { there = true; payload = v; commit = u }) k (ap foundOf (sym e) ∙ g)
 
-  pub sees-nothing : (f : Found) → c .kind ≡ 0 → f ≡ Nothing → foundOf f ≡ look (recordsOf rows n) a
+  pub sees-nothing : (f : FoundRecord) → c .kind ≡ 0 → f ≡ Nothing → foundOf f ≡ look (recordsOf rows n) a
       → Sees rows n slots a (record { there = false; payload = noPayload; commit = 0 })
   sees-nothing f k e g = in-index (record { there = false; payload = noPayload; commit = 0 }) k (ap foundOf (sym e) ∙ g)
 

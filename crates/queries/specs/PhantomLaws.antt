@@ -20,14 +20,14 @@ use Rattle.spec.specs.declared.PayloadWords.{PayloadWords}
 use Rattle.spec.specs.Leaves.{Leaf, firstLeaf, versionAt, live}
 use Rattle.spec.specs.Records.{Write, isPut}
 use Rattle.spec.specs.Slots.{Pending, Content, contentOf}
-use Rattle.spec.specs.Maps.{putPending, hides}
+use Rattle.spec.specs.Maps.{putPending, hides, phantomIn}
 use borrow.Author.Tests.{ne-eqb}
 use Rattle.laws.specs.LeafParts.{Apart, live-head, live-later}
 use Rattle.laws.specs.LeafVersions.{version-live}
 use Rattle.indexlet.specs.declared.Content.{Content as ContentWords}
 use Rattle.indexlet.specs.Words.{pendingIn, contentIn, slotsOf}
-use Rattle.index.specs.declared.records.Found.{Found}
-use Rattle.index.specs.declared.records.Found.the-variants.{At, Nothing}
+use Rattle.index.specs.declared.records.FoundRecord.{FoundRecord}
+use Rattle.index.specs.declared.records.FoundRecord.the-variants.{At, Nothing}
 use Rattle.index.specs.Views.{foundOf, recordsOf, leavesOf}
 use Rattle.index.specs.LeafPlaces.{lowPlace, place-inside, AtLeaf}
 use Rattle.map.specs.declared.Sizes.{Sizes}
@@ -37,7 +37,7 @@ use Rattle.phantomlet.specs.Phantoms.{howMany, hidingIn}
 use Rattle.map.specs.Views.{SlotRows, LeafRows, RecordRows, Lent, mapOf}
 use Rattle.index.specs.LeafColumns.{versionsOf, hiddenOf, leafAt}
 use Rattle.index.specs.LeafColumnLaws.{column-getD}
-use Rattle.index.specs.declared.leaves.Leaf.{Leaf as LeafWords}
+use Rattle.index.specs.declared.leaves.LeafWords.{LeafWords}
 use Rattle.map.specs.WriteWalks.{writeAt, rest, rest-all, rest-cons, rest-none}
 use Rattle.sets.specs.declared.writes.Entry.{Entry}
 use Rattle.sets.specs.Writes.{WriteRows, entryIn, writesOf}
@@ -47,7 +47,7 @@ use Rattle.map.specs.MapHeld.{Tables}
 use Rattle.queries.specs.QueryViews.{LeafAt}
 use Rattle.queries.specs.ScanLaws.{length-leaves, leaf-read, leaf-found}
 use Rattle.phantomlet.specs.HidingLaws.{length-filter, lockOnlyAt, Locking, hides-count, hides-none}
-use Rattle.queries.specs.PhantomViews.{Holding, phantomAt, Owns, Logged, lockOnlyIn, ownPut, lockOnlyCount, Counting}
+use Rattle.queries.specs.PhantomViews.{Holding, Owns, Logged, lockOnlyIn, ownPut, lockOnlyCount, Counting}
 
 -- ---- one address
 
@@ -89,7 +89,7 @@ module _ (rows : RecordRows) (lows : List ℕ) (slots : SlotRows) (n m i a : ℕ
       number false 0
       (by-parts true _ (put-kind c e true (ap (λ (k : ℕ). eqb k 1) h)) refl ∙ none-of (same (lowPlace a (take m lows)) i)) refl
 
-  pub lock-only-found : (f : Found) (v : PayloadWords) (u : ℕ) → f ≡ At v u → foundOf f ≡ look (recordsOf rows n) a → _≡_ {A = ℕ} 0 (pick (lockOnlyIn rows lows slots n m i a) 1 0)
+  pub lock-only-found : (f : FoundRecord) (v : PayloadWords) (u : ℕ) → f ≡ At v u → foundOf f ≡ look (recordsOf rows n) a → _≡_ {A = ℕ} 0 (pick (lockOnlyIn rows lows slots n m i a) 1 0)
   lock-only-found f v u e g =
       number false 0
       (by-parts _ true refl (ap present (sym g ∙ ap foundOf e)) ∙ ends (putPending (contentOf (slotsOf slots) a))) refl
@@ -98,7 +98,7 @@ module _ (rows : RecordRows) (lows : List ℕ) (slots : SlotRows) (n m i a : ℕ
       ends true = none-of (same (lowPlace a (take m lows)) i)
       ends false = none-of (same (lowPlace a (take m lows)) i)
 
-  pub lock-only-yes : (p : ℕ) (c : ContentWords) (f : Found) → AtLeaf lows m a p → p ≡ i → contentOf (slotsOf slots) a ≡ contentIn c → (c .kind ≡ 1 → ⊥)
+  pub lock-only-yes : (p : ℕ) (c : ContentWords) (f : FoundRecord) → AtLeaf lows m a p → p ≡ i → contentOf (slotsOf slots) a ≡ contentIn c → (c .kind ≡ 1 → ⊥)
       → f ≡ Nothing → foundOf f ≡ look (recordsOf rows n) a → _≡_ {A = ℕ} 1 (pick (lockOnlyIn rows lows slots n m i a) 1 0)
   lock-only-yes p c f at q e k d g =
       number true 1
@@ -341,8 +341,8 @@ module _ (l : Lent) (z : Sizes) (b : Holding l z) where
 
   -- the leaf that was logged is gone
   pub phantom-gone : (w v low i : ℕ) → LeafAt lows (z .leaves) low i → Logged leaves v low → (getD versions i 0 ≡ v → ⊥)
-      → true ≡ phantomAt (mapOf l z) w v
-  unfolding phantomAt
+      → true ≡ phantomIn (mapOf l z) w v
+  unfolding phantomIn
   phantom-gone w v low i at g d =
       ⊎-elim
       (λ t. absurd (d (version-here low i at ∙ g .stays t)))
@@ -351,8 +351,8 @@ module _ (l : Lent) (z : Sizes) (b : Holding l z) where
 
   -- it is there
   stays : (w v low i : ℕ) → LeafAt lows (z .leaves) low i → getD versions i 0 ≡ v
-      → phantomAt (mapOf l z) w v ≡ hides (mapOf l z) w v
-  unfolding phantomAt
+      → phantomIn (mapOf l z) w v ≡ hides (mapOf l z) w v
+  unfolding phantomIn
   stays w v low i at e =
       ap (λ (x : Bool). either (not x) (hides (mapOf l z) w v))
       (ap (live leaves) (sym (sym (version-here low i at) ∙ e)) ∙ version-live (tables .leaves) low)
@@ -385,7 +385,7 @@ module _ (l : Lent) (z : Sizes) (b : Holding l z) where
         held k t (some e) q h = found-put (writesOf ws n) k e q (sym (own .kinds k e q) ∙ t)
 
     pub phantom-none : (v low i : ℕ) → LeafAt lows (z .leaves) low i → getD versions i 0 ≡ v → getD hidden i 0 ≡ 0
-        → false ≡ phantomAt (mapOf l z) w v
+        → false ≡ phantomIn (mapOf l z) w v
     phantom-none v low i at e o =
         sym
         (stays w v low i at e
@@ -393,7 +393,7 @@ module _ (l : Lent) (z : Sizes) (b : Holding l z) where
 
     pub phantom-count : (v low i mine out : ℕ) → out ≡ getD hidden i 0 → LeafAt lows (z .leaves) low i → getD versions i 0 ≡ v
         → mine ≡ lockOnlyCount rows lows slots (z .records) (z .leaves) i ws n
-        → ltb mine out ≡ phantomAt (mapOf l z) w v
+        → ltb mine out ≡ phantomIn (mapOf l z) w v
     unfolding lockOnlyCount ownPut less
     phantom-count v low i mine out o at e c =
         ap (ltb mine) o

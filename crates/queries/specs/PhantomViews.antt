@@ -5,12 +5,12 @@ use mathlib.Core.Bool.{Bool, true, not}
 use mathlib.Core.List.{List}
 use mathlib.Core.Option.{some}
 use lib.ListN.{length, take}
-use Rattle.lists.specs.Tests.{both, either, present, same}
+use Rattle.lists.specs.Tests.{both, present, same}
 use Rattle.lists.specs.Rows.{Row, look, keys, filter, has, Rising}
 use Rattle.spec.specs.Records.{Write, isPut}
 use Rattle.spec.specs.Leaves.{Leaf, versionAt, live}
 use Rattle.spec.specs.Slots.{contentOf}
-use Rattle.spec.specs.Maps.{MapState, putPending, hides}
+use Rattle.spec.specs.Maps.{putPending}
 use Rattle.indexlet.specs.Words.{slotsOf}
 use Rattle.index.specs.Views.{recordsOf}
 use Rattle.index.specs.LeafPlaces.{lowPlace}
@@ -25,10 +25,6 @@ use Rattle.map.specs.MapHeld.{MapHeld}
 pub record Holding (l : Lent) (z : Sizes) : Type 0 where
   pub version : ℕ
   pub held : MapHeld l z version
-
--- a logged version is gone, or its leaf hides a key (the model's `phantomIn`)
-unfoldable pub phantomAt : MapState → ℕ → ℕ → Bool
-phantomAt m w v = either (not (live (m .leaves) v)) (hides m w v)
 
 -- Worker w's locks are the addresses of its write set, each for the write that it has there.
 pub record Owns (slots : SlotRows) (ws : WriteRows) (n w : ℕ) : Type 0 where

@@ -18,8 +18,8 @@ use Rattle.spec.specs.Maps.{current, indexedBetween}
 use Rattle.laws.specs.LeafParts.{LowsFrom, Covers}
 use Rattle.laws.specs.LeafVersions.{GoodLeaves}
 use Rattle.index.specs.declared.rows.RecordRow.{RecordRow}
-use Rattle.index.specs.declared.records.Found.the-variants.{At}
-use Rattle.index.specs.declared.leaves.Leaf.{Leaf as LeafWords}
+use Rattle.index.specs.declared.records.FoundRecord.the-variants.{At}
+use Rattle.index.specs.declared.leaves.LeafWords.{LeafWords}
 use Rattle.index.specs.LeafColumns.{LeafRows, lowsOf, versionsOf, leafAt}
 use Rattle.index.specs.LeafColumnLaws.{column-getD, column-places}
 use Rattle.index.specs.Views.{leafPlaces, foundOf, rowOf, noRow, rowAt, recordsOf, leavesOf, RecordsSorted}

@@ -1,7 +1,7 @@
 // Looking: current records, what a scan walks over, hidden keys, and the contents. Nothing here changes an array.
 use index::leaves;
 use index::records;
-use index::records::Found;
+use index::records::FoundRecord;
 use index::rows;
 use indexlet::SLOTS;
 use map::Leaves;
@@ -19,6 +19,7 @@ use spec::Current;
 use spec::PayloadWords;
 ghost use mathlib.Core.Path.{_≡_};
 ghost use Prim.Native.Nat.{ℕ, _<_, _≤_, min};
+ghost use Rattle.spec.specs.Maps.{phantomIn};
 ghost use Rattle.lists.specs.Tests.{pick};
 ghost use Rattle.indexlet.specs.Promises as indexlet;
 ghost use Rattle.index.specs.Views as index;
@@ -29,7 +30,7 @@ ghost use Rattle.sets.specs.Writes.{entryIn};
 ghost use Rattle.map.specs.WriteWalks.{Writing};
 ghost use Rattle.queries.specs.QueryViews.{Sees, SeesUnder, Examines, Spans, SeenAt, Meets, LeafAt, LoggedAt};
 ghost use Rattle.queries.specs.NextViews.{IndexFrom, Nearer, SlotFrom, Follows, Numbers};
-ghost use Rattle.queries.specs.PhantomViews.{Holding, phantomAt, Owns, Logged, ownPut, lockOnlyCount};
+ghost use Rattle.queries.specs.PhantomViews.{Holding, Owns, Logged, ownPut, lockOnlyCount};
 
 // Places from one up to, not including, another.
 pub struct Range {
@@ -61,14 +62,14 @@ fn under(rows: &Records, n: usize, a: Address, c: indexlet::Content) -> Current
     if c.kind == 0 {
         let found = records::find(rows, n, a);
         match found {
-            Found::At { payload, commit } => {
+            FoundRecord::At { payload, commit } => {
                 return Current {
                     there: true,
                     payload,
                     commit,
                 };
             }
-            Found::Nothing => {
+            FoundRecord::Nothing => {
                 let payload = PayloadWords { value: 0, owner: 0 };
                 return Current {
                     there: false,
@@ -224,11 +225,11 @@ fn lock_only_at(
     }
     let found = records::find(rows, n, a);
     match found {
-        Found::At {
+        FoundRecord::At {
             payload: _,
             commit: _,
         } => 0,
-        Found::Nothing => 1,
+        FoundRecord::Nothing => 1,
     }
 }
 
@@ -276,7 +277,7 @@ pub fn phantom(
     requires { ⌜ Holding (lent (now rows) (now leaves) (now slots)) z ⌝ }
     requires { ⌜ Writing (now ws) n ⌝ }
     requires { ⌜ Logged (mapOf (lent (now rows) (now leaves) (now slots)) z .leaves) version low ⌝ }
-    ensures { λ r. ⌜ ((w : ℕ) → Owns (now (slots .entry)) (now (ws .entry)) n w → r ≡ phantomAt (mapOf (lent (now (rows .entry)) (now (leaves .entry)) (now (slots .entry))) z) w version) ⌝ }
+    ensures { λ r. ⌜ ((w : ℕ) → Owns (now (slots .entry)) (now (ws .entry)) n w → r ≡ phantomIn (mapOf (lent (now (rows .entry)) (now (leaves .entry)) (now (slots .entry))) z) w version) ⌝ }
 {
     let i = place_of(leaves, z.leaves, low);
     let l = leaves::leaf_at(leaves, i);

@@ -21,7 +21,7 @@ use Rattle.sets.specs.declared.reads.Observed.{Observed}
 use Rattle.sets.specs.declared.leaves.LoggedLeaf.{LoggedLeaf}
 use Rattle.sets.specs.Reads.{ReadRows, readsOf, ReadSetHeld, LogsRead}
 use Rattle.sets.specs.declared.leaves.Scanned.{Scanned}
-use Rattle.sets.specs.Leaves.{LeafSetRows, versionsOf, lowsOf, scannedIn, rememberedIf, marksOf, joined, LeafSetHeld, LogsLeaf}
+use Rattle.sets.specs.Leaves.{LeafSetRows, versionsOf, lowsOf, scannedIn, rememberedIf, notesOf, joined, LeafSetHeld, LogsLeaf}
 use Rattle.sets.specs.Writes.{WriteRows, noWrite, writeIn, writesOf, WriteSetOrdered, GivesWrite}
 use Rattle.sets.specs.WritePlaces.{PlaceOf}
 use Rattle.sets.specs.SetLaws.{length-rows}
@@ -30,7 +30,7 @@ use Rattle.queries.specs.declared.Range.{Range}
 use Rattle.queries.specs.QueryViews.{walk, SeenAt, versionIn, loggedIn, LoggedAt}
 use Rattle.queries.specs.RangeLaws.{place-mono, place-next, between-places}
 use Rattle.ranges.specs.Parts.{walk-on, walk-past, done-one, take-rows}
-use Rattle.ranges.specs.Scanning.{OwnSpans, span, seenIn, LogsRows, LoggingRows, across, lowIn, marked, LogsLeaves, LoggingLeaves}
+use Rattle.ranges.specs.Scanning.{OwnSpans, span, seenIn, LogsRows, LoggingRows, across, lowIn, noted, LogsLeaves, LoggingLeaves}
 
 -- ---- the worker's writes of a range
 
@@ -142,7 +142,7 @@ module _ (rs : LeafSetRows) (n : ℕ) (lows versions : List ℕ) (p : Range) (s 
   low m = lowIn (leavesIn lows versions m)
 
   pub leaves-start : LeafSetHeld rs → LoggingLeaves rs n lows versions p s rs (p .from) n
-  leaves-start held = record { held = held; count = refl; versions-are = λ m b d. refl; lows-are = λ m b d. refl; marks-are = refl }
+  leaves-start held = record { held = held; count = refl; versions-are = λ m b d. refl; lows-are = λ m b d. refl; notes-are = refl }
 
   module _ (us : LeafSetRows) (i r : ℕ) (h : LoggingLeaves rs n lows versions p s us i r) where
     pub leaves-room : i < p .to → n + span p ≤ standard .leafSetLimit → r < standard .leafSetLimit
@@ -167,11 +167,11 @@ module _ (rs : LeafSetRows) (n : ℕ) (lows versions : List ℕ) (p : Range) (s 
               (g .lows ∙ ap (λ (y : Leaf). lowsOf us r ++ (y .low ∷ [])) (a .leaf-is m (le-trans l b) d))
               (walk-on (low m) i (p .to) l)
               ∙ h .lows-are m b d;
-          marks-are =
-              done-one (marksOf us r) (walk (marked (p .from) s) i (p .to - i)) (walk (marked (p .from) s) (i + 1) (p .to - (i + 1))) (marksOf us' r') (marked (p .from) s i)
-              (unfold marked same in g .marks)
-              (walk-on (marked (p .from) s) i (p .to) l)
-              ∙ h .marks-are;
+          notes-are =
+              done-one (notesOf us r) (walk (noted (p .from) s) i (p .to - i)) (walk (noted (p .from) s) (i + 1) (p .to - (i + 1))) (notesOf us' r') (noted (p .from) s i)
+              (unfold noted same in g .marks)
+              (walk-on (noted (p .from) s) i (p .to) l)
+              ∙ h .notes-are;
         }
 
     pub leaves-end : p .to ≤ i → LogsLeaves rs n lows versions p s us r
@@ -184,26 +184,26 @@ module _ (rs : LeafSetRows) (n : ℕ) (lows versions : List ℕ) (p : Range) (s 
               sym (append-nil (versionsOf us r)) ∙ ap (λ (xs : List ℕ). versionsOf us r ++ xs) (sym (walk-past (version m) i (p .to) l)) ∙ h .versions-are m b d;
           lows-are = λ m b d.
               sym (append-nil (lowsOf us r)) ∙ ap (λ (xs : List ℕ). lowsOf us r ++ xs) (sym (walk-past (low m) i (p .to) l)) ∙ h .lows-are m b d;
-          marks-are =
-              sym (append-nil (marksOf us r)) ∙ ap (λ (xs : List (List Scan)). marksOf us r ++ xs) (sym (walk-past (marked (p .from) s) i (p .to) l)) ∙ h .marks-are;
+          notes-are =
+              sym (append-nil (notesOf us r)) ∙ ap (λ (xs : List (List Scan)). notesOf us r ++ xs) (sym (walk-past (noted (p .from) s) i (p .to) l)) ∙ h .notes-are;
         }
 
 -- ---- the scan
 
 module _ (s : Scanned) (first : ℕ) where
   -- past the first, nothing is remembered
-  none-more : (i n : ℕ) → first < i → joined (walk (marked first s) i n) ≡ []
+  none-more : (i n : ℕ) → first < i → joined (walk (noted first s) i n) ≡ []
   unfolding walk joined
   none-more i zero h = refl
-  none-more i (suc n) h = ap (λ (xs : List Scan). xs ++ joined (walk (marked first s) (suc i) n)) (unmarked i h) ∙ none-more (suc i) n (omega arith)
+  none-more i (suc n) h = ap (λ (xs : List Scan). xs ++ joined (walk (noted first s) (suc i) n)) (unnoted i h) ∙ none-more (suc i) n (omega arith)
     where
-      unmarked : (i : ℕ) → first < i → marked first s i ≡ []
-      unmarked i h = unfold marked in ap (λ (b : Bool). rememberedIf b (scannedIn s)) (same-no {m = i} {n = first} (λ e. omega arith))
+      unnoted : (i : ℕ) → first < i → noted first s i ≡ []
+      unnoted i h = unfold noted in ap (λ (b : Bool). rememberedIf b (scannedIn s)) (same-no {m = i} {n = first} (λ e. omega arith))
 
 -- a scan that meets a leaf is remembered once
-pub scan-remembered : (s : Scanned) (p : Range) → p .from < p .to → joined (across (marked (p .from) s) p) ≡ scannedIn s ∷ []
+pub scan-remembered : (s : Scanned) (p : Range) → p .from < p .to → joined (across (noted (p .from) s) p) ≡ scannedIn s ∷ []
 unfolding joined
 scan-remembered s p h =
-    ap joined (walk-on (marked (p .from) s) (p .from) (p .to) h)
-    ∙ ap (λ (xs : List Scan). marked (p .from) s (p .from) ++ xs) (none-more s (p .from) (p .from + 1) (p .to - (p .from + 1)) (omega arith))
-    ∙ (unfold marked in ap (λ (b : Bool). rememberedIf b (scannedIn s) ++ []) (same-refl (p .from)))
+    ap joined (walk-on (noted (p .from) s) (p .from) (p .to) h)
+    ∙ ap (λ (xs : List Scan). noted (p .from) s (p .from) ++ xs) (none-more s (p .from) (p .from + 1) (p .to - (p .from + 1)) (omega arith))
+    ∙ (unfold noted in ap (λ (b : Bool). rememberedIf b (scannedIn s) ++ []) (same-refl (p .from)))

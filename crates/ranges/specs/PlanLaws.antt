@@ -20,7 +20,7 @@ use Rattle.ranges.specs.declared.plans.Task.{Task}
 use Rattle.ranges.specs.Parts.{take-rows}
 use Rattle.ranges.specs.Overlays.{rising-first}
 use Rattle.ranges.specs.Buffers.{Buffers, placesOf}
-use Rattle.ranges.specs.Walks.{Ground, ground, logRow, rest, Walks, Sees, Keeps, Room, Fills}
+use Rattle.ranges.specs.Walks.{Ground, ground, logRow, rest, Walks, Sees, Keeps, RecordsFit, Fills}
 use Rattle.ranges.specs.WalkLaws.{rising-index}
 use Rattle.ranges.specs.Scanning.{span, seenIn, ReadsRoom, LogsRows, LeavesRoom}
 use Rattle.ranges.specs.LoggedWalks.{logged-walks, logged-rest}
@@ -76,7 +76,7 @@ planned p =
 
 -- what fits the shortest buffer fits each
 pub room : {rows : RecordRows} {lows : List ℕ} {slots : SlotRows} {ws : WriteRows} {z : Sizes} {x : Worker} {t : Task} (b : Buffers)
-    → Planned rows lows slots ws z x t (placesOf b) → Room b (shownOf rows slots ws z t)
+    → Planned rows lows slots ws z x t (placesOf b) → RecordsFit b (shownOf rows slots ws z t)
 unfolding shortest
 room {rows} {lows} {slots} {ws} {z} {x} {t} b p =
     let h : length (shownOf rows slots ws z t) ≤ shortest (placesOf b) = p .fits in
@@ -95,8 +95,8 @@ module _ {rows : RecordRows} {lows : List ℕ} {slots : SlotRows} {ws : WriteRow
   pub log-keeps : Keeps us (x .reads) (span (t .index))
   log-keeps = record { held = h .held; room = p .reads-fit }
 
-  pub log-room : {b : Buffers} → Room b (shownOf rows slots ws z t) → Room b (rest logField 0 (t .own .from))
-  log-room {b} w = subst (Room b) (sym (logged-rest h ws (t .own .to) (t .own .from))) w
+  pub log-room : {b : Buffers} → RecordsFit b (shownOf rows slots ws z t) → RecordsFit b (rest logField 0 (t .own .from))
+  log-room {b} w = subst (RecordsFit b) (sym (logged-rest h ws (t .own .to) (t .own .from))) w
 
   pub log-fills : {b c : Buffers} {n : ℕ} → Fills b (rest logField 0 (t .own .from)) c n → Fills b (shownOf rows slots ws z t) c n
   log-fills {b} {c} {n} f = subst (λ (os : List (Row Payload)). Fills b os c n) (logged-rest h ws (t .own .to) (t .own .from)) f

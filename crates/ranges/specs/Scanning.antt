@@ -11,7 +11,7 @@ use Rattle.spec.specs.Guards.{Scan}
 use Rattle.spec.specs.Leaves.{Leaf, firstLeaf}
 use Rattle.sets.specs.Reads.{ReadRows, readsOf, ReadSetHeld}
 use Rattle.sets.specs.declared.leaves.Scanned.{Scanned}
-use Rattle.sets.specs.Leaves.{LeafSetRows, versionsOf, lowsOf, scannedIn, rememberedIf, marksOf, LeafSetHeld}
+use Rattle.sets.specs.Leaves.{LeafSetRows, versionsOf, lowsOf, scannedIn, rememberedIf, notesOf, LeafSetHeld}
 use Rattle.sets.specs.Writes.{WriteRows, writesOf}
 use Rattle.map.specs.Views.{leavesIn, SlotRows, RecordRows}
 use Rattle.map.specs.MapHeld.{perLeaf}
@@ -73,8 +73,8 @@ pub record LeavesRoom (lows : List ℕ) (m : ℕ) (p : Range) : Type 0 where
   pub room : m + span p ≤ standard .leafSetLimit
 
 -- the row for the leaf at place i remembers the scan if it is the first
-unfoldable pub marked : ℕ → Scanned → ℕ → List Scan
-marked first s i = rememberedIf (same i first) (scannedIn s)
+unfoldable pub noted : ℕ → Scanned → ℕ → List Scan
+noted first s i = rememberedIf (same i first) (scannedIn s)
 
 -- the leaf set after the leaves at these places, among any number that has them, were appended to its first n rows, and how many there are now
 pub record LogsLeaves (rs : LeafSetRows) (n : ℕ) (lows versions : List ℕ) (p : Range) (s : Scanned) (us : LeafSetRows) (r : ℕ) : Type 0 where
@@ -82,7 +82,7 @@ pub record LogsLeaves (rs : LeafSetRows) (n : ℕ) (lows versions : List ℕ) (p
   pub count : r ≡ n + span p
   pub versions-are : (m : ℕ) → p .to ≤ m → m ≤ perLeaf → versionsOf us r ≡ versionsOf rs n ++ across (versionIn (leavesIn lows versions m)) p
   pub lows-are : (m : ℕ) → p .to ≤ m → m ≤ perLeaf → lowsOf us r ≡ lowsOf rs n ++ across (lowIn (leavesIn lows versions m)) p
-  pub marks-are : marksOf us r ≡ marksOf rs n ++ across (marked (p .from) s) p
+  pub notes-are : notesOf us r ≡ notesOf rs n ++ across (noted (p .from) s) p
 
 -- those logged and those left are all
 pub record LoggingLeaves (rs : LeafSetRows) (n : ℕ) (lows versions : List ℕ) (p : Range) (s : Scanned) (us : LeafSetRows) (i r : ℕ) : Type 0 where
@@ -92,4 +92,4 @@ pub record LoggingLeaves (rs : LeafSetRows) (n : ℕ) (lows versions : List ℕ)
       → versionsOf us r ++ walk (versionIn (leavesIn lows versions m)) i (p .to - i) ≡ versionsOf rs n ++ across (versionIn (leavesIn lows versions m)) p
   pub lows-are : (m : ℕ) → p .to ≤ m → m ≤ perLeaf
       → lowsOf us r ++ walk (lowIn (leavesIn lows versions m)) i (p .to - i) ≡ lowsOf rs n ++ across (lowIn (leavesIn lows versions m)) p
-  pub marks-are : marksOf us r ++ walk (marked (p .from) s) i (p .to - i) ≡ marksOf rs n ++ across (marked (p .from) s) p
+  pub notes-are : notesOf us r ++ walk (noted (p .from) s) i (p .to - i) ≡ notesOf rs n ++ across (noted (p .from) s) p

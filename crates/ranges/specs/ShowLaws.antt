@@ -15,7 +15,7 @@ use Rattle.spec.specs.Payloads.{owners, payloadIn}
 use Rattle.spec.specs.Records.{Payload}
 use Rattle.ranges.specs.declared.walks.Turn.{Turn}
 use Rattle.ranges.specs.Overlays.{shown}
-use Rattle.ranges.specs.Walks.{Ground, rest, Walks, Inside, turnIn, ComesNext, Fits, Shows, Room, Fills, Counting, Filling}
+use Rattle.ranges.specs.Walks.{Ground, rest, Walks, Inside, turnIn, ComesNext, Fits, Shows, RecordsFit, Fills, Counting, Filling}
 use Rattle.ranges.specs.Buffers.{Buffers, buffers, rowsIn}
 use Rattle.ranges.specs.BufferLaws.{length-rows, beyond-refl, beyond-on, rows-put, beyond-put}
 use Rattle.ranges.specs.WalkLaws.{rest-end}
@@ -117,7 +117,7 @@ module _ (g : Ground) (h : Walks g) (from start : ℕ) (b : Buffers) where
   filled c i j at f =
       ap (λ (n : ℕ). n + length (rest g i j)) (sym (length-rows at c)) ∙ sym (length-append (rowsIn at c) (rest g i j)) ∙ ap length (f .all)
 
-  pub filling-fits : (c : Buffers) (i j at : ℕ) (x : Turn) → Room b (rest g from start) → Filling g from start b c i j at → ComesNext g i j x → Fits c at x
+  pub filling-fits : (c : Buffers) (i j at : ℕ) (x : Turn) → RecordsFit b (rest g from start) → Filling g from start b c i j at → ComesNext g i j x → Fits c at x
   filling-fits c i j at x r f s =
       record {
         addresses = λ e. inside (b .addresses) (c .addresses) (r .addresses) (f .beyond .addresses .size) (under e);

@@ -121,7 +121,7 @@ pub record Fills (b : Buffers) (rs : List (Row Payload)) (c : Buffers) (r : ℕ)
   pub beyond : Beyond r b c
 
 -- there are places for the rows
-pub record Room (b : Buffers) (rs : List (Row Payload)) : Type 0 where
+pub record RecordsFit (b : Buffers) (rs : List (Row Payload)) : Type 0 where
   pub addresses : length rs ≤ length (b .addresses)
   pub values : length rs ≤ length (b .values)
   pub owners : length rs ≤ length (b .owners)

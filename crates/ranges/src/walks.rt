@@ -18,7 +18,7 @@ ghost use lib.ListN.{length};
 ghost use Rattle.lists.specs.Tests.{pick, less};
 ghost use Rattle.ranges.specs.Buffers.{buffers};
 ghost use Rattle.ranges.specs.Scanning.{seenIn};
-ghost use Rattle.ranges.specs.Walks.{ground, logRow, rest, Walks, Nears, Sees, Keeps, Inside, Stands, GoesOn, indexTurn, ownTurn, Fits, Shows, Room, Fills};
+ghost use Rattle.ranges.specs.Walks.{ground, logRow, rest, Walks, Nears, Sees, Keeps, Inside, Stands, GoesOn, indexTurn, ownTurn, Fits, Shows, RecordsFit, Fills};
 
 // Where the walk ends: places of the records and of the worker's writes.
 pub struct Bounds {
@@ -185,7 +185,13 @@ pub fn exceeds(
 }
 
 // Writes what a turn shows behind the first `at` places. Answers how many are written now.
-fn show(addresses: &mut [Address], values: &mut [u64], owners: &mut [u16], at: usize, x: Turn) -> usize
+fn show(
+    addresses: &mut [Address],
+    values: &mut [u64],
+    owners: &mut [u16],
+    at: usize,
+    x: Turn,
+) -> usize
     requires { ⌜ Fits (buffers (now addresses) (now values) (now owners)) at x ⌝ }
     ensures { λ r. ⌜ Shows (buffers (now (addresses .entry)) (now (values .entry)) (now (owners .entry))) at x
         (buffers (now (addresses .exit)) (now (values .exit)) (now (owners .exit))) r ⌝ }
@@ -215,7 +221,7 @@ pub fn fill(
     requires { ⌜ Walks (ground (logRow (now reads) first) (now writes) b) ⌝ }
     requires { ⌜ Keeps (now reads) first (b .to) ⌝ }
     requires { ⌜ Inside b 0 start ⌝ }
-    requires { ⌜ Room (buffers (now addresses) (now values) (now owners)) (rest (ground (logRow (now reads) first) (now writes) b) 0 start) ⌝ }
+    requires { ⌜ RecordsFit (buffers (now addresses) (now values) (now owners)) (rest (ground (logRow (now reads) first) (now writes) b) 0 start) ⌝ }
     ensures { λ r. ⌜ Fills (buffers (now (addresses .entry)) (now (values .entry)) (now (owners .entry)))
         (rest (ground (logRow (now (reads .entry)) first) (now (writes .entry)) b) 0 start)
         (buffers (now (addresses .exit)) (now (values .exit)) (now (owners .exit))) r ⌝ }

@@ -14,8 +14,8 @@ use Rattle.lists.specs.RowLaws.{any-false, member-keys, look-delete, some-not-n
 use Rattle.spec.specs.Records.{Record, Write, written, deleted, isPut, outcome, sameRecord}
 use Rattle.spec.specs.Leaves.{Leaf, versionAt, live}
 use Rattle.spec.specs.Slots.{Pending, Content, isIdle, contentOf, entries}
-use Rattle.spec.specs.Maps.{MapState, outcomeOf, current, heldByOther, putPending, hiding, hiddenIn, hides, withSlots, installAll, Merged, mergeAt}
-use Rattle.spec.specs.Steps.{Worker, freeWorker, State, workerOf, validate, numbered, Event, isFree, isLocked, isChecked, lockedByOther, changedSince, phantomIn, withWorker, withMap, withCounters, installCounted, checkedAs, installedMap, merged, accessOf}
+use Rattle.spec.specs.Maps.{MapState, outcomeOf, current, heldByOther, putPending, hiding, hiddenIn, hides, withSlots, installAll, Merged, mergeAt, phantomIn}
+use Rattle.spec.specs.Steps.{Worker, freeWorker, State, workerOf, validate, numbered, Event, isFree, isLocked, isChecked, lockedByOther, changedSince, withWorker, withMap, withCounters, installCounted, checkedAs, installedMap, merged, accessOf}
 use Rattle.spec.specs.Sequential.{Agrees}
 use Rattle.spec.specs.Claim.{Transaction, Reading, runningNow, passed, extended, withNumber, numberIn, oneMoreGiven, validated, installedNow}
 use Rattle.laws.specs.SlotLaws.{content-member}
@@ -50,7 +50,7 @@ pub record Validatable (σ : State) (w : ℕ) : Type 0 where
   pub stage : isLocked (workerOf σ w .stage) ≡ true
   pub unchanged : any (changedSince σ) (workerOf σ w .reads) ≡ false
   pub unlocked : any (lockedByOther σ w) (keys (workerOf σ w .reads)) ≡ false
-  pub no-phantom : any (phantomIn σ w) (workerOf σ w .versions) ≡ false
+  pub no-phantom : any (phantomIn (σ .map) w) (workerOf σ w .versions) ≡ false
 
 module _ (σ : State) (ρ : Reading) (w : ℕ) (i : Invariant (facts σ) ρ) (k : ℕ) where
   said : Content
@@ -132,7 +132,7 @@ module _ {σ : State} {ρ : Reading} {w : ℕ} (h : Sound σ ρ) (p : Validatabl
       )
 
       no-hide : hides (σ .map) w v ≡ false
-      no-hide = unfold phantomIn in either-right (not (live (σ .map .leaves) v)) (hides (σ .map) w v) (any-false (phantomIn σ w) (workerOf σ w .versions) (p .no-phantom) v m)
+      no-hide = unfold phantomIn in either-right (not (live (σ .map .leaves) v)) (hides (σ .map) w v) (any-false (phantomIn (σ .map) w) (workerOf σ w .versions) (p .no-phantom) v m)
 
       tested : isIdle (contentOf (σ .map .slots) k) ≡ false → hiding w (contentOf (σ .map .slots) k) ≡ false
       tested t = last (row-tested t)
@@ -162,7 +162,7 @@ module _ {σ : State} {ρ : Reading} {w : ℕ} (h : Sound σ ρ) (p : Validatabl
             λ v m.
             live-version (h .fine .leaves) v
             (not-false (live (σ .map .leaves) v)
-            (unfold phantomIn in either-left (not (live (σ .map .leaves) v)) (hides (σ .map) w v) (any-false (phantomIn σ w) (workerOf σ w .versions) (p .no-phantom) v m)));
+            (unfold phantomIn in either-left (not (live (σ .map .leaves) v)) (hides (σ .map) w v) (any-false (phantomIn (σ .map) w) (workerOf σ w .versions) (p .no-phantom) v m)));
         leaf-empty = λ v m k e n. absent (σ .map) k n (unhidden v m k e n .0);
         leaf-free = λ v m k e n. stays-absent σ ρ w (h .invariant) k (unfold said in unhidden v m k e n .1);
       }

@@ -11,8 +11,8 @@ use Rattle.spec.specs.Records.{standard}
 use Rattle.spec.specs.Guards.{Scan}
 use Rattle.sets.specs.declared.leaves.LoggedLeaf.{LoggedLeaf}
 use Rattle.sets.specs.declared.leaves.Scanned.{Scanned}
-use Rattle.sets.specs.declared.leaves.Mark.{Mark}
-use Rattle.sets.specs.Leaves.{LeafSetRows, leafSetWords, versionIn, lowIn, scannedIn, rememberedIf, markIn, scansAt, marksOf, joined, scansOf, LeafSetHeld, LeavesHeld, LogsLeaf, GivesLeaf, GivesMark}
+use Rattle.sets.specs.declared.leaves.ScanNote.{ScanNote}
+use Rattle.sets.specs.Leaves.{LeafSetRows, leafSetWords, versionIn, lowIn, scannedIn, rememberedIf, noteIn, scansAt, notesOf, joined, scansOf, LeafSetHeld, LeavesHeld, LogsLeaf, GivesLeaf, GivesNote}
 use Rattle.sets.specs.ReadLaws.{flag-back}
 use Rattle.sets.specs.SetLaws.{each-set, each-alike, row-at, rows-snoc, row-appended}
 
@@ -31,7 +31,7 @@ leaf-appended rs n leaf first s held h l =
       lows = row-appended lowIn rs n (words leaf first s) (omega arith);
       marks =
           row-appended scansAt rs n (words leaf first s) (omega arith)
-          ∙ ap (λ (b : Bool). marksOf rs n ++ (rememberedIf b (scannedIn s) ∷ [])) (flag-back first);
+          ∙ ap (λ (b : Bool). notesOf rs n ++ (rememberedIf b (scannedIn s) ∷ [])) (flag-back first);
     }
 
 pub leaf-given : (rs : LeafSetRows) (i : ℕ) (r : LoggedLeaf) → r .version ≡ versionIn (getD rs i []) → r .low ≡ lowIn (getD rs i []) → GivesLeaf rs i r
@@ -41,8 +41,8 @@ leaf-given rs i r e f =
 pub leaves-zero : LeavesHeld (replicate (standard .workers) (replicate (standard .leafSetLimit) (replicate leafSetWords 0)))
 leaves-zero = each-alike (standard .workers) _ (each-alike (standard .leafSetLimit) _ (omega arith))
 
-pub mark-given : (rs : LeafSetRows) (i : ℕ) (r : Mark) → markIn r ≡ scansAt (getD rs i []) → GivesMark rs i r
-mark-given rs i r e = record { mark = λ n l. e ∙ sym (row-at scansAt rs n i [] l) }
+pub note-given : (rs : LeafSetRows) (i : ℕ) (r : ScanNote) → noteIn r ≡ scansAt (getD rs i []) → GivesNote rs i r
+note-given rs i r e = record { mark = λ n l. e ∙ sym (row-at scansAt rs n i [] l) }
 
 -- ---- lists joined
 
@@ -52,8 +52,8 @@ joined-append [] ys = refl
 joined-append {A} (x ∷ xs) ys = ap (λ (zs : List A). x ++ zs) (joined-append xs ys) ∙ sym (append-assoc x (joined xs) (joined ys))
 
 -- the scans of one row more
-pub scans-snoc : (rs : LeafSetRows) (n : ℕ) → scansOf rs (suc n) ≡ scansOf rs n ++ getD (marksOf rs (suc n)) n []
+pub scans-snoc : (rs : LeafSetRows) (n : ℕ) → scansOf rs (suc n) ≡ scansOf rs n ++ getD (notesOf rs (suc n)) n []
 scans-snoc rs n =
     ap joined (rows-snoc scansAt rs n)
-    ∙ joined-append (marksOf rs n) (scansAt (getD rs n []) ∷ [])
+    ∙ joined-append (notesOf rs n) (scansAt (getD rs n []) ∷ [])
     ∙ (unfold joined in ap (λ (cs : List Scan). scansOf rs n ++ cs) (append-nil (scansAt (getD rs n [])) ∙ sym (row-at scansAt rs (suc n) n [] (omega arith))))

@@ -11,7 +11,7 @@ use Rattle.spec.specs.Records.{standard}
 use Rattle.spec.specs.Guards.{Scan}
 use Rattle.sets.specs.declared.leaves.LoggedLeaf.{LoggedLeaf}
 use Rattle.sets.specs.declared.leaves.Scanned.{Scanned}
-use Rattle.sets.specs.declared.leaves.Mark.{Mark}
+use Rattle.sets.specs.declared.leaves.ScanNote.{ScanNote}
 use Rattle.sets.specs.Sets.{AddressAt, Each, firstRows}
 
 -- one worker's rows, as lists of words
@@ -46,16 +46,16 @@ scannedIn s = record { lo = s .lo; hi = s .hi; from = s .from; count = s .count 
 abbrev pub rememberedIf : Bool → Scan → List Scan
 rememberedIf first s = pick first (s ∷ []) []
 
-abbrev pub markIn : Mark → List Scan
-markIn m = rememberedIf (m .first) (scannedIn (m .scan))
+abbrev pub noteIn : ScanNote → List Scan
+noteIn m = rememberedIf (m .first) (scannedIn (m .scan))
 
 -- what a row says
 abbrev pub scansAt : List ℕ → List Scan
 scansAt r = rememberedIf (eqb (getD r 2 0) 1) (record { lo = getD r 3 0; hi = getD r 4 0; from = getD r 5 0; count = getD r 6 0 })
 
 -- what each of n rows says
-abbrev pub marksOf : LeafSetRows → ℕ → List (List Scan)
-marksOf rs n = firstRows scansAt rs n
+abbrev pub notesOf : LeafSetRows → ℕ → List (List Scan)
+notesOf rs n = firstRows scansAt rs n
 
 -- one after the other
 unfoldable pub joined : {A : Type 0} → List (List A) → List A
@@ -64,7 +64,7 @@ joined (xs ∷ xss) = xs ++ joined xss
 
 -- the scans that a leaf set of n rows remembers
 abbrev pub scansOf : LeafSetRows → ℕ → List Scan
-scansOf rs n = joined (marksOf rs n)
+scansOf rs n = joined (notesOf rs n)
 
 -- those of worker w
 abbrev pub versionsIn : List LeafSetRows → ℕ → ℕ → List ℕ
@@ -94,7 +94,7 @@ pub record LogsLeaf (rs : LeafSetRows) (n : ℕ) (leaf : LoggedLeaf) (first : Bo
   pub count : r ≡ n + 1
   pub versions : versionsOf us r ≡ versionsOf rs n ++ (leaf .version ∷ [])
   pub lows : lowsOf us r ≡ lowsOf rs n ++ (leaf .low ∷ [])
-  pub marks : marksOf us r ≡ marksOf rs n ++ (rememberedIf first (scannedIn s) ∷ [])
+  pub marks : notesOf us r ≡ notesOf rs n ++ (rememberedIf first (scannedIn s) ∷ [])
 
 -- row i, in a set of any number of rows that has it
 pub record GivesLeaf (rs : LeafSetRows) (i : ℕ) (r : LoggedLeaf) : Type 0 where
@@ -102,5 +102,5 @@ pub record GivesLeaf (rs : LeafSetRows) (i : ℕ) (r : LoggedLeaf) : Type 0 wher
   pub low : (n : ℕ) → i < n → r .low ≡ getD (lowsOf rs n) i 0
 
 -- what row i remembers, in a set of any number of rows that has it
-pub record GivesMark (rs : LeafSetRows) (i : ℕ) (r : Mark) : Type 0 where
-  pub mark : (n : ℕ) → i < n → markIn r ≡ getD (marksOf rs n) i []
+pub record GivesNote (rs : LeafSetRows) (i : ℕ) (r : ScanNote) : Type 0 where
+  pub mark : (n : ℕ) → i < n → noteIn r ≡ getD (notesOf rs n) i []

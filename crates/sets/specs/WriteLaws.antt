@@ -17,7 +17,7 @@ use Rattle.lists.specs.Shifts.{moved, Raising, raising-start, raising-on, raisi
 use Rattle.lists.specs.Places.{place, place-most, place-below, place-above, Present, Absent, look-present, look-absent, insert-present, insert-absent}
 use Rattle.spec.specs.Widths.{addresses}
 use Rattle.spec.specs.Records.{standard, Write, written, deleted}
-use Rattle.sets.specs.declared.writes.Line.{Line}
+use Rattle.sets.specs.declared.writes.WriteRow.{WriteRow}
 use Rattle.sets.specs.declared.writes.Entry.{Entry}
 use Rattle.spec.specs.Payloads.{payloadIn}
 use Rattle.spec.specs.declared.PayloadWords.{PayloadWords}
@@ -56,7 +56,7 @@ lifting-on {rs} {us} {n} {p} {i} z h l o f =
 pub lifting-end : {rs us : WriteRows} {n p i : ℕ} → Lifting rs us n p i → i ≤ 0 → WritesBecome (moved rs p (p + 1) (n - p)) us
 lifting-end f h = record { held = f .held; rows = raising-end (f .rows) h }
 
-pub line-stored : {rs us vs : WriteRows} (p : ℕ) (r : Line) → r .address < addresses → WritesBecome rs us → vs ≡ set us p (wordsOf r)
+pub line-stored : {rs us vs : WriteRows} (p : ℕ) (r : WriteRow) → r .address < addresses → WritesBecome rs us → vs ≡ set us p (wordsOf r)
     → WritesBecome (set rs p (wordsOf r)) vs
 line-stored p r h b e =
     record {
@@ -104,11 +104,11 @@ module _ {rs : WriteRows} {n a p : ℕ} (given : WriteSetOrdered rs n) (at : Pla
       let i : p ≡ place a (writesOf rs n) = at .is in
       record { present = λ e. clash e refl; absent = λ e. record { elsewhere = λ g f. omega arith } }
 
-  pub stands-at : (r : Line) → r ≡ lineAt rs p → p < n → WritesHave rs n a (eqb (r .address) a)
+  pub stands-at : (r : WriteRow) → r ≡ lineAt rs p → p < n → WritesHave rs n a (eqb (r .address) a)
   stands-at r g h =
       let s : length (writesOf rs n) ≡ n = length-rows writeIn rs n in
       let i : p ≡ place a (writesOf rs n) = at .is in
-      let k : getD (writesOf rs n) (place a (writesOf rs n)) noWrite .key ≡ r .address = key-there h ∙ sym (ap (λ (l : Line). l .address) g) in
+      let k : getD (writesOf rs n) (place a (writesOf rs n)) noWrite .key ≡ r .address = key-there h ∙ sym (ap (λ (l : WriteRow). l .address) g) in
       record {
         present = λ e. record { inside = omega arith; here = k ∙ eqb-true (r .address) a e };
         absent = λ e. record { elsewhere = λ l f. eqb-false (r .address) a e (sym k ∙ f) };
@@ -123,11 +123,11 @@ module _ {rs : WriteRows} {n a p : ℕ} (given : WriteSetOrdered rs n) (at : Pla
       let h : place a (writesOf rs n) < length (writesOf rs n) = s .inside in
       omega arith
 
-  pub found-here : (r : Line) → r ≡ lineAt rs p → Present a (writesOf rs n) noWrite → (e : Write) → writeOf (r .kind) (r .payload) ≡ e
+  pub found-here : (r : WriteRow) → r ≡ lineAt rs p → Present a (writesOf rs n) noWrite → (e : Write) → writeOf (r .kind) (r .payload) ≡ e
       → some e ≡ look (writesOf rs n) a
   found-here r g s e q =
       ap (λ (x : Write). some x) (sym q)
-      ∙ ap (λ (l : Line). some (writeOf (l .kind) (l .payload))) g
+      ∙ ap (λ (l : WriteRow). some (writeOf (l .kind) (l .payload))) g
       ∙ ap (λ (x : Row Write). some (x .item)) (sym (row-at writeIn rs n p noWrite (inside s)) ∙ ap (λ (i : ℕ). getD (writesOf rs n) i noWrite) (at .is))
       ∙ sym (look-present a (writesOf rs n) noWrite s)
 
@@ -178,10 +178,10 @@ module _ {rs : WriteRows} {n a p : ℕ} (given : WriteSetOrdered rs n) (at : Pla
 
 -- ---- a row read
 
-pub write-given : {rs : WriteRows} {i : ℕ} (r : Line) → r ≡ lineAt rs i → (e : Entry) → e .address ≡ r .address
+pub write-given : {rs : WriteRows} {i : ℕ} (r : WriteRow) → r ≡ lineAt rs i → (e : Entry) → e .address ≡ r .address
     → writeOf (e .kind) (e .payload) ≡ writeOf (r .kind) (r .payload) → (e .kind ≡ 1) ⊎ (e .kind ≡ 2) → GivesWrite rs i e
 write-given {rs} {i} r g e p q k =
-    record { at = λ n l. (λ j. row (p j) (q j)) ∙ ap (λ (x : Line). writeIn (wordsOf x)) g ∙ sym (row-at writeIn rs n i noWrite l); kind = k }
+    record { at = λ n l. (λ j. row (p j) (q j)) ∙ ap (λ (x : WriteRow). writeIn (wordsOf x)) g ∙ sym (row-at writeIn rs n i noWrite l); kind = k }
 
 -- ---- laws for callers
 

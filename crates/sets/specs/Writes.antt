@@ -11,9 +11,9 @@ use Rattle.spec.specs.Records.{standard, Write, written, deleted}
 use Rattle.spec.specs.Payloads.{payloadIn}
 use Rattle.spec.specs.declared.PayloadWords.{PayloadWords}
 use Rattle.sets.specs.declared.writes.Entry.{Entry}
-use Rattle.sets.specs.declared.writes.Line.{Line}
-use Rattle.sets.specs.declared.writes.Found.{Found}
-use Rattle.sets.specs.declared.writes.Found.the-variants.{Put, Deletion, Nothing}
+use Rattle.sets.specs.declared.writes.WriteRow.{WriteRow}
+use Rattle.sets.specs.declared.writes.FoundWrite.{FoundWrite}
+use Rattle.sets.specs.declared.writes.FoundWrite.the-variants.{Put, Deletion, Nothing}
 use Rattle.sets.specs.Sets.{AddressAt, Each, firstRows}
 
 -- one worker's rows, as lists of words
@@ -34,7 +34,7 @@ abbrev pub entryIn : Entry → Row Write
 entryIn e = row (e .address) (writeOf (e .kind) (e .payload))
 
 -- the write found, or none
-abbrev pub foundIn : Found → Option Write
+abbrev pub foundIn : FoundWrite → Option Write
 foundIn (Put v) = some (written (payloadIn v))
 foundIn Deletion = some deleted
 foundIn Nothing = none
@@ -44,7 +44,7 @@ abbrev pub noWrite : Row Write
 noWrite = row 0 deleted
 
 -- row i in words
-abbrev pub lineAt : WriteRows → ℕ → Line
+abbrev pub lineAt : WriteRows → ℕ → WriteRow
 lineAt rs i =
     record {
       address = getD (getD rs i []) 0 0;
@@ -53,7 +53,7 @@ lineAt rs i =
     }
 
 -- the words of a row
-abbrev pub wordsOf : Line → List ℕ
+abbrev pub wordsOf : WriteRow → List ℕ
 wordsOf l = l .address ∷ l .kind ∷ l .payload .value ∷ l .payload .owner ∷ []
 
 -- what a row says

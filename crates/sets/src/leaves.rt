@@ -4,7 +4,7 @@ use crate::LeafSet;
 use spec::Address;
 ghost use Prim.Native.Nat.{_<_};
 ghost use Rattle.spec.specs.Records.{standard};
-ghost use Rattle.sets.specs.Leaves.{LeafSetHeld, LogsLeaf, GivesLeaf, GivesMark};
+ghost use Rattle.sets.specs.Leaves.{LeafSetHeld, LogsLeaf, GivesLeaf, GivesNote};
 
 // A row of a leaf set.
 pub struct LoggedLeaf {
@@ -21,7 +21,7 @@ pub struct Scanned {
 }
 
 // What a row remembers: a scan, if it is the first row of one.
-pub struct Mark {
+pub struct ScanNote {
     pub first: bool,
     pub scan: Scanned,
 }
@@ -59,10 +59,10 @@ pub fn logged_leaf_at(leaves: &LeafSet, i: usize) -> LoggedLeaf
 }
 
 // What row i remembers.
-pub fn mark_at(leaves: &LeafSet, i: usize) -> Mark
+pub fn note_at(leaves: &LeafSet, i: usize) -> ScanNote
     requires { ⌜ LeafSetHeld (now leaves) ⌝ }
     requires { ⌜ i < standard .leafSetLimit ⌝ }
-    ensures { λ r. ⌜ GivesMark (now (leaves .entry)) i r ⌝ }
+    ensures { λ r. ⌜ GivesNote (now (leaves .entry)) i r ⌝ }
 {
     let row = leaves[i];
     let scan = Scanned {
@@ -71,7 +71,7 @@ pub fn mark_at(leaves: &LeafSet, i: usize) -> Mark
         from: row[5],
         count: row[6],
     };
-    Mark {
+    ScanNote {
         first: row[2] == 1,
         scan,
     }

@@ -24,21 +24,21 @@ pub struct Entry {
 }
 
 // A row as it stands in words.
-struct Line {
+struct WriteRow {
     address: u64,
     kind: u64,
     payload: PayloadWords,
 }
 
 // What a look-up finds: a put with what it gives, a deletion, or no write.
-pub enum Found {
+pub enum FoundWrite {
     Put(PayloadWords),
     Deletion,
     Nothing,
 }
 
 // Row i. Only this function and the next touch words.
-fn get(writes: &WriteSet, i: usize) -> Line
+fn get(writes: &WriteSet, i: usize) -> WriteRow
     requires { ⌜ i < standard .writeLimit ⌝ }
     ensures { λ r. ⌜ r ≡ lineAt (now (writes .entry)) i ⌝ }
 {
@@ -47,7 +47,7 @@ fn get(writes: &WriteSet, i: usize) -> Line
         value: row[2],
         owner: row[3],
     };
-    Line {
+    WriteRow {
         address: row[0],
         kind: row[1],
         payload,
@@ -55,7 +55,7 @@ fn get(writes: &WriteSet, i: usize) -> Line
 }
 
 // Another row at place i.
-fn store(writes: &mut WriteSet, i: usize, r: Line)
+fn store(writes: &mut WriteSet, i: usize, r: WriteRow)
     requires { ⌜ i < standard .writeLimit ⌝ }
     ensures { λ _. ⌜ now (writes .exit) ≡ set (now (writes .entry)) i (wordsOf r) ⌝ }
 {
@@ -79,7 +79,7 @@ fn raise(writes: &mut WriteSet, n: usize, p: usize)
 }
 
 // Puts a row in at place p, before the rows that stand there and after it.
-fn insert(writes: &mut WriteSet, n: usize, p: usize, r: Line)
+fn insert(writes: &mut WriteSet, n: usize, p: usize, r: WriteRow)
     requires { ⌜ WriteSetHeld (now writes) ⌝ }
     requires { ⌜ (p ≤ n) × (n < standard .writeLimit) × (r .address < addresses) ⌝ }
     ensures { λ _. ⌜ WritesBecome (set (moved (now (writes .entry)) p (p + 1) (n - p)) p (wordsOf r)) (now (writes .exit)) ⌝ }
@@ -119,7 +119,7 @@ fn stands(writes: &WriteSet, n: usize, a: Address, p: usize) -> bool
 }
 
 // The worker's own write at an address.
-pub fn find_write(writes: &WriteSet, n: usize, a: Address) -> Found
+pub fn find_write(writes: &WriteSet, n: usize, a: Address) -> FoundWrite
     requires { ⌜ WriteSetOrdered (now writes) n ⌝ }
     ensures { λ r. ⌜ foundIn r ≡ look (writesOf (now (writes .entry)) n) a ⌝ }
 {
@@ -128,11 +128,11 @@ pub fn find_write(writes: &WriteSet, n: usize, a: Address) -> Found
         let r = get(writes, p);
         if r.kind == 1 {
             let payload = r.payload;
-            return Found::Put(payload);
+            return FoundWrite::Put(payload);
         }
-        return Found::Deletion;
+        return FoundWrite::Deletion;
     }
-    Found::Nothing
+    FoundWrite::Nothing
 }
 
 // Puts a write among the n writes, in place of one at the same address. Answers how many there are now.
@@ -148,7 +148,7 @@ pub fn put_write(
     ensures { λ r. ⌜ PutsWrite (now (writes .entry)) n a kind payload (now (writes .exit)) r ⌝ }
 {
     let p = writes_below(writes, n, a);
-    let line = Line {
+    let line = WriteRow {
         address: a as u64,
         kind,
         payload,

@@ -7,7 +7,7 @@ use mathlib.Core.Option.{Option, none, some}
 use Rattle.lists.specs.Tests.{pick, both, either, maybe, present, same, less}
 use Rattle.lists.specs.Rows.{Row, row, look, assign, lay, between, keys, any, filter, distinct}
 use Rattle.spec.specs.Records.{Settings, Record, Write, isPut, outcome}
-use Rattle.spec.specs.Leaves.{Leaf, firstLeaf, versionAt, settle, versionsTaken}
+use Rattle.spec.specs.Leaves.{Leaf, firstLeaf, versionAt, settle, versionsTaken, live}
 use Rattle.spec.specs.Slots.{Slot, Pending, Content, emptySlots, entries, contentOf, enter}
 
 -- The index (sorted records and leaves) and the indexlet.
@@ -66,6 +66,10 @@ hiddenIn m w v e =
 -- the leaf with version v hides a key from worker w
 unfoldable pub hides : MapState → ℕ → ℕ → Bool
 hides m w v = any (hiddenIn m w v) (entries (m .slots))
+
+-- a logged mark is gone, or its leaf hides a key
+unfoldable pub phantomIn : MapState → ℕ → ℕ → Bool
+phantomIn m w v = either (not (live (m .leaves) v)) (hides m w v)
 
 -- ---- counts
 

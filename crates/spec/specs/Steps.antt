@@ -14,10 +14,10 @@ use Rattle.spec.specs.declared.Stage.{Stage}
 use Rattle.spec.specs.declared.Stage.the-variants.{Free, Open, Locked, Checked}
 use Rattle.spec.specs.Refusals.{ends}
 use Rattle.spec.specs.Records.{Settings, Payload, Record, Write, written, deleted, ownView, payloadOf, sameRecord}
-use Rattle.spec.specs.Leaves.{live, meeting}
+use Rattle.spec.specs.Leaves.{meeting}
 use Rattle.spec.specs.Slots.{contentOf, search}
 use Rattle.spec.specs.Guards.{Scan, unfit, uncovered, overlapped, anyPut}
-use Rattle.spec.specs.Maps.{MapState, freshMap, current, indexedBetween, heldByOther, hides, waitingWith, addressesWith, merging, lockAll, unlockAll, installAll, Merged, mergeAt, oldest}
+use Rattle.spec.specs.Maps.{MapState, freshMap, current, indexedBetween, heldByOther, phantomIn, waitingWith, addressesWith, merging, lockAll, unlockAll, installAll, Merged, mergeAt, oldest}
 
 -- ---- state
 
@@ -247,10 +247,6 @@ writeKeys σ w = keys (workerOf σ w .writes)
 unfoldable pub changedSince : State → Row (Option Record) → Bool
 changedSince σ r = not (sameRecord (current (σ .map) (r .key)) (r .item))
 
--- a logged mark is gone, or its leaf hides a key
-unfoldable pub phantomIn : State → ℕ → ℕ → Bool
-phantomIn σ w v = either (not (live (σ .map .leaves) v)) (hides (σ .map) w v)
-
 -- in a guarded map, some put of the worker's write set meets the test
 unfoldable pub guard : State → ℕ → (ℕ → ℕ → Bool) → Bool
 guard σ w f = both (σ .guarded) (anyPut f (workerOf σ w .writes))
@@ -298,7 +294,7 @@ causes σ (act w validating) =
     ∷ wrongStage isLocked σ w
     ∷ cause (any (changedSince σ) (workerOf σ w .reads)) Changed
     ∷ cause (any (lockedByOther σ w) (keys (workerOf σ w .reads))) UnderLock
-    ∷ cause (any (phantomIn σ w) (workerOf σ w .versions)) Phantom
+    ∷ cause (any (phantomIn (σ .map) w) (workerOf σ w .versions)) Phantom
     ∷ cause (not (less (σ .counters .number) (σ .settings .lastNumber))) Spent
     ∷ []
 causes σ (act w installing) = noWorker σ w ∷ workerFree σ w ∷ wrongStage isChecked σ w ∷ []

@@ -7,7 +7,7 @@ use std::ops::Range;
 
 pub const WORKERS: usize = 8;
 pub const READ_LIMIT: usize = 64;
-pub const LEAF_LIMIT: usize = 32;
+pub const LEAF_SET_LIMIT: usize = 32;
 pub const WRITE_LIMIT: usize = 16;
 pub const LAST_COMMIT: Commit = 1_000_000;
 
@@ -218,7 +218,7 @@ impl Engine {
         let leaves = self.map.leaves_between(lo, hi);
         let worker = &mut self.workers[at];
         if worker.read_set.len() + records.len() > READ_LIMIT
-            || worker.leaf_set.len() + leaves.len() > LEAF_LIMIT
+            || worker.leaf_set.len() + leaves.len() > LEAF_SET_LIMIT
         {
             return Err(ReadSetFull);
         }

@@ -39,12 +39,12 @@ use denote.Triple.Entry.{onEntry}
 use denote.Triple.Spec.{Meets, tripleOf}
 use denote.Triple.Table.{entered, cited}
 use denote.Triple.Walked.{says, needs, Stays, stay-dropped, walkOf, goes-dropped, Walks, ends-at, walked, walk-meets}
-use Rattle.cuts.specs.declared.Leaf.{Leaf}
+use Rattle.cuts.specs.declared.MadeLeaf.{MadeLeaf}
 use Rattle.cuts.specs.Making.{mostRuns, leaf, lowered, versioned, changed}
 use Rattle.cuts.proofs.Swaps.{Swaps}
 use Rattle.cuts.proofs.Lends.{mach, apart, together, lent-to}
-use Rattle.cuts.proofs.Leaf as T
-use Rattle.cuts.proofs.Leaf.Laws as T′
+use Rattle.cuts.proofs.MadeLeaf as T
+use Rattle.cuts.proofs.MadeLeaf.Laws as T′
 use Rattle.cuts.proofs.set_low.Symbol as low
 use Rattle.cuts.proofs.set_low.Met as low-thm
 use Rattle.cuts.proofs.set_version.Symbol as version
@@ -63,21 +63,21 @@ abbrev slice : Ty
 slice = sliceTy (tyRef erased mut (pointee (T.the-row .written)))
 
 -- a leaf whose low address and version are both set is made
-made : (ys : List Leaf) (i a v : ℕ) → i < length ys → changed versioned (changed lowered ys i a) i v ≡ set ys i (leaf a v)
+made : (ys : List MadeLeaf) (i a v : ℕ) → i < length ys → changed versioned (changed lowered ys i a) i v ≡ set ys i (leaf a v)
 made ys i a v l =
-    ap (λ (h : Leaf). set (changed lowered ys i a) i (versioned h v)) (getD-set-same ys i _ (leaf 0 0) l) ∙ set-set ys i _ (leaf a v)
+    ap (λ (h : MadeLeaf). set (changed lowered ys i a) i (versioned h v)) (getD-set-same ys i _ (leaf 0 0) l) ∙ set-set ys i _ (leaf a v)
 
 -- as many leaves as one merge can make have room
-room : (ys : List Leaf) → length ys ≡ mostRuns → Room T.the-row (length ys)
+room : (ys : List MadeLeaf) → length ys ≡ mostRuns → Room T.the-row (length ys)
 room ys n = subst (Room T.the-row) (sym n) (lit< tt, lit< tt)
 
-module _ {M : Type 1} (𝓤 : URA M) (H : Heap 𝓤) (A : Atoms 𝓤) (W : Given 𝓤 H A) (at-mem : Memory → SProp 𝓤) (run : Routine → Fun 𝓤) (ys : List Leaf) (i a v : ℕ)
+module _ {M : Type 1} (𝓤 : URA M) (H : Heap 𝓤) (A : Atoms 𝓤) (W : Given 𝓤 H A) (at-mem : Memory → SProp 𝓤) (run : Routine → Fun 𝓤) (ys : List MadeLeaf) (i a v : ℕ)
     (is-ys : Is (Array T.the-row mostRuns) ys (mach ys ∷ [])) (i-fits : i < 2 ^ 64) (a-fits : a < 2 ^ 64) (v-fits : v < 2 ^ 64) (l : i < mostRuns) where
   -- the leaves once the low address is set, and once the version is
-  abbrev ys′ : List Leaf
+  abbrev ys′ : List MadeLeaf
   ys′ = changed lowered ys i a
 
-  abbrev zs : List Leaf
+  abbrev zs : List MadeLeaf
   zs = changed versioned ys′ i v
 
   n : length ys ≡ mostRuns

@@ -2,7 +2,7 @@
 
 use super::look;
 use crate::choose::leaf_around;
-use crate::engine::{LEAF_LIMIT, WRITE_LIMIT};
+use crate::engine::{LEAF_SET_LIMIT, WRITE_LIMIT};
 use crate::generate::Generator;
 use crate::map::Write;
 
@@ -99,7 +99,7 @@ fn count_leaves(generator: &mut Generator) {
     let low = generator.map().leaves()[from].low;
     let high = generator.map().high(from + room - 1);
     generator.begin(worker);
-    for _ in 0..LEAF_LIMIT - room {
+    for _ in 0..LEAF_SET_LIMIT - room {
         let address = generator.fresh_one();
         generator.scan(worker, address, address);
     }

@@ -2,7 +2,7 @@
 
 use super::{finish_or_abort, random_range, range};
 use crate::choose::leaf_around;
-use crate::engine::{LEAF_LIMIT, READ_LIMIT, WRITE_LIMIT};
+use crate::engine::{LEAF_SET_LIMIT, READ_LIMIT, WRITE_LIMIT};
 use crate::generate::Generator;
 use crate::map::Write;
 use crate::step::PLACES;
@@ -67,7 +67,7 @@ fn scan_to_limit(generator: &mut Generator) {
 fn leaves_to_limit(generator: &mut Generator) {
     let [worker] = generator.idle_workers();
     generator.begin(worker);
-    for _ in 0..LEAF_LIMIT - 1 {
+    for _ in 0..LEAF_SET_LIMIT - 1 {
         let address = generator.fresh_one();
         generator.scan(worker, address, address);
     }
@@ -151,12 +151,12 @@ fn wide_leaves(generator: &mut Generator) {
 
 fn wide_scan(generator: &mut Generator) {
     let leaves = generator.map().leaves();
-    if leaves.len() < LEAF_LIMIT + 2 {
+    if leaves.len() < LEAF_SET_LIMIT + 2 {
         return;
     }
-    let from = generator.random.between(0, leaves.len() - LEAF_LIMIT - 2);
+    let from = generator.random.between(0, leaves.len() - LEAF_SET_LIMIT - 2);
     let leaves = generator.map().leaves();
-    let (lo, next) = (leaves[from].low, leaves[from + LEAF_LIMIT].low);
+    let (lo, next) = (leaves[from].low, leaves[from + LEAF_SET_LIMIT].low);
     let [worker] = generator.idle_workers();
     generator.begin(worker);
     generator.scan(worker, lo, next);

@@ -1,7 +1,7 @@
 -- `validates::phantoms` meets its contract: the first leaf that is gone or hides a key, or none does.
 use Prim.Native.Nat.{_-_, _≤_, zero-le}
 use native.Mathlib.Omega.{arith}
-use Rattle.queries.specs.PhantomViews.{phantomAt}
+use Rattle.spec.specs.Maps.{phantomIn}
 use Rattle.map.specs.Views.{lent, mapOf}
 use Rattle.sets.specs.Leaves.{versionIn, versionsOf}
 use Rattle.sets.specs.SetLaws.{length-rows}
@@ -12,7 +12,7 @@ use Rattle.commits.proofs.validates.phantoms.Tie as tie
 
 abbrev Inv-loop : tie.InvT-loop
 Inv-loop rows leaves slots set ws z n w k i₀ i =
-    (i ≤ k) × Searching (phantomAt (mapOf (lent rows leaves slots) z) w) (versionsOf set k) i
+    (i ≤ k) × Searching (phantomIn (mapOf (lent rows leaves slots) z) w) (versionsOf set k) i
 
 abbrev μ-loop : tie.MeasureT-loop
 μ-loop rows leaves slots set ws z n w k i₀ i = k - i

@@ -1,7 +1,7 @@
 use Prim.Native.Nat.{_+_, _≤_}
 use mathlib.Core.Path.{sym, ap, _∙_}
 use lib.ListN.{length}
-use Rattle.index.specs.declared.leaves.Leaf.{Leaf}
+use Rattle.index.specs.declared.leaves.LeafWords.{LeafWords}
 use Rattle.index.specs.LeafPlaces.{leaf-step, leaf-stay, leaf-end}
 use Rattle.index.specs.LeafColumns.{lowsOf}
 use Rattle.index.specs.LeafColumnLaws.{column-places, column-getD}
@@ -22,7 +22,7 @@ returns : tie.Need-returns
 returns c = let s = c .before .before .before .before .before in
     let g = c .before .before .before .leaf-at in
     let f : s .args .m ≤ length (lowsOf (s .args .leaves .now)) = rw (column-places 0 (s .args .leaves .now) (c .before .before .before .before .leaf-places .ensures)) (s .pre .0) in
-    leaf-step (lowsOf (s .args .leaves .now)) (s .args .m) (s .args .key) (s .args .base) (s .args .step) f (c .if2 .taken) (rw (ap (λ (l : Leaf). l .low) (g .ensures) ∙ sym (column-getD 0 (s .args .leaves .now) (s .args .base + s .args .step))) at (c .before .if1 .taken))
+    leaf-step (lowsOf (s .args .leaves .now)) (s .args .m) (s .args .key) (s .args .base) (s .args .step) f (c .if2 .taken) (rw (ap (λ (l : LeafWords). l .low) (g .ensures) ∙ sym (column-getD 0 (s .args .leaves .now) (s .args .base + s .args .step))) at (c .before .if1 .taken))
 
 returns-2 : tie.Need-returns-2
 returns-2 c = let s = c .before .before .before .before .before in
@@ -34,7 +34,7 @@ returns-3 : tie.Need-returns-3
 returns-3 c = let s = c .before .before .before .before in
     let g = c .before .before .leaf-at in
     let f : s .args .m ≤ length (lowsOf (s .args .leaves .now)) = rw (column-places 0 (s .args .leaves .now) (c .before .before .before .leaf-places .ensures)) (s .pre .0) in
-    leaf-stay (lowsOf (s .args .leaves .now)) (s .args .m) (s .args .key) (s .args .base) (s .args .step) f (rw (ap (λ (l : Leaf). l .low) (g .ensures) ∙ sym (column-getD 0 (s .args .leaves .now) (s .args .base + s .args .step))) at (c .if1 .left))
+    leaf-stay (lowsOf (s .args .leaves .now)) (s .args .m) (s .args .key) (s .args .base) (s .args .step) f (rw (ap (λ (l : LeafWords). l .low) (g .ensures) ∙ sym (column-getD 0 (s .args .leaves .now) (s .args .base + s .args .step))) at (c .if1 .left))
 
 pub probe-spec : {M : Type 1} → statement M
 probe-spec =

@@ -2,7 +2,7 @@ use Prim.Native.Nat.{_+_, _-_}
 use mathlib.Core.Path.{refl, ap, _∙_}
 use Rattle.lists.specs.Tabulation.{tab}
 use Rattle.lists.specs.Shifts.{over}
-use Rattle.index.specs.declared.leaves.Leaf.{Leaf}
+use Rattle.index.specs.declared.leaves.LeafWords.{LeafWords}
 use Rattle.index.specs.LeafColumns.{LeafRows, leafAt, leafPut}
 use Rattle.index.specs.SettleRows.{madeLeaf, runRow, made-rows}
 use borrow.Author.Needs.{needs}
@@ -70,7 +70,7 @@ returns c = let s = c .before .before .before .before .before .before .before .b
       refl,
       c .put-leaf .ensures
           ∙ ap (leafPut (f .last .0) (s .args .p)) (c .before .before .made-leaf .ensures)
-          ∙ ap (λ (l : Leaf). leafPut (f .last .0) (s .args .p) (madeLeaf (l .low) (s .args .v + 1))) (c .before .before .before .before .before .before .before .before .leaf-at .ensures)
+          ∙ ap (λ (l : LeafWords). leafPut (f .last .0) (s .args .p) (madeLeaf (l .low) (s .args .v + 1))) (c .before .before .before .before .before .before .before .before .leaf-at .ensures)
           ∙ ap (λ (ls : LeafRows). leafPut ls (s .args .p) (madeLeaf (leafAt (s .args .leaves .now) (s .args .p) .low) (s .args .v + 1)))
           (f .ensures
           ∙ ap (over (c .before .before .before .before .before .before .shift-right .last .0) (s .args .p + 1)) (made-rows (c .before .before .before .before .before .make-all .ensures))

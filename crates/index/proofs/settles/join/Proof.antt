@@ -1,6 +1,6 @@
 use Prim.Native.Nat.{_+_, _-_}
 use mathlib.Core.Path.{refl, ap, _∙_}
-use Rattle.index.specs.declared.leaves.Leaf.{Leaf}
+use Rattle.index.specs.declared.leaves.LeafWords.{LeafWords}
 use Rattle.index.specs.LeafColumns.{LeafRows, leafPut}
 use Rattle.index.specs.SettleRows.{renewed}
 use borrow.Author.Needs.{needs}
@@ -46,7 +46,7 @@ returns c = let s = c .before .before .before .before .before .before in
       refl,
       refl,
       c .put-leaf .ensures
-          ∙ ap (λ (l : Leaf). leafPut (h .last .0) (s .args .p - 1) (record { low = l .low; version = s .args .v + 1; hidden = l .hidden; pending = l .pending })) (c .before .before .leaf-at .ensures)
+          ∙ ap (λ (l : LeafWords). leafPut (h .last .0) (s .args .p - 1) (record { low = l .low; version = s .args .v + 1; hidden = l .hidden; pending = l .pending })) (c .before .before .leaf-at .ensures)
           ∙ ap (λ (ls : LeafRows). renewed ls (s .args .p - 1) (s .args .v + 1)) (h .ensures),
     )
 

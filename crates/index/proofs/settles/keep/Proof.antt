@@ -1,6 +1,6 @@
 use Prim.Native.Nat.{_+_}
 use mathlib.Core.Path.{refl, ap, _∙_}
-use Rattle.index.specs.declared.leaves.Leaf.{Leaf}
+use Rattle.index.specs.declared.leaves.LeafWords.{LeafWords}
 use Rattle.index.specs.LeafColumns.{leafPut}
 use Rattle.index.specs.SettleRows.{madeLeaf}
 use borrow.Author.Needs.{needs}
@@ -27,7 +27,7 @@ returns c = let s = c .before .before .before .before .before in (
   refl,
   refl,
   c .put-leaf .ensures ∙ ap (leafPut (s .args .leaves .now) (s .args .p)) (c .before .before .made-leaf .ensures)
-      ∙ ap (λ (l : Leaf). leafPut (s .args .leaves .now) (s .args .p) (madeLeaf (l .low) (s .args .v + 1))) (c .before .before .before .leaf-at .ensures),
+      ∙ ap (λ (l : LeafWords). leafPut (s .args .leaves .now) (s .args .p) (madeLeaf (l .low) (s .args .v + 1))) (c .before .before .before .leaf-at .ensures),
 )
 
 pub keep-spec : {M : Type 1} → statement M

@@ -5,7 +5,7 @@ use native.Mathlib.Omega.{arith}
 use mathlib.Core.Path.{_≡_, ap, _∙_, subst}
 use lib.ListN.{length}
 use borrow.Author.Needs.{needs}
-use Rattle.index.specs.declared.leaves.Leaf.{Leaf as LeafWords}
+use Rattle.index.specs.declared.leaves.LeafWords.{LeafWords}
 use Rattle.index.specs.Views.{leafPlaces}
 use Rattle.index.specs.LeafColumns.{leafPut}
 use Rattle.phantomlet.specs.LeafWrites.{Cleared, cleared-start, cleared-on}

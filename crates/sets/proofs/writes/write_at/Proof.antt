@@ -2,7 +2,7 @@
 use native.Mathlib.Omega.{arith}
 use mathlib.Core.Path.{refl, sym, ap, _∙_}
 use mathlib.Core.Logic.{inl, inr}
-use Rattle.sets.specs.declared.writes.Line.{Line}
+use Rattle.sets.specs.declared.writes.WriteRow.{WriteRow}
 use Rattle.sets.specs.WriteLaws.{put-kind, deletion-kind, write-given}
 use borrow.Author.Needs.{needs}
 use Rattle.sets.proofs.writes.write_at.Statement.{statement}
@@ -14,7 +14,7 @@ get-requires c κs = search needs
 cast-address : tie.Need-cast-address
 cast-address c =
     let s = c .before .before in
-    omega (arith, ap (λ (r : Line). r .address) (c .before .get .ensures), s .pre .0 .at (s .args .i) (s .pre .1))
+    omega (arith, ap (λ (r : WriteRow). r .address) (c .before .get .ensures), s .pre .0 .at (s .args .i) (s .pre .1))
 
 returns : tie.Need-returns
 returns c =

@@ -4,7 +4,7 @@ use borrow.Author.Needs.{needs}
 use Prim.Native.Nat.{_-_, _≤_, zero-le}
 use mathlib.Core.Path.{ap}
 use Rattle.lists.specs.Places.{place}
-use Rattle.sets.specs.declared.writes.Line.{Line}
+use Rattle.sets.specs.declared.writes.WriteRow.{WriteRow}
 use Rattle.sets.specs.Writes.{writesOf}
 use Rattle.sets.specs.WriteLaws.{below-on, below-stop, below-end}
 use Rattle.sets.proofs.writes.writes_below.Statement.{statement}
@@ -27,7 +27,7 @@ returns : tie.Need-returns Inv-loop μ-loop
 returns c =
     let g = c .before .before in
     let l = g .before .before in
-    below-stop (l .before .args .a) (l .before .pre) (l .loop .i) (g .before .loop-test .taken) (l .loop .inv) (omega (arith, ap (λ (r : Line). r .address) (g .get .ensures)))
+    below-stop (l .before .args .a) (l .before .pre) (l .loop .i) (g .before .loop-test .taken) (l .loop .inv) (omega (arith, ap (λ (r : WriteRow). r .address) (g .get .ensures)))
 
 add-i : tie.Need-add-i Inv-loop μ-loop
 add-i c = search needs
@@ -39,7 +39,7 @@ loop-again : tie.Need-loop-again Inv-loop μ-loop
 loop-again c =
     let g = c .before .before in
     let l = g .before .before in
-    below-on (l .before .args .a) (l .before .pre) (l .loop .i) (g .before .loop-test .taken) (omega (arith, ap (λ (r : Line). r .address) (g .get .ensures)))
+    below-on (l .before .args .a) (l .before .pre) (l .loop .i) (g .before .loop-test .taken) (omega (arith, ap (λ (r : WriteRow). r .address) (g .get .ensures)))
 
 returns-2 : tie.Need-returns-2 Inv-loop μ-loop
 returns-2 c = below-end (c .before .before .args .a) (c .before .before .pre) (c .before .loop .i) (c .loop-test .left) (c .before .loop .inv)

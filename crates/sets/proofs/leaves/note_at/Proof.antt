@@ -1,9 +1,9 @@
--- `leaves::mark_at` meets its contract.
+-- `leaves::note_at` meets its contract.
 use mathlib.Core.Path.{refl}
-use Rattle.sets.specs.LeafLaws.{mark-given}
+use Rattle.sets.specs.LeafLaws.{note-given}
 use borrow.Author.Needs.{needs}
-use Rattle.sets.proofs.leaves.mark_at.Statement.{statement}
-use Rattle.sets.proofs.leaves.mark_at.Tie as tie
+use Rattle.sets.proofs.leaves.note_at.Statement.{statement}
+use Rattle.sets.proofs.leaves.note_at.Tie as tie
 
 mul-row : tie.Need-mul-row
 mul-row c = search needs
@@ -29,10 +29,10 @@ array-read-t11-2 c = search needs
 returns : tie.Need-returns
 returns c =
     let s = c .before in
-    mark-given (s .args .leaves .now) (s .args .i) _ refl
+    note-given (s .args .leaves .now) (s .args .i) _ refl
 
-pub mark-at-spec : {M : Type 1} → statement M
-mark-at-spec =
+pub note-at-spec : {M : Type 1} → statement M
+note-at-spec =
     tie.close
     (tie.spec
     mul-row

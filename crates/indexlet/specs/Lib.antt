@@ -1,4 +1,3 @@
-pub mod Homes
 pub mod Bits
 pub mod Words
 pub mod WordLaws

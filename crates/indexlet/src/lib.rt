@@ -11,7 +11,7 @@ ghost use Prim.Native.Nat.{_+_, _-_, _*_, _/_, _%_, _^_, _<_, _≤_};
 ghost use lib.ListN.{length, getD};
 ghost use lib.Count.{trailingZeros};
 ghost use Rattle.spec.specs.Widths.{addressSize};
-ghost use Rattle.spec.specs.Slots.{slotCount, tableEntry, homeSlot, isIdle, vacant, holds, emptySlot, entries};
+ghost use Rattle.spec.specs.Slots.{slotCount, homeSlot, isIdle, vacant, holds, emptySlot, entries};
 ghost use Rattle.spec.specs.Slots as model;
 ghost use Rattle.laws.specs.Probes.{gap, First};
 ghost use Rattle.laws.specs.SlotLaws.{EntryRoom};
@@ -70,27 +70,6 @@ pub struct Looked {
 struct Sought {
     at: usize,
     examined: usize,
-}
-
-// Entry i of document 01's table, by its formula: (167 * i + 13) % 256.
-pub fn table_entry(i: u8) -> u8
-    ensures { λ r. ⌜ r ≡ tableEntry i ⌝ }
-{
-    ((167 * i as u32 + 13) % 256) as u8
-}
-
-// The home slot of an address: its bytes, highest first, each but the first exclusive-or the result so far.
-fn home(a: Address) -> usize
-    ensures { λ r. ⌜ r ≡ homeSlot addressSize a ⌝ }
-{
-    let b3 = (a / 16777216) as u8;
-    let b2 = (a / 65536 % 256) as u8;
-    let b1 = (a / 256 % 256) as u8;
-    let b0 = (a % 256) as u8;
-    let h3 = table_entry(b3);
-    let h2 = table_entry(b2 ^ h3);
-    let h1 = table_entry(b1 ^ h2);
-    table_entry(b0 ^ h1) as usize
 }
 
 // Neither waiting nor locked.
@@ -371,7 +350,7 @@ pub fn find(t: &Slots, a: Address) -> usize
     if holds_key(s, a) {
         return j;
     }
-    let h = home(a);
+    let h = homes::home(a);
     let f = seek(t, a, h);
     f.at
 }
@@ -391,7 +370,7 @@ pub fn look_up(t: &Slots, a: Address) -> Looked
 {
     let at = find(t, a);
     let content = content_at(t, at);
-    let h = home(a);
+    let h = homes::home(a);
     if at < SLOTS {
         return Looked {
             content,
@@ -534,7 +513,7 @@ fn take_out(t: &mut Slots, a: Address, at: usize)
     requires { ⌜ (at < slotCount) × (holds a (getD (slotsOf (now t)) at emptySlot) ≡ true) ⌝ }
     ensures { λ _. ⌜ TakenOut (now (t .entry)) a at (now (t .exit)) ⌝ }
 {
-    let h = home(a);
+    let h = homes::home(a);
     let n = passed(h, at);
     release(t, a, h, n);
     clear_bit(t, at);
@@ -547,7 +526,7 @@ fn take_in(t: &mut Slots, a: Address, c: Content)
     requires { ⌜ (length (entries (slotsOf (now t))) < slotCount) × (isIdle (contentIn c) ≡ false) ⌝ }
     ensures { λ _. ⌜ TakenIn (now (t .entry)) a (contentIn c) (now (t .exit)) ⌝ }
 {
-    let h = home(a);
+    let h = homes::home(a);
     let i = take(t, a, h, c);
     set_bit(t, i);
     count_in(t, a, i);

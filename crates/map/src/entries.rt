@@ -27,7 +27,7 @@ pub fn fresh_map(rows: &mut Records, leaves: &mut Leaves, slots: &mut Slots) -> 
     ensures { λ r. ⌜ MapBecomes (lent (now (rows .exit)) (now (leaves .exit)) (now (slots .exit))) r 0 freshMap ⌝ }
 {
     leaves::leaf_places(leaves);
-    let first = Leaf {
+    let first = LeafWords {
         low: 0,
         version: 0,
         hidden: 0,
@@ -99,7 +99,7 @@ fn adjust(leaves: &mut Leaves, t: Change)
 {
     let at = t.at;
     let l = leaves::leaf_at(leaves, at);
-    let changed = Leaf {
+    let changed = LeafWords {
         low: l.low,
         version: l.version,
         hidden: l.hidden + t.hide - t.unhide,

@@ -54,7 +54,7 @@ fn clear(leaves: &mut Leaves, from: usize, to: usize)
     let mut x = from;
     while x < to {
         let l = leaves::leaf_at(leaves, x);
-        let none = Leaf {
+        let none = LeafWords {
             low: l.low,
             version: l.version,
             hidden: 0,
@@ -167,7 +167,7 @@ fn raise(leaves: &mut Leaves, at: usize, x: u64, w: u64)
     ensures { λ _. ⌜ Raised (now (leaves .entry)) (now (leaves .exit)) at x w ⌝ }
 {
     let l = leaves::leaf_at(leaves, at);
-    let more = Leaf {
+    let more = LeafWords {
         low: l.low,
         version: l.version,
         hidden: l.hidden + x,

@@ -1,4 +1,4 @@
-// The constant table of document 01's home slot rule. The product computes an entry by the formula (`indexlet::table_entry`);
+// The constant table of document 01's home slot rule. The product computes an entry by the formula (`homes::table_entry`);
 // here the table is held to the rule, and the product to the table. Nothing of the product depends on this crate.
 ghost use mathlib.Core.Path.{_≡_};
 ghost use mathlib.Core.Bool.{true};
@@ -276,5 +276,5 @@ pub fn entry(i: u8) -> u8
 pub fn agrees(i: u8) -> bool
     ensures { λ r. ⌜ r ≡ true ⌝ }
 {
-    entry(i) == indexlet::table_entry(i)
+    entry(i) == homes::table_entry(i)
 }

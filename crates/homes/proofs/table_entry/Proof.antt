@@ -1,9 +1,9 @@
--- `indexlet::table_entry` meets its contract: it computes by the table's rule.
+-- `table_entry` meets its contract: it computes by the table's rule.
 use mathlib.Core.Path.{refl}
 use borrow.Author.Needs.{needs}
 use Rattle.spec.specs.Slots.{tableEntry}
-use Rattle.indexlet.proofs.table_entry.Statement.{statement}
-use Rattle.indexlet.proofs.table_entry.Tie as tie
+use Rattle.homes.proofs.table_entry.Statement.{statement}
+use Rattle.homes.proofs.table_entry.Tie as tie
 
 mul-result : tie.Need-mul-result
 mul-result c = search needs

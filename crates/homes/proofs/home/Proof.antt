@@ -1,8 +1,8 @@
--- `indexlet::home` meets its contract: each byte goes through the table's formula.
+-- `home` meets its contract: each byte goes through the table's formula.
 use borrow.Author.Needs.{needs}
-use Rattle.indexlet.specs.Homes.{home-steps}
-use Rattle.indexlet.proofs.home.Statement.{statement}
-use Rattle.indexlet.proofs.home.Tie as tie
+use Rattle.homes.specs.HomeLaws.{home-steps}
+use Rattle.homes.proofs.home.Statement.{statement}
+use Rattle.homes.proofs.home.Tie as tie
 
 cast-b3 : tie.Need-cast-b3
 cast-b3 c = search needs

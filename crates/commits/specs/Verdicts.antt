@@ -218,7 +218,7 @@ module _ {l : Lent} {rs : List ReadRows} {ls : List LeafSetRows} {ws : List Writ
 
     phantom-same : (us : List ℕ)
         → any (phantomIn (mapOf l (c .sizes)) w) us ≡ any (phantomIn (now .map) w) us
-    unfolding phantomIn phantomIn stateOf
+    unfolding stateOf
     phantom-same us = refl
 
     reads-of : readsIn rs w (x .reads) ≡ workerOf now w .reads

@@ -185,7 +185,13 @@ pub fn exceeds(
 }
 
 // Writes what a turn shows behind the first `at` places. Answers how many are written now.
-fn show(addresses: &mut [Address], values: &mut [u64], owners: &mut [u16], at: usize, x: Turn) -> usize
+fn show(
+    addresses: &mut [Address],
+    values: &mut [u64],
+    owners: &mut [u16],
+    at: usize,
+    x: Turn,
+) -> usize
     requires { ⌜ Fits (buffers (now addresses) (now values) (now owners)) at x ⌝ }
     ensures { λ r. ⌜ Shows (buffers (now (addresses .entry)) (now (values .entry)) (now (owners .entry))) at x
         (buffers (now (addresses .exit)) (now (values .exit)) (now (owners .exit))) r ⌝ }

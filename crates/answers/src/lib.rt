@@ -1,5 +1,6 @@
 // The lines of answers: their text, put into lent bytes at a place. Each function answers the place after its text, and asks
 // room for the longest text that it can write: 20 bytes for a number. What is written is said in specs/Output.antt.
+use spec::Address;
 ghost use mathlib.Core.List.{[], _∷_, _++_};
 ghost use Prim.Native.Nat.{_+_, _*_, _≤_, _<_};
 ghost use lib.ListN.{length, take};
@@ -148,7 +149,7 @@ pub fn put_triple(out: &mut [u8], at: usize, address: u64, value: u64, owner: u1
 pub fn put_triples(
     out: &mut [u8],
     at: usize,
-    addresses: &[u32],
+    addresses: &[Address],
     values: &[u64],
     owners: &[u16],
     n: usize,

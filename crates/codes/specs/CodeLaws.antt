@@ -5,6 +5,7 @@ use mathlib.Core.Bool.{Bool, true, false}
 use lib.Dec.{leb}
 use Rattle.lists.specs.Tests.{pick, both, same, less, atMost}
 use Rattle.lists.specs.TestLaws.{same-yes, same-no, less-yes, less-no, atMost-yes, atMost-no, atMost-true, clash}
+use Rattle.spec.specs.Widths.{addresses, workerNames}
 use Rattle.spec.specs.Steps.{Places, places}
 use Rattle.ranges.specs.Buffers.{Lends}
 use Rattle.engine.specs.declared.steps.Access.the-variants as access
@@ -15,7 +16,7 @@ use Rattle.engine.specs.declared.steps.Reply.{Reply}
 use Rattle.codes.specs.declared.Code.{Code}
 use Rattle.codes.specs.declared.decodes.Decoded.{Decoded}
 use Rattle.codes.specs.declared.decodes.Decoded.the-variants.{Meant, Meaningless}
-use Rattle.codes.specs.Codes.{placesLent, meantWith, meantAlone, decodedScan, decodedPut, decodedAccess, decodedNumbered, decoded, codedOf}
+use Rattle.codes.specs.Codes.{placesLent, meantWith, meantAlone, decodedScan, decodedPut, decodedAccess, decodedSeat, decodedMerge, decodedNumbered, decoded, codedOf}
 
 -- ---- what a code means, by the number of its kind
 
@@ -26,14 +27,13 @@ accessBy x m k =
     (pick (same x 3) (decodedPut k)
     (pick (same x 4) (meantAlone (op.Access (k .a) (access.Remove (k .b)))) Meaningless)))
 
-abbrev pub codeBy : ℕ → Places → Code → Decoded
-codeBy x m k =
+abbrev pub seatBy : ℕ → Places → Code → Decoded
+seatBy x m k =
     pick (same x 0) (meantAlone (op.Begin (k .a)))
     (pick (same x 5) (meantAlone (op.Ending (k .a) ending.Lock))
     (pick (same x 6) (meantAlone (op.Ending (k .a) ending.Validate))
     (pick (same x 7) (meantAlone (op.Ending (k .a) ending.Install))
-    (pick (same x 8) (meantAlone (op.Ending (k .a) ending.Abort))
-    (pick (same x 9) (meantAlone (op.Merge (k .a))) (decodedAccess m k))))))
+    (pick (same x 8) (meantAlone (op.Ending (k .a) ending.Abort)) (decodedAccess m k)))))
 
 abbrev scanIn : Code → Decoded
 scanIn k = meantWith (op.Access (k .a) (access.Scan (k .b) (k .c))) (places (k .d) (k .e) (k .f))
@@ -48,6 +48,14 @@ module _ (k : Code) where
   pub put-meant : k .d < 2 ^ 16 → meantAlone (op.Access (k .a) (access.Put (k .b) (k .c) (k .d))) ≡ decodedPut k
   unfolding decodedPut
   put-meant h = rw (less-yes h)
+
+  pub merge-wide : addresses ≤ k .a → Meaningless ≡ decodedMerge k
+  unfolding decodedMerge
+  merge-wide h = rw (less-no h)
+
+  pub merge-meant : k .a < addresses → meantAlone (op.Merge (k .a)) ≡ decodedMerge k
+  unfolding decodedMerge
+  merge-meant h = rw (less-yes h)
 
 module _ (m : Places) (k : Code) where
   -- by the tests of its places
@@ -66,48 +74,57 @@ module _ (m : Places) (k : Code) where
   lent-owners g f = lent-is true true _ (atMost-yes f) (atMost-yes g) refl
 
   -- by its tests
-  scan-is : (x y : Bool) → less (k .c) (2 ^ 32) ≡ x → placesLent m k ≡ y → pick (both x y) (scanIn k) Meaningless ≡ decodedScan m k
+  scan-is : (x y : Bool) → less (k .c) addresses ≡ x → placesLent m k ≡ y → pick (both x y) (scanIn k) Meaningless ≡ decodedScan m k
   unfolding decodedScan
   scan-is x y e f = rw (e, f)
 
-  pub scan-wide : 2 ^ 32 ≤ k .c → Meaningless ≡ decodedScan m k
+  pub scan-wide : addresses ≤ k .c → Meaningless ≡ decodedScan m k
   scan-wide h = scan-is false _ (less-no h) refl
 
-  pub scan-unlent : {b : Bool} → b ≡ placesLent m k → b ≡ false → k .c < 2 ^ 32 → Meaningless ≡ decodedScan m k
+  pub scan-unlent : {b : Bool} → b ≡ placesLent m k → b ≡ false → k .c < addresses → Meaningless ≡ decodedScan m k
   scan-unlent e f h = scan-is true false (less-yes h) (sym e ∙ f)
 
-  pub scan-meant : {b : Bool} → b ≡ placesLent m k → b ≡ true → k .c < 2 ^ 32 → scanIn k ≡ decodedScan m k
+  pub scan-meant : {b : Bool} → b ≡ placesLent m k → b ≡ true → k .c < addresses → scanIn k ≡ decodedScan m k
   scan-meant e f h = scan-is true true (less-yes h) (sym e ∙ f)
 
   -- ---- read, scan, put, remove
 
-  pub access-wide : 2 ^ 32 ≤ k .b → Meaningless ≡ decodedAccess m k
+  pub access-wide : addresses ≤ k .b → Meaningless ≡ decodedAccess m k
   unfolding decodedAccess
   access-wide h = rw (less-no h)
 
   -- by its kind
-  pub access-kind : (x : ℕ) → k .kind ≡ x → k .b < 2 ^ 32 → accessBy x m k ≡ decodedAccess m k
+  pub access-kind : (x : ℕ) → k .kind ≡ x → k .b < addresses → accessBy x m k ≡ decodedAccess m k
   unfolding decodedAccess
   access-kind x e h = rw (less-yes h) (ap (λ (y : ℕ). accessBy y m k) (sym e))
 
-  pub access-other : (k .kind ≡ 1 → ⊥) → (k .kind ≡ 2 → ⊥) → (k .kind ≡ 3 → ⊥) → (k .kind ≡ 4 → ⊥) → k .b < 2 ^ 32 → Meaningless ≡ decodedAccess m k
+  pub access-other : (k .kind ≡ 1 → ⊥) → (k .kind ≡ 2 → ⊥) → (k .kind ≡ 3 → ⊥) → (k .kind ≡ 4 → ⊥) → k .b < addresses → Meaningless ≡ decodedAccess m k
   unfolding decodedAccess
   access-other x y z u h = rw (less-yes h, same-no x, same-no y, same-no z, same-no u)
 
   -- ---- all steps
 
-  pub code-wide : 2 ^ 32 ≤ k .a → Meaningless ≡ decodedNumbered m k
-  unfolding decodedNumbered
-  code-wide h = rw (less-no h)
+  pub seat-wide : workerNames ≤ k .a → Meaningless ≡ decodedSeat m k
+  unfolding decodedSeat
+  seat-wide h = rw (less-no h)
 
-  pub code-kind : (x : ℕ) → k .kind ≡ x → k .a < 2 ^ 32 → codeBy x m k ≡ decodedNumbered m k
-  unfolding decodedNumbered
-  code-kind x e h = rw (less-yes h) (ap (λ (y : ℕ). codeBy y m k) (sym e))
+  pub seat-kind : (x : ℕ) → k .kind ≡ x → k .a < workerNames → seatBy x m k ≡ decodedSeat m k
+  unfolding decodedSeat
+  seat-kind x e h = rw (less-yes h) (ap (λ (y : ℕ). seatBy y m k) (sym e))
 
-  pub code-other : (k .kind ≡ 0 → ⊥) → (k .kind ≡ 5 → ⊥) → (k .kind ≡ 6 → ⊥) → (k .kind ≡ 7 → ⊥) → (k .kind ≡ 8 → ⊥) → (k .kind ≡ 9 → ⊥)
-      → k .a < 2 ^ 32 → decodedAccess m k ≡ decodedNumbered m k
+  pub seat-other : (k .kind ≡ 0 → ⊥) → (k .kind ≡ 5 → ⊥) → (k .kind ≡ 6 → ⊥) → (k .kind ≡ 7 → ⊥) → (k .kind ≡ 8 → ⊥)
+      → k .a < workerNames → decodedAccess m k ≡ decodedSeat m k
+  unfolding decodedSeat
+  seat-other x y z u v h = rw (less-yes h, same-no x, same-no y, same-no z, same-no u, same-no v)
+
+  -- a fold, or a step with a seat
+  pub code-merge : {d : Decoded} → k .kind ≡ 9 → d ≡ decodedMerge k → d ≡ decodedNumbered m k
   unfolding decodedNumbered
-  code-other x y z u v w h = rw (less-yes h, same-no x, same-no y, same-no z, same-no u, same-no v, same-no w)
+  code-merge x e = e ∙ sym (ap (λ (b : Bool). pick b (decodedMerge k) (decodedSeat m k)) (same-yes {m = k .kind} {n = 9} x))
+
+  pub code-seat : {d : Decoded} → (k .kind ≡ 9 → ⊥) → d ≡ decodedSeat m k → d ≡ decodedNumbered m k
+  unfolding decodedNumbered
+  code-seat x e = e ∙ sym (ap (λ (b : Bool). pick b (decodedMerge k) (decodedSeat m k)) (same-no x))
 
   -- a fold of the oldest, or a step with numbers
   pub code-oldest : k .kind ≡ 10 → meantAlone op.MergeOldest ≡ decoded m k
@@ -154,7 +171,7 @@ lent-lends m k e = go (atMost (k .d) (m .addresses)) (atMost (k .e) (m .values))
 
 scan-lends : (m : Places) (k : Code) → LendsFor m (decodedScan m k)
 unfolding decodedScan
-scan-lends m k = go (less (k .c) (2 ^ 32)) (placesLent m k) refl
+scan-lends m k = go (less (k .c) addresses) (placesLent m k) refl
   where
     go : (x y : Bool) → placesLent m k ≡ y → LendsFor m (pick (both x y) (scanIn k) Meaningless)
     go true true e = lent-lends m k e
@@ -168,23 +185,30 @@ put-lends m k = pick-lends m (less (k .d) (2 ^ 16)) _ _ (lends-none m) tt
 access-lends : (m : Places) (k : Code) → LendsFor m (decodedAccess m k)
 unfolding decodedAccess
 access-lends m k =
-    pick-lends m (less (k .b) (2 ^ 32)) _ _
+    pick-lends m (less (k .b) addresses) _ _
     (pick-lends m (same (k .kind) 1) _ _ (lends-none m)
     (pick-lends m (same (k .kind) 2) _ _ (scan-lends m k)
     (pick-lends m (same (k .kind) 3) _ _ (put-lends m k) (pick-lends m (same (k .kind) 4) _ _ (lends-none m) tt))))
     tt
 
-numbered-lends : (m : Places) (k : Code) → LendsFor m (decodedNumbered m k)
-unfolding decodedNumbered
-numbered-lends m k =
-    pick-lends m (less (k .a) (2 ^ 32)) _ _
+seat-lends : (m : Places) (k : Code) → LendsFor m (decodedSeat m k)
+unfolding decodedSeat
+seat-lends m k =
+    pick-lends m (less (k .a) workerNames) _ _
     (pick-lends m (same (k .kind) 0) _ _ (lends-none m)
     (pick-lends m (same (k .kind) 5) _ _ (lends-none m)
     (pick-lends m (same (k .kind) 6) _ _ (lends-none m)
     (pick-lends m (same (k .kind) 7) _ _ (lends-none m)
-    (pick-lends m (same (k .kind) 8) _ _ (lends-none m)
-    (pick-lends m (same (k .kind) 9) _ _ (lends-none m) (access-lends m k)))))))
+    (pick-lends m (same (k .kind) 8) _ _ (lends-none m) (access-lends m k))))))
     tt
+
+merge-lends : (m : Places) (k : Code) → LendsFor m (decodedMerge k)
+unfolding decodedMerge
+merge-lends m k = pick-lends m (less (k .a) addresses) _ _ (lends-none m) tt
+
+numbered-lends : (m : Places) (k : Code) → LendsFor m (decodedNumbered m k)
+unfolding decodedNumbered
+numbered-lends m k = pick-lends m (same (k .kind) 9) _ _ (merge-lends m k) (seat-lends m k)
 
 lends : (m : Places) (k : Code) → LendsFor m (decoded m k)
 unfolding decoded

@@ -6,6 +6,7 @@ use mathlib.Core.Option.{none, some}
 use lib.ListN.{length}
 use Rattle.lists.specs.Tests.{pick, both, same, less, atMost}
 use Rattle.lists.specs.Rows.{Row}
+use Rattle.spec.specs.Widths.{addresses, workerNames}
 use Rattle.spec.specs.Records.{Payload}
 use Rattle.spec.specs.Refusals.{numberOf}
 use Rattle.spec.specs.Steps.{Places, places, Answer, refused, done, found, listed, numbered, counted}
@@ -37,7 +38,7 @@ placesLent m k = both (atMost (k .d) (m .addresses)) (both (atMost (k .e) (m .va
 -- a scan: the seat, the ends of the range, and the places that it wants, of lent buffers of m places
 unfoldable pub decodedScan : Places → Code → Decoded
 decodedScan m k =
-    pick (both (less (k .c) (2 ^ 32)) (placesLent m k))
+    pick (both (less (k .c) addresses) (placesLent m k))
     (meantWith (op.Access (k .a) (access.Scan (k .b) (k .c))) (places (k .d) (k .e) (k .f)))
     Meaningless
 
@@ -48,24 +49,31 @@ decodedPut k = pick (less (k .d) (2 ^ 16)) (meantAlone (op.Access (k .a) (access
 -- read, scan, put, remove: the seat, and the address or the lower end; all but a scan want no places
 unfoldable pub decodedAccess : Places → Code → Decoded
 decodedAccess m k =
-    pick (less (k .b) (2 ^ 32))
+    pick (less (k .b) addresses)
     (pick (same (k .kind) 1) (meantAlone (op.Access (k .a) (access.Read (k .b))))
     (pick (same (k .kind) 2) (decodedScan m k)
     (pick (same (k .kind) 3) (decodedPut k)
     (pick (same (k .kind) 4) (meantAlone (op.Access (k .a) (access.Remove (k .b)))) Meaningless))))
     Meaningless
 
--- a step with a seat or an address, which has 32 bits: begin, lock, validate, install and abort have a seat, a fold an address
-unfoldable pub decodedNumbered : Places → Code → Decoded
-decodedNumbered m k =
-    pick (less (k .a) (2 ^ 32))
+-- a step with a seat: begin, lock, validate, install, abort, and those above
+unfoldable pub decodedSeat : Places → Code → Decoded
+decodedSeat m k =
+    pick (less (k .a) workerNames)
     (pick (same (k .kind) 0) (meantAlone (op.Begin (k .a)))
     (pick (same (k .kind) 5) (meantAlone (op.Ending (k .a) ending.Lock))
     (pick (same (k .kind) 6) (meantAlone (op.Ending (k .a) ending.Validate))
     (pick (same (k .kind) 7) (meantAlone (op.Ending (k .a) ending.Install))
-    (pick (same (k .kind) 8) (meantAlone (op.Ending (k .a) ending.Abort))
-    (pick (same (k .kind) 9) (meantAlone (op.Merge (k .a))) (decodedAccess m k)))))))
+    (pick (same (k .kind) 8) (meantAlone (op.Ending (k .a) ending.Abort)) (decodedAccess m k))))))
     Meaningless
+
+-- a fold: the address
+unfoldable pub decodedMerge : Code → Decoded
+decodedMerge k = pick (less (k .a) addresses) (meantAlone (op.Merge (k .a))) Meaningless
+
+-- a step with numbers: a fold, or one with a seat
+unfoldable pub decodedNumbered : Places → Code → Decoded
+decodedNumbered m k = pick (same (k .kind) 9) (decodedMerge k) (decodedSeat m k)
 
 -- What a code means with lent buffers of m places: the operation, and how many places it wants. A fold of the oldest has no
 -- number.

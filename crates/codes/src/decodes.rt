@@ -4,12 +4,15 @@ use engine::steps::Access;
 use engine::steps::Ending;
 use engine::steps::Op;
 use exports::ops::ExportOp;
+use spec::ADDRESSES;
+use spec::Address;
 use spec::OWNERS;
-use spec::WIDE;
+use spec::WORKER_NAMES;
 ghost use mathlib.Core.Path.{_≡_};
-ghost use Prim.Native.Nat.{_^_, _<_};
+ghost use Prim.Native.Nat.{_<_};
+ghost use Rattle.spec.specs.Widths.{addresses, workerNames};
 ghost use Rattle.spec.specs.Steps.{places};
-ghost use Rattle.codes.specs.Codes.{placesLent, decodedScan, decodedPut, decodedAccess, decodedNumbered, decoded};
+ghost use Rattle.codes.specs.Codes.{placesLent, decodedScan, decodedPut, decodedAccess, decodedSeat, decodedMerge, decodedNumbered, decoded};
 ghost use Rattle.codes.specs.ExportCodes.{decodedPortion, decodedFile, decodedExport};
 
 // An operation, with how many places of the buffers for addresses, values and owners it wants; or no meaning.
@@ -36,15 +39,15 @@ fn places_lent(k: Code, m: usize, n: usize, q: usize) -> bool
 
 // A scan, if the lent buffers have as many places as it wants.
 fn decode_scan(k: Code, m: usize, n: usize, q: usize) -> Decoded
-    requires { ⌜ (k .a < 2 ^ 32) × (k .b < 2 ^ 32) ⌝ }
+    requires { ⌜ (k .a < workerNames) × (k .b < addresses) ⌝ }
     ensures { λ r. ⌜ r ≡ decodedScan (places m n q) k ⌝ }
 {
-    if k.c >= WIDE {
+    if k.c >= ADDRESSES {
         return Decoded::Meaningless;
     }
     if places_lent(k, m, n, q) {
         return Decoded::Meant(
-            Op::Access(k.a as u32, Access::Scan(k.b as u32, k.c as u32)),
+            Op::Access(k.a as u32, Access::Scan(k.b as Address, k.c as Address)),
             k.d as usize,
             k.e as usize,
             k.f as usize,
@@ -55,14 +58,14 @@ fn decode_scan(k: Code, m: usize, n: usize, q: usize) -> Decoded
 
 // A put, if its owner has 16 bits.
 fn decode_put(k: Code) -> Decoded
-    requires { ⌜ (k .a < 2 ^ 32) × (k .b < 2 ^ 32) ⌝ }
+    requires { ⌜ (k .a < workerNames) × (k .b < addresses) ⌝ }
     ensures { λ r. ⌜ r ≡ decodedPut k ⌝ }
 {
     if k.d >= OWNERS {
         return Decoded::Meaningless;
     }
     Decoded::Meant(
-        Op::Access(k.a as u32, Access::Put(k.b as u32, k.c, k.d as u16)),
+        Op::Access(k.a as u32, Access::Put(k.b as Address, k.c, k.d as u16)),
         0,
         0,
         0,
@@ -70,14 +73,14 @@ fn decode_put(k: Code) -> Decoded
 }
 
 fn decode_access(k: Code, m: usize, n: usize, q: usize) -> Decoded
-    requires { ⌜ k .a < 2 ^ 32 ⌝ }
+    requires { ⌜ k .a < workerNames ⌝ }
     ensures { λ r. ⌜ r ≡ decodedAccess (places m n q) k ⌝ }
 {
-    if k.b >= WIDE {
+    if k.b >= ADDRESSES {
         return Decoded::Meaningless;
     }
     let w = k.a as u32;
-    let a = k.b as u32;
+    let a = k.b as Address;
     let kind = k.kind;
     match kind {
         1 => Decoded::Meant(Op::Access(w, Access::Read(a)), 0, 0, 0),
@@ -88,11 +91,11 @@ fn decode_access(k: Code, m: usize, n: usize, q: usize) -> Decoded
     }
 }
 
-// A step whose first number is a seat or an address.
-fn decode_numbered(k: Code, m: usize, n: usize, q: usize) -> Decoded
-    ensures { λ r. ⌜ r ≡ decodedNumbered (places m n q) k ⌝ }
+// A step with a seat.
+fn decode_seat(k: Code, m: usize, n: usize, q: usize) -> Decoded
+    ensures { λ r. ⌜ r ≡ decodedSeat (places m n q) k ⌝ }
 {
-    if k.a >= WIDE {
+    if k.a >= WORKER_NAMES {
         return Decoded::Meaningless;
     }
     let a = k.a as u32;
@@ -103,9 +106,28 @@ fn decode_numbered(k: Code, m: usize, n: usize, q: usize) -> Decoded
         6 => Decoded::Meant(Op::Ending(a, Ending::Validate), 0, 0, 0),
         7 => Decoded::Meant(Op::Ending(a, Ending::Install), 0, 0, 0),
         8 => Decoded::Meant(Op::Ending(a, Ending::Abort), 0, 0, 0),
-        9 => Decoded::Meant(Op::Merge(a), 0, 0, 0),
         _ => decode_access(k, m, n, q),
     }
+}
+
+// A fold.
+fn decode_merge(k: Code) -> Decoded
+    ensures { λ r. ⌜ r ≡ decodedMerge k ⌝ }
+{
+    if k.a >= ADDRESSES {
+        return Decoded::Meaningless;
+    }
+    Decoded::Meant(Op::Merge(k.a as Address), 0, 0, 0)
+}
+
+// A step whose first number is an address or a seat.
+fn decode_numbered(k: Code, m: usize, n: usize, q: usize) -> Decoded
+    ensures { λ r. ⌜ r ≡ decodedNumbered (places m n q) k ⌝ }
+{
+    if k.kind == 9 {
+        return decode_merge(k);
+    }
+    decode_seat(k, m, n, q)
 }
 
 // The step that a code means, if it means one with buffers of m, n and q places. A fold of the oldest has no number.

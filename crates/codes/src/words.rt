@@ -3,6 +3,7 @@ use crate::Coded;
 use crate::MEANINGLESS;
 use engine::steps::Reply;
 use exports::ExportAnswer;
+use spec::Address;
 use spec::number_of;
 ghost use mathlib.Core.Path.{_≡_};
 ghost use mathlib.Core.List.{List, [], _∷_};
@@ -161,7 +162,7 @@ fn put_head(out: &mut [u64], at: usize, a: Coded) -> usize
 fn put_rows(
     out: &mut [u64],
     at: usize,
-    addresses: &[u32],
+    addresses: &[Address],
     values: &[u64],
     owners: &[u16],
     n: usize,
@@ -184,7 +185,7 @@ fn put_rows(
 pub fn put_answer_words(
     out: &mut [u64],
     at: usize,
-    addresses: &[u32],
+    addresses: &[Address],
     values: &[u64],
     owners: &[u16],
     p: Reply,
@@ -210,7 +211,7 @@ pub fn put_answer_words(
 pub fn put_export_words(
     out: &mut [u64],
     at: usize,
-    addresses: &[u32],
+    addresses: &[Address],
     values: &[u64],
     owners: &[u16],
     p: ExportAnswer,

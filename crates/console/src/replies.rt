@@ -1,6 +1,7 @@
 // The line that is written for a reply. The longest has a letter, two numbers, a scan's triples and a line feed.
 use crate::SCAN_PLACES;
 use engine::steps::Reply;
+use spec::Address;
 ghost use mathlib.Core.List.{[], _∷_, _++_};
 ghost use Prim.Native.Nat.{_+_, _*_, _≤_};
 ghost use lib.ListN.{length, take};
@@ -45,7 +46,7 @@ fn put_absent_line(out: &mut [u8], at: usize, letter: u8, examined: usize) -> us
 fn put_listed_line(
     out: &mut [u8],
     at: usize,
-    addresses: &[u32],
+    addresses: &[Address],
     values: &[u64],
     owners: &[u16],
     letter: u8,
@@ -65,7 +66,7 @@ fn put_listed_line(
 pub fn write_reply(
     out: &mut [u8],
     at: usize,
-    addresses: &[u32; SCAN_PLACES],
+    addresses: &[Address; SCAN_PLACES],
     values: &[u64; SCAN_PLACES],
     owners: &[u16; SCAN_PLACES],
     letter: u8,

@@ -12,6 +12,7 @@ use sets::LeafSets;
 use sets::ReadSets;
 use sets::Workers;
 use sets::WriteSets;
+use spec::Address;
 use transactions::Globals;
 use transactions::starts;
 ghost use mathlib.Core.Path.{_≡_};
@@ -154,7 +155,7 @@ fn run_guard(out: &mut [u8], x: Session, parser: Parser, next: usize) -> Session
 // of the input.
 fn run_line(
     out: &mut [u8],
-    addresses: &mut [u32; SCAN_PLACES],
+    addresses: &mut [Address; SCAN_PLACES],
     values: &mut [u64; SCAN_PLACES],
     owners: &mut [u16; SCAN_PLACES],
     rows: &mut Records,
@@ -243,7 +244,7 @@ pub fn feed(
         (logs (now (reads .entry)) (now (leafsets .entry)) (now (writes .entry))) (sessionOf (now (workers .entry)) start) (now (input .entry)) (now (out .entry))
         (lent (now (rows .exit)) (now (leaves .exit)) (now (slots .exit))) (logs (now (reads .exit)) (now (leafsets .exit)) (now (writes .exit))) (sessionOf (now (workers .exit)) r) (now (out .exit)) ⌝ }
 {
-    let mut addresses = [0u32; SCAN_PLACES];
+    let mut addresses: [Address; SCAN_PLACES] = [0; SCAN_PLACES];
     let mut values = [0u64; SCAN_PLACES];
     let mut owners = [0u16; SCAN_PLACES];
     let mut x = start;

@@ -22,7 +22,7 @@ use Rattle.ranges.specs.Buffers.{placesOf}
 use Rattle.exports.specs.Exporting.{ExportedRows, Space}
 use Rattle.transactions.specs.Views.{Logs, stateOf}
 use Rattle.calls.specs.CallLaws.{map-in}
-use Rattle.codes.specs.Codes.{placesLent, decodedScan, decodedPut, decodedAccess, decoded, decodedNumbered, listedWords, wordsOf}
+use Rattle.codes.specs.Codes.{placesLent, decodedScan, decodedPut, decodedAccess, decoded, decodedSeat, decodedMerge, decodedNumbered, listedWords, wordsOf}
 use Rattle.codes.specs.ExportCodes.{decodedPortion, decodedFile, decodedExport, exportWords}
 use Rattle.replay.specs.declared.stops.Stop.the-variants as stop
 use Rattle.replay.specs.Replays.{ReplayEnd, asked, Ran, ran, toldWords, allWords, Replays}
@@ -109,13 +109,13 @@ shows b x rs e k s out l g xs s' out' r m n o p =
     }
 
 pub starred-replay : AllHoldOf starred
-unfolding model shortest ran asked exchange nextOf jobSteps decoded decodedNumbered decodedAccess decodedScan placesLent decodedPut toldWords wordsOf listedWords
+unfolding model shortest ran asked exchange nextOf jobSteps decoded decodedNumbered decodedSeat decodedMerge decodedAccess decodedScan placesLent decodedPut toldWords wordsOf listedWords
 starred-replay =
     (refl, (refl, (refl, (refl, (refl, (refl, (refl, (shows _ _ _ (refl, refl) refl, (shows _ _ _ (refl, refl) refl, (shows _ _ _ (refl, refl) refl, (shows _ _ _ (refl, refl) refl, (shows _ _ _ (refl, refl) refl, (shows _ _ _ (refl, refl) refl, (shows _ _ _ (refl, refl) refl, tt))))))))))))))
 
 -- Request 106's run too: owners in numbers, and a scan that the third buffer decides.
 pub owners-replay : HoldsOf (script false ownersTold (row 7 (record { payload = owned 5 65535; commit = 2 }) ∷ []))
-unfolding model shortest ran asked exchange nextOf jobSteps decoded decodedNumbered decodedAccess decodedScan placesLent decodedPut toldWords wordsOf listedWords
+unfolding model shortest ran asked exchange nextOf jobSteps decoded decodedNumbered decodedSeat decodedMerge decodedAccess decodedScan placesLent decodedPut toldWords wordsOf listedWords
 owners-replay = shows _ _ _ (refl, refl) refl
 
 -- Request 107's: an export held open while a job installs. It shows the contents at its opening, in portions and as a file.
@@ -147,5 +147,5 @@ exportsTold =
     ∷ []
 
 pub exports-replay : AllShow false exportsTold (row 260 (record { payload = owned 6 10; commit = 1 }) ∷ [])
-unfolding model shortest ran asked exchange nextOf jobSteps decoded decodedNumbered decodedAccess decodedScan placesLent decodedPut toldWords wordsOf listedWords decodedExport decodedPortion decodedFile exportWords exportOf exportCauses exportRefusal exportGranted exportEffect exportAnswer exportNext firstCause littleEndian addressBytes entryBytes fileOf fileSize
+unfolding model shortest ran asked exchange nextOf jobSteps decoded decodedNumbered decodedSeat decodedMerge decodedAccess decodedScan placesLent decodedPut toldWords wordsOf listedWords decodedExport decodedPortion decodedFile exportWords exportOf exportCauses exportRefusal exportGranted exportEffect exportAnswer exportNext firstCause littleEndian addressBytes entryBytes fileOf fileSize
 exports-replay = shows _ _ _ (refl, refl) refl

@@ -10,6 +10,7 @@ use exports::Exported;
 use exports::ops;
 use map::Records;
 use map::Slots;
+use spec::Address;
 ghost use mathlib.Core.Path.{_≡_};
 ghost use Prim.Native.Nat.{_≤_};
 ghost use lib.ListN.{length};
@@ -36,7 +37,7 @@ pub struct AfterExport {
 // Takes the step and writes the answer, or says why not. Of the map it is handed what opening reads, and changes nothing.
 pub fn take_export(
     out: &mut [u64],
-    addresses: &mut [u32],
+    addresses: &mut [Address],
     values: &mut [u64],
     owners: &mut [u16],
     bytes: &mut [u8],

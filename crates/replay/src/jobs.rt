@@ -13,6 +13,7 @@ use sets::LeafSets;
 use sets::ReadSets;
 use sets::Workers;
 use sets::WriteSets;
+use spec::Address;
 use transactions::Globals;
 ghost use mathlib.Core.List.{List};
 ghost use Prim.Native.Nat.{ℕ, _<_, _≤_};
@@ -36,7 +37,7 @@ pub struct AfterJob {
 // Takes the step and writes the answer, or says why not. It is not handed the export, whatever that is.
 pub fn take_job(
     out: &mut [u64],
-    addresses: &mut [u32],
+    addresses: &mut [Address],
     values: &mut [u64],
     owners: &mut [u16],
     rows: &mut Records,

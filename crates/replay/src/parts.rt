@@ -9,6 +9,7 @@ use sets::LeafSets;
 use sets::ReadSets;
 use sets::Workers;
 use sets::WriteSets;
+use spec::Address;
 use transactions::Globals;
 ghost use Rattle.spec.specs.Steps.{places};
 ghost use Rattle.map.specs.Views.{lent};
@@ -21,7 +22,7 @@ ghost use Rattle.replay.specs.CodedSteps.{PerformsFirst};
 // Performs a step with the first m places of the address buffer, the first n of the value buffer and the first q of the owner
 // buffer.
 pub fn perform_first(
-    addresses: &mut [u32],
+    addresses: &mut [Address],
     values: &mut [u64],
     owners: &mut [u16],
     rows: &mut Records,

@@ -14,6 +14,7 @@ use sets::LeafSets;
 use sets::ReadSets;
 use sets::Workers;
 use sets::WriteSets;
+use spec::Address;
 use transactions::Globals;
 use transactions::starts;
 ghost use mathlib.Core.Path.{_≡_};
@@ -68,7 +69,7 @@ fn code_at(steps: &[u64], i: usize) -> Code
 // One code: a job's step, which leaves the export, or an export's, which leaves the map.
 fn take_code(
     out: &mut [u64],
-    addresses: &mut [u32],
+    addresses: &mut [Address],
     values: &mut [u64],
     owners: &mut [u16],
     bytes: &mut [u8],
@@ -158,7 +159,7 @@ fn last_stop(steps: &[u64]) -> Stop
 // All codes, one after the other, on a fresh map with no export open.
 fn take_all(
     out: &mut [u64],
-    addresses: &mut [u32],
+    addresses: &mut [Address],
     values: &mut [u64],
     owners: &mut [u16],
     bytes: &mut [u8],
@@ -251,7 +252,7 @@ fn take_all(
 // with no export open, and writes the answers one after the other. The buffers and the bytes may have any lengths.
 pub fn replay(
     out: &mut [u64],
-    addresses: &mut [u32],
+    addresses: &mut [Address],
     values: &mut [u64],
     owners: &mut [u16],
     bytes: &mut [u8],

@@ -12,6 +12,7 @@ use sets::LeafSets;
 use sets::ReadSets;
 use sets::Workers;
 use sets::WriteSets;
+use spec::Address;
 use transactions::Globals;
 ghost use Rattle.map.specs.Views.{lent};
 ghost use Rattle.transactions.specs.Views.{logs, coreOf};
@@ -28,7 +29,7 @@ pub struct Stepped {
 // One step in coded form. A scan's buffers are the first places of the lent ones, as many as it wants. A code with no meaning,
 // one that wants more than are lent among them, is refused, and changes nothing.
 pub fn step(
-    addresses: &mut [u32],
+    addresses: &mut [Address],
     values: &mut [u64],
     owners: &mut [u16],
     rows: &mut Records,

@@ -22,6 +22,7 @@ use sets::LeafSets;
 use sets::ReadSets;
 use sets::Workers;
 use sets::WriteSets;
+use spec::Address;
 use spec::OWNERS;
 use transactions::starts;
 ghost use mathlib.Core.Path.{_≡_};
@@ -113,7 +114,7 @@ fn code_in(step: &StepWords) -> Code
 #[no_mangle]
 pub extern "C" fn sections_step(
     answer: &mut AnswerWords,
-    addresses: &mut [u32],
+    addresses: &mut [Address],
     values: &mut [u64],
     owners: &mut [u16],
     globals: &mut GlobalWords,
@@ -178,7 +179,7 @@ fn put_counts(counts: &mut CountWords, taken: usize, written: usize)
 pub extern "C" fn sections_replay(
     counts: &mut CountWords,
     out: &mut [u64],
-    addresses: &mut [u32],
+    addresses: &mut [Address],
     values: &mut [u64],
     owners: &mut [u16],
     bytes: &mut [u8],
@@ -309,7 +310,7 @@ pub extern "C" fn sections_open_export(
 #[no_mangle]
 pub extern "C" fn sections_portion(
     answer: &mut AnswerWords,
-    addresses: &mut [u32],
+    addresses: &mut [Address],
     values: &mut [u64],
     owners: &mut [u16],
     export: &mut ExportWords,

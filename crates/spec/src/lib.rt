@@ -11,9 +11,6 @@ pub const ADDRESSES: u64 = 0x1_0000_0000;
 // How many numbers name a worker (document 01: a seat), 32 bits wide: one from here on has no meaning.
 pub const WORKER_NAMES: u64 = 0x1_0000_0000;
 
-// Past the numbers of 32 bits.
-pub const WIDE: u64 = 0x1_0000_0000;
-
 // The limits of document 01, as `standard` has them: seats; record entries and marks of a log; edited addresses of a job;
 // waiting and locked addresses; index, waiting and locked addresses; records of a leaf that stays whole, and of a run that is
 // cut; the last serial number.

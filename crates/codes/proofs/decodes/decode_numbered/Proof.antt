@@ -1,58 +1,20 @@
--- `decodes::decode_numbered` meets its contract: at each return the tests say what the code means.
-use mathlib.Core.Path.{_∙_}
-use Rattle.lists.specs.Tests.{same}
-use Rattle.codes.specs.CodeLaws.{code-wide, code-kind, code-other}
+-- `decodes::decode_numbered` meets its contract: a fold, or a step with a seat.
 use borrow.Author.Needs.{needs}
+use Rattle.codes.specs.CodeLaws.{code-merge, code-seat}
 use Rattle.codes.proofs.decodes.decode_numbered.Statement.{statement}
 use Rattle.codes.proofs.decodes.decode_numbered.Tie as tie
 
+decode-merge-requires : tie.Need-decode-merge-requires
+decode-merge-requires c κs = search needs
+
 returns : tie.Need-returns
-returns c = code-wide _ _ (c .if1 .taken)
+returns c = code-merge _ _ (c .before .if1 .taken) (c .decode-merge .ensures)
 
-cast-a : tie.Need-cast-a
-cast-a c = search needs
-
-decode-access-requires : tie.Need-decode-access-requires
-decode-access-requires c κs = search needs
+decode-seat-requires : tie.Need-decode-seat-requires
+decode-seat-requires c κs = search needs
 
 returns-2 : tie.Need-returns-2
-unfolding same
-returns-2 c = code-kind _ _ 0 (c .match .keys1) (c .before .before .if1 .left)
-
-returns-3 : tie.Need-returns-3
-unfolding same
-returns-3 c = code-kind _ _ 5 (c .match .keys2) (c .before .before .if1 .left)
-
-returns-4 : tie.Need-returns-4
-unfolding same
-returns-4 c = code-kind _ _ 6 (c .match .keys3) (c .before .before .if1 .left)
-
-returns-5 : tie.Need-returns-5
-unfolding same
-returns-5 c = code-kind _ _ 7 (c .match .keys4) (c .before .before .if1 .left)
-
-returns-6 : tie.Need-returns-6
-unfolding same
-returns-6 c = code-kind _ _ 8 (c .match .keys5) (c .before .before .if1 .left)
-
-returns-7 : tie.Need-returns-7
-unfolding same
-returns-7 c = code-kind _ _ 9 (c .match .keys6) (c .before .before .if1 .left)
-
-returns-8 : tie.Need-returns-8
-returns-8 c = let r = c .before .match .rest in c .decode-access .ensures ∙ code-other _ _ (r .0 .0 .0 .0 .0 .1) (r .0 .0 .0 .0 .1) (r .0 .0 .0 .1) (r .0 .0 .1) (r .0 .1) (r .1) (c .before .before .before .if1 .left)
+returns-2 c = code-seat _ _ (c .before .if1 .left) (c .decode-seat .ensures)
 
 pub decode-numbered-spec : {M : Type 1} → statement M
-decode-numbered-spec =
-    tie.close
-    (tie.spec
-    returns
-    cast-a
-    decode-access-requires
-    returns-2
-    returns-3
-    returns-4
-    returns-5
-    returns-6
-    returns-7
-    returns-8)
+decode-numbered-spec = tie.close (tie.spec decode-merge-requires returns decode-seat-requires returns-2)

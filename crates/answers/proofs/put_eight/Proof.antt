@@ -11,7 +11,9 @@ put-four-requires : tie.Need-put-four-requires
 put-four-requires c κs = search needs
 
 put-four-requires-2 : tie.Need-put-four-requires-2
-put-four-requires-2 c κs = (omega arith, omega (arith, c .before .before .before .put-four .ensures, length-four (c .before .before .before .before .before .before .args .n / 10000)))
+put-four-requires-2 c κs =
+    let start = c .before .before .before .before .before .before in
+    (omega arith, omega (arith, c .before .before .before .put-four .ensures, length-four (start .args .n / 10000)))
 
 same-length : tie.Need-same-length
 same-length c = search needs

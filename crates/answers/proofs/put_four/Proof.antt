@@ -11,7 +11,9 @@ put-pair-requires : tie.Need-put-pair-requires
 put-pair-requires c κs = search needs
 
 put-pair-requires-2 : tie.Need-put-pair-requires-2
-put-pair-requires-2 c κs = (omega arith, omega (arith, c .before .before .before .put-pair .ensures, length-pair (c .before .before .before .before .before .before .args .n / 100)))
+put-pair-requires-2 c κs =
+    let start = c .before .before .before .before .before .before in
+    (omega arith, omega (arith, c .before .before .before .put-pair .ensures, length-pair (start .args .n / 100)))
 
 same-length : tie.Need-same-length
 same-length c = search needs

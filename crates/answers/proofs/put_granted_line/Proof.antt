@@ -14,15 +14,18 @@ put-field-requires c κs = omega (arith, c .before .before .before .put-answer .
 
 put-byte-requires : tie.Need-put-byte-requires
 put-byte-requires c κs =
+    let after-put-answer = c .before .before .before .before .before .before .before in
     let s = c .before .before .before .before .before .before .before .before .before .before in
-    omega (arith, c .before .before .before .before .before .before .before .put-answer .ensures, c .before .before .before .put-field .ensures, field-most 0 (omega arith), field-most (s .args .n) (s .fits .n .fits))
+    omega (arith, after-put-answer .put-answer .ensures, c .before .before .before .put-field .ensures, field-most 0 (omega arith), field-most (s .args .n) (s .fits .n .fits))
 
 same-length : tie.Need-same-length
 same-length c = search needs
 
 returns : tie.Need-returns
 returns c =
-    wrote-join (wrote-join (c .before .before .before .before .before .before .before .before .before .before .put-answer .ensures) (c .before .before .before .before .before .before .put-field .ensures)) (c .before .before .put-byte .ensures)
+    let after-put-answer = c .before .before .before .before .before .before .before .before .before .before in
+    let after-put-field = c .before .before .before .before .before .before in
+    wrote-join (wrote-join (after-put-answer .put-answer .ensures) (after-put-field .put-field .ensures)) (c .before .before .put-byte .ensures)
 
 pub put-granted-line-spec : {M : Type 1} → statement M
 put-granted-line-spec =

@@ -18,7 +18,10 @@ same-length : tie.Need-same-length
 same-length c = search needs
 
 returns : tie.Need-returns
-returns c = wrote-eight _ (c .before .before .before .before .before .before .before .before .before .before .pre .0) (c .before .before .before .before .before .before .put-middle .ensures) (c .before .before .put-eight .ensures)
+returns c =
+    let start = c .before .before .before .before .before .before .before .before .before .before in
+    let after-put-middle = c .before .before .before .before .before .before in
+    wrote-eight _ (start .pre .0) (after-put-middle .put-middle .ensures) (c .before .before .put-eight .ensures)
 
 put-short-requires : tie.Need-put-short-requires
 put-short-requires c κs = search needs
@@ -30,15 +33,20 @@ put-eight-requires-2 c κs =
 
 put-eight-requires-3 : tie.Need-put-eight-requires-3
 put-eight-requires-3 c κs =
+    let after-put-short = c .before .before .before .before .before .before .before in
     let n = c .before .before .before .before .before .before .before .before .before .before .before .args .n in
-    (omega arith, omega (arith, c .before .before .before .before .before .before .before .put-short .ensures, c .before .before .before .put-eight2 .ensures, decimal-most 3 (n / 100000000 / 100000000) (omega arith), length-eight (n / 100000000 % 100000000)))
+    (omega arith, omega (arith, after-put-short .put-short .ensures, c .before .before .before .put-eight2 .ensures, decimal-most 3 (n / 100000000 / 100000000) (omega arith), length-eight (n / 100000000 % 100000000)))
 
 same-length-2 : tie.Need-same-length-2
 same-length-2 c = search needs
 
 returns-2 : tie.Need-returns-2
 returns-2 c =
-    wrote-eight _ (c .before .before .before .before .before .before .before .before .before .before .before .before .before .before .pre .0) (wrote-eight _ (c .before .before .before .before .before .before .before .before .before .before .before .before .if1 .left) (c .before .before .before .before .before .before .before .before .before .before .put-short .ensures) (c .before .before .before .before .before .before .put-eight2 .ensures)) (c .before .before .put-eight3 .ensures)
+    let start = c .before .before .before .before .before .before .before .before .before .before .before .before .before .before in
+    let else1 = c .before .before .before .before .before .before .before .before .before .before .before .before in
+    let after-put-short = c .before .before .before .before .before .before .before .before .before .before in
+    let after-put-eight2 = c .before .before .before .before .before .before in
+    wrote-eight _ (start .pre .0) (wrote-eight _ (else1 .if1 .left) (after-put-short .put-short .ensures) (after-put-eight2 .put-eight2 .ensures)) (c .before .before .put-eight3 .ensures)
 
 pub put-long-spec : {M : Type 1} → statement M
 put-long-spec =

@@ -27,7 +27,10 @@ same-length-2 : tie.Need-same-length-2
 same-length-2 c = search needs
 
 returns-2 : tie.Need-returns-2
-returns-2 c = wrote-four _ (c .before .before .before .before .before .before .before .before .if1 .left) (c .before .before .before .before .before .before .put-short2 .ensures) (c .before .before .put-four .ensures)
+returns-2 c =
+    let else1 = c .before .before .before .before .before .before .before .before in
+    let after-put-short2 = c .before .before .before .before .before .before in
+    wrote-four _ (else1 .if1 .left) (after-put-short2 .put-short2 .ensures) (c .before .before .put-four .ensures)
 
 pub put-middle-spec : {M : Type 1} → statement M
 put-middle-spec =

@@ -27,7 +27,10 @@ same-length-2 : tie.Need-same-length-2
 same-length-2 c = search needs
 
 returns-2 : tie.Need-returns-2
-returns-2 c = wrote-two _ (c .before .before .before .before .before .before .before .before .if1 .left) (c .before .before .before .before .before .before .put-small2 .ensures) (c .before .before .put-pair .ensures)
+returns-2 c =
+    let else1 = c .before .before .before .before .before .before .before .before in
+    let after-put-small2 = c .before .before .before .before .before .before in
+    wrote-two _ (else1 .if1 .left) (after-put-small2 .put-small2 .ensures) (c .before .before .put-pair .ensures)
 
 pub put-short-spec : {M : Type 1} → statement M
 put-short-spec =

@@ -11,7 +11,10 @@ same-length : tie.Need-same-length
 same-length c = search needs
 
 returns : tie.Need-returns
-returns c = wrote-pair _ (c .before .before .before .before .if1 .taken) (c .before .before .before .before .before .before .pre .0) (c .before .before .put-pair .ensures)
+returns c =
+    let start = c .before .before .before .before .before .before in
+    let then1 = c .before .before .before .before in
+    wrote-pair _ (then1 .if1 .taken) (start .pre .0) (c .before .before .put-pair .ensures)
 
 cast-put-byte : tie.Need-cast-put-byte
 cast-put-byte c = search needs

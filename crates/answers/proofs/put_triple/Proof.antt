@@ -17,8 +17,9 @@ put-field-requires-2 c κs =
 
 put-field-requires-3 : tie.Need-put-field-requires-3
 put-field-requires-3 c κs =
+    let after-put-field = c .before .before .before .before .before .before .before in
     let s = c .before .before .before .before .before .before .before .before .before .before in
-    omega (arith, c .before .before .before .before .before .before .before .put-field .ensures, c .before .before .before .put-field2 .ensures, field-most (s .args .address) (s .fits .address .fits), field-most (s .args .value) (s .fits .value .fits))
+    omega (arith, after-put-field .put-field .ensures, c .before .before .before .put-field2 .ensures, field-most (s .args .address) (s .fits .address .fits), field-most (s .args .value) (s .fits .value .fits))
 
 same-length : tie.Need-same-length
 same-length c = search needs
@@ -26,7 +27,9 @@ same-length c = search needs
 returns : tie.Need-returns
 unfolding triple
 returns c =
-    wrote-join (wrote-join (c .before .before .before .before .before .before .before .before .before .before .put-field .ensures) (c .before .before .before .before .before .before .put-field2 .ensures)) (c .before .before .put-field3 .ensures)
+    let after-put-field = c .before .before .before .before .before .before .before .before .before .before in
+    let after-put-field2 = c .before .before .before .before .before .before in
+    wrote-join (wrote-join (after-put-field .put-field .ensures) (after-put-field2 .put-field2 .ensures)) (c .before .before .put-field3 .ensures)
 
 pub put-triple-spec : {M : Type 1} → statement M
 put-triple-spec =

@@ -47,10 +47,12 @@ loop-less c = omega arith
 
 loop-again : tie.Need-loop-again Inv-loop μ-loop
 loop-again c =
+    let after-shared-slice-known4 = c .before .before .before .before .before in
+    let after-shared-slice-known5 = c .before .before .before .before in
     let l = c .before .before .before .before .before .before .before .before .loop in (
       listing-on (l .i) (l .inv .0) (omega arith) (omega arith) (omega arith)
-          (omega (arith, c .before .before .before .before .before .shared-slice-known4 .given (l .i)))
-          (omega (arith, c .before .before .before .before .shared-slice-known5 .given (l .i)))
+          (omega (arith, after-shared-slice-known4 .shared-slice-known4 .given (l .i)))
+          (omega (arith, after-shared-slice-known5 .shared-slice-known5 .given (l .i)))
           (omega (arith, c .before .before .before .shared-slice-known6 .given (l .i)))
           (c .before .before .put-triple .ensures),
       omega arith,

@@ -20,7 +20,11 @@ same-length : tie.Need-same-length
 same-length c = search needs
 
 returns-2 : tie.Need-returns-2
-returns-2 c = λ contents b. files contents _ _ b (c .before .before .before .before .before .before .before .before .pre) (c .before .before .before .before .before .before .if1 .taken) (c .before .before .before .before .if2 .left) (c .before .before .put-file .ensures)
+returns-2 c =
+    let start = c .before .before .before .before .before .before .before .before in
+    let then1 = c .before .before .before .before .before .before in
+    let else2 = c .before .before .before .before in
+    λ contents b. files contents _ _ b (start .pre) (then1 .if1 .taken) (else2 .if2 .left) (c .before .before .put-file .ensures)
 
 returns-3 : tie.Need-returns-3
 returns-3 c = λ contents b. no-file contents _ _ _ (c .before .before .pre) _ (c .if1 .left)

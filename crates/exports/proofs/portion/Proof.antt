@@ -41,10 +41,11 @@ same-length-3 c = search needs
 
 returns : tie.Need-returns
 returns c =
+    let then1 = c .before .before .before .before .before .before .before .before .before .before .before .before .before .before .before in
     let g = c .before .before .before .before .before .before .before in
     let t = g .before .before .before .before in
     let s = t .before .before .before .before .before .before .before .before in
-    λ contents bs. gives _ (s .pre) (least-is (buffers (s .args .addresses .now) (s .args .values .now) (s .args .owners .now)) (s .args .x .count - s .args .x .taken) (t .before .before .lesser .ensures) (t .before .lesser2 .ensures) (t .lesser3 .ensures)) contents _ bs (t .before .before .before .before .if1 .taken) (g .give .ensures)
+    λ contents bs. gives _ (s .pre) (least-is (buffers (s .args .addresses .now) (s .args .values .now) (s .args .owners .now)) (s .args .x .count - s .args .x .taken) (t .before .before .lesser .ensures) (t .before .lesser2 .ensures) (t .lesser3 .ensures)) contents _ bs (then1 .if1 .taken) (g .give .ensures)
 
 returns-2 : tie.Need-returns-2
 returns-2 c = λ contents bs. no-portion contents _ _ _ (c .before .before .before .before .pre) _ (c .if1 .left)

@@ -15,13 +15,17 @@ bit-of-requires : tie.Need-bit-of-requires
 bit-of-requires c κs = search needs
 
 sub-put-word : tie.Need-sub-put-word
-sub-put-word c = omega (arith, clear-fits (c .before .before .before .before .args .i % wordBits) _ (c .before .before .before .before .pre .1), c .before .before .word .ensures, c .before .bit-of .ensures)
+sub-put-word c =
+    let start = c .before .before .before .before in
+    omega (arith, clear-fits (start .args .i % wordBits) _ (start .pre .1), c .before .before .word .ensures, c .before .bit-of .ensures)
 
 put-word-requires : tie.Need-put-word-requires
 put-word-requires c κs = search needs
 
 returns : tie.Need-returns
-returns c = c .put-word .ensures ∙ ap₂ (λ (x y : ℕ). bitmapPut (c .before .before .before .before .before .args .t .now) (c .before .before .before .before .before .args .i / wordBits) (x - y)) (c .before .before .before .word .ensures) (c .before .before .bit-of .ensures)
+returns c =
+    let start = c .before .before .before .before .before in
+    c .put-word .ensures ∙ ap₂ (λ (x y : ℕ). bitmapPut (start .args .t .now) (start .args .i / wordBits) (x - y)) (c .before .before .before .word .ensures) (c .before .before .bit-of .ensures)
 
 pub clear-bit-spec : {M : Type 1} → statement M
 clear-bit-spec = tie.close (tie.spec word-requires bit-of-requires sub-put-word put-word-requires returns)

@@ -16,18 +16,23 @@ add-put-cell : tie.Need-add-put-cell
 add-put-cell c = search needs
 
 mul-put-cell : tie.Need-mul-put-cell
-mul-put-cell c = omega (arith, cell-own (c .before .before .before .before .args .t .now) _ _ _ (c .before .before .before .bucket .ensures) (c .before .cell .ensures), c .before .before .before .before .pre .1)
+mul-put-cell c =
+    let start = c .before .before .before .before in
+    omega (arith, cell-own (start .args .t .now) _ _ _ (c .before .before .before .bucket .ensures) (c .before .cell .ensures), start .pre .1)
 
 add-put-cell-2 : tie.Need-add-put-cell-2
-add-put-cell-2 c = omega (arith, cell-own (c .before .before .before .before .args .t .now) _ _ _ (c .before .before .before .bucket .ensures) (c .before .cell .ensures), c .before .before .before .before .pre)
+add-put-cell-2 c =
+    let start = c .before .before .before .before in
+    omega (arith, cell-own (start .args .t .now) _ _ _ (c .before .before .before .bucket .ensures) (c .before .cell .ensures), start .pre)
 
 put-cell-requires : tie.Need-put-cell-requires
 put-cell-requires c κs = bucket-inside _ _ (c .before .before .before .bucket .ensures)
 
 returns : tie.Need-returns
 returns c =
+    let after-bucket = c .before .before .before .before in
     let start = c .before .before .before .before .before in
-    cell-changed (start .args .t .now) _ _ _ (c .before .before .before .before .bucket .ensures) (c .before .before .cell .ensures) (λ (n : ℕ). (n / 256 + 1) * 256 + start .args .i) _ (c .put-cell .ensures)
+    cell-changed (start .args .t .now) _ _ _ (after-bucket .bucket .ensures) (c .before .before .cell .ensures) (λ (n : ℕ). (n / 256 + 1) * 256 + start .args .i) _ (c .put-cell .ensures)
 
 pub count-in-spec : {M : Type 1} → statement M
 count-in-spec =

@@ -13,13 +13,18 @@ cell-requires : tie.Need-cell-requires
 cell-requires c κs = bucket-inside _ _ (c .before .bucket .ensures)
 
 sub-put-cell : tie.Need-sub-put-cell
-sub-put-cell c = omega (arith, cell-own (c .before .before .before .before .args .t .now) _ _ _ (c .before .before .before .bucket .ensures) (c .before .cell .ensures), c .before .before .before .before .pre)
+sub-put-cell c =
+    let start = c .before .before .before .before in
+    omega (arith, cell-own (start .args .t .now) _ _ _ (c .before .before .before .bucket .ensures) (c .before .cell .ensures), start .pre)
 
 put-cell-requires : tie.Need-put-cell-requires
 put-cell-requires c κs = bucket-inside _ _ (c .before .before .before .bucket .ensures)
 
 returns : tie.Need-returns
-returns c = cell-changed (c .before .before .before .before .before .args .t .now) _ _ _ (c .before .before .before .before .bucket .ensures) (c .before .before .cell .ensures) (λ (n : ℕ). n - 256) _ (c .put-cell .ensures)
+returns c =
+    let start = c .before .before .before .before .before in
+    let after-bucket = c .before .before .before .before in
+    cell-changed (start .args .t .now) _ _ _ (after-bucket .bucket .ensures) (c .before .before .cell .ensures) (λ (n : ℕ). n - 256) _ (c .put-cell .ensures)
 
 pub count-out-spec : {M : Type 1} → statement M
 count-out-spec = tie.close (tie.spec bucket-requires cell-requires sub-put-cell put-cell-requires returns)

@@ -12,7 +12,9 @@ idle-requires : tie.Need-idle-requires
 idle-requires c κs = search needs
 
 returns-2 : tie.Need-returns-2
-returns-2 c = ap not (c .idle .ensures) ∙ sym (holds-same (c .before .before .before .before .args .a) (c .before .before .before .before .args .s) (c .before .before .if1 .left))
+returns-2 c =
+    let start = c .before .before .before .before in
+    ap not (c .idle .ensures) ∙ sym (holds-same (start .args .a) (start .args .s) (c .before .before .if1 .left))
 
 pub holds-key-spec : {M : Type 1} → statement M
 holds-key-spec = tie.close (tie.spec returns idle-requires returns-2)

@@ -21,22 +21,28 @@ home-requires : tie.Need-home-requires
 home-requires c κs = search needs
 
 passed-requires : tie.Need-passed-requires
-passed-requires c κs = (subst (λ (n : ℕ). n < slotCount) (sym (c .before .home .ensures)) (home-less addressSize (c .before .before .before .before .args .a)), c .if1 .taken)
+passed-requires c κs =
+    let start = c .before .before .before .before in
+    (subst (λ (n : ℕ). n < slotCount) (sym (c .before .home .ensures)) (home-less addressSize (start .args .a)), c .if1 .taken)
 
 add-t9 : tie.Need-add-t9
 add-t9 c = omega (arith, c .passed .ensures, gap-less (c .before .before .home .result) (c .before .before .before .before .find .result))
 
 returns : tie.Need-returns
 returns c =
+    let start = c .before .before .before .before .before in
     let f = c .before .before .before .before .find in
-    look-hit _ _ _ (c .before .before .before .before .before .pre) (said-at (f .ensures) (c .before .before .before .content-at .ensures)) _ _ (c .before .if1 .taken) (f .ensures .hit (c .before .if1 .taken))
+    look-hit _ _ _ (start .pre) (said-at (f .ensures) (c .before .before .before .content-at .ensures)) _ _ (c .before .if1 .taken) (f .ensures .hit (c .before .if1 .taken))
     (add-one (c .passed .result) ∙ ap suc (c .passed .ensures ∙ ap (λ (n : ℕ). gap n (f .result)) (c .before .before .home .ensures)))
 
 seek-requires : tie.Need-seek-requires
 seek-requires c κs = search needs
 
 returns-2 : tie.Need-returns-2
-returns-2 c = look-miss _ _ _ (c .before .before .before .before .before .pre) (said-at (c .before .before .before .before .find .ensures) (c .before .before .before .content-at .ensures)) _ (c .seek .ensures)
+returns-2 c =
+    let start = c .before .before .before .before .before in
+    let after-find = c .before .before .before .before in
+    look-miss _ _ _ (start .pre) (said-at (after-find .find .ensures) (c .before .before .before .content-at .ensures)) _ (c .seek .ensures)
 
 pub look-up-spec : {M : Type 1} → statement M
 look-up-spec =

@@ -28,17 +28,21 @@ lowest-bit-requires c κs = search needs
 
 add-result : tie.Need-add-result Inv-loop μ-loop
 add-result c =
+    let start = c .before .before .before .before .before in
+    let at-loop = c .before .before .before .before in
     omega (
       arith,
-      filled-less _ (c .before .before .before .before .before .args .h) (c .before .before .before .before .loop .d) (c .before .before .free-from .result) (c .before .before .before .before .loop .inv) (c .before .before .before .loop-test .taken) (c .before .before .free-from .ensures) (omega arith) (omega arith),
+      filled-less _ (start .args .h) (at-loop .loop .d) (c .before .before .free-from .result) (at-loop .loop .inv) (c .before .before .before .loop-test .taken) (c .before .before .free-from .ensures) (omega arith) (omega arith),
       c .lowest-bit .ensures,
     )
 
 returns : tie.Need-returns Inv-loop μ-loop
 returns c =
-    first-less (c .before .before .before .before .loop .d)
-    (filled-first _ (c .before .before .before .before .before .args .h) (c .before .before .before .before .loop .d) (c .before .before .free-from .result) (c .before .before .before .before .loop .inv) (c .before .before .before .loop-test .taken) (c .before .before .free-from .ensures) (omega arith) (omega arith))
-    (filled-less _ (c .before .before .before .before .before .args .h) (c .before .before .before .before .loop .d) (c .before .before .free-from .result) (c .before .before .before .before .loop .inv) (c .before .before .before .loop-test .taken) (c .before .before .free-from .ensures) (omega arith) (omega arith))
+    let start = c .before .before .before .before .before in
+    let at-loop = c .before .before .before .before in
+    first-less (at-loop .loop .d)
+    (filled-first _ (start .args .h) (at-loop .loop .d) (c .before .before .free-from .result) (at-loop .loop .inv) (c .before .before .before .loop-test .taken) (c .before .before .free-from .ensures) (omega arith) (omega arith))
+    (filled-less _ (start .args .h) (at-loop .loop .d) (c .before .before .free-from .result) (at-loop .loop .inv) (c .before .before .before .loop-test .taken) (c .before .before .free-from .ensures) (omega arith) (omega arith))
     (c .lowest-bit .ensures)
 
 word-end-requires : tie.Need-word-end-requires Inv-loop μ-loop
@@ -54,7 +58,10 @@ loop-less : tie.Need-loop-less Inv-loop μ-loop
 loop-less c = omega (arith, c .word-end .ensures)
 
 loop-again : tie.Need-loop-again Inv-loop μ-loop
-loop-again c = filled-on _ (c .before .before .before .before .before .args .h) (c .before .before .before .before .loop .d) (c .before .before .free-from .result) (c .before .before .before .before .loop .inv) (c .before .before .before .loop-test .taken) (c .before .before .free-from .ensures) _ (omega arith) (c .word-end .ensures)
+loop-again c =
+    let start = c .before .before .before .before .before in
+    let at-loop = c .before .before .before .before in
+    filled-on _ (start .args .h) (at-loop .loop .d) (c .before .before .free-from .result) (at-loop .loop .inv) (c .before .before .before .loop-test .taken) (c .before .before .free-from .ensures) _ (omega arith) (c .word-end .ensures)
 
 returns-2 : tie.Need-returns-2 Inv-loop μ-loop
 returns-2 c = filled-never _ _ _ (c .before .loop .inv) (c .before .before .pre .1 .0) (c .loop-test .left) (c .before .before .pre .1 .1)

@@ -22,10 +22,18 @@ get-requires : tie.Need-get-requires Inv-loop μ-loop
 get-requires c κs = omega (arith, c .before .before .before .pre .0 .2)
 
 add-t13 : tie.Need-add-t13 Inv-loop μ-loop
-add-t13 c = omega (arith, count-read _ _ _ _ (c .before .before .before .before .before .loop .d) (c .before .before .before .before .before .loop .inv .0) (omega (arith, c .before .before .before .before .before .before .pre .0 .2)) _ (c .before .before .get .ensures), c .before .before .before .before .before .before .pre .1 .fits (c .before .before .before .before .before .loop .d) (c .before .before .before .before .loop-test .taken))
+add-t13 c =
+    let start = c .before .before .before .before .before .before in
+    let at-loop = c .before .before .before .before .before in
+    let in-loop = c .before .before .before .before in
+    omega (arith, count-read _ _ _ _ (at-loop .loop .d) (at-loop .loop .inv .0) (omega (arith, start .pre .0 .2)) _ (c .before .before .get .ensures), start .pre .1 .fits (at-loop .loop .d) (in-loop .loop-test .taken))
 
 sub-t14 : tie.Need-sub-t14 Inv-loop μ-loop
-sub-t14 c = omega (arith, count-read _ _ _ _ (c .before .before .before .before .before .loop .d) (c .before .before .before .before .before .loop .inv .0) (omega (arith, c .before .before .before .before .before .before .pre .0 .2)) _ (c .before .before .get .ensures), c .before .before .before .before .before .before .pre .1 .enough (c .before .before .before .before .before .loop .d) (c .before .before .before .before .loop-test .taken))
+sub-t14 c =
+    let start = c .before .before .before .before .before .before in
+    let at-loop = c .before .before .before .before .before in
+    let in-loop = c .before .before .before .before in
+    omega (arith, count-read _ _ _ _ (at-loop .loop .d) (at-loop .loop .inv .0) (omega (arith, start .pre .0 .2)) _ (c .before .before .get .ensures), start .pre .1 .enough (at-loop .loop .d) (in-loop .loop-test .taken))
 
 put-requires : tie.Need-put-requires Inv-loop μ-loop
 put-requires c κs = omega (arith, c .before .before .before .before .before .before .before .pre .0 .2)
@@ -38,7 +46,10 @@ loop-less c = omega arith
 
 loop-again : tie.Need-loop-again Inv-loop μ-loop
 loop-again c =
-    (count-on _ _ _ _ (c .before .before .before .before .before .before .before .loop .d) (c .before .before .before .before .before .before .before .loop .inv .0) (omega (arith, c .before .before .before .before .before .before .before .before .pre .0 .2)) _ (c .before .before .before .before .get .ensures) _ (c .put .ensures), omega arith)
+    let start = c .before .before .before .before .before .before .before .before in
+    let at-loop = c .before .before .before .before .before .before .before in
+    let after-get = c .before .before .before .before in
+    (count-on _ _ _ _ (at-loop .loop .d) (at-loop .loop .inv .0) (omega (arith, start .pre .0 .2)) _ (after-get .get .ensures) _ (c .put .ensures), omega arith)
 
 returns : tie.Need-returns Inv-loop μ-loop
 returns c = going-done (shifted (c .before .before .args .up) (c .before .before .args .down)) (c .before .before .args .from) (c .before .loop .inv .0) (omega arith)

@@ -25,13 +25,17 @@ sub-recount : tie.Need-sub-recount
 sub-recount c = search needs
 
 recount-requires-3 : tie.Need-recount-requires-3
-recount-requires-3 c κs = (
-  (c .before .recount2 .ensures .sized, omega arith, omega (arith, c .before .before .before .before .pre .0 .2, c .before .before .before .before .pre .0 .1)),
-  countable-after (shifted (c .before .before .before .before .args .up) (c .before .before .before .before .args .down)) (c .before .before .before .before .args .h) _ (c .before .before .before .before .pre .0 .1) (omega (arith, c .before .before .before .before .pre .0 .1)) (omega (arith, c .before .before .before .if1 .left)) (c .before .before .before .before .pre .0 .2) (c .before .recount2 .ensures) (c .before .before .before .before .pre .1),
-)
+recount-requires-3 c κs =
+    let start = c .before .before .before .before in (
+      (c .before .recount2 .ensures .sized, omega arith, omega (arith, start .pre .0 .2, start .pre .0 .1)),
+      countable-after (shifted (start .args .up) (start .args .down)) (start .args .h) _ (start .pre .0 .1) (omega (arith, start .pre .0 .1)) (omega (arith, c .before .before .before .if1 .left)) (start .pre .0 .2) (c .before .recount2 .ensures) (start .pre .1),
+    )
 
 returns-2 : tie.Need-returns-2
-returns-2 c = going-join (shifted (c .before .before .before .before .before .args .up) (c .before .before .before .before .before .args .down)) (c .before .before .before .before .before .args .h) _ _ _ (c .before .before .before .before .before .pre .0 .1) (omega (arith, c .before .before .before .before .before .pre .0 .1)) (omega (arith, c .before .before .before .before .before .pre .0 .2)) (omega (arith, c .before .before .before .before .if1 .left)) (c .before .before .recount2 .ensures) (c .recount3 .ensures)
+returns-2 c =
+    let start = c .before .before .before .before .before in
+    let else1 = c .before .before .before .before in
+    going-join (shifted (start .args .up) (start .args .down)) (start .args .h) _ _ _ (start .pre .0 .1) (omega (arith, start .pre .0 .1)) (omega (arith, start .pre .0 .2)) (omega (arith, else1 .if1 .left)) (c .before .before .recount2 .ensures) (c .recount3 .ensures)
 
 pub recount-passed-spec : {M : Type 1} → statement M
 recount-passed-spec =

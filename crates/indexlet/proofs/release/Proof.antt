@@ -30,7 +30,9 @@ put-requires c κs = omega arith
 
 returns : tie.Need-returns
 returns c =
-    release-ends _ _ _ _ (c .before .before .before .before .before .before .before .pre .0) (c .before .before .before .before .before .before .before .pre .1 .0) (c .before .before .before .before .before .before .before .pre .1 .1) _ (c .before .before .before .before .before .recount-passed .ensures) _ (c .before .before .before .get .ensures) _ _
+    let start = c .before .before .before .before .before .before .before in
+    let after-recount-passed = c .before .before .before .before .before in
+    release-ends _ _ _ _ (start .pre .0) (start .pre .1 .0) (start .pre .1 .1) _ (after-recount-passed .recount-passed .ensures) _ (c .before .before .before .get .ensures) _ _
     (ap (λ (x : ContentWords). isIdle (contentIn x)) (c .before .before .nothing .ensures) ∙ idle-zero) _ (c .put .ensures)
 
 pub release-spec : {M : Type 1} → statement M

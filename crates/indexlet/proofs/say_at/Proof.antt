@@ -13,7 +13,9 @@ put-requires : tie.Need-put-requires
 put-requires c κs = search needs
 
 returns : tie.Need-returns
-returns c = c .put .ensures ∙ ap (λ (s : SlotWords). store (c .before .before .before .before .args .t .now) (c .before .before .before .before .args .i) (saying (c .before .before .before .before .args .a) (c .before .before .before .before .args .c) s)) (c .before .before .get .ensures)
+returns c =
+    let start = c .before .before .before .before in
+    c .put .ensures ∙ ap (λ (s : SlotWords). store (start .args .t .now) (start .args .i) (saying (start .args .a) (start .args .c) s)) (c .before .before .get .ensures)
 
 pub say-at-spec : {M : Type 1} → statement M
 say-at-spec = tie.close (tie.spec get-requires put-requires returns)

@@ -15,13 +15,17 @@ bit-of-requires : tie.Need-bit-of-requires
 bit-of-requires c κs = search needs
 
 add-put-word : tie.Need-add-put-word
-add-put-word c = omega (arith, set-fits 64 (c .before .before .before .before .args .i % wordBits) _ (omega arith) (omega (arith, c .before .before .word .ensures)) (c .before .before .before .before .pre .1), c .before .before .word .ensures, c .before .bit-of .ensures)
+add-put-word c =
+    let start = c .before .before .before .before in
+    omega (arith, set-fits 64 (start .args .i % wordBits) _ (omega arith) (omega (arith, c .before .before .word .ensures)) (start .pre .1), c .before .before .word .ensures, c .before .bit-of .ensures)
 
 put-word-requires : tie.Need-put-word-requires
 put-word-requires c κs = search needs
 
 returns : tie.Need-returns
-returns c = c .put-word .ensures ∙ ap₂ (λ (x y : ℕ). bitmapPut (c .before .before .before .before .before .args .t .now) (c .before .before .before .before .before .args .i / wordBits) (x + y)) (c .before .before .before .word .ensures) (c .before .before .bit-of .ensures)
+returns c =
+    let start = c .before .before .before .before .before in
+    c .put-word .ensures ∙ ap₂ (λ (x y : ℕ). bitmapPut (start .args .t .now) (start .args .i / wordBits) (x + y)) (c .before .before .before .word .ensures) (c .before .before .bit-of .ensures)
 
 pub set-bit-spec : {M : Type 1} → statement M
 set-bit-spec = tie.close (tie.spec word-requires bit-of-requires add-put-word put-word-requires returns)

@@ -16,42 +16,53 @@ idle-requires : tie.Need-idle-requires
 idle-requires c κs = search needs
 
 say-at-requires : tie.Need-say-at-requires
-say-at-requires c κs = home-inside (c .before .before .before .before .before .before .args .a) _ (c .before .before .before .before .before .before .pre .1 .0)
+say-at-requires c κs =
+    let start = c .before .before .before .before .before .before in
+    home-inside (start .args .a) _ (start .pre .1 .0)
 
 returns : tie.Need-returns
 returns c =
+    let start = c .before .before .before .before .before .before .before in
+    let after-get = c .before .before .before .before .before in
     let empty = sym (c .before .before .before .idle .ensures) ∙ c .before .before .if1 .taken in (
       (
-        home-ends _ (c .before .before .before .before .before .before .before .args .a) _ (c .before .before .before .before .before .before .before .pre .1 .0) (c .before .before .before .before .before .before .before .pre .0) _ (c .before .before .before .before .before .get .ensures) empty (c .before .before .before .before .before .before .before .args .c) (c .before .before .before .before .before .before .before .pre .1 .1 .1) (c .before .before .before .before .before .before .before .fits .a .fits) _ (c .say-at .ensures),
-        home-inside (c .before .before .before .before .before .before .before .args .a) _ (c .before .before .before .before .before .before .before .pre .1 .0),
+        home-ends _ (start .args .a) _ (start .pre .1 .0) (start .pre .0) _ (after-get .get .ensures) empty (start .args .c) (start .pre .1 .1 .1) (start .fits .a .fits) _ (c .say-at .ensures),
+        home-inside (start .args .a) _ (start .pre .1 .0),
       ),
-      home-turns _ (c .before .before .before .before .before .before .before .args .a) _ (c .before .before .before .before .before .before .before .pre .1 .0) (c .before .before .before .before .before .before .before .pre .0) _ (c .before .before .before .before .before .get .ensures) empty (c .before .before .before .before .before .before .before .args .c),
+      home-turns _ (start .args .a) _ (start .pre .1 .0) (start .pre .0) _ (after-get .get .ensures) empty (start .args .c),
     )
 
 passed-by-new-requires : tie.Need-passed-by-new-requires
-passed-by-new-requires c κs = (c .before .before .before .before .before .before .pre .0, (home-inside (c .before .before .before .before .before .before .args .a) _ (c .before .before .before .before .before .before .pre .1 .0), c .before .before .before .before .before .before .pre .1 .1 .0))
+passed-by-new-requires c κs =
+    let start = c .before .before .before .before .before .before in
+    (start .pre .0, (home-inside (start .args .a) _ (start .pre .1 .0), start .pre .1 .1 .0))
 
 recount-passed-requires : tie.Need-recount-passed-requires
-recount-passed-requires c κs = (
-  (c .before .before .before .before .before .before .before .before .pre .0 .sized, home-inside (c .before .before .before .before .before .before .before .before .args .a) _ (c .before .before .before .before .before .before .before .before .pre .1 .0), c .before .passed-by-new .ensures .1),
-  take-counts _ (c .before .before .before .before .before .before .before .before .args .a) _ _ (c .before .before .before .before .before .before .before .before .pre .1 .0) (c .before .passed-by-new .ensures .0) (c .before .passed-by-new .ensures .1) (c .before .before .before .before .before .before .before .before .pre .0),
-)
+recount-passed-requires c κs =
+    let start = c .before .before .before .before .before .before .before .before in (
+      (start .pre .0 .sized, home-inside (start .args .a) _ (start .pre .1 .0), c .before .passed-by-new .ensures .1),
+      take-counts _ (start .args .a) _ _ (start .pre .1 .0) (c .before .passed-by-new .ensures .0) (c .before .passed-by-new .ensures .1) (start .pre .0),
+    )
 
 add-i : tie.Need-add-i
-add-i c = omega (arith, c .before .before .before .before .before .before .before .before .before .pre .1 .0, home-less addressSize (c .before .before .before .before .before .before .before .before .before .args .a), c .before .before .passed-by-new .ensures .1)
+add-i c =
+    let start = c .before .before .before .before .before .before .before .before .before in
+    omega (arith, start .pre .1 .0, home-less addressSize (start .args .a), c .before .before .passed-by-new .ensures .1)
 
 say-at-requires-2 : tie.Need-say-at-requires-2
 say-at-requires-2 c κs = omega arith
 
 returns-2 : tie.Need-returns-2
-returns-2 c = (
-  (
-    take-ends _ (c .before .before .before .before .before .before .before .before .before .before .before .args .a) _ _ (c .before .before .before .before .before .before .before .before .before .before .before .pre .1 .0) (c .before .before .before .before .passed-by-new .ensures .0) (c .before .before .before .before .passed-by-new .ensures .1) (c .before .before .before .before .before .before .before .before .before .before .before .args .c) _ (c .before .before .recount-passed .ensures) _ refl
-        (c .before .before .before .before .before .before .before .before .before .before .before .pre .1 .1 .1) (c .before .before .before .before .before .before .before .before .before .before .before .fits .a .fits) _ (c .say-at2 .ensures),
-    omega arith,
-  ),
-  take-turns _ (c .before .before .before .before .before .before .before .before .before .before .before .args .a) _ _ (c .before .before .before .before .before .before .before .before .before .before .before .pre .1 .0) (c .before .before .before .before .passed-by-new .ensures .0) (c .before .before .before .before .passed-by-new .ensures .1) (c .before .before .before .before .before .before .before .before .before .before .before .args .c),
-)
+returns-2 c =
+    let start = c .before .before .before .before .before .before .before .before .before .before .before in
+    let after-passed-by-new = c .before .before .before .before in (
+      (
+        take-ends _ (start .args .a) _ _ (start .pre .1 .0) (after-passed-by-new .passed-by-new .ensures .0) (after-passed-by-new .passed-by-new .ensures .1) (start .args .c) _ (c .before .before .recount-passed .ensures) _ refl
+            (start .pre .1 .1 .1) (start .fits .a .fits) _ (c .say-at2 .ensures),
+        omega arith,
+      ),
+      take-turns _ (start .args .a) _ _ (start .pre .1 .0) (after-passed-by-new .passed-by-new .ensures .0) (after-passed-by-new .passed-by-new .ensures .1) (start .args .c),
+    )
 
 pub take-spec : {M : Type 1} → statement M
 take-spec =

@@ -12,10 +12,14 @@ take-requires : tie.Need-take-requires
 take-requires c κs = search needs
 
 set-bit-requires : tie.Need-set-bit-requires
-set-bit-requires c κs = (c .before .take .ensures .0 .1, bit-is _ (c .before .before .before .before .pre .0 .occupied) (c .before .take .ensures .0 .0 .stays) (c .before .take .ensures .0 .1) (c .before .take .ensures .1))
+set-bit-requires c κs =
+    let start = c .before .before .before .before in
+    (c .before .take .ensures .0 .1, bit-is _ (start .pre .0 .occupied) (c .before .take .ensures .0 .0 .stays) (c .before .take .ensures .0 .1) (c .before .take .ensures .1))
 
 count-in-requires : tie.Need-count-in-requires
-count-in-requires c κs = (c .before .before .before .take .ensures .0 .1, load-small (c .before .before .before .before .before .before .pre .0) (put-cells (c .before .before .before .take .ensures .0 .0 .stays) (c .before .before .before .take .ensures .0 .0 .sized .size) _ _ (c .before .set-bit .ensures)) (c .before .before .before .before .before .before .args .a))
+count-in-requires c κs =
+    let start = c .before .before .before .before .before .before in
+    (c .before .before .before .take .ensures .0 .1, load-small (start .pre .0) (put-cells (c .before .before .before .take .ensures .0 .0 .stays) (c .before .before .before .take .ensures .0 .0 .sized .size) _ _ (c .before .set-bit .ensures)) (start .args .a))
 
 returns : tie.Need-returns
 returns c = search needs

@@ -17,10 +17,13 @@ release-requires c κs = (c .before .before .before .pre .0, (c .before .before 
 
 clear-bit-requires : tie.Need-clear-bit-requires
 clear-bit-requires c κs =
-    (c .before .before .before .before .before .pre .1 .0, bit-is _ (c .before .before .before .before .before .pre .0 .occupied) (c .before .release .ensures .stays) (c .before .before .before .before .before .pre .1 .0) (release-turns (c .before .before .before .before .before .args .a) _ (c .before .before .before .before .before .pre .0) (c .before .before .before .before .before .pre .1 .0) (c .before .before .before .before .before .pre .1 .1)))
+    let start = c .before .before .before .before .before in
+    (start .pre .1 .0, bit-is _ (start .pre .0 .occupied) (c .before .release .ensures .stays) (start .pre .1 .0) (release-turns (start .args .a) _ (start .pre .0) (start .pre .1 .0) (start .pre .1 .1)))
 
 count-out-requires : tie.Need-count-out-requires
-count-out-requires c κs = loaded-still (c .before .before .before .before .before .before .before .args .a) (c .before .before .before .before .before .before .before .args .at) (c .before .before .before .before .before .before .before .pre .0) (c .before .before .before .before .before .before .before .pre .1 .0) (c .before .before .before .before .before .before .before .pre .1 .1) (put-cells (c .before .before .before .release .ensures .stays) (c .before .before .before .release .ensures .sized .size) _ _ (c .before .clear-bit .ensures))
+count-out-requires c κs =
+    let start = c .before .before .before .before .before .before .before in
+    loaded-still (start .args .a) (start .args .at) (start .pre .0) (start .pre .1 .0) (start .pre .1 .1) (put-cells (c .before .before .before .release .ensures .stays) (c .before .before .before .release .ensures .sized .size) _ _ (c .before .clear-bit .ensures))
 
 returns : tie.Need-returns
 returns c = search needs

@@ -25,8 +25,10 @@ lock-only-at-requires : tie.Need-lock-only-at-requires Inv-loop μ-loop
 lock-only-at-requires c κs = search needs
 
 add-own : tie.Need-add-own Inv-loop μ-loop
-add-own c = let k = counting-on _ _ _ _ _ _ _ _ _ _ _ _ (c .before .before .before .loop .inv) (c .before .before .loop-test .taken) (given (c .before .write-at .ensures) (c .before .before .loop-test .taken)) (c .lock-only-at .ensures) in
-    omega (arith, k .small, c .before .before .before .before .pre .1 .1 .1 .few)
+add-own c =
+    let start = c .before .before .before .before in
+    let k = counting-on _ _ _ _ _ _ _ _ _ _ _ _ (c .before .before .before .loop .inv) (c .before .before .loop-test .taken) (given (c .before .write-at .ensures) (c .before .before .loop-test .taken)) (c .lock-only-at .ensures) in
+    omega (arith, k .small, start .pre .1 .1 .1 .few)
 
 add-x : tie.Need-add-x Inv-loop μ-loop
 add-x c = search needs

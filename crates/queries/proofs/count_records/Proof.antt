@@ -36,8 +36,10 @@ loop-less c = let s = c .before .before .before .before .before .before in
     omega (arith, next-above _ _ _ (s .pre .0) (s .pre .1) _ _ _ _ _ (c .before .before .before .next-record .ensures) (c .before .next .given .1))
 
 loop-again : tie.Need-loop-again Inv-loop μ-loop
-loop-again c = let s = c .before .before .before .before .before .before in
-    counted-on _ _ _ (s .pre .0) (s .pre .1) _ _ _ _ _ _ (c .before .before .before .before .before .loop .inv) (c .before .before .before .next-record .ensures) (c .before .next .given .1)
+loop-again c =
+    let at-loop = c .before .before .before .before .before in
+    let s = c .before .before .before .before .before .before in
+    counted-on _ _ _ (s .pre .0) (s .pre .1) _ _ _ _ _ _ (at-loop .loop .inv) (c .before .before .before .next-record .ensures) (c .before .next .given .1)
 
 enum-told : tie.Need-enum-told Inv-loop μ-loop
 enum-told c = search needs

@@ -29,8 +29,10 @@ least-requires : tie.Need-least-requires Inv-loop μ-loop
 least-requires c κs = search needs
 
 returns : tie.Need-returns Inv-loop μ-loop
-returns c = let s = c .before .before .before .before .before .before in
-    follows-done _ _ _ (s .pre .0) (s .pre .1) _ _ (passed-over _ _ _ (s .pre .0) (s .pre .1) _ _ _ _ _ (c .before .before .before .before .before .loop .inv) (c .before .before .before .index-from .ensures) (c .before .before .slot-from .ensures) (c .before .least .ensures)) (c .if1 .taken)
+returns c =
+    let at-loop = c .before .before .before .before .before in
+    let s = c .before .before .before .before .before .before in
+    follows-done _ _ _ (s .pre .0) (s .pre .1) _ _ (passed-over _ _ _ (s .pre .0) (s .pre .1) _ _ _ _ _ (at-loop .loop .inv) (c .before .before .before .index-from .ensures) (c .before .before .slot-from .ensures) (c .before .least .ensures)) (c .if1 .taken)
 
 cast-address : tie.Need-cast-address Inv-loop μ-loop
 cast-address c = search needs
@@ -39,18 +41,30 @@ current-record-requires : tie.Need-current-record-requires Inv-loop μ-loop
 current-record-requires c κs = search needs
 
 returns-2 : tie.Need-returns-2 Inv-loop μ-loop
-returns-2 c = let s = c .before .before .before .before .before .before .before .before .before in
-    follows-at _ _ _ (s .pre .0) (s .pre .1) _ _ (c .before .before .current-record .result) (passed-over _ _ _ (s .pre .0) (s .pre .1) _ _ _ _ _ (c .before .before .before .before .before .before .before .before .loop .inv) (c .before .before .before .before .before .before .index-from .ensures) (c .before .before .before .before .before .slot-from .ensures) (c .before .before .before .before .least .ensures)) (c .before .before .current-record .ensures) (c .before .if2 .taken)
+returns-2 c =
+    let at-loop = c .before .before .before .before .before .before .before .before in
+    let after-index-from = c .before .before .before .before .before .before in
+    let after-slot-from = c .before .before .before .before .before in
+    let after-least = c .before .before .before .before in
+    let s = c .before .before .before .before .before .before .before .before .before in
+    follows-at _ _ _ (s .pre .0) (s .pre .1) _ _ (c .before .before .current-record .result) (passed-over _ _ _ (s .pre .0) (s .pre .1) _ _ _ _ _ (at-loop .loop .inv) (after-index-from .index-from .ensures) (after-slot-from .slot-from .ensures) (after-least .least .ensures)) (c .before .before .current-record .ensures) (c .before .if2 .taken)
 
 add-at : tie.Need-add-at Inv-loop μ-loop
 add-at c = search needs
 
 loop-less : tie.Need-loop-less Inv-loop μ-loop
-loop-less c = omega (arith, c .before .before .before .before .before .index-from .ensures .low, c .before .before .before .before .slot-from .ensures .low, c .before .before .before .least .ensures, c .before .before .if1 .left)
+loop-less c =
+    let after-index-from = c .before .before .before .before .before in
+    let after-slot-from = c .before .before .before .before in
+    omega (arith, after-index-from .index-from .ensures .low, after-slot-from .slot-from .ensures .low, c .before .before .before .least .ensures, c .before .before .if1 .left)
 
 loop-again : tie.Need-loop-again Inv-loop μ-loop
-loop-again c = let s = c .before .before .before .before .before .before .before .before in
-    passed-on _ _ _ (s .pre .0) (s .pre .1) _ _ (c .before .current-record .result) (passed-over _ _ _ (s .pre .0) (s .pre .1) _ _ _ _ _ (c .before .before .before .before .before .before .before .loop .inv) (c .before .before .before .before .before .index-from .ensures) (c .before .before .before .before .slot-from .ensures) (c .before .before .before .least .ensures)) (c .before .current-record .ensures) (c .if2 .left)
+loop-again c =
+    let at-loop = c .before .before .before .before .before .before .before in
+    let after-index-from = c .before .before .before .before .before in
+    let after-slot-from = c .before .before .before .before in
+    let s = c .before .before .before .before .before .before .before .before in
+    passed-on _ _ _ (s .pre .0) (s .pre .1) _ _ (c .before .current-record .result) (passed-over _ _ _ (s .pre .0) (s .pre .1) _ _ _ _ _ (at-loop .loop .inv) (after-index-from .index-from .ensures) (after-slot-from .slot-from .ensures) (c .before .before .before .least .ensures)) (c .before .current-record .ensures) (c .if2 .left)
 
 returns-3 : tie.Need-returns-3 Inv-loop μ-loop
 returns-3 c = let s = c .before .before in

@@ -21,8 +21,9 @@ returns c =
 
 returns-2 : tie.Need-returns-2
 returns-2 c =
+    let after-place-of = c .before .before .before .before in
     let s = c .before .before .before .before .before in
-    λ w o. phantom-none _ _ (s .pre .0) (s .args .ws .now) _ _ o _ _ _ (c .before .before .before .before .place-of .ensures) (sym (version-of (s .args .leaves .now) _ (c .before .before .before .leaf-at .ensures)) ∙ c .before .if1 .left) (sym (hidden-of (s .args .leaves .now) _ (c .before .before .before .leaf-at .ensures)) ∙ c .if2 .taken)
+    λ w o. phantom-none _ _ (s .pre .0) (s .args .ws .now) _ _ o _ _ _ (after-place-of .place-of .ensures) (sym (version-of (s .args .leaves .now) _ (c .before .before .before .leaf-at .ensures)) ∙ c .before .if1 .left) (sym (hidden-of (s .args .leaves .now) _ (c .before .before .before .leaf-at .ensures)) ∙ c .if2 .taken)
 
 count-lock-only-requires : tie.Need-count-lock-only-requires
 count-lock-only-requires c κs =
@@ -31,8 +32,10 @@ count-lock-only-requires c κs =
 
 returns-3 : tie.Need-returns-3
 returns-3 c =
+    let after-place-of = c .before .before .before .before .before in
+    let after-leaf-at = c .before .before .before .before in
     let s = c .before .before .before .before .before .before in
-    λ w o. phantom-count _ _ (s .pre .0) (s .args .ws .now) _ _ o _ _ _ _ _ (hidden-of (s .args .leaves .now) _ (c .before .before .before .before .leaf-at .ensures)) (c .before .before .before .before .before .place-of .ensures) (sym (version-of (s .args .leaves .now) _ (c .before .before .before .before .leaf-at .ensures)) ∙ c .before .before .if1 .left) (c .count-lock-only .ensures)
+    λ w o. phantom-count _ _ (s .pre .0) (s .args .ws .now) _ _ o _ _ _ _ _ (hidden-of (s .args .leaves .now) _ (after-leaf-at .leaf-at .ensures)) (after-place-of .place-of .ensures) (sym (version-of (s .args .leaves .now) _ (after-leaf-at .leaf-at .ensures)) ∙ c .before .before .if1 .left) (c .count-lock-only .ensures)
 
 pub phantom-spec : {M : Type 1} → statement M
 phantom-spec =

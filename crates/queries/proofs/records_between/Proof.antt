@@ -21,12 +21,18 @@ add-t10 : tie.Need-add-t10
 add-t10 c = search needs
 
 returns-2 : tie.Need-returns-2
-returns-2 c = let s = c .before .before .before .before .before .before in
-    spans-last (s .args .rows .now) _ _ _ _ (s .pre .0 .held) (s .pre .1) (c .before .before .before .before .before .locate .ensures) _ (c .before .before .get .result) (c .before .before .before .before .locate2 .ensures) (c .before .before .before .if1 .left) (c .before .before .get .ensures) (c .if2 .taken)
+returns-2 c =
+    let after-locate = c .before .before .before .before .before in
+    let after-locate2 = c .before .before .before .before in
+    let s = c .before .before .before .before .before .before in
+    spans-last (s .args .rows .now) _ _ _ _ (s .pre .0 .held) (s .pre .1) (after-locate .locate .ensures) _ (c .before .before .get .result) (after-locate2 .locate2 .ensures) (c .before .before .before .if1 .left) (c .before .before .get .ensures) (c .if2 .taken)
 
 returns-3 : tie.Need-returns-3
-returns-3 c = let s = c .before .before .before .before .before .before in
-    spans-other (s .args .rows .now) _ _ _ _ (s .pre .0 .held) (s .pre .1) (c .before .before .before .before .before .locate .ensures) _ (c .before .before .get .result) (c .before .before .before .before .locate2 .ensures) (c .before .before .before .if1 .left) (c .before .before .get .ensures) (c .if2 .left)
+returns-3 c =
+    let after-locate = c .before .before .before .before .before in
+    let after-locate2 = c .before .before .before .before in
+    let s = c .before .before .before .before .before .before in
+    spans-other (s .args .rows .now) _ _ _ _ (s .pre .0 .held) (s .pre .1) (after-locate .locate .ensures) _ (c .before .before .get .result) (after-locate2 .locate2 .ensures) (c .before .before .before .if1 .left) (c .before .before .get .ensures) (c .if2 .left)
 
 pub records-between-spec : {M : Type 1} → statement M
 records-between-spec =

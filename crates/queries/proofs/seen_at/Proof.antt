@@ -21,11 +21,13 @@ content-at-requires : tie.Need-content-at-requires
 content-at-requires c κs = search needs
 
 returns : tie.Need-returns
-returns c = let s = c .before .before .before .before .before .before .before in
+returns c =
+    let after-find = c .before .before .before .before in
+    let s = c .before .before .before .before .before .before .before in
     let g = c .before .before .before .before .before .before .get in
     let l = c .before .before .before .content-at in
     seen-there (s .args .rows .now) (s .args .n) (s .args .slots .now) _ (g .result) _ (s .pre .0 .held) (s .pre .1 .1) (g .ensures)
-    (sees-found _ _ _ _ (l .result) (said-at (c .before .before .before .before .find .ensures) (l .ensures)) _ _ _ (c .before .if1 .taken) refl (row-found _ _ _ (g .result) (s .pre .0 .held) (s .pre .1 .1) (g .ensures)))
+    (sees-found _ _ _ _ (l .result) (said-at (after-find .find .ensures) (l .ensures)) _ _ _ (c .before .if1 .taken) refl (row-found _ _ _ (g .result) (s .pre .0 .held) (s .pre .1 .1) (g .ensures)))
 
 returns-2 : tie.Need-returns-2
 returns-2 c = let s = c .before .before .before .before .before .before .before .before in

@@ -26,7 +26,10 @@ add-t19 : tie.Need-add-t19
 add-t19 c = search needs
 
 returns : tie.Need-returns
-returns c = letter-begins (sym (c .before .before .before .before .before .before .if1 .taken) ∙ c .before .before .before .before .before .before .before .at-line-start .ensures .0) (omega arith) (c .before .before .if4 .taken) (c .if5 .taken)
+returns c =
+    let after-at-line-start = c .before .before .before .before .before .before .before in
+    let then1 = c .before .before .before .before .before .before in
+    letter-begins (sym (then1 .if1 .taken) ∙ after-at-line-start .at-line-start .ensures .0) (omega arith) (c .before .before .if4 .taken) (c .if5 .taken)
 
 returns-2 : tie.Need-returns-2
 returns-2 c = goes-none _ _ _

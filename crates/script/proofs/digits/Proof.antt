@@ -37,7 +37,9 @@ room-requires : tie.Need-room-requires Inv-loop μ-loop
 room-requires c κs = omega arith
 
 returns-3 : tie.Need-returns-3 Inv-loop μ-loop
-returns-3 c = digits-stop (c .before .before .before .before .before .before .loop .inv) (inr (less-false _ _ (sym (c .before .room .ensures) ∙ not-true _ (c .if3 .taken))))
+returns-3 c =
+    let at-loop = c .before .before .before .before .before .before in
+    digits-stop (at-loop .loop .inv) (inr (less-false _ _ (sym (c .before .room .ensures) ∙ not-true _ (c .if3 .taken))))
 
 mul-n : tie.Need-mul-n Inv-loop μ-loop
 mul-n c = omega (arith, less-true _ _ (sym (c .before .room .ensures) ∙ not-false _ (c .if3 .left)))
@@ -52,7 +54,10 @@ loop-less : tie.Need-loop-less Inv-loop μ-loop
 loop-less c = omega arith
 
 loop-again : tie.Need-loop-again Inv-loop μ-loop
-loop-again c = spells-digit (c .before .before .before .before .before .before .loop .inv) (c .before .before .before .before .before .loop-test .taken) (digit-yes _ (c .before .before .before .if1 .left) (c .before .before .if2 .left))
+loop-again c =
+    let at-loop = c .before .before .before .before .before .before in
+    let in-loop = c .before .before .before .before .before in
+    spells-digit (at-loop .loop .inv) (in-loop .loop-test .taken) (digit-yes _ (c .before .before .before .if1 .left) (c .before .before .if2 .left))
 
 returns-4 : tie.Need-returns-4 Inv-loop μ-loop
 returns-4 c = digits-end (c .before .loop .inv) (c .loop-test .left)

@@ -35,8 +35,9 @@ one-requires c κs = search needs
 
 returns-3 : tie.Need-returns-3
 returns-3 c =
+    let else1 = c .before .before .before .before .before in
     let d = c .before .before .before .before .before .before .digits .ensures in
-    (field-fed _ noneBefore _ d (c .before .before .before .before .before .if1 .left) (c .before .before .before .if2 .taken) (c .before .if4 .taken) (c .one .ensures), omega (arith, digits-from d))
+    (field-fed _ noneBefore _ d (else1 .if1 .left) (c .before .before .before .if2 .taken) (c .before .if4 .taken) (c .one .ensures), omega (arith, digits-from d))
 
 add-t9 : tie.Need-add-t9
 add-t9 c = search needs

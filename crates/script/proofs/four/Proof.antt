@@ -26,7 +26,9 @@ cast-t9 : tie.Need-cast-t9
 cast-t9 c = search needs
 
 returns-5 : tie.Need-returns-5
-returns-5 c = four-put _ _ _ _ _ (c .before .before .before .if1 .left) (c .before .before .if2 .left) (c .before .if3 .left) (c .before .before .before .before .fits .c .fits) (c .if4 .left)
+returns-5 c =
+    let start = c .before .before .before .before in
+    four-put _ _ _ _ _ (c .before .before .before .if1 .left) (c .before .before .if2 .left) (c .before .if3 .left) (start .fits .c .fits) (c .if4 .left)
 
 pub four-spec : {M : Type 1} → statement M
 four-spec =

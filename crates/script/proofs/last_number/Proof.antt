@@ -25,8 +25,9 @@ four-requires c κs = search needs
 
 returns-2 : tie.Need-returns-2
 returns-2 c =
+    let else1 = c .before .before .before .before in
     let d = c .before .before .before .before .before .digits .ensures in
-    (field-fed _ (threeBefore _ _ _) _ d (c .before .before .before .before .if1 .left) (c .before .before .if2 .taken) (c .before .if3 .taken) (c .four .ensures), omega (arith, digits-from d))
+    (field-fed _ (threeBefore _ _ _) _ d (else1 .if1 .left) (c .before .before .if2 .taken) (c .before .if3 .taken) (c .four .ensures), omega (arith, digits-from d))
 
 add-t12 : tie.Need-add-t12
 add-t12 c = search needs

@@ -27,19 +27,28 @@ enum-told : tie.Need-enum-told Inv-loop μ-loop
 enum-told c = search needs
 
 returns : tie.Need-returns Inv-loop μ-loop
-returns c = goes-ends (goes-join (c .before .before .before .before .before .begin-line .ensures) (c .before .before .before .before .loop .inv)) (c .before .before .parse-part .ensures .0) (line-ends (c .enum-told .given .1))
+returns c =
+    let after-begin-line = c .before .before .before .before .before in
+    let at-loop = c .before .before .before .before in
+    goes-ends (goes-join (after-begin-line .begin-line .ensures) (at-loop .loop .inv)) (c .before .before .parse-part .ensures .0) (line-ends (c .enum-told .given .1))
 
 enum-told-2 : tie.Need-enum-told-2 Inv-loop μ-loop
 enum-told-2 c = search needs
 
 returns-2 : tie.Need-returns-2 Inv-loop μ-loop
-returns-2 c = goes-ends (goes-join (c .before .before .before .before .before .begin-line .ensures) (c .before .before .before .before .loop .inv)) (c .before .before .parse-part .ensures .0) (guard-ends (c .enum-told2 .given .1))
+returns-2 c =
+    let after-begin-line = c .before .before .before .before .before in
+    let at-loop = c .before .before .before .before in
+    goes-ends (goes-join (after-begin-line .begin-line .ensures) (at-loop .loop .inv)) (c .before .before .parse-part .ensures .0) (guard-ends (c .enum-told2 .given .1))
 
 enum-told-3 : tie.Need-enum-told-3 Inv-loop μ-loop
 enum-told-3 c = search needs
 
 returns-3 : tie.Need-returns-3 Inv-loop μ-loop
-returns-3 c = goes-ends (goes-join (c .before .before .before .before .before .begin-line .ensures) (c .before .before .before .before .loop .inv)) (c .before .before .parse-part .ensures .0) (malformed-ends (c .enum-told3 .given .1))
+returns-3 c =
+    let after-begin-line = c .before .before .before .before .before in
+    let at-loop = c .before .before .before .before in
+    goes-ends (goes-join (after-begin-line .begin-line .ensures) (at-loop .loop .inv)) (c .before .before .parse-part .ensures .0) (malformed-ends (c .enum-told3 .given .1))
 
 enum-told-4 : tie.Need-enum-told-4 Inv-loop μ-loop
 enum-told-4 c = search needs

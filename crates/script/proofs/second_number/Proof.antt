@@ -35,8 +35,9 @@ two-requires c κs = search needs
 
 returns-3 : tie.Need-returns-3
 returns-3 c =
+    let else1 = c .before .before .before .before .before in
     let d = c .before .before .before .before .before .before .digits .ensures in
-    (field-fed _ (oneBefore _) _ d (c .before .before .before .before .before .if1 .left) (c .before .before .before .if2 .taken) (c .before .if4 .taken) (c .two .ensures), omega (arith, digits-from d))
+    (field-fed _ (oneBefore _) _ d (else1 .if1 .left) (c .before .before .before .if2 .taken) (c .before .if4 .taken) (c .two .ensures), omega (arith, digits-from d))
 
 add-t10 : tie.Need-add-t10
 add-t10 c = search needs

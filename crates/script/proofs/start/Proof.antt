@@ -38,7 +38,8 @@ add-t20 c = search needs
 
 returns-5 : tie.Need-returns-5
 returns-5 c =
-    (turn-byte _ _ _ (c .before .before .before .before .before .pre) (start-good _ (c .before .before .before .if1 .left) (c .before .before .if2 .left) (c .before .if3 .left) (c .if4 .left)), omega arith)
+    let the-start = c .before .before .before .before .before in
+    (turn-byte _ _ _ (the-start .pre) (start-good _ (c .before .before .before .if1 .left) (c .before .before .if2 .left) (c .before .if3 .left) (c .if4 .left)), omega arith)
 
 pub start-spec : {M : Type 1} → statement M
 start-spec =

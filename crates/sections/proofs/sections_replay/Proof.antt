@@ -35,7 +35,10 @@ same-length-5 : tie.Need-same-length-5
 same-length-5 c = search needs
 
 returns : tie.Need-returns
-returns c = replayed _ _ _ _ _ (c .before .before .before .before .before .before .before .before .before .before .before .before .before .before .before .before .before .before .before .replay .result) (c .before .before .before .before .before .before .before .before .before .before .before .before .before .before .before .before .before .before .before .replay .ensures) (c .before .before .before .before .before .store .ensures) (c .before .before .before .store-export .ensures) (c .before .put-counts .ensures) (c .stop-number .ensures)
+returns c =
+    let after-replay = c .before .before .before .before .before .before .before .before .before .before .before .before .before .before .before .before .before .before .before in
+    replayed _ _ _ _ _ (after-replay .replay .result) (after-replay .replay .ensures) (c .before .before .before .before .before .store .ensures)
+    (c .before .before .before .store-export .ensures) (c .before .put-counts .ensures) (c .stop-number .ensures)
 
 pub sections-replay-spec : {M : Type 1} → statement M
 sections-replay-spec =

@@ -29,7 +29,13 @@ same-length-3 : tie.Need-same-length-3
 same-length-3 c = search needs
 
 returns : tie.Need-returns
-returns c = step-entry _ _ _ _ _ (c .before .before .before .before .before .before .before .before .before .before .before .before .step .result) (c .before .before .before .before .before .before .before .before .before .before .before .before .before .before .before .before .before .before .before .before .before .before .before .before .load .ensures) (c .before .before .before .before .before .before .before .before .before .before .before .before .before .before .before .before .before .before .before .before .before .before .before .code-in .ensures) (c .before .before .before .before .before .before .before .before .before .before .before .before .before .before .before .before .before .before .before .before .before .before .before .before .before .before .before .before .before .pre) (c .before .before .before .before .before .before .before .before .before .before .before .before .step .ensures) (c .before .before .store .ensures) (c .put-answer .ensures)
+returns c =
+    let start = c .before .before .before .before .before .before .before .before .before .before .before .before .before .before .before .before .before .before .before .before .before .before .before .before .before .before .before .before .before in
+    let loaded = c .before .before .before .before .before .before .before .before .before .before .before .before .before .before .before .before .before .before .before .before .before .before .before .before in
+    let decoded = c .before .before .before .before .before .before .before .before .before .before .before .before .before .before .before .before .before .before .before .before .before .before .before in
+    let stepped = c .before .before .before .before .before .before .before .before .before .before .before .before in
+    step-entry _ _ _ _ _ (stepped .step .result) (loaded .load .ensures) (decoded .code-in .ensures) (start .pre) (stepped .step .ensures)
+    (c .before .before .store .ensures) (c .put-answer .ensures)
 
 pub sections-step-spec : {M : Type 1} → statement M
 sections-step-spec =

@@ -23,12 +23,17 @@ drop-transaction-requires c κs =
     (k .stored .map, (e .inside, ready-writable k .set _ (e .inside)))
 
 returns : tie.Need-returns
-returns c = abort-refused _ (c .before .before .before .before .before .pre) _ (subst (Admitted anyStage _ _) (c .before .r .given .1) (c .before .before .before .busy .ensures))
+returns c =
+    let start = c .before .before .before .before .before in
+    abort-refused _ (start .pre) _ (subst (Admitted anyStage _ _) (c .before .r .given .1) (c .before .before .before .busy .ensures))
 
 returns-2 : tie.Need-returns-2
 returns-2 c =
-    abort-granted _ (c .before .before .before .before .before .before .before .before .pre) _
-    (subst (Admitted anyStage _ _) (c .before .before .before .before .enum-told .given .1) (c .before .before .before .before .before .before .busy .ensures))
+    let start = c .before .before .before .before .before .before .before .before in
+    let after-busy = c .before .before .before .before .before .before in
+    let after-enum-told = c .before .before .before .before in
+    abort-granted _ (start .pre) _
+    (subst (Admitted anyStage _ _) (after-enum-told .enum-told .given .1) (after-busy .busy .ensures))
     (c .drop-transaction .ensures)
 
 pub abort-spec : {M : Type 1} → statement M

@@ -24,12 +24,17 @@ install-transaction-requires c κs =
     (k .stored .map, (e .inside, (ready-writable k .set _ (e .inside), (install-can _ k _ e, install-fits k))))
 
 returns : tie.Need-returns
-returns c = install-refused _ (c .before .before .before .before .before .pre) _ (subst (Admitted isChecked _ _) (c .before .r .given .1) (c .before .before .before .checked .ensures))
+returns c =
+    let start = c .before .before .before .before .before in
+    install-refused _ (start .pre) _ (subst (Admitted isChecked _ _) (c .before .r .given .1) (c .before .before .before .checked .ensures))
 
 returns-2 : tie.Need-returns-2
 returns-2 c =
-    install-granted _ (c .before .before .before .before .before .before .before .before .pre) _
-    (subst (Admitted isChecked _ _) (c .before .before .before .before .enum-told .given .1) (c .before .before .before .before .before .before .checked .ensures))
+    let start = c .before .before .before .before .before .before .before .before in
+    let after-checked = c .before .before .before .before .before .before in
+    let after-enum-told = c .before .before .before .before in
+    install-granted _ (start .pre) _
+    (subst (Admitted isChecked _ _) (after-enum-told .enum-told .given .1) (after-checked .checked .ensures))
     (c .install-transaction .ensures)
 
 pub install-spec : {M : Type 1} → statement M

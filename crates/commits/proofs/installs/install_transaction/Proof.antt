@@ -36,11 +36,14 @@ put-worker-requires c κs = c .before .before .before .before .before .before .b
 
 returns : tie.Need-returns
 returns c =
+    let start = c .before .before .before .before .before .before .before .before .before .before .before .before .before .before in
+    let after-count-install = c .before .before .before .before .before .before .before .before .before .before .before in
+    let after-worker-at = c .before .before .before .before .before .before .before .before .before in
     installs _ _ _ _ _ _ _ _ _
-    (c .before .before .before .before .before .before .before .before .before .before .before .before .before .before .pre .1 .0)
-    (c .before .before .before .before .before .before .before .before .before .worker-at .ensures .0)
+    (start .pre .1 .0)
+    (after-worker-at .worker-at .ensures .0)
     (c .before .before .free .ensures)
-    (c .before .before .before .before .before .before .before .before .before .before .before .count-install .ensures)
+    (after-count-install .count-install .ensures)
     (c .before .before .before .install-all .ensures) (c .put-worker .ensures)
 
 pub install-transaction-spec : {M : Type 1} → statement M

@@ -37,18 +37,24 @@ lock-open-requires c κs =
     (k .stored .map, (e .inside, ready-writable k .set _ (e .inside)))
 
 returns : tie.Need-returns
-returns c = lock-refused _ (c .before .before .before .before .before .pre) _ (subst (Admitted isOpen _ _) (c .before .r .given .1) (c .before .before .before .open .ensures))
+returns c =
+    let start = c .before .before .before .before .before in
+    lock-refused _ (start .pre) _ (subst (Admitted isOpen _ _) (c .before .r .given .1) (c .before .before .before .open .ensures))
 
 returns-2 : tie.Need-returns-2
 returns-2 c =
+    let start = c .before .before .before .before .before .before .before .before .before .before in
     let x = c .before .before .before .before .before .before in
-    lock-barred _ (x .before .before .before .before .pre) _ (subst (Admitted isOpen _ _) (x .x .given .1) (x .before .before .open .ensures)) _ _ (c .before .r2 .given .1) (c .before .before .before .guard .ensures)
+    lock-barred _ (start .pre) _ (subst (Admitted isOpen _ _) (x .x .given .1) (x .before .before .open .ensures)) _ _ (c .before .r2 .given .1) (c .before .before .before .guard .ensures)
 
 returns-3 : tie.Need-returns-3
 returns-3 c =
+    let start = c .before .before .before .before .before .before .before .before .before .before .before .before .before in
+    let after-guard = c .before .before .before .before .before .before in
+    let after-enum-told = c .before .before .before .before in
     let x = c .before .before .before .before .before .before .before .before .before in
-    lock-refines _ (x .before .before .before .before .pre) _ (subst (Admitted isOpen _ _) (x .x .given .1) (x .before .before .open .ensures)) _
-    (c .before .before .before .before .enum-told .given .1) (c .before .before .before .before .before .before .guard .ensures) _ (c .lock-open .ensures)
+    lock-refines _ (start .pre) _ (subst (Admitted isOpen _ _) (x .x .given .1) (x .before .before .open .ensures)) _
+    (after-enum-told .enum-told .given .1) (after-guard .guard .ensures) _ (c .lock-open .ensures)
 
 pub lock-spec : {M : Type 1} → statement M
 lock-spec =

@@ -63,11 +63,16 @@ put-worker-requires c κs = c .before .before .before .before .before .before .b
 
 returns-2 : tie.Need-returns-2
 returns-2 c =
+    let start = c .before .before .before .before .before .before .before .before .before .before .before .before .before .before .before .before .before in
+    let after-worker-at = c .before .before .before .before .before .before .before .before .before .before .before .before .before in
+    let after-lock-tests = c .before .before .before .before .before .before .before .before .before in
+    let after-refused = c .before .before .before .before .before .before .before .before in
+    let else1 = c .before .before .before .before .before .before .before in
     locks-granted _ _ _ _ _ _ _ _ _
-    (c .before .before .before .before .before .before .before .before .before .before .before .before .before .before .before .before .before .pre .1 .0)
-    (c .before .before .before .before .before .before .before .before .before .before .before .before .before .worker-at .ensures .0)
-    (c .before .before .before .before .before .before .before .before .before .lock-tests .ensures)
-    (sym (c .before .before .before .before .before .before .before .before .refused .ensures) ∙ c .before .before .before .before .before .before .before .if1 .left)
+    (start .pre .1 .0)
+    (after-worker-at .worker-at .ensures .0)
+    (after-lock-tests .lock-tests .ensures)
+    (sym (after-refused .refused .ensures) ∙ else1 .if1 .left)
     (c .before .before .lock .ensures) (c .before .before .before .lock-all .ensures) (c .put-worker .ensures)
 
 pub lock-open-spec : {M : Type 1} → statement M

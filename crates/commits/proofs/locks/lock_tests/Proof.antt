@@ -20,10 +20,16 @@ addresses-beyond-requires : tie.Need-addresses-beyond-requires
 addresses-beyond-requires c κs = search needs
 
 returns-3 : tie.Need-returns-3
-returns-3 c = tested-map _ _ _ _ _ _ (c .before .before .before .before .before .held .ensures) (c .before .before .before .before .if1 .left) (c .before .before .before .waits-beyond .ensures) (c .before .before .if2 .left) (c .before .addresses-beyond .ensures) (c .if3 .taken)
+returns-3 c =
+    let after-held = c .before .before .before .before .before in
+    let else1 = c .before .before .before .before in
+    tested-map _ _ _ _ _ _ (after-held .held .ensures) (else1 .if1 .left) (c .before .before .before .waits-beyond .ensures) (c .before .before .if2 .left) (c .before .addresses-beyond .ensures) (c .if3 .taken)
 
 returns-4 : tie.Need-returns-4
-returns-4 c = tested-passed _ _ _ _ _ _ (c .before .before .before .before .before .held .ensures) (c .before .before .before .before .if1 .left) (c .before .before .before .waits-beyond .ensures) (c .before .before .if2 .left) (c .before .addresses-beyond .ensures) (c .if3 .left)
+returns-4 c =
+    let after-held = c .before .before .before .before .before in
+    let else1 = c .before .before .before .before in
+    tested-passed _ _ _ _ _ _ (after-held .held .ensures) (else1 .if1 .left) (c .before .before .before .waits-beyond .ensures) (c .before .before .if2 .left) (c .before .addresses-beyond .ensures) (c .if3 .left)
 
 pub lock-tests-spec : {M : Type 1} → statement M
 lock-tests-spec =

@@ -21,8 +21,11 @@ put-worker-requires c κs = search needs
 
 returns-2 : tie.Need-returns-2
 returns-2 c =
-    number-taken _ _ _ _ _ _ (c .before .before .before .before .before .before .if1 .left) (c .before .before .before .before .before .take-number .ensures)
-    (c .before .before .before .before .check .ensures) (c .before .before .put-worker .ensures)
+    let else1 = c .before .before .before .before .before .before in
+    let after-take-number = c .before .before .before .before .before in
+    let after-check = c .before .before .before .before in
+    number-taken _ _ _ _ _ _ (else1 .if1 .left) (after-take-number .take-number .ensures)
+    (after-check .check .ensures) (c .before .before .put-worker .ensures)
 
 pub take-number-spec : {M : Type 1} → statement M
 take-number-spec =

@@ -65,14 +65,21 @@ take-number-requires c κs =
     (subst (Admitted isLocked _ _) (x .x .given .1) (x .before .before .locked .ensures)) .inside
 
 returns : tie.Need-returns
-returns c = validate-refused _ (c .before .before .before .before .before .before .pre) _ (subst (Admitted isLocked _ _) (c .before .r .given .1) (c .before .before .before .locked .ensures))
+returns c =
+    let start = c .before .before .before .before .before .before in
+    validate-refused _ (start .pre) _ (subst (Admitted isLocked _ _) (c .before .r .given .1) (c .before .before .before .locked .ensures))
 
 returns-2 : tie.Need-returns-2
 returns-2 c =
-    validate-ended _ (c .before .before .before .before .before .before .before .before .before .before .before .before .before .before .before .before .before .before .before .pre) _
-    (subst (Admitted isLocked _ _) (c .before .before .before .before .before .before .before .before .before .before .before .before .before .before .x .given .1)
-    (c .before .before .before .before .before .before .before .before .before .before .before .before .before .before .before .before .locked .ensures)) _ _
-    (c .before .before .before .before .before .said .given .1) (c .before .before .before .before .before .before .before .judge .ensures) (c .drop-transaction .ensures)
+    let start = c .before .before .before .before .before .before .before .before .before .before .before .before .before .before .before .before .before .before .before in
+    let after-locked = c .before .before .before .before .before .before .before .before .before .before .before .before .before .before .before .before in
+    let after-x = c .before .before .before .before .before .before .before .before .before .before .before .before .before .before in
+    let after-judge = c .before .before .before .before .before .before .before in
+    let after-said = c .before .before .before .before .before in
+    validate-ended _ (start .pre) _
+    (subst (Admitted isLocked _ _) (after-x .x .given .1)
+    (after-locked .locked .ensures)) _ _
+    (after-said .said .given .1) (after-judge .judge .ensures) (c .drop-transaction .ensures)
 
 returns-3 : tie.Need-returns-3
 returns-3 c =

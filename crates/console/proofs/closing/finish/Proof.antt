@@ -23,7 +23,12 @@ same-length : tie.Need-same-length
 same-length c = wrote-length (c .before .before .put-contents .ensures)
 
 returns-2 : tie.Need-returns-2
-returns-2 c = finish-whole _ _ _ _ _ _ _ (c .before .before .before .before .before .before .before .before .before .before .pre .1 .0) (c .before .before .before .before .before .before .before .before .if1 .left) (c .before .before .before .before .before .before .before .at-line-start .ensures .1) (c .before .before .before .before .before .before .if2 .taken) (c .before .before .put-contents .ensures)
+returns-2 c =
+    let start = c .before .before .before .before .before .before .before .before .before .before in
+    let else1 = c .before .before .before .before .before .before .before .before in
+    let after-at-line-start = c .before .before .before .before .before .before .before in
+    let then2 = c .before .before .before .before .before .before in
+    finish-whole _ _ _ _ _ _ _ (start .pre .1 .0) (else1 .if1 .left) (after-at-line-start .at-line-start .ensures .1) (then2 .if2 .taken) (c .before .before .put-contents .ensures)
 
 put-malformed-requires : tie.Need-put-malformed-requires
 put-malformed-requires c κs = omega (arith, c .before .before .before .before .before .pre .1 .1)
@@ -32,7 +37,12 @@ same-length-2 : tie.Need-same-length-2
 same-length-2 c = wrote-length (c .before .before .put-malformed .ensures)
 
 returns-3 : tie.Need-returns-3
-returns-3 c = finish-inside _ _ _ _ _ _ _ (c .before .before .before .before .before .before .before .before .pre .1 .0) (c .before .before .before .before .before .before .if1 .left) (c .before .before .before .before .before .at-line-start .ensures .1) (c .before .before .before .before .if2 .left) (c .before .before .put-malformed .ensures)
+returns-3 c =
+    let start = c .before .before .before .before .before .before .before .before in
+    let else1 = c .before .before .before .before .before .before in
+    let after-at-line-start = c .before .before .before .before .before in
+    let else2 = c .before .before .before .before in
+    finish-inside _ _ _ _ _ _ _ (start .pre .1 .0) (else1 .if1 .left) (after-at-line-start .at-line-start .ensures .1) (else2 .if2 .left) (c .before .before .put-malformed .ensures)
 
 pub finish-spec : {M : Type 1} → statement M
 finish-spec =

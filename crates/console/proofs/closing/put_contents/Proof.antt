@@ -15,26 +15,32 @@ put-answer-requires c κs = search needs
 
 put-records-requires : tie.Need-put-records-requires
 put-records-requires c κs =
+    let after-count-records = c .before .before .before .before .before in
     let s = c .before .before .before .before .before .before .before in
-    let n = c .before .before .before .before .before .count-records .ensures .number-is [] in
+    let n = after-count-records .count-records .ensures .number-is [] in
     let w = c .before .before .before .put-answer .ensures in (
       s .pre .0,
-      (s .pre .1 .0, omega (arith, s .pre .1 .1, n, w, field-most (c .before .before .before .before .before .count-records .result) (omega (arith, n, s .pre .1 .1)))),
+      (s .pre .1 .0, omega (arith, s .pre .1 .1, n, w, field-most (after-count-records .count-records .result) (omega (arith, n, s .pre .1 .1)))),
     )
 
 put-byte-requires : tie.Need-put-byte-requires
 put-byte-requires c κs =
+    let after-count-records = c .before .before .before .before .before .before .before .before .before in
     let s = c .before .before .before .before .before .before .before .before .before .before .before in
-    let n = c .before .before .before .before .before .before .before .before .before .count-records .ensures .number-is [] in
+    let n = after-count-records .count-records .ensures .number-is [] in
     let w = c .before .before .before .before .before .before .before .put-answer .ensures in
     let p = c .before .before .before .put-records .ensures .most in
-    omega (arith, s .pre .1 .1, n, w, p, field-most (c .before .before .before .before .before .before .before .before .before .count-records .result) (omega (arith, n, s .pre .1 .1)))
+    omega (arith, s .pre .1 .1, n, w, p, field-most (after-count-records .count-records .result) (omega (arith, n, s .pre .1 .1)))
 
 same-length : tie.Need-same-length
 same-length c = search needs
 
 returns : tie.Need-returns
-returns c = end-wrote (c .before .before .before .before .before .before .before .before .before .before .before .before .count-records .ensures .number-is []) (c .before .before .before .before .before .before .before .before .before .before .put-answer .ensures) (c .before .before .before .before .before .before .put-records .ensures) (c .before .before .put-byte .ensures)
+returns c =
+    let after-count-records = c .before .before .before .before .before .before .before .before .before .before .before .before in
+    let after-put-answer = c .before .before .before .before .before .before .before .before .before .before in
+    let after-put-records = c .before .before .before .before .before .before in
+    end-wrote (after-count-records .count-records .ensures .number-is []) (after-put-answer .put-answer .ensures) (after-put-records .put-records .ensures) (c .before .before .put-byte .ensures)
 
 pub put-contents-spec : {M : Type 1} → statement M
 put-contents-spec =

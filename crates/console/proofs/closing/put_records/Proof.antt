@@ -48,12 +48,17 @@ add-from c = search needs
 loop-less : tie.Need-loop-less Inv-loop μ-loop
 loop-less c =
     let s = c .before .before .before .before .before .before .before .before .before .before .before .before in
-    omega (arith, c .before .before .before .before .before .before .before .before .before .loop-test .taken, listing-above (rising-all _ _ _ (s .pre .0)) (c .before .before .before .before .before .before .before .before .before .before .loop .inv) (next-at (c .before .before .before .before .before .before .before .before .next-record .ensures) (c .before .before .before .before .before .before .next .given .1)))
+    omega (
+      arith,
+      c .before .before .before .before .before .before .before .before .before .loop-test .taken,
+      listing-above (rising-all _ _ _ (s .pre .0)) (c .before .before .before .before .before .before .before .before .before .before .loop .inv) (next-at (c .before .before .before .before .before .before .before .before .next-record .ensures) (c .before .before .before .before .before .before .next .given .1)),
+    )
 
 loop-again : tie.Need-loop-again Inv-loop μ-loop
 loop-again c =
     let s = c .before .before .before .before .before .before .before .before .before .before .before .before in
-    listing-on (rising-all _ _ _ (s .pre .0)) (c .before .before .before .before .before .before .before .before .before .before .loop .inv) (next-at (c .before .before .before .before .before .before .before .before .next-record .ensures) (c .before .before .before .before .before .before .next .given .1)) (omega arith) (omega arith) (omega arith) (c .before .before .put-triple .ensures)
+    listing-on (rising-all _ _ _ (s .pre .0)) (c .before .before .before .before .before .before .before .before .before .before .loop .inv)
+    (next-at (c .before .before .before .before .before .before .before .before .next-record .ensures) (c .before .before .before .before .before .before .next .given .1)) (omega arith) (omega arith) (omega arith) (c .before .before .put-triple .ensures)
 
 enum-told : tie.Need-enum-told Inv-loop μ-loop
 enum-told c = search needs

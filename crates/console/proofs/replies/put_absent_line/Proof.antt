@@ -14,17 +14,20 @@ put-absent-requires c κs = omega (arith, c .before .before .before .put-answer 
 
 put-field-requires : tie.Need-put-field-requires
 put-field-requires c κs =
+    let after-put-answer = c .before .before .before .before .before .before .before in
     let s = c .before .before .before .before .before .before .before .before .before .before in
-    omega (arith, s .pre, c .before .before .before .before .before .before .before .put-answer .ensures, c .before .before .before .put-absent .ensures, field-most 0 (omega arith))
+    omega (arith, s .pre, after-put-answer .put-answer .ensures, c .before .before .before .put-absent .ensures, field-most 0 (omega arith))
 
 put-byte-requires : tie.Need-put-byte-requires
 put-byte-requires c κs =
+    let after-put-answer = c .before .before .before .before .before .before .before .before .before .before .before in
+    let after-put-absent = c .before .before .before .before .before .before .before in
     let s = c .before .before .before .before .before .before .before .before .before .before .before .before .before .before in
     omega (
       arith,
       s .pre,
-      c .before .before .before .before .before .before .before .before .before .before .before .put-answer .ensures,
-      c .before .before .before .before .before .before .before .put-absent .ensures,
+      after-put-answer .put-answer .ensures,
+      after-put-absent .put-absent .ensures,
       c .before .before .before .put-field .ensures,
       field-most 0 (omega arith),
       field-most (s .args .examined) (s .fits .examined .fits),
@@ -35,10 +38,13 @@ same-length c = search needs
 
 returns : tie.Need-returns
 returns c =
+    let after-put-answer = c .before .before .before .before .before .before .before .before .before .before .before .before .before .before in
+    let after-put-absent = c .before .before .before .before .before .before .before .before .before .before in
+    let after-put-field = c .before .before .before .before .before .before in
     wrote-join
     (wrote-join
-    (wrote-join (c .before .before .before .before .before .before .before .before .before .before .before .before .before .before .put-answer .ensures) (c .before .before .before .before .before .before .before .before .before .before .put-absent .ensures))
-    (c .before .before .before .before .before .before .put-field .ensures))
+    (wrote-join (after-put-answer .put-answer .ensures) (after-put-absent .put-absent .ensures))
+    (after-put-field .put-field .ensures))
     (c .before .before .put-byte .ensures)
 
 pub put-absent-line-spec : {M : Type 1} → statement M

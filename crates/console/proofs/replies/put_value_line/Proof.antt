@@ -14,17 +14,20 @@ put-field-requires c κs = omega (arith, c .before .before .before .put-answer .
 
 put-field-requires-2 : tie.Need-put-field-requires-2
 put-field-requires-2 c κs =
+    let after-put-answer = c .before .before .before .before .before .before .before in
     let s = c .before .before .before .before .before .before .before .before .before .before in
-    omega (arith, s .pre, c .before .before .before .before .before .before .before .put-answer .ensures, c .before .before .before .put-field .ensures, field-most 0 (omega arith), field-most (s .args .v) (s .fits .v .fits))
+    omega (arith, s .pre, after-put-answer .put-answer .ensures, c .before .before .before .put-field .ensures, field-most 0 (omega arith), field-most (s .args .v) (s .fits .v .fits))
 
 put-field-requires-3 : tie.Need-put-field-requires-3
 put-field-requires-3 c κs =
+    let after-put-answer = c .before .before .before .before .before .before .before .before .before .before .before in
+    let after-put-field = c .before .before .before .before .before .before .before in
     let s = c .before .before .before .before .before .before .before .before .before .before .before .before .before .before in
     omega (
       arith,
       s .pre,
-      c .before .before .before .before .before .before .before .before .before .before .before .put-answer .ensures,
-      c .before .before .before .before .before .before .before .put-field .ensures,
+      after-put-answer .put-answer .ensures,
+      after-put-field .put-field .ensures,
       c .before .before .before .put-field2 .ensures,
       field-most 0 (omega arith),
       field-most (s .args .v) (s .fits .v .fits),
@@ -33,13 +36,16 @@ put-field-requires-3 c κs =
 
 put-byte-requires : tie.Need-put-byte-requires
 put-byte-requires c κs =
+    let after-put-answer = c .before .before .before .before .before .before .before .before .before .before .before .before .before .before .before in
+    let after-put-field = c .before .before .before .before .before .before .before .before .before .before .before in
+    let after-put-field2 = c .before .before .before .before .before .before .before in
     let s = c .before .before .before .before .before .before .before .before .before .before .before .before .before .before .before .before .before .before in
     omega (
       arith,
       s .pre,
-      c .before .before .before .before .before .before .before .before .before .before .before .before .before .before .before .put-answer .ensures,
-      c .before .before .before .before .before .before .before .before .before .before .before .put-field .ensures,
-      c .before .before .before .before .before .before .before .put-field2 .ensures,
+      after-put-answer .put-answer .ensures,
+      after-put-field .put-field .ensures,
+      after-put-field2 .put-field2 .ensures,
       c .before .before .before .put-field3 .ensures,
       field-most 0 (omega arith),
       field-most (s .args .v) (s .fits .v .fits),
@@ -52,12 +58,16 @@ same-length c = search needs
 
 returns : tie.Need-returns
 returns c =
+    let after-put-answer = c .before .before .before .before .before .before .before .before .before .before .before .before .before .before .before .before .before .before in
+    let after-put-field = c .before .before .before .before .before .before .before .before .before .before .before .before .before .before in
+    let after-put-field2 = c .before .before .before .before .before .before .before .before .before .before in
+    let after-put-field3 = c .before .before .before .before .before .before in
     wrote-join
     (wrote-join
     (wrote-join
-    (wrote-join (c .before .before .before .before .before .before .before .before .before .before .before .before .before .before .before .before .before .before .put-answer .ensures) (c .before .before .before .before .before .before .before .before .before .before .before .before .before .before .put-field .ensures))
-    (c .before .before .before .before .before .before .before .before .before .before .put-field2 .ensures))
-    (c .before .before .before .before .before .before .put-field3 .ensures))
+    (wrote-join (after-put-answer .put-answer .ensures) (after-put-field .put-field .ensures))
+    (after-put-field2 .put-field2 .ensures))
+    (after-put-field3 .put-field3 .ensures))
     (c .before .before .put-byte .ensures)
 
 pub put-value-line-spec : {M : Type 1} → statement M

@@ -88,10 +88,12 @@ same-length-4 c = wrote-length (c .before .before .put-listed-line .ensures)
 
 returns-4 : tie.Need-returns-4
 returns-4 c =
+    let after-put-listed-line-arg2 = c .before .before .before .before .before in
+    let after-put-listed-line-arg3 = c .before .before .before .before in
     let s = c .before .before .before .before .before .before .before .before .before .before .before in
     let r = c .before .before .before .before .before .before .before .before .reply3 .given in
-    let a : length (now (s .args .addresses)) ≡ places = c .before .before .before .before .before .put-listed-line-arg2 .given .0 in
-    let b : length (now (s .args .values)) ≡ places = c .before .before .before .before .put-listed-line-arg3 .given .0 in
+    let a : length (now (s .args .addresses)) ≡ places = after-put-listed-line-arg2 .put-listed-line-arg2 .given .0 in
+    let b : length (now (s .args .values)) ≡ places = after-put-listed-line-arg3 .put-listed-line-arg3 .given .0 in
     let o : length (now (s .args .owners)) ≡ places = c .before .before .before .put-listed-line-arg4 .given .0 in
     let n : r .0 .0 ≤ places = subst (λ (p : Reply). placesIn p ≤ places) (r .1) (s .pre .1) in
     wrote-listed _ (r .1) (omega arith) (omega arith) (omega arith) (c .before .before .put-listed-line .ensures)
@@ -112,7 +114,9 @@ same-length-7 : tie.Need-same-length-7
 same-length-7 c = wrote-length (c .before .before .put-line2 .ensures)
 
 returns-7 : tie.Need-returns-7
-returns-7 c = wrote-refused _ _ (c .before .before .before .before .before .before .reply6 .given .1) (c .before .before .before .number-of .ensures) (c .before .before .put-line2 .ensures)
+returns-7 c =
+    let after-reply6 = c .before .before .before .before .before .before in
+    wrote-refused _ _ (after-reply6 .reply6 .given .1) (c .before .before .before .number-of .ensures) (c .before .before .put-line2 .ensures)
 
 pub write-reply-spec : {M : Type 1} → statement M
 write-reply-spec =

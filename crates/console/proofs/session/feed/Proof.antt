@@ -23,14 +23,18 @@ can-go-on-requires c κs = tt
 
 run-line-requires : tie.Need-run-line-requires Inv-loop μ-loop
 run-line-requires c κs =
+    let after-can-go-on = c .before .before .before .before .before .before .before .before .before .before .before .before in
+    let then1 = c .before .before .before .before .before .before .before .before .before .before .before in
     let i = c .before .before .before .before .before .before .before .before .before .before .before .before .before .loop .inv in
-    (i .ready, (i .started, sym (c .before .before .before .before .before .before .before .before .before .before .before .before .can-go-on .ensures) ∙ c .before .before .before .before .before .before .before .before .before .before .before .if1 .taken))
+    (i .ready, (i .started, sym (after-can-go-on .can-go-on .ensures) ∙ then1 .if1 .taken))
 
 loop-less : tie.Need-loop-less Inv-loop μ-loop
 loop-less c = c .before .before .run-line .ensures .fewer
 
 loop-again : tie.Need-loop-again Inv-loop μ-loop
-loop-again c = feeds-join (c .before .before .before .before .before .before .before .before .before .before .before .before .before .before .before .before .loop .inv) (c .before .before .run-line .ensures .feeds)
+loop-again c =
+    let at-loop = c .before .before .before .before .before .before .before .before .before .before .before .before .before .before .before .before in
+    feeds-join (at-loop .loop .inv) (c .before .before .run-line .ensures .feeds)
 
 same-length : tie.Need-same-length Inv-loop μ-loop
 same-length c = c .before .before .loop .inv .size

@@ -17,7 +17,10 @@ same-length : tie.Need-same-length
 same-length c = search needs
 
 returns : tie.Need-returns
-returns c = λ ws. guard-first (c .before .before .before .before .before .if1 .taken) (begins-guarded (ap (λ (k : Globals). coreOf ws k) (c .before .before .before .before .guarded .ensures)) (c .before .before .put-guarded .ensures))
+returns c =
+    let then1 = c .before .before .before .before .before in
+    let after-guarded = c .before .before .before .before in
+    λ ws. guard-first (then1 .if1 .taken) (begins-guarded (ap (λ (k : Globals). coreOf ws k) (after-guarded .guarded .ensures)) (c .before .before .put-guarded .ensures))
 
 end-malformed-requires : tie.Need-end-malformed-requires
 end-malformed-requires c κs = search needs

@@ -45,7 +45,10 @@ of-merge-requires-2 : tie.Need-of-merge-requires-2
 of-merge-requires-2 c κs = search needs
 
 returns : tie.Need-returns
-returns c = performs-quiet _ (quiet-plain _ (c .before .begin .result) (λ b. refl) (c .before .before .before .before .op .given .1) (c .of-plain .ensures) (c .before .begin .ensures (c .before .before .before .before .before .before .before .before .before .args .c) .refines-so _ _ (c .before .before .before .before .before .before .before .before .before .pre)))
+returns c =
+    let start = c .before .before .before .before .before .before .before .before .before in
+    let after-op = c .before .before .before .before in
+    performs-quiet _ (quiet-plain _ (c .before .begin .result) (λ b. refl) (after-op .op .given .1) (c .of-plain .ensures) (c .before .begin .ensures (start .args .c) .refines-so _ _ (start .pre)))
 
 same-length : tie.Need-same-length
 same-length c = search needs
@@ -57,16 +60,23 @@ same-length-3 : tie.Need-same-length-3
 same-length-3 c = search needs
 
 returns-2 : tie.Need-returns-2
-returns-2 c = performs-as (c .before .before .before .before .before .before .before .before .before .before .before .before .before .before .before .before .before .before .op2 .given .1) (c .before .before .before .before .before .before .take-access .ensures)
+returns-2 c =
+    let after-op2 = c .before .before .before .before .before .before .before .before .before .before .before .before .before .before .before .before .before .before in
+    let after-take-access = c .before .before .before .before .before .before in
+    performs-as (after-op2 .op2 .given .1) (after-take-access .take-access .ensures)
 
 returns-3 : tie.Need-returns-3
 returns-3 c = performs-quiet _ (quiet-as (c .before .before .before .before .before .before .before .before .before .op3 .given .1) (c .take-ending .ensures))
 
 returns-4 : tie.Need-returns-4
-returns-4 c = performs-quiet _ (quiet-outcome _ (c .of-merge .ensures) (quiet-merge _ (c .before .merge-at .result .count) (λ b. refl) (c .before .before .before .before .before .before .before .before .before .before .op4 .given .1) refl (c .before .merge-at .ensures)))
+returns-4 c =
+    let after-op4 = c .before .before .before .before .before .before .before .before .before .before in
+    performs-quiet _ (quiet-outcome _ (c .of-merge .ensures) (quiet-merge _ (c .before .merge-at .result .count) (λ b. refl) (after-op4 .op4 .given .1) refl (c .before .merge-at .ensures)))
 
 returns-5 : tie.Need-returns-5
-returns-5 c = performs-quiet _ (quiet-outcome _ (c .of-merge2 .ensures) (quiet-merge _ (c .before .merge-oldest .result .count) (λ b. refl) (c .before .before .before .before .before .before .before .before .before .enum-told .given .1) refl (c .before .merge-oldest .ensures)))
+returns-5 c =
+    let after-enum-told = c .before .before .before .before .before .before .before .before .before in
+    performs-quiet _ (quiet-outcome _ (c .of-merge2 .ensures) (quiet-merge _ (c .before .merge-oldest .result .count) (λ b. refl) (after-enum-told .enum-told .given .1) refl (c .before .merge-oldest .ensures)))
 
 pub perform-spec : {M : Type 1} → statement M
 perform-spec =

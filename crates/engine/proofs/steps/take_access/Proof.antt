@@ -42,7 +42,10 @@ of-plain-requires-2 : tie.Need-of-plain-requires-2
 of-plain-requires-2 c κs = search needs
 
 returns : tie.Need-returns
-returns c = performs-quiet _ (quiet-read _ (c .before .read .result) (λ b. refl) (accesses (c .before .before .before .before .before .before .before .before .before .before .before .before .args .w) (c .before .before .before .before .before .before .before .x .given .1)) (c .of-read .ensures) (c .before .read .ensures))
+returns c =
+    let start = c .before .before .before .before .before .before .before .before .before .before .before .before in
+    let after-x = c .before .before .before .before .before .before .before in
+    performs-quiet _ (quiet-read _ (c .before .read .result) (λ b. refl) (accesses (start .args .w) (after-x .x .given .1)) (c .of-read .ensures) (c .before .read .ensures))
 
 same-length : tie.Need-same-length
 same-length c = search needs
@@ -54,13 +57,23 @@ same-length-3 : tie.Need-same-length-3
 same-length-3 c = search needs
 
 returns-2 : tie.Need-returns-2
-returns-2 c = performs-scan (c .before .before .before .before .before .before .before .scan .result) (accesses (c .before .before .before .before .before .before .before .before .before .before .before .before .before .before .before .before .before .before .before .before .before .args .w) (c .before .before .before .before .before .before .before .before .before .before .before .before .before .before .before .before .x2 .given .1)) (c .of-scan .ensures) (c .before .before .before .before .before .before .before .scan .ensures)
+returns-2 c =
+    let start = c .before .before .before .before .before .before .before .before .before .before .before .before .before .before .before .before .before .before .before .before .before in
+    let after-x2 = c .before .before .before .before .before .before .before .before .before .before .before .before .before .before .before .before in
+    let after-scan = c .before .before .before .before .before .before .before in
+    performs-scan (after-scan .scan .result) (accesses (start .args .w) (after-x2 .x2 .given .1)) (c .of-scan .ensures) (after-scan .scan .ensures)
 
 returns-3 : tie.Need-returns-3
-returns-3 c = performs-quiet _ (quiet-plain _ (c .before .put .result) (λ b. refl) (accesses (c .before .before .before .before .before .before .before .before .before .before .before .before .args .w) (c .before .before .before .before .before .before .before .x3 .given .1)) (c .of-plain .ensures) (c .before .put .ensures))
+returns-3 c =
+    let start = c .before .before .before .before .before .before .before .before .before .before .before .before in
+    let after-x3 = c .before .before .before .before .before .before .before in
+    performs-quiet _ (quiet-plain _ (c .before .put .result) (λ b. refl) (accesses (start .args .w) (after-x3 .x3 .given .1)) (c .of-plain .ensures) (c .before .put .ensures))
 
 returns-4 : tie.Need-returns-4
-returns-4 c = performs-quiet _ (quiet-plain _ (c .before .remove .result) (λ b. refl) (accesses (c .before .before .before .before .before .before .before .before .before .before .before .before .args .w) (c .before .before .before .before .before .before .before .x4 .given .1)) (c .of-plain2 .ensures) (c .before .remove .ensures))
+returns-4 c =
+    let start = c .before .before .before .before .before .before .before .before .before .before .before .before in
+    let after-x4 = c .before .before .before .before .before .before .before in
+    performs-quiet _ (quiet-plain _ (c .before .remove .result) (λ b. refl) (accesses (start .args .w) (after-x4 .x4 .given .1)) (c .of-plain2 .ensures) (c .before .remove .ensures))
 
 pub take-access-spec : {M : Type 1} → statement M
 take-access-spec =

@@ -42,16 +42,28 @@ of-done-requires-3 : tie.Need-of-done-requires-3
 of-done-requires-3 c κs = search needs
 
 returns : tie.Need-returns
-returns c = quiet-outcome _ (c .of-done .ensures) (quiet-plain _ (c .before .lock .result .answer) (λ b. refl) (ending-is (c .before .before .before .before .before .before .before .args .w) (c .before .before .before .before .before .enum-told .given .1)) refl (c .before .lock .ensures))
+returns c =
+    let start = c .before .before .before .before .before .before .before in
+    let after-enum-told = c .before .before .before .before .before in
+    quiet-outcome _ (c .of-done .ensures) (quiet-plain _ (c .before .lock .result .answer) (λ b. refl) (ending-is (start .args .w) (after-enum-told .enum-told .given .1)) refl (c .before .lock .ensures))
 
 returns-2 : tie.Need-returns-2
-returns-2 c = quiet-outcome _ (c .of-validate .ensures) (quiet-validate _ (c .before .validate .result .answer) (λ b. refl) (ending-is (c .before .before .before .before .before .before .before .args .w) (c .before .before .before .before .before .enum-told2 .given .1)) refl (c .before .validate .ensures))
+returns-2 c =
+    let start = c .before .before .before .before .before .before .before in
+    let after-enum-told2 = c .before .before .before .before .before in
+    quiet-outcome _ (c .of-validate .ensures) (quiet-validate _ (c .before .validate .result .answer) (λ b. refl) (ending-is (start .args .w) (after-enum-told2 .enum-told2 .given .1)) refl (c .before .validate .ensures))
 
 returns-3 : tie.Need-returns-3
-returns-3 c = quiet-outcome _ (c .of-done2 .ensures) (quiet-plain _ (c .before .install .result .answer) (λ b. refl) (ending-is (c .before .before .before .before .before .before .before .args .w) (c .before .before .before .before .before .enum-told3 .given .1)) refl (c .before .install .ensures))
+returns-3 c =
+    let start = c .before .before .before .before .before .before .before in
+    let after-enum-told3 = c .before .before .before .before .before in
+    quiet-outcome _ (c .of-done2 .ensures) (quiet-plain _ (c .before .install .result .answer) (λ b. refl) (ending-is (start .args .w) (after-enum-told3 .enum-told3 .given .1)) refl (c .before .install .ensures))
 
 returns-4 : tie.Need-returns-4
-returns-4 c = quiet-outcome _ (c .of-done3 .ensures) (quiet-plain _ (c .before .abort .result .answer) (λ b. refl) (ending-is (c .before .before .before .before .before .before .before .args .w) (c .before .before .before .before .before .enum-told4 .given .1)) refl (c .before .abort .ensures))
+returns-4 c =
+    let start = c .before .before .before .before .before .before .before in
+    let after-enum-told4 = c .before .before .before .before .before in
+    quiet-outcome _ (c .of-done3 .ensures) (quiet-plain _ (c .before .abort .result .answer) (λ b. refl) (ending-is (start .args .w) (after-enum-told4 .enum-told4 .given .1)) refl (c .before .abort .ensures))
 
 pub take-ending-spec : {M : Type 1} → statement M
 take-ending-spec =

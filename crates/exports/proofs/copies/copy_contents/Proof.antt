@@ -35,15 +35,17 @@ cast-t15 c = search needs
 
 store-requires : tie.Need-store-requires Inv-loop μ-loop
 store-requires c κs =
+    let at-loop = c .before .before .before .before .before .before .before in
     let m = c .before .before .before in
     let s = m .before .before .before .before .before .before .before in
-    copying-room (rising-all _ _ _ (s .pre .0)) (m .before .before .before .before .loop .inv) (next-at (m .before .before .next-record .ensures) (m .next .given .1)) (s .pre .1 .1)
+    copying-room (rising-all _ _ _ (s .pre .0)) (at-loop .loop .inv) (next-at (m .before .before .next-record .ensures) (m .next .given .1)) (s .pre .1 .1)
 
 add-count : tie.Need-add-count Inv-loop μ-loop
 add-count c =
+    let at-loop = c .before .before .before .before .before .before .before .before in
     let m = c .before .before .before .before in
     let s = m .before .before .before .before .before .before .before in
-    omega (arith, copying-room (rising-all _ _ _ (s .pre .0)) (m .before .before .before .before .loop .inv) (next-at (m .before .before .next-record .ensures) (m .next .given .1)) (s .pre .1 .1))
+    omega (arith, copying-room (rising-all _ _ _ (s .pre .0)) (at-loop .loop .inv) (next-at (m .before .before .next-record .ensures) (m .next .given .1)) (s .pre .1 .1))
 
 cast-from : tie.Need-cast-from Inv-loop μ-loop
 cast-from c = search needs
@@ -53,18 +55,20 @@ add-from c = search needs
 
 loop-less : tie.Need-loop-less Inv-loop μ-loop
 loop-less c =
+    let at-loop = c .before .before .before .before .before .before .before .before in
     let m = c .before .before .before .before in
     let s = m .before .before .before .before .before .before .before in
-    omega (arith, m .before .before .before .loop-test .taken, copying-above (rising-all _ _ _ (s .pre .0)) (m .before .before .before .before .loop .inv) (next-at (m .before .before .next-record .ensures) (m .next .given .1)))
+    omega (arith, m .before .before .before .loop-test .taken, copying-above (rising-all _ _ _ (s .pre .0)) (at-loop .loop .inv) (next-at (m .before .before .next-record .ensures) (m .next .given .1)))
 
 loop-again : tie.Need-loop-again Inv-loop μ-loop
 loop-again c =
+    let at-loop = c .before .before .before .before .before .before .before .before in
     let m = c .before .before .before .before in
     let s = m .before .before .before .before .before .before .before in
     let a = m .next .given .0 .0 in
     let v = m .next .given .0 .1 .0 in
     copying-as (c .store .ensures)
-    (copying-on (rising-all _ _ _ (s .pre .0)) (m .before .before .before .before .loop .inv) (next-at (m .before .before .next-record .ensures) (m .next .given .1)) _ (s .pre .1 .1) (words-read a (v .value) (v .owner) (omega arith) (omega arith)))
+    (copying-on (rising-all _ _ _ (s .pre .0)) (at-loop .loop .inv) (next-at (m .before .before .next-record .ensures) (m .next .given .1)) _ (s .pre .1 .1) (words-read a (v .value) (v .owner) (omega arith) (omega arith)))
 
 enum-told : tie.Need-enum-told Inv-loop μ-loop
 enum-told c = search needs

@@ -25,16 +25,25 @@ cast-put-four : tie.Need-cast-put-four Inv-loop μ-loop
 cast-put-four c = search needs
 
 put-four-requires : tie.Need-put-four-requires Inv-loop μ-loop
-put-four-requires c κs = let p = c .before .before .before .before .loop .inv .0 in omega (arith, p .place-is, wrote-length (p .wrote), c .before .before .before .loop-test .taken, c .before .before .before .before .before .before .pre .0)
+put-four-requires c κs =
+    let start = c .before .before .before .before .before .before in
+    let p = c .before .before .before .before .loop .inv .0 in omega (arith, p .place-is, wrote-length (p .wrote), c .before .before .before .loop-test .taken, start .pre .0)
 
 add-i : tie.Need-add-i Inv-loop μ-loop
-add-i c = omega (arith, c .before .before .before .before .before .before .loop-test .taken, c .before .before .before .before .before .before .before .before .before .pre .1)
+add-i c =
+    let start = c .before .before .before .before .before .before .before .before .before in
+    let in-loop = c .before .before .before .before .before .before in
+    omega (arith, in-loop .loop-test .taken, start .pre .1)
 
 loop-less : tie.Need-loop-less Inv-loop μ-loop
 loop-less c = omega (arith, c .before .before .before .before .before .before .loop-test .taken)
 
 loop-again : tie.Need-loop-again Inv-loop μ-loop
-loop-again c = (putting-on addresses-each _ (c .before .before .before .before .before .before .before .loop .inv .0) (c .before .before .before .before .before .get .ensures) (c .before .before .put-four .ensures), omega (arith, c .before .before .before .before .before .before .loop-test .taken))
+loop-again c =
+    let at-loop = c .before .before .before .before .before .before .before in
+    let in-loop = c .before .before .before .before .before .before in
+    let after-get = c .before .before .before .before .before in
+    (putting-on addresses-each _ (at-loop .loop .inv .0) (after-get .get .ensures) (c .before .before .put-four .ensures), omega (arith, in-loop .loop-test .taken))
 
 same-length : tie.Need-same-length Inv-loop μ-loop
 same-length c = wrote-length (c .before .loop .inv .0 .wrote)

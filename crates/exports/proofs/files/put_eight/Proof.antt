@@ -10,7 +10,9 @@ put-four-requires : tie.Need-put-four-requires
 put-four-requires c κs = search needs
 
 put-four-requires-2 : tie.Need-put-four-requires-2
-put-four-requires-2 c κs = let w = c .before .before .before .put-four .ensures in omega (arith, next-place 4 _ w, wrote-length w, c .before .before .before .before .before .before .pre)
+put-four-requires-2 c κs =
+    let start = c .before .before .before .before .before .before in
+    let w = c .before .before .before .put-four .ensures in omega (arith, next-place 4 _ w, wrote-length w, start .pre)
 
 same-length : tie.Need-same-length
 same-length c = search needs

@@ -13,7 +13,9 @@ cast-put-two : tie.Need-cast-put-two
 cast-put-two c = search needs
 
 put-two-requires : tie.Need-put-two-requires
-put-two-requires c κs = let w = c .before .before .before .before .put-eight .ensures in omega (arith, next-place 8 _ w, wrote-length w, c .before .before .before .before .before .before .before .pre)
+put-two-requires c κs =
+    let start = c .before .before .before .before .before .before .before in
+    let w = c .before .before .before .before .put-eight .ensures in omega (arith, next-place 8 _ w, wrote-length w, start .pre)
 
 same-length : tie.Need-same-length
 same-length c = search needs

@@ -10,7 +10,9 @@ put-two-requires : tie.Need-put-two-requires
 put-two-requires c κs = search needs
 
 put-two-requires-2 : tie.Need-put-two-requires-2
-put-two-requires-2 c κs = let w = c .before .before .before .put-two .ensures in omega (arith, next-place 2 _ w, wrote-length w, c .before .before .before .before .before .before .pre)
+put-two-requires-2 c κs =
+    let start = c .before .before .before .before .before .before in
+    let w = c .before .before .before .put-two .ensures in omega (arith, next-place 2 _ w, wrote-length w, start .pre)
 
 same-length : tie.Need-same-length
 same-length c = search needs

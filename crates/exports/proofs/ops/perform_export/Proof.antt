@@ -14,13 +14,17 @@ enum-told-2 : tie.Need-enum-told-2
 enum-told-2 c = search needs
 
 portion-first-requires : tie.Need-portion-first-requires
-portion-first-requires c κs = (c .before .before .before .before .before .before .before .before .before .before .pre .1 .1 .0 .1, c .before .before .before .before .before .before .before .before .before .before .pre .1 .1 .1 .places)
+portion-first-requires c κs =
+    let start = c .before .before .before .before .before .before .before .before .before .before in
+    (start .pre .1 .1 .0 .1, start .pre .1 .1 .1 .places)
 
 enum-known-op : tie.Need-enum-known-op
 enum-known-op c = search needs
 
 file-first-requires : tie.Need-file-first-requires
-file-first-requires c κs = (c .before .before .before .before .before .before .before .before .before .pre .1 .1 .0 .1, c .before .before .before .before .before .before .before .before .before .pre .1 .1 .1 .bytes _ (c .before .before .before .op .given .1))
+file-first-requires c κs =
+    let start = c .before .before .before .before .before .before .before .before .before in
+    (start .pre .1 .1 .0 .1, start .pre .1 .1 .1 .bytes _ (c .before .before .before .op .given .1))
 
 enum-told-3 : tie.Need-enum-told-3
 enum-told-3 c = search needs
@@ -41,7 +45,10 @@ same-length-3 : tie.Need-same-length-3
 same-length-3 c = search needs
 
 returns-2 : tie.Need-returns-2
-returns-2 c = stepped-as _ (c .before .before .before .before .before .before .before .before .before .before .before .enum-told2 .given .1) (c .before .before .before .before .before .before .portion-first .ensures _ _)
+returns-2 c =
+    let after-enum-told2 = c .before .before .before .before .before .before .before .before .before .before .before in
+    let after-portion-first = c .before .before .before .before .before .before in
+    stepped-as _ (after-enum-told2 .enum-told2 .given .1) (after-portion-first .portion-first .ensures _ _)
 
 same-length-4 : tie.Need-same-length-4
 same-length-4 c = search needs

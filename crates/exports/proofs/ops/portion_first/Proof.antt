@@ -37,7 +37,10 @@ same-length-3 : tie.Need-same-length-3
 same-length-3 c = search needs
 
 returns : tie.Need-returns
-returns c = λ contents bs. portion-part _ _ (c .before .before .before .before .before .before .before .before .before .before .before .before .before .pre .1) (c .before .before .before .before .before .before .portion .ensures contents bs)
+returns c =
+    let start = c .before .before .before .before .before .before .before .before .before .before .before .before .before in
+    let after-portion = c .before .before .before .before .before .before in
+    λ contents bs. portion-part _ _ (start .pre .1) (after-portion .portion .ensures contents bs)
 
 pub portion-first-spec : {M : Type 1} → statement M
 portion-first-spec =

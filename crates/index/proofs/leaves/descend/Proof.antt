@@ -32,35 +32,39 @@ loop-less c = search needs
 
 loop-again : tie.Need-loop-again Inv-loop μ-loop
 loop-again c =
+    let start = c .before .before .before .before in
     let l = c .before .before .loop in
-    let ls = take (c .before .before .before .before .args .m) (lowsOf (c .before .before .before .before .args .leaves .now)) in
-    let e : length ls ≡ c .before .before .before .before .args .m = length-take-le (c .before .before .before .before .args .m) (lowsOf (c .before .before .before .before .args .leaves .now)) (rw (column-places 0 (c .before .before .before .before .args .leaves .now) (c .before .before .before .leaf-places .ensures)) (c .before .before .before .before .pre .0 .room)) in
+    let ls = take (start .args .m) (lowsOf (start .args .leaves .now)) in
+    let e : length ls ≡ start .args .m = length-take-le (start .args .m) (lowsOf (start .args .leaves .now)) (rw (column-places 0 (start .args .leaves .now) (c .before .before .before .leaf-places .ensures)) (start .pre .0 .room)) in
     let more = c .before .loop-test .taken in
-    let first = probedLow ls (c .before .before .before .before .args .key) (l .base) (l .step) in
-    rw (c .probe-two .ensures) (near-two more (l .inv) (low-took 0 ls (c .before .before .before .before .args .key) (l .base) (l .step) (rw e (c .before .before .before .before .pre .0 .some)) (c .before .before .before .before .pre .0 .rising) (omega (arith, more)))
-    (low-took 0 ls (c .before .before .before .before .args .key) first (l .step / 2) (rw e (c .before .before .before .before .pre .0 .some)) (c .before .before .before .before .pre .0 .rising) (omega (arith, more))))
+    let first = probedLow ls (start .args .key) (l .base) (l .step) in
+    rw (c .probe-two .ensures) (near-two more (l .inv) (low-took 0 ls (start .args .key) (l .base) (l .step) (rw e (start .pre .0 .some)) (start .pre .0 .rising) (omega (arith, more)))
+    (low-took 0 ls (start .args .key) first (l .step / 2) (rw e (start .pre .0 .some)) (start .pre .0 .rising) (omega (arith, more))))
 
 probe-requires : tie.Need-probe-requires Inv-loop μ-loop
 probe-requires c κs = let i = c .before .before .loop .inv .inside in search needs
 
 returns : tie.Need-returns Inv-loop μ-loop
 returns c =
+    let start = c .before .before .before .before .before in
+    let after-leaf-places = c .before .before .before .before in
     let l = c .before .before .before .loop in
-    let ls = take (c .before .before .before .before .before .args .m) (lowsOf (c .before .before .before .before .before .args .leaves .now)) in
-    let e : length ls ≡ c .before .before .before .before .before .args .m = length-take-le (c .before .before .before .before .before .args .m) (lowsOf (c .before .before .before .before .before .args .leaves .now)) (rw (column-places 0 (c .before .before .before .before .before .args .leaves .now) (c .before .before .before .before .leaf-places .ensures)) (c .before .before .before .before .before .pre .0 .room)) in
-    let p : lowPlace (c .before .before .before .before .before .args .key) ls < length ls = place-inside (c .before .before .before .before .before .args .key) ls (rw e (c .before .before .before .before .before .pre .0 .some)) in
+    let ls = take (start .args .m) (lowsOf (start .args .leaves .now)) in
+    let e : length ls ≡ start .args .m = length-take-le (start .args .m) (lowsOf (start .args .leaves .now)) (rw (column-places 0 (start .args .leaves .now) (after-leaf-places .leaf-places .ensures)) (start .pre .0 .room)) in
+    let p : lowPlace (start .args .key) ls < length ls = place-inside (start .args .key) ls (rw e (start .pre .0 .some)) in
     let one = c .before .if1 .taken in
-    let q : probedLow ls (c .before .before .before .before .before .args .key) (l .base) (l .step) ≡ lowPlace (c .before .before .before .before .before .args .key) ls
-    = near-end (near-on (omega (arith, one)) (l .inv) (low-took 0 ls (c .before .before .before .before .before .args .key) (l .base) (l .step) (rw e (c .before .before .before .before .before .pre .0 .some)) (c .before .before .before .before .before .pre .0 .rising) (omega (arith, one)))) (omega (arith, one)) in
+    let q : probedLow ls (start .args .key) (l .base) (l .step) ≡ lowPlace (start .args .key) ls
+    = near-end (near-on (omega (arith, one)) (l .inv) (low-took 0 ls (start .args .key) (l .base) (l .step) (rw e (start .pre .0 .some)) (start .pre .0 .rising) (omega (arith, one)))) (omega (arith, one)) in
     let r = c .probe .ensures in
     record { is = rw r q; inside = omega arith }
 
 returns-2 : tie.Need-returns-2 Inv-loop μ-loop
 returns-2 c =
-    let ls = take (c .before .before .before .before .args .m) (lowsOf (c .before .before .before .before .args .leaves .now)) in
-    let e : length ls ≡ c .before .before .before .before .args .m = length-take-le (c .before .before .before .before .args .m) (lowsOf (c .before .before .before .before .args .leaves .now)) (rw (column-places 0 (c .before .before .before .before .args .leaves .now) (c .before .before .before .leaf-places .ensures)) (c .before .before .before .before .pre .0 .room)) in
-    let p : lowPlace (c .before .before .before .before .args .key) ls < length ls = place-inside (c .before .before .before .before .args .key) ls (rw e (c .before .before .before .before .pre .0 .some)) in
-    let q : c .before .before .loop .base ≡ lowPlace (c .before .before .before .before .args .key) ls = near-end (c .before .before .loop .inv) (omega (arith, c .before .loop-test .left, c .if1 .left)) in
+    let start = c .before .before .before .before in
+    let ls = take (start .args .m) (lowsOf (start .args .leaves .now)) in
+    let e : length ls ≡ start .args .m = length-take-le (start .args .m) (lowsOf (start .args .leaves .now)) (rw (column-places 0 (start .args .leaves .now) (c .before .before .before .leaf-places .ensures)) (start .pre .0 .room)) in
+    let p : lowPlace (start .args .key) ls < length ls = place-inside (start .args .key) ls (rw e (start .pre .0 .some)) in
+    let q : c .before .before .loop .base ≡ lowPlace (start .args .key) ls = near-end (c .before .before .loop .inv) (omega (arith, c .before .loop-test .left, c .if1 .left)) in
     record { is = q; inside = omega arith }
 
 pub descend-spec : {M : Type 1} → statement M

@@ -27,8 +27,10 @@ add-next : tie.Need-add-next
 add-next c = search needs
 
 returns-3 : tie.Need-returns-3
-returns-3 c = let s = c .before .before .before .before .before .before in
-    let f : s .args .m ≤ length (lowsOf (s .args .leaves .now)) = rw (column-places 0 (s .args .leaves .now) (c .before .before .before .before .before .leaf-places .ensures)) (s .pre .room) in
+returns-3 c =
+    let after-leaf-places = c .before .before .before .before .before in
+    let s = c .before .before .before .before .before .before in
+    let f : s .args .m ≤ length (lowsOf (s .args .leaves .now)) = rw (column-places 0 (s .args .leaves .now) (after-leaf-places .leaf-places .ensures)) (s .pre .room) in
     let low : getD (lowsOf (s .args .leaves .now)) (s .args .at) 0 ≤ s .args .key = rw (ap (λ (l : LeafWords). l .low) (c .before .before .before .leaf-at .ensures) ∙ sym (column-getD 0 (s .args .leaves .now) (s .args .at))) at (c .before .if2 .left) in
     tells-last (lowsOf (s .args .leaves .now)) (s .args .m) (s .args .key) (s .args .at) (s .pre) f low (c .if3 .taken)
 
@@ -36,9 +38,11 @@ leaf-at-requires-2 : tie.Need-leaf-at-requires-2
 leaf-at-requires-2 c κs = search needs
 
 returns-4 : tie.Need-returns-4
-returns-4 c = let d = c .before .before .before .before in
+returns-4 c =
+    let after-leaf-places = c .before .before .before .before .before .before .before .before in
+    let d = c .before .before .before .before in
     let s = d .before .before .before .before .before in
-    let f : s .args .m ≤ length (lowsOf (s .args .leaves .now)) = rw (column-places 0 (s .args .leaves .now) (d .before .before .before .before .leaf-places .ensures)) (s .pre .room) in
+    let f : s .args .m ≤ length (lowsOf (s .args .leaves .now)) = rw (column-places 0 (s .args .leaves .now) (after-leaf-places .leaf-places .ensures)) (s .pre .room) in
     let low : getD (lowsOf (s .args .leaves .now)) (s .args .at) 0 ≤ s .args .key = rw (ap (λ (l : LeafWords). l .low) (d .before .before .leaf-at .ensures) ∙ sym (column-getD 0 (s .args .leaves .now) (s .args .at))) at (d .if2 .left) in
     let upper : s .args .key < getD (lowsOf (s .args .leaves .now)) (s .args .at + 1) 0 = rw (ap (λ (l : LeafWords). l .low) (c .before .before .leaf-at2 .ensures) ∙ sym (column-getD 0 (s .args .leaves .now) (s .args .at + 1))) at (c .if4 .taken) in
     let there : s .args .at < s .args .m = d .before .before .before .if1 .left in

@@ -19,15 +19,19 @@ leaf-at-requires : tie.Need-leaf-at-requires
 leaf-at-requires c κs = search needs
 
 returns : tie.Need-returns
-returns c = let s = c .before .before .before .before .before in
+returns c =
+    let after-leaf-places = c .before .before .before .before in
+    let s = c .before .before .before .before .before in
     let g = c .before .before .before .leaf-at in
-    let f : s .args .m ≤ length (lowsOf (s .args .leaves .now)) = rw (column-places 0 (s .args .leaves .now) (c .before .before .before .before .leaf-places .ensures)) (s .pre .0) in
+    let f : s .args .m ≤ length (lowsOf (s .args .leaves .now)) = rw (column-places 0 (s .args .leaves .now) (after-leaf-places .leaf-places .ensures)) (s .pre .0) in
     leaf-step (lowsOf (s .args .leaves .now)) (s .args .m) (s .args .key) (s .args .base) (s .args .step) f (c .if2 .taken) (rw (ap (λ (l : LeafWords). l .low) (g .ensures) ∙ sym (column-getD 0 (s .args .leaves .now) (s .args .base + s .args .step))) at (c .before .if1 .taken))
 
 returns-2 : tie.Need-returns-2
-returns-2 c = let s = c .before .before .before .before .before in
+returns-2 c =
+    let after-leaf-places = c .before .before .before .before in
+    let s = c .before .before .before .before .before in
     let g = c .before .before .before .leaf-at in
-    let f : s .args .m ≤ length (lowsOf (s .args .leaves .now)) = rw (column-places 0 (s .args .leaves .now) (c .before .before .before .before .leaf-places .ensures)) (s .pre .0) in
+    let f : s .args .m ≤ length (lowsOf (s .args .leaves .now)) = rw (column-places 0 (s .args .leaves .now) (after-leaf-places .leaf-places .ensures)) (s .pre .0) in
     leaf-end (lowsOf (s .args .leaves .now)) (s .args .m) (s .args .key) (s .args .base) (s .args .step) f (c .if2 .left)
 
 returns-3 : tie.Need-returns-3

@@ -24,15 +24,17 @@ probe-requires-3 c κs = search needs
 
 returns : tie.Need-returns
 returns c =
-    let rs = take (c .before .before .before .before .args .m) (lowsOf (c .before .before .before .before .args .leaves .now)) in
-    two-high (c .before .before .before .before .args .base) (c .before .before .before .before .args .step) (probedLow rs (c .before .before .before .before .args .key) (c .before .before .before .before .args .base) (c .before .before .before .before .args .step)) (λ (x : ℕ). probedLow rs (c .before .before .before .before .args .key) x (c .before .before .before .before .args .step / 2))
-    (low-led rs (c .before .before .before .before .args .key) (c .before .before .before .before .args .base) (c .before .before .before .before .args .step)) (subst (λ (x : ℕ). c .before .before .before .before .args .base < x) (c .before .probe3 .ensures) (c .if1 .taken)) (c .before .before .probe2 .ensures)
+    let start = c .before .before .before .before in
+    let rs = take (start .args .m) (lowsOf (start .args .leaves .now)) in
+    two-high (start .args .base) (start .args .step) (probedLow rs (start .args .key) (start .args .base) (start .args .step)) (λ (x : ℕ). probedLow rs (start .args .key) x (start .args .step / 2))
+    (low-led rs (start .args .key) (start .args .base) (start .args .step)) (subst (λ (x : ℕ). start .args .base < x) (c .before .probe3 .ensures) (c .if1 .taken)) (c .before .before .probe2 .ensures)
 
 returns-2 : tie.Need-returns-2
 returns-2 c =
-    let rs = take (c .before .before .before .before .args .m) (lowsOf (c .before .before .before .before .args .leaves .now)) in
-    two-low (c .before .before .before .before .args .base) (c .before .before .before .before .args .step) (probedLow rs (c .before .before .before .before .args .key) (c .before .before .before .before .args .base) (c .before .before .before .before .args .step)) (λ (x : ℕ). probedLow rs (c .before .before .before .before .args .key) x (c .before .before .before .before .args .step / 2)) (omega (arith, c .before .before .before .before .pre .1 .0))
-    (low-led rs (c .before .before .before .before .args .key) (c .before .before .before .before .args .base) (c .before .before .before .before .args .step)) (subst (λ (x : ℕ). x ≤ c .before .before .before .before .args .base) (c .before .probe3 .ensures) (c .if1 .left)) (c .before .before .before .probe .ensures)
+    let start = c .before .before .before .before in
+    let rs = take (start .args .m) (lowsOf (start .args .leaves .now)) in
+    two-low (start .args .base) (start .args .step) (probedLow rs (start .args .key) (start .args .base) (start .args .step)) (λ (x : ℕ). probedLow rs (start .args .key) x (start .args .step / 2)) (omega (arith, start .pre .1 .0))
+    (low-led rs (start .args .key) (start .args .base) (start .args .step)) (subst (λ (x : ℕ). x ≤ start .args .base) (c .before .probe3 .ensures) (c .if1 .left)) (c .before .before .before .probe .ensures)
 
 pub probe-two-spec : {M : Type 1} → statement M
 probe-two-spec = tie.close (tie.spec probe-requires add-probe probe-requires-2 probe-requires-3 returns returns-2)

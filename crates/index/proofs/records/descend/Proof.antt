@@ -41,13 +41,14 @@ probe-requires c κs = let i = c .before .before .loop .inv .inside in search ne
 
 returns : tie.Need-returns Inv-loop μ-loop
 returns c =
-    let rs = recordsOf (c .before .before .before .before .args .rows .now) (c .before .before .before .before .args .n) in
+    let start = c .before .before .before .before in
+    let rs = recordsOf (start .args .rows .now) (start .args .n) in
     let l = c .before .before .before .loop in
     let one = c .before .if1 .taken in
-    let m : place (c .before .before .before .before .args .key) rs ≤ length rs = place-most (c .before .before .before .before .args .key) rs in
-    let k : length rs ≡ c .before .before .before .before .args .n = length-records (c .before .before .before .before .args .rows .now) (c .before .before .before .before .args .n) (c .before .before .before .before .pre .0 .room) in
-    let e : probed rs (c .before .before .before .before .args .key) (l .base) (l .step) ≡ place (c .before .before .before .before .args .key) rs
-    = near-end (near-on (omega (arith, one)) (l .inv) (probe-took rs (c .before .before .before .before .args .key) (l .base) (l .step) (c .before .before .before .before .pre .0 .rising) (omega (arith, one)))) (omega (arith, one)) in
+    let m : place (start .args .key) rs ≤ length rs = place-most (start .args .key) rs in
+    let k : length rs ≡ start .args .n = length-records (start .args .rows .now) (start .args .n) (start .pre .0 .room) in
+    let e : probed rs (start .args .key) (l .base) (l .step) ≡ place (start .args .key) rs
+    = near-end (near-on (omega (arith, one)) (l .inv) (probe-took rs (start .args .key) (l .base) (l .step) (start .pre .0 .rising) (omega (arith, one)))) (omega (arith, one)) in
     let r = c .probe .ensures in
     record { is = rw r e; within = omega arith }
 

@@ -39,23 +39,27 @@ sub-result : tie.Need-sub-result
 sub-result c = search needs
 
 returns-2 : tie.Need-returns-2
-returns-2 c = let r = c .before .before .before .before .before .before .before .before .before in
+returns-2 c =
+    let else1 = c .before .before .before .before .before .before in
+    let r = c .before .before .before .before .before .before .before .before .before in
     let s = r .before .before in
     let p = c .before .before .before .before .before .before .before .locate in
     let g = c .before .before .before .before .get in (
       drop-here (s .args .rows .now) (s .args .n) (s .args .a) (p .result) (s .pre) (p .ensures) (c .lower .last .0) (r .record-places .ensures)
-          (present-at (s .args .rows .now) (s .args .n) (s .args .a) (p .result) (s .pre .room) (p .ensures) (rowOf (g .result)) (c .before .before .before .before .before .before .if1 .left) (g .ensures) (c .before .before .if2 .taken))
-          (c .before .before .before .before .before .before .if1 .left) (c .lower .ensures),
-      behind-removed (s .args .rows .now) (c .lower .last .0) (r .record-places .ensures) (s .args .n) (p .result) (c .before .before .before .before .before .before .if1 .left) (s .pre .room) (c .lower .ensures),
+          (present-at (s .args .rows .now) (s .args .n) (s .args .a) (p .result) (s .pre .room) (p .ensures) (rowOf (g .result)) (else1 .if1 .left) (g .ensures) (c .before .before .if2 .taken))
+          (else1 .if1 .left) (c .lower .ensures),
+      behind-removed (s .args .rows .now) (c .lower .last .0) (r .record-places .ensures) (s .args .n) (p .result) (else1 .if1 .left) (s .pre .room) (c .lower .ensures),
     )
 
 returns-3 : tie.Need-returns-3
-returns-3 c = let r = c .before .before .before .before .before .before .before in
+returns-3 c =
+    let else1 = c .before .before .before .before in
+    let r = c .before .before .before .before .before .before .before in
     let s = r .before .before in
     let p = c .before .before .before .before .before .locate in
     let g = c .before .before .get in (
       drop-none (s .args .rows .now) (s .args .n) (s .args .a) (p .result) (s .pre) (p .ensures)
-          (absent-at (s .args .rows .now) (s .args .n) (s .args .a) (p .result) (s .pre .room) (p .ensures) (rowOf (g .result)) (c .before .before .before .before .if1 .left) (g .ensures) (c .if2 .left)),
+          (absent-at (s .args .rows .now) (s .args .n) (s .args .a) (p .result) (s .pre .room) (p .ensures) (rowOf (g .result)) (else1 .if1 .left) (g .ensures) (c .if2 .left)),
       refl,
     )
 

@@ -49,20 +49,22 @@ probe-requires c κs = search needs
 
 returns-4 : tie.Need-returns-4
 returns-4 c =
+    let start = c .before .before .before .before .before in
     let g = c .before .probe in
-    let rs = recordsOf (c .before .before .before .before .before .args .rows .now) (c .before .before .before .before .before .args .n) in
-    let m : place (c .before .before .before .before .before .args .a) rs ≤ length rs = place-most (c .before .before .before .before .before .args .a) rs in
-    let l : length rs ≡ c .before .before .before .before .before .args .n = length-records (c .before .before .before .before .before .args .rows .now) (c .before .before .before .before .before .args .n) (c .before .before .before .before .before .pre .room) in
-    let t : Took (place (c .before .before .before .before .before .args .a) rs) 0 recordPlaces (g .result) = rw (g .ensures) (probe-took rs (c .before .before .before .before .before .args .a) 0 recordPlaces (c .before .before .before .before .before .pre .rising) (omega arith)) in
-    let e : g .result ≡ place (c .before .before .before .before .before .args .a) rs = first-taken (omega arith) t (c .if4 .taken) in
+    let rs = recordsOf (start .args .rows .now) (start .args .n) in
+    let m : place (start .args .a) rs ≤ length rs = place-most (start .args .a) rs in
+    let l : length rs ≡ start .args .n = length-records (start .args .rows .now) (start .args .n) (start .pre .room) in
+    let t : Took (place (start .args .a) rs) 0 recordPlaces (g .result) = rw (g .ensures) (probe-took rs (start .args .a) 0 recordPlaces (start .pre .rising) (omega arith)) in
+    let e : g .result ≡ place (start .args .a) rs = first-taken (omega arith) t (c .if4 .taken) in
     record { is = e; within = omega arith }
 
 descend-requires-4 : tie.Need-descend-requires-4
 descend-requires-4 c κs =
+    let start = c .before .before .before .before .before in
     let g = c .before .probe in
-    let rs = recordsOf (c .before .before .before .before .before .args .rows .now) (c .before .before .before .before .before .args .n) in
-    let t : Took (place (c .before .before .before .before .before .args .a) rs) 0 recordPlaces (g .result) = rw (g .ensures) (probe-took rs (c .before .before .before .before .before .args .a) 0 recordPlaces (c .before .before .before .before .before .pre .rising) (omega arith)) in
-    (c .before .before .before .before .before .pre, near-start t (c .if4 .left))
+    let rs = recordsOf (start .args .rows .now) (start .args .n) in
+    let t : Took (place (start .args .a) rs) 0 recordPlaces (g .result) = rw (g .ensures) (probe-took rs (start .args .a) 0 recordPlaces (start .pre .rising) (omega arith)) in
+    (start .pre, near-start t (c .if4 .left))
 
 returns-5 : tie.Need-returns-5
 returns-5 c = search needs

@@ -35,33 +35,39 @@ store-requires : tie.Need-store-requires
 store-requires c κs = search needs
 
 returns-2 : tie.Need-returns-2
-returns-2 c = let r = c .before .before .before .before .before .before .before .before .before in
+returns-2 c =
+    let else1 = c .before .before .before .before .before .before in
+    let r = c .before .before .before .before .before .before .before .before .before in
     let s = r .before .before in
     let p = c .before .before .before .before .before .before .before .locate in
     let g = c .before .before .before .before .get in (
       put-over (s .args .rows .now) (s .args .n) (s .args .a) (p .result) (s .pre .0) (p .ensures) (c .store .last .0) (s .args .payload) (s .args .commit) (r .record-places .ensures)
-          (present-at (s .args .rows .now) (s .args .n) (s .args .a) (p .result) (s .pre .0 .room) (p .ensures) (rowOf (g .result)) (c .before .before .before .before .before .before .if1 .left) (g .ensures) (c .before .before .if2 .taken))
-          (c .before .before .before .before .before .before .if1 .left) (c .store .ensures),
-      behind-written (s .args .rows .now) (c .store .last .0) (r .record-places .ensures) (s .args .n) (p .result) _ (c .before .before .before .before .before .before .if1 .left) (c .store .ensures),
+          (present-at (s .args .rows .now) (s .args .n) (s .args .a) (p .result) (s .pre .0 .room) (p .ensures) (rowOf (g .result)) (else1 .if1 .left) (g .ensures) (c .before .before .if2 .taken))
+          (else1 .if1 .left) (c .store .ensures),
+      behind-written (s .args .rows .now) (c .store .last .0) (r .record-places .ensures) (s .args .n) (p .result) _ (else1 .if1 .left) (c .store .ensures),
     )
 
 insert-requires-2 : tie.Need-insert-requires-2
-insert-requires-2 c κs = let r = c .before .before .before .before .before .before .before .before in
+insert-requires-2 c κs =
+    let else1 = c .before .before .before .before .before in
+    let r = c .before .before .before .before .before .before .before .before in
     let s = r .before .before in
     let p = c .before .before .before .before .before .before .locate in
     let g = c .before .before .before .get in (
       p .ensures .within,
       put-room (s .args .rows .now) (s .args .n) (s .args .a) (p .result) (s .pre .0) (p .ensures) (recordFrom (s .args .payload) (s .args .commit))
-          (absent-at (s .args .rows .now) (s .args .n) (s .args .a) (p .result) (s .pre .0 .room) (p .ensures) (rowOf (g .result)) (c .before .before .before .before .before .if1 .left) (g .ensures) (c .before .if2 .left)) (s .pre .1),
+          (absent-at (s .args .rows .now) (s .args .n) (s .args .a) (p .result) (s .pre .0 .room) (p .ensures) (rowOf (g .result)) (else1 .if1 .left) (g .ensures) (c .before .if2 .left)) (s .pre .1),
     )
 
 returns-3 : tie.Need-returns-3
-returns-3 c = let r = c .before .before .before .before .before .before .before .before .before in
+returns-3 c =
+    let else1 = c .before .before .before .before .before .before in
+    let r = c .before .before .before .before .before .before .before .before .before in
     let s = r .before .before in
     let p = c .before .before .before .before .before .before .before .locate in
     let g = c .before .before .before .before .get in (
       put-new (s .args .rows .now) (s .args .n) (s .args .a) (p .result) (s .pre .0) (p .ensures) (c .insert2 .last .0) (c .insert2 .result) (recordFrom (s .args .payload) (s .args .commit))
-          (absent-at (s .args .rows .now) (s .args .n) (s .args .a) (p .result) (s .pre .0 .room) (p .ensures) (rowOf (g .result)) (c .before .before .before .before .before .before .if1 .left) (g .ensures) (c .before .before .if2 .left)) (s .pre .1) (c .insert2 .ensures .0),
+          (absent-at (s .args .rows .now) (s .args .n) (s .args .a) (p .result) (s .pre .0 .room) (p .ensures) (rowOf (g .result)) (else1 .if1 .left) (g .ensures) (c .before .before .if2 .left)) (s .pre .1) (c .insert2 .ensures .0),
       c .insert2 .ensures .1,
     )
 

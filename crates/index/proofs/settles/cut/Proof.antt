@@ -64,17 +64,21 @@ add-t21 : tie.Need-add-t21
 add-t21 c = search needs
 
 returns : tie.Need-returns
-returns c = let s = c .before .before .before .before .before .before .before .before .before .before in
+returns c =
+    let after-leaf-at = c .before .before .before .before .before .before .before .before in
+    let after-shift-right = c .before .before .before .before .before .before in
+    let after-make-all = c .before .before .before .before .before in
+    let s = c .before .before .before .before .before .before .before .before .before .before in
     let f = c .before .before .before .fill in (
       refl,
       refl,
       c .put-leaf .ensures
           ∙ ap (leafPut (f .last .0) (s .args .p)) (c .before .before .made-leaf .ensures)
-          ∙ ap (λ (l : LeafWords). leafPut (f .last .0) (s .args .p) (madeLeaf (l .low) (s .args .v + 1))) (c .before .before .before .before .before .before .before .before .leaf-at .ensures)
+          ∙ ap (λ (l : LeafWords). leafPut (f .last .0) (s .args .p) (madeLeaf (l .low) (s .args .v + 1))) (after-leaf-at .leaf-at .ensures)
           ∙ ap (λ (ls : LeafRows). leafPut ls (s .args .p) (madeLeaf (leafAt (s .args .leaves .now) (s .args .p) .low) (s .args .v + 1)))
           (f .ensures
-          ∙ ap (over (c .before .before .before .before .before .before .shift-right .last .0) (s .args .p + 1)) (made-rows (c .before .before .before .before .before .make-all .ensures))
-          ∙ ap (λ (ls : LeafRows). over ls (s .args .p + 1) (tab (runRow (s .args .rows .now) (s .args .i) (s .args .v + 1)) (s .args .t - 1))) (c .before .before .before .before .before .before .shift-right .ensures)),
+          ∙ ap (over (after-shift-right .shift-right .last .0) (s .args .p + 1)) (made-rows (after-make-all .make-all .ensures))
+          ∙ ap (λ (ls : LeafRows). over ls (s .args .p + 1) (tab (runRow (s .args .rows .now) (s .args .i) (s .args .v + 1)) (s .args .t - 1))) (after-shift-right .shift-right .ensures)),
     )
 
 pub cut-spec : {M : Type 1} → statement M

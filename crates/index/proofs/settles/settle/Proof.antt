@@ -39,37 +39,45 @@ cut-requires c κs = let s = c .before .before .before .before .before in
     omega (arith, s .pre, c .before .if2 .left)
 
 returns : tie.Need-returns
-returns c = let s = c .before .before .before .before .before .before in
+returns c =
+    let after-leaf-places = c .before .before .before .before in
+    let s = c .before .before .before .before .before .before in
     let k = keysBetween (s .args .rows .now) (s .args .i) (s .args .j) in
     let e : length k ≡ s .args .j - s .args .i = length-between (s .args .rows .now) (s .args .i) (s .args .j) (s .pre .from-to) (s .pre .rows-in) in
     let z : s .args .j - s .args .i ≡ 0 = c .before .before .before .match .keys1 in
     rw (c .keep .ensures .0, c .keep .ensures .1)
-    (rows-kept (s .args .leaves .now) (s .args .m) (s .args .p) (s .args .v) k (c .before .before .before .before .leaf-places .ensures) (s .pre .leaves-in) (s .pre .leaf-in) (c .keep .last .0) (inl (c .before .before .if1 .taken)) (omega arith) (c .keep .ensures .2))
+    (rows-kept (s .args .leaves .now) (s .args .m) (s .args .p) (s .args .v) k (after-leaf-places .leaf-places .ensures) (s .pre .leaves-in) (s .pre .leaf-in) (c .keep .last .0) (inl (c .before .before .if1 .taken)) (omega arith) (c .keep .ensures .2))
 
 returns-2 : tie.Need-returns-2
-returns-2 c = let s = c .before .before .before .before .before .before in
+returns-2 c =
+    let after-leaf-places = c .before .before .before .before in
+    let s = c .before .before .before .before .before .before in
     let k = keysBetween (s .args .rows .now) (s .args .i) (s .args .j) in
     let e : length k ≡ s .args .j - s .args .i = length-between (s .args .rows .now) (s .args .i) (s .args .j) (s .pre .from-to) (s .pre .rows-in) in
     let z : s .args .j - s .args .i ≡ 0 = c .before .before .before .match .keys1 in
     let n = c .before .before .if1 .left in
     rw (c .join .ensures .0, c .join .ensures .1)
-    (rows-joined (s .args .leaves .now) (s .args .m) (s .args .p) (s .args .v) k (c .before .before .before .before .leaf-places .ensures) (s .pre .leaves-in) (s .pre .leaf-in) (c .join .last .0) (omega arith) (omega arith) (c .join .ensures .2))
+    (rows-joined (s .args .leaves .now) (s .args .m) (s .args .p) (s .args .v) k (after-leaf-places .leaf-places .ensures) (s .pre .leaves-in) (s .pre .leaf-in) (c .join .last .0) (omega arith) (omega arith) (c .join .ensures .2))
 
 returns-3 : tie.Need-returns-3
-returns-3 c = let s = c .before .before .before .before .before .before in
+returns-3 c =
+    let after-leaf-places = c .before .before .before .before in
+    let s = c .before .before .before .before .before .before in
     let k = keysBetween (s .args .rows .now) (s .args .i) (s .args .j) in
     let e : length k ≡ s .args .j - s .args .i = length-between (s .args .rows .now) (s .args .i) (s .args .j) (s .pre .from-to) (s .pre .rows-in) in
     let z = c .before .before .before .match .rest .1 in
     let t = c .before .before .if2 .taken in
     rw (c .keep2 .ensures .0, c .keep2 .ensures .1)
-    (rows-kept (s .args .leaves .now) (s .args .m) (s .args .p) (s .args .v) k (c .before .before .before .before .leaf-places .ensures) (s .pre .leaves-in) (s .pre .leaf-in) (c .keep2 .last .0) (inr (omega arith)) (omega arith) (c .keep2 .ensures .2))
+    (rows-kept (s .args .leaves .now) (s .args .m) (s .args .p) (s .args .v) k (after-leaf-places .leaf-places .ensures) (s .pre .leaves-in) (s .pre .leaf-in) (c .keep2 .last .0) (inr (omega arith)) (omega arith) (c .keep2 .ensures .2))
 
 returns-4 : tie.Need-returns-4
-returns-4 c = let s = c .before .before .before .before .before .before in
+returns-4 c =
+    let after-leaf-places = c .before .before .before .before in
+    let s = c .before .before .before .before .before .before in
     let k = keysBetween (s .args .rows .now) (s .args .i) (s .args .j) in
     let n = settling-cut (s .args .rows .now) (s .pre) (c .before .before .if2 .left) in
     rw (c .cut .ensures .0, c .cut .ensures .1)
-    (rows-cut (s .args .leaves .now) (s .args .m) (s .args .p) (s .args .v) k (c .before .before .before .before .leaf-places .ensures) (s .pre .leaves-in) (s .pre .leaf-in) (c .cut .last .0) (s .args .rows .now) (s .args .i) (s .args .j) ((s .args .j - s .args .i) / standard .run)
+    (rows-cut (s .args .leaves .now) (s .args .m) (s .args .p) (s .args .v) k (after-leaf-places .leaf-places .ensures) (s .pre .leaves-in) (s .pre .leaf-in) (c .cut .last .0) (s .args .rows .now) (s .args .i) (s .args .j) ((s .args .j - s .args .i) / standard .run)
     refl (s .pre .from-to) (s .pre .rows-in) (c .before .before .if2 .left) refl (n .0) (c .cut .ensures .2))
 
 pub settle-spec : {M : Type 1} → statement M

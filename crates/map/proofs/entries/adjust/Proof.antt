@@ -18,38 +18,45 @@ leaf-at-requires c κs = search needs
 
 add-t7 : tie.Need-add-t7
 add-t7 c =
-    let e : c .before .before .leaf-at .result .hidden ≡ getD (hiddenOf (c .before .before .before .before .args .leaves .now)) (c .before .before .before .before .args .t .at) 0
-    = ap (λ (l : LeafWords). l .hidden) (c .before .before .leaf-at .ensures) ∙ sym (column-getD 2 (c .before .before .before .before .args .leaves .now) (c .before .before .before .before .args .t .at)) in
-    omega (arith, e, c .before .before .before .before .pre .1 .fits)
+    let start = c .before .before .before .before in
+    let e : c .before .before .leaf-at .result .hidden ≡ getD (hiddenOf (start .args .leaves .now)) (start .args .t .at) 0
+    = ap (λ (l : LeafWords). l .hidden) (c .before .before .leaf-at .ensures) ∙ sym (column-getD 2 (start .args .leaves .now) (start .args .t .at)) in
+    omega (arith, e, start .pre .1 .fits)
 
 sub-t8 : tie.Need-sub-t8
 sub-t8 c =
-    let e : c .before .before .before .leaf-at .result .hidden ≡ getD (hiddenOf (c .before .before .before .before .before .args .leaves .now)) (c .before .before .before .before .before .args .t .at) 0
-    = ap (λ (l : LeafWords). l .hidden) (c .before .before .before .leaf-at .ensures) ∙ sym (column-getD 2 (c .before .before .before .before .before .args .leaves .now) (c .before .before .before .before .before .args .t .at)) in
-    omega (arith, e, c .before .before .before .before .before .pre .1 .enough)
+    let start = c .before .before .before .before .before in
+    let e : c .before .before .before .leaf-at .result .hidden ≡ getD (hiddenOf (start .args .leaves .now)) (start .args .t .at) 0
+    = ap (λ (l : LeafWords). l .hidden) (c .before .before .before .leaf-at .ensures) ∙ sym (column-getD 2 (start .args .leaves .now) (start .args .t .at)) in
+    omega (arith, e, start .pre .1 .enough)
 
 add-t9 : tie.Need-add-t9
 add-t9 c =
-    let e : c .before .before .before .before .before .leaf-at .result .pending ≡ getD (pendingOf (c .before .before .before .before .before .before .before .args .leaves .now)) (c .before .before .before .before .before .before .before .args .t .at) 0
-    = ap (λ (l : LeafWords). l .pending) (c .before .before .before .before .before .leaf-at .ensures) ∙ sym (column-getD 3 (c .before .before .before .before .before .before .before .args .leaves .now) (c .before .before .before .before .before .before .before .args .t .at)) in
-    omega (arith, e, c .before .before .before .before .before .before .before .pre .0 .fits)
+    let start = c .before .before .before .before .before .before .before in
+    let after-leaf-at = c .before .before .before .before .before in
+    let e : after-leaf-at .leaf-at .result .pending ≡ getD (pendingOf (start .args .leaves .now)) (start .args .t .at) 0
+    = ap (λ (l : LeafWords). l .pending) (after-leaf-at .leaf-at .ensures) ∙ sym (column-getD 3 (start .args .leaves .now) (start .args .t .at)) in
+    omega (arith, e, start .pre .0 .fits)
 
 sub-t10 : tie.Need-sub-t10
 sub-t10 c =
-    let e : c .before .before .before .before .before .before .leaf-at .result .pending ≡ getD (pendingOf (c .before .before .before .before .before .before .before .before .args .leaves .now)) (c .before .before .before .before .before .before .before .before .args .t .at) 0
-    = ap (λ (l : LeafWords). l .pending) (c .before .before .before .before .before .before .leaf-at .ensures) ∙ sym (column-getD 3 (c .before .before .before .before .before .before .before .before .args .leaves .now) (c .before .before .before .before .before .before .before .before .args .t .at)) in
-    omega (arith, e, c .before .before .before .before .before .before .before .before .pre .0 .enough)
+    let start = c .before .before .before .before .before .before .before .before in
+    let after-leaf-at = c .before .before .before .before .before .before in
+    let e : after-leaf-at .leaf-at .result .pending ≡ getD (pendingOf (start .args .leaves .now)) (start .args .t .at) 0
+    = ap (λ (l : LeafWords). l .pending) (after-leaf-at .leaf-at .ensures) ∙ sym (column-getD 3 (start .args .leaves .now) (start .args .t .at)) in
+    omega (arith, e, start .pre .0 .enough)
 
 put-leaf-requires : tie.Need-put-leaf-requires
 put-leaf-requires c κs = search needs
 
 returns : tie.Need-returns
 returns c =
+    let after-leaf-at = c .before .before .before .before .before .before .before .before in
     let s = c .before .before .before .before .before .before .before .before .before .before in
     adjusts (s .args .leaves .now) (s .args .t) _
     (c .put-leaf .ensures
     ∙ ap (λ (l : LeafWords). leafPut (s .args .leaves .now) (s .args .t .at) (record { low = l .low; version = l .version; hidden = l .hidden + s .args .t .hide - s .args .t .unhide; pending = l .pending + s .args .t .pend - s .args .t .unpend }))
-    (c .before .before .before .before .before .before .before .before .leaf-at .ensures))
+    (after-leaf-at .leaf-at .ensures))
 
 pub adjust-spec : {M : Type 1} → statement M
 adjust-spec =

@@ -47,6 +47,8 @@ outside-term-requires-2 c κs = search needs
 
 returns-2 : tie.Need-returns-2
 returns-2 c =
+    let after-waits = c .before .before .before .before .before .before .before .before in
+    let after-waits2 = c .before .before .before .before .before .before .before in
     let s = c .before .before .before .before .before .before .before .before .before in
     let n = c .before .before .before .before .lacks .ensures in
     let hide = c .before .before .before .hidden-term .ensures ∙ ap (λ (b : Bool). hiddenTerm b (contentIn (s .args .c))) n in
@@ -54,9 +56,9 @@ returns-2 c =
     let join = c .before .outside-term .ensures ∙ ap (λ (b : Bool). outsideTerm b (contentIn (s .args .c))) n in
     let leave = c .outside-term2 .ensures ∙ ap (λ (b : Bool). outsideTerm b (contentIn (s .args .old))) n in
     record {
-      place = c .before .before .before .before .before .before .before .before .before .pre .1;
-      pend = c .before .before .before .before .before .before .before .before .waits .ensures;
-      unpend = c .before .before .before .before .before .before .before .waits2 .ensures;
+      place = s .pre .1;
+      pend = after-waits .waits .ensures;
+      unpend = after-waits2 .waits2 .ensures;
       hide-most = hide-most _ _ _ hide;
       hide-balance = hide-moved _ _ _ _ _ hide unhide;
       join-most = term-most _ _ _ join;

@@ -18,10 +18,14 @@ idle-requires : tie.Need-idle-requires
 idle-requires c κs = search needs
 
 returns : tie.Need-returns
-returns c = entryless-one _ _ _ _ _ (c .before .before .before .before .key-at .ensures) (said-at (c .before .before .before .find .ensures) (c .before .before .content-at .ensures)) (c .before .idle .ensures) (c .if1 .taken)
+returns c =
+    let after-key-at = c .before .before .before .before in
+    entryless-one _ _ _ _ _ (after-key-at .key-at .ensures) (said-at (c .before .before .before .find .ensures) (c .before .before .content-at .ensures)) (c .before .idle .ensures) (c .if1 .taken)
 
 returns-2 : tie.Need-returns-2
-returns-2 c = entryless-none _ _ _ _ _ (c .before .before .before .before .key-at .ensures) (said-at (c .before .before .before .find .ensures) (c .before .before .content-at .ensures)) (c .before .idle .ensures) (c .if1 .left)
+returns-2 c =
+    let after-key-at = c .before .before .before .before in
+    entryless-none _ _ _ _ _ (after-key-at .key-at .ensures) (said-at (c .before .before .before .find .ensures) (c .before .before .content-at .ensures)) (c .before .idle .ensures) (c .if1 .left)
 
 pub entryless-at-spec : {M : Type 1} → statement M
 entryless-at-spec =

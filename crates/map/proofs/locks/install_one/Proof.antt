@@ -28,22 +28,31 @@ terms-requires : tie.Need-terms-requires
 terms-requires c κs = search needs
 
 set-content-requires : tie.Need-set-content-requires
-set-content-requires c κs = (
-  c .before .before .before .before .before .before .before .before .before .before .before .before .pre .0,
-  (
-    c .before .before .before .before .before .before .before .before .before .find .ensures,
-    (
-      install-room _ _ _ _ (c .before .before .before .before .before .before .before .before .before .before .before .before .pre .0 .words .good) (given (c .before .before .before .before .before .before .before .before .before .before .before .write-at .ensures) (c .before .before .before .before .before .before .before .before .before .before .before .before .pre .1 .1 .0)) (c .before .before .before .before .before .before .before .before .before .before .before .before .pre .1 .1 .1),
-      terms-of (said-at (c .before .before .before .before .before .before .before .before .before .find .ensures) (c .before .before .before .before .before .before .before .content-at .ensures)) (c .before .before .terms .ensures),
-    ),
-  ),
-)
+set-content-requires c κs =
+    let start = c .before .before .before .before .before .before .before .before .before .before .before .before in
+    let after-write-at = c .before .before .before .before .before .before .before .before .before .before .before in
+    let after-find = c .before .before .before .before .before .before .before .before .before in
+    let after-content-at = c .before .before .before .before .before .before .before in (
+      start .pre .0,
+      (
+        after-find .find .ensures,
+        (
+          install-room _ _ _ _ (start .pre .0 .words .good) (given (after-write-at .write-at .ensures) (start .pre .1 .1 .0)) (start .pre .1 .1 .1),
+          terms-of (said-at (after-find .find .ensures) (after-content-at .content-at .ensures)) (c .before .before .terms .ensures),
+        ),
+      ),
+    )
 
 returns : tie.Need-returns
 returns c =
+    let start = c .before .before .before .before .before .before .before .before .before .before .before .before .before in
+    let after-write-at = c .before .before .before .before .before .before .before .before .before .before .before .before in
+    let after-find = c .before .before .before .before .before .before .before .before .before .before in
+    let after-content-at = c .before .before .before .before .before .before .before .before in
+    let after-installed = c .before .before .before .before .before .before .before in
     said-as (c .set-content .ensures)
-    (install-said _ (c .before .before .before .before .before .before .before .before .before .before .before .before .before .args .number) (c .before .before .before .before .before .before .before .before .before .before .before .before .before .args .t) _ (c .before .before .before .before .before .before .before .before .before .before .before .before .write-at .result) (contentIn (c .before .before .before .before .before .before .before .before .content-at .result)) _
-    (given (c .before .before .before .before .before .before .before .before .before .before .before .before .write-at .ensures) (c .before .before .before .before .before .before .before .before .before .before .before .before .before .pre .1 .1 .0)) (said-at (c .before .before .before .before .before .before .before .before .before .before .find .ensures) (c .before .before .before .before .before .before .before .before .content-at .ensures)) (c .before .before .before .before .before .before .before .installed .ensures))
+    (install-said _ (start .args .number) (start .args .t) _ (after-write-at .write-at .result) (contentIn (after-content-at .content-at .result)) _
+    (given (after-write-at .write-at .ensures) (start .pre .1 .1 .0)) (said-at (after-find .find .ensures) (after-content-at .content-at .ensures)) (after-installed .installed .ensures))
 
 pub install-one-spec : {M : Type 1} → statement M
 install-one-spec =

@@ -30,27 +30,41 @@ terms-requires : tie.Need-terms-requires
 terms-requires c κs = search needs
 
 set-content-requires : tie.Need-set-content-requires
-set-content-requires c κs = (
-  c .before .before .before .before .before .before .before .before .before .before .before .before .before .before .pre .0,
-  (
-    c .before .before .before .before .before .before .before .before .before .before .before .find .ensures,
-    (
-      unlock-room _ _ _ _ _ (c .before .before .before .before .before .before .before .before .before .before .before .before .before .key-at .ensures) (said-at (c .before .before .before .before .before .before .before .before .before .before .before .find .ensures) (c .before .before .before .before .before .before .before .before .before .content-at .ensures)) (c .before .before .before .before .before .before .before .before .before .before .before .before .before .before .pre .0 .words .good) (c .before .before .before .before .before .before .with-lock .ensures),
-      terms-of (said-at (c .before .before .before .before .before .before .before .before .before .before .before .find .ensures) (c .before .before .before .before .before .before .before .before .before .content-at .ensures)) (c .before .before .terms .ensures),
-    ),
-  ),
-)
+set-content-requires c κs =
+    let start = c .before .before .before .before .before .before .before .before .before .before .before .before .before .before in
+    let after-key-at = c .before .before .before .before .before .before .before .before .before .before .before .before .before in
+    let after-find = c .before .before .before .before .before .before .before .before .before .before .before in
+    let after-content-at = c .before .before .before .before .before .before .before .before .before in
+    let after-with-lock = c .before .before .before .before .before .before in (
+      start .pre .0,
+      (
+        after-find .find .ensures,
+        (
+          unlock-room _ _ _ _ _ (after-key-at .key-at .ensures) (said-at (after-find .find .ensures) (after-content-at .content-at .ensures)) (start .pre .0 .words .good) (after-with-lock .with-lock .ensures),
+          terms-of (said-at (after-find .find .ensures) (after-content-at .content-at .ensures)) (c .before .before .terms .ensures),
+        ),
+      ),
+    )
 
 returns : tie.Need-returns
 returns c =
+    let start = c .before .before .before .before .before .before .before .before .before .before .before .before .before .before .before in
+    let after-key-at = c .before .before .before .before .before .before .before .before .before .before .before .before .before .before in
+    let after-find = c .before .before .before .before .before .before .before .before .before .before .before .before in
+    let after-content-at = c .before .before .before .before .before .before .before .before .before .before in
+    let after-by-own = c .before .before .before .before .before .before .before .before .before in
+    let then1 = c .before .before .before .before .before .before .before .before in
+    let after-with-lock = c .before .before .before .before .before .before .before in
     said-as (c .set-content .ensures)
-    (unlock-said _ _ _ _ _ (c .before .before .before .before .before .before .before .before .before .before .before .before .before .before .key-at .ensures) (said-at (c .before .before .before .before .before .before .before .before .before .before .before .before .find .ensures) (c .before .before .before .before .before .before .before .before .before .before .content-at .ensures)) (c .before .before .before .before .before .before .before .before .before .before .before .before .before .before .before .args .w)
-    (sym (c .before .before .before .before .before .before .before .before .if1 .taken) ∙ c .before .before .before .before .before .before .before .before .before .by-own .ensures) (c .before .before .before .before .before .before .before .with-lock .ensures))
+    (unlock-said _ _ _ _ _ (after-key-at .key-at .ensures) (said-at (after-find .find .ensures) (after-content-at .content-at .ensures)) (start .args .w)
+    (sym (then1 .if1 .taken) ∙ after-by-own .by-own .ensures) (after-with-lock .with-lock .ensures))
 
 returns-2 : tie.Need-returns-2
 returns-2 c =
+    let after-key-at = c .before .before .before .before .before .before in
+    let after-find = c .before .before .before .before in
     let s = c .before .before .before .before .before .before .before in
-    said-nothing (s .pre .0) _ (unlock-other _ _ _ _ idle (c .before .before .before .before .before .before .key-at .ensures) (said-at (c .before .before .before .before .find .ensures) (c .before .before .content-at .ensures)) (s .args .w)
+    said-nothing (s .pre .0) _ (unlock-other _ _ _ _ idle (after-key-at .key-at .ensures) (said-at (after-find .find .ensures) (c .before .before .content-at .ensures)) (s .args .w)
     (sym (c .if1 .left) ∙ c .before .by-own .ensures))
 
 pub unlock-one-spec : {M : Type 1} → statement M

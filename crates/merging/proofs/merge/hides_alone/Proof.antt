@@ -23,19 +23,28 @@ returns-2 c e = clash e refl
 
 returns-3 : tie.Need-returns-3
 returns-3 c e =
-    let y = reaches-yes _ (c .before .before .before .before .before .before .args .r) (c .before .before .before .before .before .slot-at .result .key) (c .before .before .before .before .reaches .ensures) (c .before .before .before .if1 .left) in
-    alone-plain _ _ (c .before .before .before .before .before .slot-at .result) (c .before .before .before .before .before .before .pre .1 .0) (c .before .before .before .before .before .before .pre .0 .1) (c .before .before .before .before .before .slot-at .ensures) (y .0) (y .1) (c .before .if2 .left) (c .before .before .before .before .before .before .pre .1 .1 .0) (c .before .before .before .before .before .before .pre .1 .1 .1) (c .if3 .taken)
+    let start = c .before .before .before .before .before .before in
+    let after-slot-at = c .before .before .before .before .before in
+    let after-reaches = c .before .before .before .before in
+    let y = reaches-yes _ (start .args .r) (after-slot-at .slot-at .result .key) (after-reaches .reaches .ensures) (c .before .before .before .if1 .left) in
+    alone-plain _ _ (after-slot-at .slot-at .result) (start .pre .1 .0) (start .pre .0 .1) (after-slot-at .slot-at .ensures) (y .0) (y .1) (c .before .if2 .left) (start .pre .1 .1 .0) (start .pre .1 .1 .1) (c .if3 .taken)
 
 cast-hides-at : tie.Need-cast-hides-at
-cast-hides-at c = record { fits = c .before .before .before .before .before .slot-at .ensures .narrow (idle-waiting (c .before .before .before .before .before .slot-at .result .content) (c .before .if2 .left)) }
+cast-hides-at c =
+    let after-slot-at = c .before .before .before .before .before in
+    record { fits = after-slot-at .slot-at .ensures .narrow (idle-waiting (after-slot-at .slot-at .result .content) (c .before .if2 .left)) }
 
 hides-at-requires : tie.Need-hides-at-requires
 hides-at-requires c κs = search needs
 
 returns-4 : tie.Need-returns-4
 returns-4 c e =
-    let y = reaches-yes _ (c .before .before .before .before .before .before .before .args .r) (c .before .before .before .before .before .before .slot-at .result .key) (c .before .before .before .before .before .reaches .ensures) (c .before .before .before .before .if1 .left) in
-    alone-hider _ _ (c .before .before .before .before .before .before .slot-at .result) (c .before .before .before .before .before .before .before .pre .1 .0) (c .before .before .before .before .before .before .before .pre .0 .1) (c .before .before .before .before .before .before .slot-at .ensures) (y .0) (y .1) (c .before .before .if2 .left) (c .before .before .before .before .before .before .before .pre .1 .1 .0) (c .before .before .before .before .before .before .before .pre .1 .1 .1) (c .hides-at .result) (c .hides-at .ensures) (eqb-true _ _ e)
+    let start = c .before .before .before .before .before .before .before in
+    let after-slot-at = c .before .before .before .before .before .before in
+    let after-reaches = c .before .before .before .before .before in
+    let else1 = c .before .before .before .before in
+    let y = reaches-yes _ (start .args .r) (after-slot-at .slot-at .result .key) (after-reaches .reaches .ensures) (else1 .if1 .left) in
+    alone-hider _ _ (after-slot-at .slot-at .result) (start .pre .1 .0) (start .pre .0 .1) (after-slot-at .slot-at .ensures) (y .0) (y .1) (c .before .before .if2 .left) (start .pre .1 .1 .0) (start .pre .1 .1 .1) (c .hides-at .result) (c .hides-at .ensures) (eqb-true _ _ e)
 
 pub hides-alone-spec : {M : Type 1} → statement M
 hides-alone-spec =

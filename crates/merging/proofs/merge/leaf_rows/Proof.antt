@@ -46,13 +46,16 @@ locate-requires-2 c κs = search needs
 
 returns : tie.Need-returns
 returns c =
+    let after-leaf-places = c .before .before .before .before .before .before .before in
+    let after-leaf-at = c .before .before .before .before .before .before in
+    let after-locate = c .before .before .before .before in
     let s = c .before .before .before .before .before .before .before .before in
     let ls = s .args .leaves .now in
     record {
       lows-are = s .pre .1 .0;
-      places = column-places 0 ls (c .before .before .before .before .before .before .before .leaf-places .ensures);
+      places = column-places 0 ls (after-leaf-places .leaf-places .ensures);
       leaf-in = s .pre .1 .1;
-      low = at-low (low-of ls (s .args .i) (c .before .before .before .before .before .before .leaf-at .ensures)) (c .before .before .before .before .locate .ensures);
+      low = at-low (low-of ls (s .args .i) (after-leaf-at .leaf-at .ensures)) (after-locate .locate .ensures);
       next = λ h. at-low (low-of ls (s .args .i + 1) (c .before .before .leaf-at2 .ensures)) (c .locate2 .ensures);
       last = λ h. absurd (let q : ⊥ = omega (arith, h, c .before .before .before .if1 .taken) in q);
     }

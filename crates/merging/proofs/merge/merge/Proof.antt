@@ -53,31 +53,40 @@ take-leaf-requires c κs =
 
 add-to : tie.Need-add-to
 add-to c =
-    let s = c .before .before .before .before .before .before .before .before .before .before .before .before .before .before .before .before .before in record { fits = omega (arith, span-within (c .before .before .before .before .before .before .leaf-rows .ensures), s .pre .0 .tables .rows .room, c .before .before .take-leaf .ensures .rows-held .room) }
+    let after-leaf-rows = c .before .before .before .before .before .before in
+    let s = c .before .before .before .before .before .before .before .before .before .before .before .before .before .before .before .before .before in record { fits = omega (arith, span-within (after-leaf-rows .leaf-rows .ensures), s .pre .0 .tables .rows .room, c .before .before .take-leaf .ensures .rows-held .room) }
 
 sub-to : tie.Need-sub-to
-sub-to c = let s = c .before .before .before .before .before .before .before .before .before .before .before .before .before .before .before .before .before .before in rows-fit (c .before .before .before .before .before .before .before .leaf-rows .ensures) (s .pre .0 .tables .rows) (c .before .before .before .take-leaf .ensures)
+sub-to c =
+    let after-leaf-rows = c .before .before .before .before .before .before .before in
+    let s = c .before .before .before .before .before .before .before .before .before .before .before .before .before .before .before .before .before .before in rows-fit (after-leaf-rows .leaf-rows .ensures) (s .pre .0 .tables .rows) (c .before .before .before .take-leaf .ensures)
 
 settle-requires : tie.Need-settle-requires
 settle-requires c κs =
+    let after-leaf-at = c .before .before .before .before .before .before .before .before .before .before .before .before .before .before .before .before in
+    let else1 = c .before .before .before .before .before .before .before .before .before .before .before .before .before .before in
+    let after-leaf-rows = c .before .before .before .before .before .before .before .before .before in
     let s = c .before .before .before .before .before .before .before .before .before .before .before .before .before .before .before .before .before .before .before .before in
     let i = c .before .before .before .before .before .before .before .before .before .before .before .before .before .before .before .before .before .before .find-leaf in
     let w = c .before .before .before .before .before .take-leaf in
     settling
-    (resettling (s .args .k) (s .pre .0) (s .args .a) (i .result) (i .ensures) (pending-some _ _ (c .before .before .before .before .before .before .before .before .before .before .before .before .before .before .before .before .leaf-at .ensures) (c .before .before .before .before .before .before .before .before .before .before .before .before .before .before .if1 .left)) (w .last .0) (w .last .1 .0) (w .result) (w .ensures) (s .pre .1))
-    (span-rows (span-after (c .before .before .before .before .before .before .before .before .before .leaf-rows .ensures) (s .pre .0 .tables .rows) (w .ensures)) (w .ensures .rows-held))
+    (resettling (s .args .k) (s .pre .0) (s .args .a) (i .result) (i .ensures) (pending-some _ _ (after-leaf-at .leaf-at .ensures) (else1 .if1 .left)) (w .last .0) (w .last .1 .0) (w .result) (w .ensures) (s .pre .1))
+    (span-rows (span-after (after-leaf-rows .leaf-rows .ensures) (s .pre .0 .tables .rows) (w .ensures)) (w .ensures .rows-held))
 
 leaf-places-requires : tie.Need-leaf-places-requires
 leaf-places-requires c κs = search needs
 
 recount-requires : tie.Need-recount-requires
 recount-requires c κs =
+    let after-leaf-at = c .before .before .before .before .before .before .before .before .before .before .before .before .before .before .before .before .before .before .before .before .before .before in
+    let else1 = c .before .before .before .before .before .before .before .before .before .before .before .before .before .before .before .before .before .before .before .before in
+    let after-leaf-rows = c .before .before .before .before .before .before .before .before .before .before .before .before .before .before .before in
     let s = c .before .before .before .before .before .before .before .before .before .before .before .before .before .before .before .before .before .before .before .before .before .before .before .before .before .before in
     let i = c .before .before .before .before .before .before .before .before .before .before .before .before .before .before .before .before .before .before .before .before .before .before .before .before .find-leaf in
     let w = c .before .before .before .before .before .before .before .before .before .before .before .take-leaf in
     let r = c .before .before .before .before .before .settle in
-    let d = resettled (span-rows (span-after (c .before .before .before .before .before .before .before .before .before .before .before .before .before .before .before .leaf-rows .ensures) (s .pre .0 .tables .rows) (w .ensures)) (w .ensures .rows-held)) (r .ensures) in
-    recounting (s .args .k) (s .pre .0) (s .args .a) (i .result) (i .ensures) (pending-some _ _ (c .before .before .before .before .before .before .before .before .before .before .before .before .before .before .before .before .before .before .before .before .before .before .leaf-at .ensures) (c .before .before .before .before .before .before .before .before .before .before .before .before .before .before .before .before .before .before .before .before .if1 .left)) (w .last .0) (w .last .1 .0) (w .result) (w .ensures)
+    let d = resettled (span-rows (span-after (after-leaf-rows .leaf-rows .ensures) (s .pre .0 .tables .rows) (w .ensures)) (w .ensures .rows-held)) (r .ensures) in
+    recounting (s .args .k) (s .pre .0) (s .args .a) (i .result) (i .ensures) (pending-some _ _ (after-leaf-at .leaf-at .ensures) (else1 .if1 .left)) (w .last .0) (w .last .1 .0) (w .result) (w .ensures)
     (r .last .0) (r .result .leaves) (r .result .version) (c .before .before .before .leaf-places .ensures) (d .settled) (d .hidden) (d .pending)
 
 sub-take-versions : tie.Need-sub-take-versions
@@ -88,14 +97,18 @@ take-versions-requires c κs = search needs
 
 returns-2 : tie.Need-returns-2
 returns-2 c =
+    let after-leaf-at = c .before .before .before .before .before .before .before .before .before .before .before .before .before .before .before .before .before .before .before .before .before .before .before .before .before .before .before in
+    let else1 = c .before .before .before .before .before .before .before .before .before .before .before .before .before .before .before .before .before .before .before .before .before .before .before .before .before in
+    let after-leaf-rows = c .before .before .before .before .before .before .before .before .before .before .before .before .before .before .before .before .before .before .before .before in
+    let after-leaf-places = c .before .before .before .before .before .before .before .before in
     let s = c .before .before .before .before .before .before .before .before .before .before .before .before .before .before .before .before .before .before .before .before .before .before .before .before .before .before .before .before .before .before .before in
     let i = c .before .before .before .before .before .before .before .before .before .before .before .before .before .before .before .before .before .before .before .before .before .before .before .before .before .before .before .before .before .find-leaf in
     let w = c .before .before .before .before .before .before .before .before .before .before .before .before .before .before .before .before .take-leaf in
     let r = c .before .before .before .before .before .before .before .before .before .before .settle in
-    let d = resettled (span-rows (span-after (c .before .before .before .before .before .before .before .before .before .before .before .before .before .before .before .before .before .before .before .before .leaf-rows .ensures) (s .pre .0 .tables .rows) (w .ensures)) (w .ensures .rows-held)) (r .ensures) in
+    let d = resettled (span-rows (span-after (after-leaf-rows .leaf-rows .ensures) (s .pre .0 .tables .rows) (w .ensures)) (w .ensures .rows-held)) (r .ensures) in
     let n = c .before .before .before .before .recount in
-    merges-some (s .args .k) (s .pre .0) (s .args .a) (i .result) (i .ensures) (pending-some _ _ (c .before .before .before .before .before .before .before .before .before .before .before .before .before .before .before .before .before .before .before .before .before .before .before .before .before .before .before .leaf-at .ensures) (c .before .before .before .before .before .before .before .before .before .before .before .before .before .before .before .before .before .before .before .before .before .before .before .before .before .if1 .left)) (w .last .0) (w .last .1 .0) (w .result) (w .ensures)
-    (r .last .0) (r .result .leaves) (r .result .version) (c .before .before .before .before .before .before .before .before .leaf-places .ensures) (d .settled) (d .hidden) (d .pending)
+    merges-some (s .args .k) (s .pre .0) (s .args .a) (i .result) (i .ensures) (pending-some _ _ (after-leaf-at .leaf-at .ensures) (else1 .if1 .left)) (w .last .0) (w .last .1 .0) (w .result) (w .ensures)
+    (r .last .0) (r .result .leaves) (r .result .version) (after-leaf-places .leaf-places .ensures) (d .settled) (d .hidden) (d .pending)
     (n .last .0) (n .ensures) (c .before .take-versions .ensures .1)
 
 pub merge-spec : {M : Type 1} → statement M

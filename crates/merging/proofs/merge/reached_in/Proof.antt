@@ -32,8 +32,9 @@ reaches-requires c κs = search needs
 
 returns : tie.Need-returns Inv-loop μ-loop
 returns c =
-    skips-all (omega arith) (omega (arith, unseen-inside (c .before .before .before .before .before .loop .w) (omega arith) (c .before .before .before .before .before .loop .inv), c .before .before .before .lowest-bit .ensures))
-    (λ i a b. unseen-before (c .before .before .before .before .before .loop .w) (omega arith) (c .before .before .before .before .before .loop .inv) i a (omega (arith, c .before .before .before .lowest-bit .ensures)))
+    let at-loop = c .before .before .before .before .before in
+    skips-all (omega arith) (omega (arith, unseen-inside (at-loop .loop .w) (omega arith) (at-loop .loop .inv), c .before .before .before .lowest-bit .ensures))
+    (λ i a b. unseen-before (at-loop .loop .w) (omega arith) (at-loop .loop .inv) i a (omega (arith, c .before .before .before .lowest-bit .ensures)))
 
 other-bits-requires : tie.Need-other-bits-requires Inv-loop μ-loop
 other-bits-requires c κs = omega arith
@@ -43,8 +44,11 @@ loop-less c = omega (arith, c .other-bits .ensures, rest-less (c .before .before
 
 loop-again : tie.Need-loop-again Inv-loop μ-loop
 loop-again c =
-    unseen-on (c .before .before .before .before .before .before .loop .w) (omega arith) (c .before .before .before .before .before .before .loop .inv) _ _ (c .other-bits .ensures) (omega (arith, c .before .before .before .before .lowest-bit .ensures))
-    (elsewhere-read (c .before .before .before .before .before .before .before .args .r) _ (c .before .before .before .slot-at .ensures) (sym (c .before .before .reaches .ensures) ∙ c .before .if1 .left))
+    let start = c .before .before .before .before .before .before .before in
+    let at-loop = c .before .before .before .before .before .before in
+    let after-lowest-bit = c .before .before .before .before in
+    unseen-on (at-loop .loop .w) (omega arith) (at-loop .loop .inv) _ _ (c .other-bits .ensures) (omega (arith, after-lowest-bit .lowest-bit .ensures))
+    (elsewhere-read (start .args .r) _ (c .before .before .before .slot-at .ensures) (sym (c .before .before .reaches .ensures) ∙ c .before .if1 .left))
 
 word-end-requires : tie.Need-word-end-requires Inv-loop μ-loop
 word-end-requires c κs = c .before .before .pre .1 .0

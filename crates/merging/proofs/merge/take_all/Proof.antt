@@ -28,29 +28,39 @@ next-reached-requires c κs = (c .before .before .loop .inv .0 .words, (c .befor
 
 take-slot-requires : tie.Need-take-slot-requires Inv-loop μ-loop
 take-slot-requires c κs =
+    let at-loop = c .before .before .before .before .before .before in
     let s = c .before .before .before .before .before .before .before in (
-      record { records = recordsOf (s .args .rows .now) (s .args .n); begun = slotsOf (s .args .slots .now); first = s .args .out; walking = skips-walk (c .before .before .before .before .before .before .before .pre .1) (c .before .before .before .next-reached .ensures) (c .before .before .before .before .before .before .loop .inv .0); behind = s .pre .0 .behind; outer = s .pre .0 .outer; bound = s .pre .0 .bound },
-      (c .before .before .before .before .before .before .before .pre .1, c .before .before .if1 .taken),
+      record { records = recordsOf (s .args .rows .now) (s .args .n); begun = slotsOf (s .args .slots .now); first = s .args .out; walking = skips-walk (s .pre .1) (c .before .before .before .next-reached .ensures) (at-loop .loop .inv .0); behind = s .pre .0 .behind; outer = s .pre .0 .outer; bound = s .pre .0 .bound },
+      (s .pre .1, c .before .before .if1 .taken),
     )
 
 add-j : tie.Need-add-j Inv-loop μ-loop
 add-j c = search needs
 
 loop-less : tie.Need-loop-less Inv-loop μ-loop
-loop-less c = omega (arith, c .before .before .before .before .next-reached .ensures .forth, c .before .before .before .if1 .taken, c .before .before .before .before .before .before .loop-test .taken)
+loop-less c =
+    let in-loop = c .before .before .before .before .before .before in
+    let after-next-reached = c .before .before .before .before in
+    omega (arith, after-next-reached .next-reached .ensures .forth, c .before .before .before .if1 .taken, in-loop .loop-test .taken)
 
 loop-again : tie.Need-loop-again Inv-loop μ-loop
-loop-again c = (
-  c .take-slot .ensures .on (skips-walk (c .before .before .before .before .before .before .before .before .pre .1) (c .before .before .before .before .next-reached .ensures) (c .before .before .before .before .before .before .before .loop .inv .0)),
-  clear-on (c .take-slot .ensures) (c .before .before .before .if1 .taken) (skips-clear (c .before .before .before .before .before .before .before .before .pre .1) (c .before .before .before .before .next-reached .ensures) (c .before .before .before .before .before .before .before .loop .inv .1)),
-  stays-on (c .before .before .before .before .before .before .before .loop .inv .2) (c .take-slot .ensures .space),
-)
+loop-again c =
+    let start = c .before .before .before .before .before .before .before .before in
+    let at-loop = c .before .before .before .before .before .before .before in
+    let after-next-reached = c .before .before .before .before in (
+      c .take-slot .ensures .on (skips-walk (start .pre .1) (after-next-reached .next-reached .ensures) (at-loop .loop .inv .0)),
+      clear-on (c .take-slot .ensures) (c .before .before .before .if1 .taken) (skips-clear (start .pre .1) (after-next-reached .next-reached .ensures) (at-loop .loop .inv .1)),
+      stays-on (at-loop .loop .inv .2) (c .take-slot .ensures .space),
+    )
 
 loop-less-2 : tie.Need-loop-less-2 Inv-loop μ-loop
 loop-less-2 c = omega (arith, c .if1 .left, c .before .before .before .loop-test .taken)
 
 loop-again-2 : tie.Need-loop-again-2 Inv-loop μ-loop
-loop-again-2 c = (skips-walk (c .before .before .before .before .before .pre .1) (c .before .next-reached .ensures) (c .before .before .before .before .loop .inv .0), skips-clear (c .before .before .before .before .before .pre .1) (c .before .next-reached .ensures) (c .before .before .before .before .loop .inv .1), c .before .before .before .before .loop .inv .2)
+loop-again-2 c =
+    let start = c .before .before .before .before .before in
+    let at-loop = c .before .before .before .before in
+    (skips-walk (start .pre .1) (c .before .next-reached .ensures) (at-loop .loop .inv .0), skips-clear (start .pre .1) (c .before .next-reached .ensures) (at-loop .loop .inv .1), at-loop .loop .inv .2)
 
 returns : tie.Need-returns Inv-loop μ-loop
 returns c = walk-end (c .before .loop .inv .0) (c .before .loop .inv .1) (c .before .loop .inv .2) (c .loop-test .left)

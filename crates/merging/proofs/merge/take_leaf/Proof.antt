@@ -16,20 +16,31 @@ find-requires : tie.Need-find-requires
 find-requires c κs = c .before .before .before .before .before .pre .0 .words
 
 hides-alone-requires : tie.Need-hides-alone-requires
-hides-alone-requires c κs = (
-  (c .before .before .before .before .before .before .before .before .before .pre .0 .rows-held, c .before .before .before .before .before .before .before .before .before .pre .0 .words),
-  (c .before .before .before .before .before .before .before .before .before .pre .1 .0, (c .before .before .if2 .taken, sym (hidden-of _ _ (c .before .before .before .before .before .before .before .leaf-at .ensures)) ∙ c .before .before .before .before .before .before .before .before .before .pre .1 .1 .1 .hidden-is)),
-)
+hides-alone-requires c κs =
+    let start = c .before .before .before .before .before .before .before .before .before in
+    let after-leaf-at = c .before .before .before .before .before .before .before in (
+      (start .pre .0 .rows-held, start .pre .0 .words),
+      (start .pre .1 .0, (c .before .before .if2 .taken, sym (hidden-of _ _ (after-leaf-at .leaf-at .ensures)) ∙ start .pre .1 .1 .1 .hidden-is)),
+    )
 
 take-slot-requires : tie.Need-take-slot-requires
-take-slot-requires c κs = (
-  alone-walk (c .before .before .before .before .before .before .before .before .before .before .before .before .before .pre .0) (c .before .before .before .hides-alone .ensures (c .before .before .if3 .taken)) (sym (c .before .before .before .before .before .before .before .before .before .before .before .before .before .pre .1 .1 .1 .pending-is) ∙ pending-of _ _ (c .before .before .before .before .before .before .before .before .before .before .before .leaf-at .ensures) ∙ c .before .before .before .before .before .before .before .before .before .if1 .taken) (c .before .before .before .before .before .before .if2 .taken),
-  (c .before .before .before .before .before .before .before .before .before .before .before .before .before .pre .1 .0, c .before .before .before .before .before .before .if2 .taken),
-)
+take-slot-requires c κs =
+    let start = c .before .before .before .before .before .before .before .before .before .before .before .before .before in
+    let after-leaf-at = c .before .before .before .before .before .before .before .before .before .before .before in
+    let then1 = c .before .before .before .before .before .before .before .before .before in
+    let then2 = c .before .before .before .before .before .before in (
+      alone-walk (start .pre .0) (c .before .before .before .hides-alone .ensures (c .before .before .if3 .taken)) (sym (start .pre .1 .1 .1 .pending-is) ∙ pending-of _ _ (after-leaf-at .leaf-at .ensures) ∙ then1 .if1 .taken) (then2 .if2 .taken),
+      (start .pre .1 .0, then2 .if2 .taken),
+    )
 
 returns : tie.Need-returns
 returns c =
-    alone-took (c .before .before .before .before .before .before .before .before .before .before .before .before .before .before .pre .0) (c .before .before .before .before .hides-alone .ensures (c .before .before .before .if3 .taken)) (sym (c .before .before .before .before .before .before .before .before .before .before .before .before .before .before .pre .1 .1 .1 .pending-is) ∙ pending-of _ _ (c .before .before .before .before .before .before .before .before .before .before .before .before .leaf-at .ensures) ∙ c .before .before .before .before .before .before .before .before .before .before .if1 .taken) (c .before .before .before .before .before .before .before .if2 .taken) (c .take-slot .ensures)
+    let start = c .before .before .before .before .before .before .before .before .before .before .before .before .before .before in
+    let after-leaf-at = c .before .before .before .before .before .before .before .before .before .before .before .before in
+    let then1 = c .before .before .before .before .before .before .before .before .before .before in
+    let then2 = c .before .before .before .before .before .before .before in
+    let after-hides-alone = c .before .before .before .before in
+    alone-took (start .pre .0) (after-hides-alone .hides-alone .ensures (c .before .before .before .if3 .taken)) (sym (start .pre .1 .1 .1 .pending-is) ∙ pending-of _ _ (after-leaf-at .leaf-at .ensures) ∙ then1 .if1 .taken) (then2 .if2 .taken) (c .take-slot .ensures)
 
 take-many-requires : tie.Need-take-many-requires
 take-many-requires c κs =

@@ -24,8 +24,9 @@ take-all-requires c κs = let s = c .before .before .before .before .before in (
 
 move-down-requires : tie.Need-move-down-requires
 move-down-requires c κs =
+    let after-move-up = c .before .before .before .before in
     let s = c .before .before .before .before .before .before .before in (
-      walk-below (s .pre .0) (s .pre .1 .1 .0) (c .before .before .before .before .move-up .ensures) (ap (λ (x : ℕ). s .args .s .to + x) (s .pre .1 .1 .1)) (c .before .take-all .ensures),
+      walk-below (s .pre .0) (s .pre .1 .1 .0) (after-move-up .move-up .ensures) (ap (λ (x : ℕ). s .args .s .to + x) (s .pre .1 .1 .1)) (c .before .take-all .ensures),
       omega (arith, span-within (s .pre .1 .1 .0), s .pre .1 .1 .1, hiders-fit (s .pre .0) (placed (lowsOf (s .args .leaves .now)) (s .args .z .leaves) (s .args .i))),
     )
 
@@ -34,8 +35,9 @@ add-t14 c = search needs
 
 returns : tie.Need-returns
 returns c =
+    let after-move-up = c .before .before .before .before .before in
     let s = c .before .before .before .before .before .before .before .before in
-    took-all (s .pre .0) (s .pre .1 .1 .0) (c .before .before .before .before .before .move-up .ensures) (ap (λ (x : ℕ). s .args .s .to + x) (s .pre .1 .1 .1)) (c .before .before .take-all .ensures) (c .move-down .ensures)
+    took-all (s .pre .0) (s .pre .1 .1 .0) (after-move-up .move-up .ensures) (ap (λ (x : ℕ). s .args .s .to + x) (s .pre .1 .1 .1)) (c .before .before .take-all .ensures) (c .move-down .ensures)
 
 pub take-many-spec : {M : Type 1} → statement M
 take-many-spec =

@@ -24,7 +24,9 @@ bits-from-requires : tie.Need-bits-from-requires Inv-loop μ-loop
 bits-from-requires c κs = search needs
 
 older-in-requires : tie.Need-older-in-requires Inv-loop μ-loop
-older-in-requires c κs = (c .before .before .before .before .before .pre .0, (c .before .loop-test .taken, c .before .before .before .before .before .pre .1 .1, is-there _ (c .before .before .before .if1 .left), c .bits-from .ensures))
+older-in-requires c κs =
+    let start = c .before .before .before .before .before in
+    (start .pre .0, (c .before .loop-test .taken, start .pre .1 .1, is-there _ (c .before .before .before .if1 .left), c .bits-from .ensures))
 
 word-end-requires : tie.Need-word-end-requires Inv-loop μ-loop
 word-end-requires c κs = search needs

@@ -34,8 +34,10 @@ age-requires c κs = search needs
 
 returns : tie.Need-returns Inv-loop μ-loop
 returns c =
-    passes-all (omega arith) (omega (arith, unseen-inside (c .before .before .before .before .before .before .before .loop .w) (omega arith) (c .before .before .before .before .before .before .before .loop .inv), c .before .before .before .before .before .lowest-bit .ensures))
-    (λ i a b. unseen-before (c .before .before .before .before .before .before .before .loop .w) (omega arith) (c .before .before .before .before .before .before .before .loop .inv) i a (omega (arith, c .before .before .before .before .before .lowest-bit .ensures)))
+    let at-loop = c .before .before .before .before .before .before .before in
+    let after-lowest-bit = c .before .before .before .before .before in
+    passes-all (omega arith) (omega (arith, unseen-inside (at-loop .loop .w) (omega arith) (at-loop .loop .inv), after-lowest-bit .lowest-bit .ensures))
+    (λ i a b. unseen-before (at-loop .loop .w) (omega arith) (at-loop .loop .inv) i a (omega (arith, after-lowest-bit .lowest-bit .ensures)))
 
 other-bits-requires : tie.Need-other-bits-requires Inv-loop μ-loop
 other-bits-requires c κs = omega arith
@@ -45,9 +47,13 @@ loop-less c = omega (arith, c .other-bits .ensures, rest-less (c .before .before
 
 loop-again : tie.Need-loop-again Inv-loop μ-loop
 loop-again c =
-    unseen-on (c .before .before .before .before .before .before .before .before .loop .w) (omega arith) (c .before .before .before .before .before .before .before .before .loop .inv) _ (c .before .before .before .before .before .before .before .before .before .args .from + c .before .before .before .before .before .before .lowest-bit .result) (c .other-bits .ensures) (omega (arith, c .before .before .before .before .before .before .lowest-bit .ensures))
-    (younger-read _ (c .before .before .before .before .before .before .before .before .before .args .from + c .before .before .before .before .before .before .lowest-bit .result) (c .before .before .before .before .before .before .before .before .before .args .o) (c .before .before .before .before .before .slot-at .result) (c .before .before .before .before .before .slot-at .ensures) (omega (arith, unseen-inside (c .before .before .before .before .before .before .before .before .loop .w) (omega arith) (c .before .before .before .before .before .before .before .before .loop .inv), c .before .before .before .before .before .before .lowest-bit .ensures)) (c .before .before .before .before .before .before .before .before .before .pre .1 .1) (c .before .before .before .before .before .before .before .before .before .pre .1 .2)
-    (subst (λ (n : ℕ). c .before .before .before .before .before .before .before .before .before .args .o .since < n) (c .before .before .before .age .ensures) (c .before .if1 .left)))
+    let start = c .before .before .before .before .before .before .before .before .before in
+    let at-loop = c .before .before .before .before .before .before .before .before in
+    let after-lowest-bit = c .before .before .before .before .before .before in
+    let after-slot-at = c .before .before .before .before .before in
+    unseen-on (at-loop .loop .w) (omega arith) (at-loop .loop .inv) _ (start .args .from + after-lowest-bit .lowest-bit .result) (c .other-bits .ensures) (omega (arith, after-lowest-bit .lowest-bit .ensures))
+    (younger-read _ (start .args .from + after-lowest-bit .lowest-bit .result) (start .args .o) (after-slot-at .slot-at .result) (after-slot-at .slot-at .ensures) (omega (arith, unseen-inside (at-loop .loop .w) (omega arith) (at-loop .loop .inv), after-lowest-bit .lowest-bit .ensures)) (start .pre .1 .1) (start .pre .1 .2)
+    (subst (λ (n : ℕ). start .args .o .since < n) (c .before .before .before .age .ensures) (c .before .if1 .left)))
 
 word-end-requires : tie.Need-word-end-requires Inv-loop μ-loop
 word-end-requires c κs = c .before .before .pre .1 .0

@@ -30,7 +30,9 @@ loop-less : tie.Need-loop-less Inv-loop μ-loop
 loop-less c = omega (arith, c .before .before .next-older .ensures .forth, c .before .if1 .taken, c .before .before .before .loop-test .taken)
 
 loop-again : tie.Need-loop-again Inv-loop μ-loop
-loop-again c = oldest-on (c .before .if1 .taken) (passes-walk (c .before .before .before .before .loop .inv) (c .before .before .next-older .ensures)) (c .with-slot .ensures)
+loop-again c =
+    let at-loop = c .before .before .before .before in
+    oldest-on (c .before .if1 .taken) (passes-walk (at-loop .loop .inv) (c .before .before .next-older .ensures)) (c .with-slot .ensures)
 
 loop-less-2 : tie.Need-loop-less-2 Inv-loop μ-loop
 loop-less-2 c = omega (arith, c .if1 .left, c .before .before .loop-test .taken)

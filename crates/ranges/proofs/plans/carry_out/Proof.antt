@@ -39,10 +39,15 @@ log-leaves-requires c κs =
     (s .1 .1 .1, leaves-room (s .0) _ (p .met-ordered) (p .met-within) (p .leaves-fit))
 
 cast-t41 : tie.Need-cast-t41
-cast-t41 c = omega (arith, c .before .before .before .before .before .before .before .before .before .before .before .before .before .before .before .before .before .before .before .before .before .before .before .before .before .pre .1 .0 .reads-fit, c .before .before .before .before .before .before .before .before .before .before .before .before .before .before .before .log-rows .ensures .count)
+cast-t41 c =
+    let start = c .before .before .before .before .before .before .before .before .before .before .before .before .before .before .before .before .before .before .before .before .before .before .before .before .before in
+    let after-log-rows = c .before .before .before .before .before .before .before .before .before .before .before .before .before .before .before in
+    omega (arith, start .pre .1 .0 .reads-fit, after-log-rows .log-rows .ensures .count)
 
 cast-t42 : tie.Need-cast-t42
-cast-t42 c = omega (arith, c .before .before .before .before .before .before .before .before .before .before .before .before .before .before .before .before .before .before .before .before .before .before .before .before .before .pre .1 .0 .leaves-fit, c .log-leaves .ensures .count)
+cast-t42 c =
+    let start = c .before .before .before .before .before .before .before .before .before .before .before .before .before .before .before .before .before .before .before .before .before .before .before .before .before in
+    omega (arith, start .pre .1 .0 .leaves-fit, c .log-leaves .ensures .count)
 
 same-length : tie.Need-same-length
 same-length c = c .before .before .before .before .before .before .before .before .before .before .fill .ensures .beyond .addresses .size
@@ -55,10 +60,11 @@ same-length-3 c = c .before .before .before .before .before .before .before .bef
 
 returns : tie.Need-returns
 returns c =
+    let after-fill = c .before .before .before .before .before .before .before .before .before .before in
     let s = c .before .before .before .before .before .before .before .before .before .before .before .before .before .before .before .before .before .before .before .before .before .before .before .before .before .pre in
     let h = c .before .before .before .before .before .before .before .before .before .before .before .before .before .before .before .log-rows .ensures in
     record {
-      fills = log-fills (s .0) (s .1 .0) h (c .before .before .before .before .before .before .before .before .before .before .fill .ensures);
+      fills = log-fills (s .0) (s .1 .0) h (after-fill .fill .ensures);
       logs-rows = h;
       logs-leaves = c .log-leaves .ensures;
       worker = refl;

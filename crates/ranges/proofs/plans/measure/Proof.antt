@@ -77,28 +77,40 @@ exceeds-requires c κs =
 
 returns-4 : tie.Need-returns-4
 returns-4 c =
+    let else1 = c .before .before .before .before .before .before .before .before .before .before .before .before .before .before in
+    let after-records-between = c .before .before .before .before .before .before .before .before .before .before .before .before .before in
+    let after-leaves-meeting = c .before .before .before .before .before .before .before .before .before .before .before .before in
+    let else2 = c .before .before .before .before .before .before .before .before .before in
+    let else3 = c .before .before .before .before .before .before in
+    let after-writes-between = c .before .before .before .before in
     short refl _
     (record {
-      forward = c .before .before .before .before .before .before .before .before .before .before .before .before .before .before .if1 .left;
-      index = c .before .before .before .before .before .before .before .before .before .before .before .before .before .records-between .ensures;
-      met = c .before .before .before .before .before .before .before .before .before .before .before .before .leaves-meeting .ensures;
-      own = c .before .before .before .before .writes-between .ensures;
-      reads-fit = c .before .before .before .before .before .before .before .before .before .if2 .left;
-      leaves-fit = c .before .before .before .before .before .before .if3 .left;
+      forward = else1 .if1 .left;
+      index = after-records-between .records-between .ensures;
+      met = after-leaves-meeting .leaves-meeting .ensures;
+      own = after-writes-between .writes-between .ensures;
+      reads-fit = else2 .if2 .left;
+      leaves-fit = else3 .if3 .left;
     })
     (short-told _ _ _ (c .before .before .before .lesser .ensures) (c .before .before .lesser2 .ensures) (c .before .exceeds .ensures) (c .if4 .taken))
 
 returns-5 : tie.Need-returns-5
 returns-5 c =
+    let else1 = c .before .before .before .before .before .before .before .before .before .before .before .before .before .before in
+    let after-records-between = c .before .before .before .before .before .before .before .before .before .before .before .before .before in
+    let after-leaves-meeting = c .before .before .before .before .before .before .before .before .before .before .before .before in
+    let else2 = c .before .before .before .before .before .before .before .before .before in
+    let else3 = c .before .before .before .before .before .before in
+    let after-writes-between = c .before .before .before .before in
     record {
       measured =
           record {
-            forward = c .before .before .before .before .before .before .before .before .before .before .before .before .before .before .if1 .left;
-            index = c .before .before .before .before .before .before .before .before .before .before .before .before .before .records-between .ensures;
-            met = c .before .before .before .before .before .before .before .before .before .before .before .before .leaves-meeting .ensures;
-            own = c .before .before .before .before .writes-between .ensures;
-            reads-fit = c .before .before .before .before .before .before .before .before .before .if2 .left;
-            leaves-fit = c .before .before .before .before .before .before .if3 .left;
+            forward = else1 .if1 .left;
+            index = after-records-between .records-between .ensures;
+            met = after-leaves-meeting .leaves-meeting .ensures;
+            own = after-writes-between .writes-between .ensures;
+            reads-fit = else2 .if2 .left;
+            leaves-fit = else3 .if3 .left;
           };
       fits = fits-told _ _ _ (c .before .before .before .lesser .ensures) (c .before .before .lesser2 .ensures) (c .before .exceeds .ensures) (c .if4 .left);
     }

@@ -50,8 +50,9 @@ loop-less c =
 
 loop-again : tie.Need-loop-again Inv-loop μ-loop
 loop-again c =
+    let at-loop = c .before .before .before .before .before in
     let w = c .before .before .before .before .before .before .pre .0 in
-    counting-on _ w _ _ _ _ _ _ _ (c .before .before .before .before .before .loop .inv) (c .before .next .ensures .comes _ w (c .before .before .indexed .ensures)) (c .one .ensures)
+    counting-on _ w _ _ _ _ _ _ _ (at-loop .loop .inv) (c .before .next .ensures .comes _ w (c .before .before .indexed .ensures)) (c .one .ensures)
 
 returns : tie.Need-returns Inv-loop μ-loop
 returns c = counting-end _ (c .before .before .before .pre .0) _ _ _ _ _ (c .before .before .loop .inv) (c .if1 .left)

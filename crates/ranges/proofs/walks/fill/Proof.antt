@@ -36,18 +36,28 @@ next-requires c κs = (c .before .before .before .before .before .before .before
 
 show-requires : tie.Need-show-requires Inv-loop μ-loop
 show-requires c κs =
-    let w = c .before .before .before .before .before .before .before .before .before .before .before .pre .0 in
-    filling-fits _ w _ _ _ _ _ _ _ _ (c .before .before .before .before .before .before .before .before .before .before .before .pre .1 .1 .1) (c .before .before .before .before .before .before .before .loop .inv) (c .before .before .before .next .ensures .comes _ w (c .before .before .before .before .logged .ensures))
+    let start = c .before .before .before .before .before .before .before .before .before .before .before in
+    let at-loop = c .before .before .before .before .before .before .before in
+    let after-logged = c .before .before .before .before in
+    let w = start .pre .0 in
+    filling-fits _ w _ _ _ _ _ _ _ _ (start .pre .1 .1 .1) (at-loop .loop .inv) (c .before .before .before .next .ensures .comes _ w (after-logged .logged .ensures))
 
 loop-less : tie.Need-loop-less Inv-loop μ-loop
 loop-less c =
-    let e = c .before .before .before .before .before .before .before .before .before .before .next .ensures .comes _ (c .before .before .before .before .before .before .before .before .before .before .before .before .before .before .before .before .before .before .pre .0) (c .before .before .before .before .before .before .before .before .before .before .before .logged .ensures) in
+    let start = c .before .before .before .before .before .before .before .before .before .before .before .before .before .before .before .before .before .before in
+    let after-logged = c .before .before .before .before .before .before .before .before .before .before .before in
+    let after-next = c .before .before .before .before .before .before .before .before .before .before in
+    let e = after-next .next .ensures .comes _ (start .pre .0) (after-logged .logged .ensures) in
     omega (arith, e .on, e .inside .index, e .inside .own)
 
 loop-again : tie.Need-loop-again Inv-loop μ-loop
 loop-again c =
+    let at-loop = c .before .before .before .before .before .before .before .before .before .before .before .before .before .before in
+    let after-logged = c .before .before .before .before .before .before .before .before .before .before .before in
+    let after-next = c .before .before .before .before .before .before .before .before .before .before in
+    let after-show = c .before .before .before .before .before .before in
     let w = c .before .before .before .before .before .before .before .before .before .before .before .before .before .before .before .before .before .before .pre .0 in
-    filling-on _ w _ _ _ _ _ _ _ _ _ _ (c .before .before .before .before .before .before .before .before .before .before .before .before .before .before .loop .inv) (c .before .before .before .before .before .before .before .before .before .before .next .ensures .comes _ w (c .before .before .before .before .before .before .before .before .before .before .before .logged .ensures)) (c .before .before .before .before .before .before .show .ensures)
+    filling-on _ w _ _ _ _ _ _ _ _ _ _ (at-loop .loop .inv) (after-next .next .ensures .comes _ w (after-logged .logged .ensures)) (after-show .show .ensures)
 
 same-length : tie.Need-same-length Inv-loop μ-loop
 same-length c = c .before .before .loop .inv .beyond .addresses .size

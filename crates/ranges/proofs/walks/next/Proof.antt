@@ -55,7 +55,10 @@ returns-3 c =
     record { comes = λ f w a. subst (ComesNext _ _ _) (sym (c .of-index2 .ensures)) (step-index _ w _ _ (p .1 .0) (p .1 .1) _ _ l k a e q) }
 
 add-of-write-2 : tie.Need-add-of-write-2
-add-of-write-2 c = omega (arith, c .before .before .before .before .before .before .before .before .before .before .before .pre .0 .writes .room, c .before .before .before .before .before .before .before .before .before .if1 .left)
+add-of-write-2 c =
+    let start = c .before .before .before .before .before .before .before .before .before .before .before in
+    let else1 = c .before .before .before .before .before .before .before .before .before in
+    omega (arith, start .pre .0 .writes .room, else1 .if1 .left)
 
 of-write-requires-2 : tie.Need-of-write-requires-2
 of-write-requires-2 c κs = tt
@@ -70,10 +73,16 @@ returns-4 c =
     record { comes = λ f w a. subst (ComesNext _ _ _) (sym (c .of-write2 .ensures)) (step-own _ w _ _ (p .1 .0) (p .1 .1) _ _ l k a e q) }
 
 add-of-write-3 : tie.Need-add-of-write-3
-add-of-write-3 c = omega (arith, c .before .before .before .before .before .before .if2 .left, c .before .before .before .before .before .before .before .before .before .before .before .pre .0 .few)
+add-of-write-3 c =
+    let start = c .before .before .before .before .before .before .before .before .before .before .before in
+    let else2 = c .before .before .before .before .before .before in
+    omega (arith, else2 .if2 .left, start .pre .0 .few)
 
 add-of-write-4 : tie.Need-add-of-write-4
-add-of-write-4 c = omega (arith, c .before .before .before .before .before .before .before .before .before .before .before .pre .0 .writes .room, c .before .before .before .before .before .before .before .before .before .if1 .left)
+add-of-write-4 c =
+    let start = c .before .before .before .before .before .before .before .before .before .before .before in
+    let else1 = c .before .before .before .before .before .before .before .before .before in
+    omega (arith, start .pre .0 .writes .room, else1 .if1 .left)
 
 of-write-requires-3 : tie.Need-of-write-requires-3
 of-write-requires-3 c κs = tt

@@ -19,13 +19,29 @@ fits-requires : tie.Need-fits-requires
 fits-requires c κs = search needs
 
 returns : tie.Need-returns
-returns c = export-full _ _ _ _ _ (c .before .before .before .before .before .before .before .before .before .before .before .pre .1 .1 .0 .1) (c .before .before .before .before .before .before .before .before .before .before .before .pre .1 .1 .1 .0) (c .before .before .before .before .before .before .before .before .before .before .before .pre .1 .1 .1 .1) (c .before .before .before .before .before .decode-export .ensures) (c .before .before .before .d .given .1) (fits-no _ _ (c .before .fits2 .ensures) (c .if1 .taken))
+returns c =
+    let start = c .before .before .before .before .before .before .before .before .before .before .before in
+    let after-decode-export = c .before .before .before .before .before in
+    export-full _ _ _ _ _ (start .pre .1 .1 .0 .1) (start .pre .1 .1 .1 .0) (start .pre .1 .1 .1 .1) (after-decode-export .decode-export .ensures) (c .before .before .before .d .given .1) (fits-no _ _ (c .before .fits2 .ensures) (c .if1 .taken))
 
 perform-export-requires : tie.Need-perform-export-requires
-perform-export-requires c κs = (c .before .before .before .before .before .before .before .before .before .before .before .before .before .before .before .before .pre .0, (c .before .before .before .before .before .before .before .before .before .before .before .before .before .before .before .before .pre .1 .0, (c .before .before .before .before .before .before .before .before .before .before .before .before .before .before .before .before .pre .1 .1 .0, (export-lends _ _ (c .before .before .before .before .before .before .before .before .before .before .decode-export .ensures) (c .before .before .before .before .before .before .before .before .d .given .1)))))
+perform-export-requires c κs =
+    let start = c .before .before .before .before .before .before .before .before .before .before .before .before .before .before .before .before in
+    let after-decode-export = c .before .before .before .before .before .before .before .before .before .before in
+    let after-d = c .before .before .before .before .before .before .before .before in
+    (start .pre .0, (start .pre .1 .0, (start .pre .1 .1 .0, (export-lends _ _ (after-decode-export .decode-export .ensures) (after-d .d .given .1)))))
 
 put-export-words-requires : tie.Need-put-export-words-requires
-put-export-words-requires c κs = export-roomy _ _ _ _ _ (c .before .before .before .before .before .before .before .before .before .before .before .before .before .before .before .before .before .before .before .before .before .before .before .before .before .before .before .before .before .before .pre .1 .1 .0 .1) (c .before .before .before .before .before .before .before .before .before .before .before .before .before .before .before .before .before .before .before .before .before .before .before .before .before .before .before .before .before .before .pre .1 .1 .1 .0) (c .before .before .before .before .before .before .before .before .before .before .before .before .before .before .before .before .before .before .before .before .before .before .before .before .before .before .before .before .before .before .pre .1 .1 .1 .1) (c .before .before .before .before .before .before .before .before .before .before .before .before .before .before .before .before .before .before .before .before .before .before .before .before .decode-export .ensures) (c .before .before .before .before .before .before .before .before .before .before .before .before .before .before .before .before .before .before .before .before .before .before .d .given .1) (c .before .before .before .before .before .before .before .before .before .before .before .before .before .perform-export .result) (fits-yes _ _ (c .before .before .before .before .before .before .before .before .before .before .before .before .before .before .before .before .before .before .before .before .fits2 .ensures) (c .before .before .before .before .before .before .before .before .before .before .before .before .before .before .before .before .before .before .before .if1 .left)) (export-lends _ _ (c .before .before .before .before .before .before .before .before .before .before .before .before .before .before .before .before .before .before .before .before .before .before .before .before .decode-export .ensures) (c .before .before .before .before .before .before .before .before .before .before .before .before .before .before .before .before .before .before .before .before .before .before .d .given .1)) (c .before .before .before .before .before .before .before .before .before .before .before .before .before .perform-export .ensures)
+put-export-words-requires c κs =
+    let start = c .before .before .before .before .before .before .before .before .before .before .before .before .before .before .before .before .before .before .before .before .before .before .before .before .before .before .before .before .before .before in
+    let after-decode-export = c .before .before .before .before .before .before .before .before .before .before .before .before .before .before .before .before .before .before .before .before .before .before .before .before in
+    let after-d = c .before .before .before .before .before .before .before .before .before .before .before .before .before .before .before .before .before .before .before .before .before .before in
+    let after-fits2 = c .before .before .before .before .before .before .before .before .before .before .before .before .before .before .before .before .before .before .before .before in
+    let else1 = c .before .before .before .before .before .before .before .before .before .before .before .before .before .before .before .before .before .before .before in
+    let after-perform-export = c .before .before .before .before .before .before .before .before .before .before .before .before .before in
+    export-roomy _ _ _ _ _ (start .pre .1 .1 .0 .1) (start .pre .1 .1 .1 .0) (start .pre .1 .1 .1 .1) (after-decode-export .decode-export .ensures) (after-d .d .given .1)
+    (after-perform-export .perform-export .result) (fits-yes _ _ (after-fits2 .fits2 .ensures) (else1 .if1 .left)) (export-lends _ _
+    (after-decode-export .decode-export .ensures) (after-d .d .given .1)) (after-perform-export .perform-export .ensures)
 
 enum-told : tie.Need-enum-told
 enum-told c = search needs
@@ -46,10 +62,22 @@ same-length-5 : tie.Need-same-length-5
 same-length-5 c = search needs
 
 returns-2 : tie.Need-returns-2
-returns-2 c = export-taken _ _ _ _ _ (c .before .before .before .before .before .before .before .before .before .before .before .before .before .before .before .before .before .before .before .before .before .before .before .before .before .before .before .before .before .before .before .before .before .pre .1 .1 .0 .1) (c .before .before .before .before .before .before .before .before .before .before .before .before .before .before .before .before .before .before .before .before .before .before .before .before .before .before .before .before .before .before .before .before .before .pre .1 .1 .1 .0) (c .before .before .before .before .before .before .before .before .before .before .before .before .before .before .before .before .before .before .before .before .before .before .before .before .before .before .before .before .before .before .before .before .before .pre .1 .1 .1 .1) (c .before .before .before .before .before .before .before .before .before .before .before .before .before .before .before .before .before .before .before .before .before .before .before .before .before .before .before .decode-export .ensures) (c .before .before .before .before .before .before .before .before .before .before .before .before .before .before .before .before .before .before .before .before .before .before .before .before .before .d .given .1) (c .before .before .before .before .before .before .before .before .before .before .before .before .before .before .before .before .perform-export .result) (fits-yes _ _ (c .before .before .before .before .before .before .before .before .before .before .before .before .before .before .before .before .before .before .before .before .before .before .before .fits2 .ensures) (c .before .before .before .before .before .before .before .before .before .before .before .before .before .before .before .before .before .before .before .before .before .before .if1 .left)) (export-lends _ _ (c .before .before .before .before .before .before .before .before .before .before .before .before .before .before .before .before .before .before .before .before .before .before .before .before .before .before .before .decode-export .ensures) (c .before .before .before .before .before .before .before .before .before .before .before .before .before .before .before .before .before .before .before .before .before .before .before .before .before .d .given .1)) (c .before .before .before .before .before .before .before .before .before .before .before .before .before .before .before .before .perform-export .ensures) (c .before .before .put-export-words .ensures)
+returns-2 c =
+    let start = c .before .before .before .before .before .before .before .before .before .before .before .before .before .before .before .before .before .before .before .before .before .before .before .before .before .before .before .before .before .before .before .before .before in
+    let after-decode-export = c .before .before .before .before .before .before .before .before .before .before .before .before .before .before .before .before .before .before .before .before .before .before .before .before .before .before .before in
+    let after-d = c .before .before .before .before .before .before .before .before .before .before .before .before .before .before .before .before .before .before .before .before .before .before .before .before .before in
+    let after-fits2 = c .before .before .before .before .before .before .before .before .before .before .before .before .before .before .before .before .before .before .before .before .before .before .before in
+    let else1 = c .before .before .before .before .before .before .before .before .before .before .before .before .before .before .before .before .before .before .before .before .before .before in
+    let after-perform-export = c .before .before .before .before .before .before .before .before .before .before .before .before .before .before .before .before in
+    export-taken _ _ _ _ _ (start .pre .1 .1 .0 .1) (start .pre .1 .1 .1 .0) (start .pre .1 .1 .1 .1) (after-decode-export .decode-export .ensures) (after-d .d .given .1)
+    (after-perform-export .perform-export .result) (fits-yes _ _ (after-fits2 .fits2 .ensures) (else1 .if1 .left)) (export-lends _ _
+    (after-decode-export .decode-export .ensures) (after-d .d .given .1)) (after-perform-export .perform-export .ensures)
+    (c .before .before .put-export-words .ensures)
 
 returns-3 : tie.Need-returns-3
-returns-3 c = export-unmeant _ _ _ _ _ (c .before .before .before .before .before .before .before .before .pre .1 .1 .0 .1) (c .before .before .before .before .before .before .before .before .pre .1 .1 .1 .0) (c .before .before .before .before .before .before .before .before .pre .1 .1 .1 .1) (c .before .before .decode-export .ensures) (c .enum-told .given .1)
+returns-3 c =
+    let start = c .before .before .before .before .before .before .before .before in
+    export-unmeant _ _ _ _ _ (start .pre .1 .1 .0 .1) (start .pre .1 .1 .1 .0) (start .pre .1 .1 .1 .1) (c .before .before .decode-export .ensures) (c .enum-told .given .1)
 
 pub take-export-spec : {M : Type 1} → statement M
 take-export-spec =

@@ -20,13 +20,27 @@ fits-requires : tie.Need-fits-requires
 fits-requires c κs = search needs
 
 returns : tie.Need-returns
-returns c = job-full _ _ _ _ (c .before .before .before .before .before .before .before .before .before .before .pre .0) (c .before .before .before .before .before .before .before .before .before .before .pre .1 .0) (c .before .before .before .before .before .before .before .before .before .before .pre .1 .1) (c .before .before .before .before .before .decode .ensures) (c .before .before .before .d .given .1) (fits-no _ _ (c .before .fits2 .ensures) (c .if1 .taken))
+returns c =
+    let start = c .before .before .before .before .before .before .before .before .before .before in
+    let after-decode = c .before .before .before .before .before in
+    job-full _ _ _ _ (start .pre .0) (start .pre .1 .0) (start .pre .1 .1) (after-decode .decode .ensures) (c .before .before .before .d .given .1) (fits-no _ _ (c .before .fits2 .ensures) (c .if1 .taken))
 
 perform-first-requires : tie.Need-perform-first-requires
-perform-first-requires c κs = (c .before .before .before .before .before .before .before .before .before .before .before .before .before .before .before .before .before .before .before .before .pre .0, meant-lends _ _ (c .before .before .before .before .before .before .before .before .before .before .before .before .before .before .before .decode .ensures) (c .before .before .before .before .before .before .before .before .before .before .before .before .before .d .given .1))
+perform-first-requires c κs =
+    let start = c .before .before .before .before .before .before .before .before .before .before .before .before .before .before .before .before .before .before .before .before in
+    let after-decode = c .before .before .before .before .before .before .before .before .before .before .before .before .before .before .before in
+    let after-d = c .before .before .before .before .before .before .before .before .before .before .before .before .before in
+    (start .pre .0, meant-lends _ _ (after-decode .decode .ensures) (after-d .d .given .1))
 
 put-answer-words-requires : tie.Need-put-answer-words-requires
-put-answer-words-requires c κs = job-roomy _ _ _ _ (c .before .before .before .before .before .before .before .before .before .before .before .before .before .before .before .before .before .before .before .before .before .before .before .before .before .before .before .before .before .before .before .before .pre .0) (c .before .before .before .before .before .before .before .before .before .before .before .before .before .before .before .before .before .before .before .before .before .before .before .before .before .before .before .before .before .before .before .before .pre .1 .0) (c .before .before .before .before .before .before .before .before .before .before .before .before .before .before .before .before .before .before .before .before .before .before .before .before .before .before .before .before .before .before .before .before .pre .1 .1) (c .before .before .before .before .before .before .before .before .before .before .before .before .before .before .before .before .before .before .before .before .before .before .before .before .before .before .before .decode .ensures) (c .before .before .before .before .before .before .before .before .before .before .before .before .before .before .before .before .before .before .before .before .before .before .before .before .before .d .given .1) (performedOf _ (c .before .before .before .before .before .before .before .before .before .before .before .perform-first .result)) (fits-yes _ _ (c .before .before .before .before .before .before .before .before .before .before .before .before .before .before .before .before .before .before .before .before .before .before .before .fits2 .ensures) (c .before .before .before .before .before .before .before .before .before .before .before .before .before .before .before .before .before .before .before .before .before .before .if1 .left)) (c .before .before .before .before .before .before .before .before .before .before .before .perform-first .ensures)
+put-answer-words-requires c κs =
+    let start = c .before .before .before .before .before .before .before .before .before .before .before .before .before .before .before .before .before .before .before .before .before .before .before .before .before .before .before .before .before .before .before .before in
+    let after-decode = c .before .before .before .before .before .before .before .before .before .before .before .before .before .before .before .before .before .before .before .before .before .before .before .before .before .before .before in
+    let after-d = c .before .before .before .before .before .before .before .before .before .before .before .before .before .before .before .before .before .before .before .before .before .before .before .before .before in
+    let after-fits2 = c .before .before .before .before .before .before .before .before .before .before .before .before .before .before .before .before .before .before .before .before .before .before .before in
+    let else1 = c .before .before .before .before .before .before .before .before .before .before .before .before .before .before .before .before .before .before .before .before .before .before in
+    let after-perform-first = c .before .before .before .before .before .before .before .before .before .before .before in
+    job-roomy _ _ _ _ (start .pre .0) (start .pre .1 .0) (start .pre .1 .1) (after-decode .decode .ensures) (after-d .d .given .1) (performedOf _ (after-perform-first .perform-first .result)) (fits-yes _ _ (after-fits2 .fits2 .ensures) (else1 .if1 .left)) (after-perform-first .perform-first .ensures)
 
 enum-told : tie.Need-enum-told
 enum-told c = search needs
@@ -44,10 +58,19 @@ same-length-4 : tie.Need-same-length-4
 same-length-4 c = search needs
 
 returns-2 : tie.Need-returns-2
-returns-2 c = job-taken _ _ _ _ (c .before .before .before .before .before .before .before .before .before .before .before .before .before .before .before .before .before .before .before .before .before .before .before .before .before .before .before .before .before .before .before .before .before .before .before .pre .0) (c .before .before .before .before .before .before .before .before .before .before .before .before .before .before .before .before .before .before .before .before .before .before .before .before .before .before .before .before .before .before .before .before .before .before .before .pre .1 .0) (c .before .before .before .before .before .before .before .before .before .before .before .before .before .before .before .before .before .before .before .before .before .before .before .before .before .before .before .before .before .before .before .before .before .before .before .pre .1 .1) (c .before .before .before .before .before .before .before .before .before .before .before .before .before .before .before .before .before .before .before .before .before .before .before .before .before .before .before .before .before .before .decode .ensures) (c .before .before .before .before .before .before .before .before .before .before .before .before .before .before .before .before .before .before .before .before .before .before .before .before .before .before .before .before .d .given .1) (performedOf _ (c .before .before .before .before .before .before .before .before .before .before .before .before .before .before .perform-first .result)) (fits-yes _ _ (c .before .before .before .before .before .before .before .before .before .before .before .before .before .before .before .before .before .before .before .before .before .before .before .before .before .before .fits2 .ensures) (c .before .before .before .before .before .before .before .before .before .before .before .before .before .before .before .before .before .before .before .before .before .before .before .before .before .if1 .left)) (c .before .before .before .before .before .before .before .before .before .before .before .before .before .before .perform-first .ensures) (c .before .before .put-answer-words .ensures)
+returns-2 c =
+    let start = c .before .before .before .before .before .before .before .before .before .before .before .before .before .before .before .before .before .before .before .before .before .before .before .before .before .before .before .before .before .before .before .before .before .before .before in
+    let after-decode = c .before .before .before .before .before .before .before .before .before .before .before .before .before .before .before .before .before .before .before .before .before .before .before .before .before .before .before .before .before .before in
+    let after-d = c .before .before .before .before .before .before .before .before .before .before .before .before .before .before .before .before .before .before .before .before .before .before .before .before .before .before .before .before in
+    let after-fits2 = c .before .before .before .before .before .before .before .before .before .before .before .before .before .before .before .before .before .before .before .before .before .before .before .before .before .before in
+    let else1 = c .before .before .before .before .before .before .before .before .before .before .before .before .before .before .before .before .before .before .before .before .before .before .before .before .before in
+    let after-perform-first = c .before .before .before .before .before .before .before .before .before .before .before .before .before .before in
+    job-taken _ _ _ _ (start .pre .0) (start .pre .1 .0) (start .pre .1 .1) (after-decode .decode .ensures) (after-d .d .given .1) (performedOf _ (after-perform-first .perform-first .result)) (fits-yes _ _ (after-fits2 .fits2 .ensures) (else1 .if1 .left)) (after-perform-first .perform-first .ensures) (c .before .before .put-answer-words .ensures)
 
 returns-3 : tie.Need-returns-3
-returns-3 c = job-unmeant _ _ _ _ (c .before .before .before .before .before .before .before .pre .0) (c .before .before .before .before .before .before .before .pre .1 .0) (c .before .before .before .before .before .before .before .pre .1 .1) (c .before .before .decode .ensures) (c .enum-told .given .1)
+returns-3 c =
+    let start = c .before .before .before .before .before .before .before in
+    job-unmeant _ _ _ _ (start .pre .0) (start .pre .1 .0) (start .pre .1 .1) (c .before .before .decode .ensures) (c .enum-told .given .1)
 
 pub take-job-spec : {M : Type 1} → statement M
 take-job-spec =

@@ -37,7 +37,10 @@ same-length-3 : tie.Need-same-length-3
 same-length-3 c = search needs
 
 returns : tie.Need-returns
-returns c = performs-first _ _ (c .before .before .before .before .before .before .before .before .before .before .before .before .before .before .before .before .before .before .before .before .pre .1) (c .before .before .before .before .before .before .perform .ensures)
+returns c =
+    let start = c .before .before .before .before .before .before .before .before .before .before .before .before .before .before .before .before .before .before .before .before in
+    let after-perform = c .before .before .before .before .before .before in
+    performs-first _ _ (start .pre .1) (after-perform .perform .ensures)
 
 pub perform-first-spec : {M : Type 1} → statement M
 perform-first-spec =

@@ -11,7 +11,10 @@ no-export-requires : tie.Need-no-export-requires
 no-export-requires c κs = search needs
 
 take-all-requires : tie.Need-take-all-requires
-take-all-requires c κs = (fresh-as (c .before .before .before .before .before .before .before .before .before .before .before .before .before .before .fresh-state .ensures), (c .before .before .before .before .before .before .before .before .before .before .before .before .before .no-export .ensures .0 _, c .before .before .before .before .before .before .before .before .before .before .before .before .before .no-export .ensures .1))
+take-all-requires c κs =
+    let after-fresh-state = c .before .before .before .before .before .before .before .before .before .before .before .before .before .before in
+    let after-no-export = c .before .before .before .before .before .before .before .before .before .before .before .before .before in
+    (fresh-as (after-fresh-state .fresh-state .ensures), (after-no-export .no-export .ensures .0 _, after-no-export .no-export .ensures .1))
 
 same-length : tie.Need-same-length
 same-length c = search needs
@@ -29,7 +32,10 @@ same-length-5 : tie.Need-same-length-5
 same-length-5 c = search needs
 
 returns : tie.Need-returns
-returns c = replays-as (c .before .before .before .before .before .before .before .before .before .before .before .before .before .before .before .before .before .before .before .before .before .before .before .before .before .fresh-state .ensures) (c .before .before .before .before .before .before .before .before .before .before .take-all .ensures)
+returns c =
+    let after-fresh-state = c .before .before .before .before .before .before .before .before .before .before .before .before .before .before .before .before .before .before .before .before .before .before .before .before .before in
+    let after-take-all = c .before .before .before .before .before .before .before .before .before .before in
+    replays-as (after-fresh-state .fresh-state .ensures) (after-take-all .take-all .ensures)
 
 pub replay-spec : {M : Type 1} → statement M
 replay-spec =

@@ -23,67 +23,120 @@ abbrev μ-loop : tie.MeasureT-loop
     count - i
 
 loop-holds : tie.Need-loop-holds Inv-loop μ-loop
-loop-holds c = replaying-start _ _ _ _ (c .before .before .before .before .before .before .pre .0) (c .before .before .before .before .before .before .pre .1)
+loop-holds c =
+    let start = c .before .before .before .before .before .before in
+    replaying-start _ _ _ _ (start .pre .0) (start .pre .1)
 
 code-at-requires : tie.Need-code-at-requires Inv-loop μ-loop
 code-at-requires c κs = omega (arith, c .loop-test .taken)
 
 take-code-requires : tie.Need-take-code-requires Inv-loop μ-loop
-take-code-requires c κs = ((c .before .before .before .before .before .before .before .before .before .before .before .before .before .before .before .loop .inv) .ready .engine, (replaying-at (c .before .before .before .before .before .before .before .before .before .before .before .before .before .before .before .loop .inv), (c .before .before .before .before .before .before .before .before .before .before .before .before .before .before .before .loop .inv) .ready .export))
+take-code-requires c κs =
+    let at-loop = c .before .before .before .before .before .before .before .before .before .before .before .before .before .before .before in
+    ((at-loop .loop .inv) .ready .engine, (replaying-at (at-loop .loop .inv), (at-loop .loop .inv) .ready .export))
 
 enum-told : tie.Need-enum-told Inv-loop μ-loop
 enum-told c = search needs
 
 add-i : tie.Need-add-i Inv-loop μ-loop
-add-i c = omega (arith, c .before .before .before .before .before .before .before .before .before .before .before .before .before .before .before .before .before .before .before .before .before .before .before .before .before .before .before .before .code-at .ensures .1)
+add-i c =
+    let after-code-at = c .before .before .before .before .before .before .before .before .before .before .before .before .before .before .before .before .before .before .before .before .before .before .before .before .before .before .before .before in
+    omega (arith, after-code-at .code-at .ensures .1)
 
 loop-less : tie.Need-loop-less Inv-loop μ-loop
-loop-less c = omega (arith, c .before .before .before .before .before .before .before .before .before .before .before .before .before .before .before .before .before .before .before .before .before .before .before .before .before .before .before .before .before .loop-test .taken)
+loop-less c =
+    let in-loop = c .before .before .before .before .before .before .before .before .before .before .before .before .before .before .before .before .before .before .before .before .before .before .before .before .before .before .before .before .before in
+    omega (arith, in-loop .loop-test .taken)
 
 loop-again : tie.Need-loop-again Inv-loop μ-loop
-loop-again c = replaying-on (c .before .before .before .before .before .before .before .before .before .before .before .before .before .before .before .before .before .before .before .before .before .before .before .before .before .before .before .before .before .before .loop .inv) (takes-as (c .before .before .before .before .before .before .before .before .before .before .before .before .before .before .take-code .ensures) (c .before .before .before .before .before .before .before .before .before .before .before .before .before .before .before .before .before .before .before .before .before .before .before .before .before .before .before .before .code-at .ensures .0)) (omega (arith, c .before .before .before .before .before .before .before .before .before .before .before .before .before .before .before .before .before .before .before .before .before .before .before .before .before .before .before .before .before .loop-test .taken)) (c .enum-told .given .1)
+loop-again c =
+    let at-loop = c .before .before .before .before .before .before .before .before .before .before .before .before .before .before .before .before .before .before .before .before .before .before .before .before .before .before .before .before .before .before in
+    let in-loop = c .before .before .before .before .before .before .before .before .before .before .before .before .before .before .before .before .before .before .before .before .before .before .before .before .before .before .before .before .before in
+    let after-code-at = c .before .before .before .before .before .before .before .before .before .before .before .before .before .before .before .before .before .before .before .before .before .before .before .before .before .before .before .before in
+    let after-take-code = c .before .before .before .before .before .before .before .before .before .before .before .before .before .before in
+    replaying-on (at-loop .loop .inv) (takes-as (after-take-code .take-code .ensures) (after-code-at .code-at .ensures .0)) (omega (arith, in-loop .loop-test .taken)) (c .enum-told .given .1)
 
 enum-told-2 : tie.Need-enum-told-2 Inv-loop μ-loop
 enum-told-2 c = search needs
 
 same-length : tie.Need-same-length Inv-loop μ-loop
-same-length c = code-out (c .before .before .before .before .before .before .before .before .before .before .before .before .before .before .take-code .ensures) ∙ replaying-out (c .before .before .before .before .before .before .before .before .before .before .before .before .before .before .before .before .before .before .before .before .before .before .before .before .before .before .before .before .before .before .loop .inv)
+same-length c =
+    let at-loop = c .before .before .before .before .before .before .before .before .before .before .before .before .before .before .before .before .before .before .before .before .before .before .before .before .before .before .before .before .before .before in
+    let after-take-code = c .before .before .before .before .before .before .before .before .before .before .before .before .before .before in
+    code-out (after-take-code .take-code .ensures) ∙ replaying-out (at-loop .loop .inv)
 
 same-length-2 : tie.Need-same-length-2 Inv-loop μ-loop
-same-length-2 c = ap (λ (m : Places). m .addresses) (code-places (c .before .before .before .before .before .before .before .before .before .before .before .before .before .before .take-code .ensures) ∙ replaying-places (c .before .before .before .before .before .before .before .before .before .before .before .before .before .before .before .before .before .before .before .before .before .before .before .before .before .before .before .before .before .before .loop .inv))
+same-length-2 c =
+    let at-loop = c .before .before .before .before .before .before .before .before .before .before .before .before .before .before .before .before .before .before .before .before .before .before .before .before .before .before .before .before .before .before in
+    let after-take-code = c .before .before .before .before .before .before .before .before .before .before .before .before .before .before in
+    ap (λ (m : Places). m .addresses) (code-places (after-take-code .take-code .ensures) ∙ replaying-places (at-loop .loop .inv))
 
 same-length-3 : tie.Need-same-length-3 Inv-loop μ-loop
-same-length-3 c = ap (λ (m : Places). m .values) (code-places (c .before .before .before .before .before .before .before .before .before .before .before .before .before .before .take-code .ensures) ∙ replaying-places (c .before .before .before .before .before .before .before .before .before .before .before .before .before .before .before .before .before .before .before .before .before .before .before .before .before .before .before .before .before .before .loop .inv))
+same-length-3 c =
+    let at-loop = c .before .before .before .before .before .before .before .before .before .before .before .before .before .before .before .before .before .before .before .before .before .before .before .before .before .before .before .before .before .before in
+    let after-take-code = c .before .before .before .before .before .before .before .before .before .before .before .before .before .before in
+    ap (λ (m : Places). m .values) (code-places (after-take-code .take-code .ensures) ∙ replaying-places (at-loop .loop .inv))
 
 same-length-4 : tie.Need-same-length-4 Inv-loop μ-loop
-same-length-4 c = ap (λ (m : Places). m .owners) (code-places (c .before .before .before .before .before .before .before .before .before .before .before .before .before .before .take-code .ensures) ∙ replaying-places (c .before .before .before .before .before .before .before .before .before .before .before .before .before .before .before .before .before .before .before .before .before .before .before .before .before .before .before .before .before .before .loop .inv))
+same-length-4 c =
+    let at-loop = c .before .before .before .before .before .before .before .before .before .before .before .before .before .before .before .before .before .before .before .before .before .before .before .before .before .before .before .before .before .before in
+    let after-take-code = c .before .before .before .before .before .before .before .before .before .before .before .before .before .before in
+    ap (λ (m : Places). m .owners) (code-places (after-take-code .take-code .ensures) ∙ replaying-places (at-loop .loop .inv))
 
 same-length-5 : tie.Need-same-length-5 Inv-loop μ-loop
-same-length-5 c = code-bytes (c .before .before .before .before .before .before .before .before .before .before .before .before .before .before .take-code .ensures) ∙ replaying-bytes (c .before .before .before .before .before .before .before .before .before .before .before .before .before .before .before .before .before .before .before .before .before .before .before .before .before .before .before .before .before .before .loop .inv)
+same-length-5 c =
+    let at-loop = c .before .before .before .before .before .before .before .before .before .before .before .before .before .before .before .before .before .before .before .before .before .before .before .before .before .before .before .before .before .before in
+    let after-take-code = c .before .before .before .before .before .before .before .before .before .before .before .before .before .before in
+    code-bytes (after-take-code .take-code .ensures) ∙ replaying-bytes (at-loop .loop .inv)
 
 returns : tie.Need-returns Inv-loop μ-loop
-returns c = replays-stop (c .before .before .before .before .before .before .before .before .before .before .before .before .before .before .before .before .before .before .before .before .before .before .before .before .before .before .before .before .before .before .loop .inv) (takes-as (c .before .before .before .before .before .before .before .before .before .before .before .before .before .before .take-code .ensures) (c .before .before .before .before .before .before .before .before .before .before .before .before .before .before .before .before .before .before .before .before .before .before .before .before .before .before .before .before .code-at .ensures .0)) (omega (arith, c .before .before .before .before .before .before .before .before .before .before .before .before .before .before .before .before .before .before .before .before .before .before .before .before .before .before .before .before .before .loop-test .taken)) stop.Meaningless (c .enum-told2 .given .1) refl (λ r ξ. refl)
+returns c =
+    let at-loop = c .before .before .before .before .before .before .before .before .before .before .before .before .before .before .before .before .before .before .before .before .before .before .before .before .before .before .before .before .before .before in
+    let in-loop = c .before .before .before .before .before .before .before .before .before .before .before .before .before .before .before .before .before .before .before .before .before .before .before .before .before .before .before .before .before in
+    let after-code-at = c .before .before .before .before .before .before .before .before .before .before .before .before .before .before .before .before .before .before .before .before .before .before .before .before .before .before .before .before in
+    let after-take-code = c .before .before .before .before .before .before .before .before .before .before .before .before .before .before in
+    replays-stop (at-loop .loop .inv) (takes-as (after-take-code .take-code .ensures) (after-code-at .code-at .ensures .0)) (omega (arith, in-loop .loop-test .taken)) stop.Meaningless (c .enum-told2 .given .1) refl (λ r ξ. refl)
 
 enum-told-3 : tie.Need-enum-told-3 Inv-loop μ-loop
 enum-told-3 c = search needs
 
 same-length-6 : tie.Need-same-length-6 Inv-loop μ-loop
-same-length-6 c = code-out (c .before .before .before .before .before .before .before .before .before .before .before .before .before .before .take-code .ensures) ∙ replaying-out (c .before .before .before .before .before .before .before .before .before .before .before .before .before .before .before .before .before .before .before .before .before .before .before .before .before .before .before .before .before .before .loop .inv)
+same-length-6 c =
+    let at-loop = c .before .before .before .before .before .before .before .before .before .before .before .before .before .before .before .before .before .before .before .before .before .before .before .before .before .before .before .before .before .before in
+    let after-take-code = c .before .before .before .before .before .before .before .before .before .before .before .before .before .before in
+    code-out (after-take-code .take-code .ensures) ∙ replaying-out (at-loop .loop .inv)
 
 same-length-7 : tie.Need-same-length-7 Inv-loop μ-loop
-same-length-7 c = ap (λ (m : Places). m .addresses) (code-places (c .before .before .before .before .before .before .before .before .before .before .before .before .before .before .take-code .ensures) ∙ replaying-places (c .before .before .before .before .before .before .before .before .before .before .before .before .before .before .before .before .before .before .before .before .before .before .before .before .before .before .before .before .before .before .loop .inv))
+same-length-7 c =
+    let at-loop = c .before .before .before .before .before .before .before .before .before .before .before .before .before .before .before .before .before .before .before .before .before .before .before .before .before .before .before .before .before .before in
+    let after-take-code = c .before .before .before .before .before .before .before .before .before .before .before .before .before .before in
+    ap (λ (m : Places). m .addresses) (code-places (after-take-code .take-code .ensures) ∙ replaying-places (at-loop .loop .inv))
 
 same-length-8 : tie.Need-same-length-8 Inv-loop μ-loop
-same-length-8 c = ap (λ (m : Places). m .values) (code-places (c .before .before .before .before .before .before .before .before .before .before .before .before .before .before .take-code .ensures) ∙ replaying-places (c .before .before .before .before .before .before .before .before .before .before .before .before .before .before .before .before .before .before .before .before .before .before .before .before .before .before .before .before .before .before .loop .inv))
+same-length-8 c =
+    let at-loop = c .before .before .before .before .before .before .before .before .before .before .before .before .before .before .before .before .before .before .before .before .before .before .before .before .before .before .before .before .before .before in
+    let after-take-code = c .before .before .before .before .before .before .before .before .before .before .before .before .before .before in
+    ap (λ (m : Places). m .values) (code-places (after-take-code .take-code .ensures) ∙ replaying-places (at-loop .loop .inv))
 
 same-length-9 : tie.Need-same-length-9 Inv-loop μ-loop
-same-length-9 c = ap (λ (m : Places). m .owners) (code-places (c .before .before .before .before .before .before .before .before .before .before .before .before .before .before .take-code .ensures) ∙ replaying-places (c .before .before .before .before .before .before .before .before .before .before .before .before .before .before .before .before .before .before .before .before .before .before .before .before .before .before .before .before .before .before .loop .inv))
+same-length-9 c =
+    let at-loop = c .before .before .before .before .before .before .before .before .before .before .before .before .before .before .before .before .before .before .before .before .before .before .before .before .before .before .before .before .before .before in
+    let after-take-code = c .before .before .before .before .before .before .before .before .before .before .before .before .before .before in
+    ap (λ (m : Places). m .owners) (code-places (after-take-code .take-code .ensures) ∙ replaying-places (at-loop .loop .inv))
 
 same-length-10 : tie.Need-same-length-10 Inv-loop μ-loop
-same-length-10 c = code-bytes (c .before .before .before .before .before .before .before .before .before .before .before .before .before .before .take-code .ensures) ∙ replaying-bytes (c .before .before .before .before .before .before .before .before .before .before .before .before .before .before .before .before .before .before .before .before .before .before .before .before .before .before .before .before .before .before .loop .inv)
+same-length-10 c =
+    let at-loop = c .before .before .before .before .before .before .before .before .before .before .before .before .before .before .before .before .before .before .before .before .before .before .before .before .before .before .before .before .before .before in
+    let after-take-code = c .before .before .before .before .before .before .before .before .before .before .before .before .before .before in
+    code-bytes (after-take-code .take-code .ensures) ∙ replaying-bytes (at-loop .loop .inv)
 
 returns-2 : tie.Need-returns-2 Inv-loop μ-loop
-returns-2 c = replays-stop (c .before .before .before .before .before .before .before .before .before .before .before .before .before .before .before .before .before .before .before .before .before .before .before .before .before .before .before .before .before .before .loop .inv) (takes-as (c .before .before .before .before .before .before .before .before .before .before .before .before .before .before .take-code .ensures) (c .before .before .before .before .before .before .before .before .before .before .before .before .before .before .before .before .before .before .before .before .before .before .before .before .before .before .before .before .code-at .ensures .0)) (omega (arith, c .before .before .before .before .before .before .before .before .before .before .before .before .before .before .before .before .before .before .before .before .before .before .before .before .before .before .before .before .before .loop-test .taken)) stop.Full (c .enum-told3 .given .1) refl (λ r ξ. refl)
+returns-2 c =
+    let at-loop = c .before .before .before .before .before .before .before .before .before .before .before .before .before .before .before .before .before .before .before .before .before .before .before .before .before .before .before .before .before .before in
+    let in-loop = c .before .before .before .before .before .before .before .before .before .before .before .before .before .before .before .before .before .before .before .before .before .before .before .before .before .before .before .before .before in
+    let after-code-at = c .before .before .before .before .before .before .before .before .before .before .before .before .before .before .before .before .before .before .before .before .before .before .before .before .before .before .before .before in
+    let after-take-code = c .before .before .before .before .before .before .before .before .before .before .before .before .before .before in
+    replays-stop (at-loop .loop .inv) (takes-as (after-take-code .take-code .ensures) (after-code-at .code-at .ensures .0)) (omega (arith, in-loop .loop-test .taken)) stop.Full (c .enum-told3 .given .1) refl (λ r ξ. refl)
 
 last-stop-requires : tie.Need-last-stop-requires Inv-loop μ-loop
 last-stop-requires c κs = tt

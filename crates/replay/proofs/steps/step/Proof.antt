@@ -13,7 +13,11 @@ enum-known-d : tie.Need-enum-known-d
 enum-known-d c = search needs
 
 perform-first-requires : tie.Need-perform-first-requires
-perform-first-requires c κs = (c .before .before .before .before .before .before .before .before .before .before .before .before .before .before .before .before .before .pre, meant-lends _ _ (c .before .before .before .before .before .before .before .before .before .before .before .before .before .decode .ensures) (c .before .before .before .before .before .before .before .before .before .before .before .d .given .1))
+perform-first-requires c κs =
+    let start = c .before .before .before .before .before .before .before .before .before .before .before .before .before .before .before .before .before in
+    let after-decode = c .before .before .before .before .before .before .before .before .before .before .before .before .before in
+    let after-d = c .before .before .before .before .before .before .before .before .before .before .before in
+    (start .pre, meant-lends _ _ (after-decode .decode .ensures) (after-d .d .given .1))
 
 encode-requires : tie.Need-encode-requires
 encode-requires c κs = search needs
@@ -34,7 +38,11 @@ same-length-3 : tie.Need-same-length-3
 same-length-3 c = search needs
 
 returns : tie.Need-returns
-returns c = step-meant (performedOf _ (c .before .before .before .before .before .before .before .before .perform-first .result)) (c .before .before .before .before .before .before .before .before .before .before .before .before .before .before .before .before .before .before .before .before .before .before .decode .ensures) (c .before .before .before .before .before .before .before .before .before .before .before .before .before .before .before .before .before .before .before .before .d .given .1) (c .before .before .before .before .before .before .before .before .perform-first .ensures) (c .encode .ensures)
+returns c =
+    let after-decode = c .before .before .before .before .before .before .before .before .before .before .before .before .before .before .before .before .before .before .before .before .before .before in
+    let after-d = c .before .before .before .before .before .before .before .before .before .before .before .before .before .before .before .before .before .before .before .before in
+    let after-perform-first = c .before .before .before .before .before .before .before .before in
+    step-meant (performedOf _ (after-perform-first .perform-first .result)) (after-decode .decode .ensures) (after-d .d .given .1) (after-perform-first .perform-first .ensures) (c .encode .ensures)
 
 returns-2 : tie.Need-returns-2
 returns-2 c = step-meaningless (c .before .before .before .decode .ensures) (c .before .enum-told .given .1) (c .no-meaning .ensures)

@@ -19,10 +19,22 @@ rank-requires-2 : tie.Need-rank-requires-2
 rank-requires-2 c κs = search needs
 
 returns-3 : tie.Need-returns-3
-returns-3 c = turned-wrong _ (c .before .before .before .before .worker-at .ensures .1) (c .before .before .before .before .before .if1 .left) (c .before .before .before .before .worker-at .ensures .0) (c .before .before .before .rank .ensures) _ (c .before .before .if2 .left) (rank-not _ (c .before .before .before .before .before .before .args .right) (c .before .before .before .rank .ensures) (c .before .rank2 .ensures) (c .if3 .taken))
+returns-3 c =
+    let start = c .before .before .before .before .before .before in
+    let then1 = c .before .before .before .before .before in
+    let there = c .before .before .before .before in
+    let ranked = c .before .before .before in
+    turned-wrong _ (there .worker-at .ensures .1) (then1 .if1 .left) (there .worker-at .ensures .0) (ranked .rank .ensures) _ (c .before .before .if2 .left)
+    (rank-not _ (start .args .right) (ranked .rank .ensures) (c .before .rank2 .ensures) (c .if3 .taken))
 
 returns-4 : tie.Need-returns-4
-returns-4 c = admitted _ (c .before .before .before .before .worker-at .ensures .1) (c .before .before .before .before .before .if1 .left) (c .before .before .before .before .worker-at .ensures .0) (c .before .before .before .rank .ensures) _ (c .before .before .if2 .left) (rank-is _ (c .before .before .before .before .before .before .args .right) (c .before .before .before .rank .ensures) (c .before .rank2 .ensures) (c .if3 .left))
+returns-4 c =
+    let start = c .before .before .before .before .before .before in
+    let then1 = c .before .before .before .before .before in
+    let there = c .before .before .before .before in
+    let ranked = c .before .before .before in
+    admitted _ (there .worker-at .ensures .1) (then1 .if1 .left) (there .worker-at .ensures .0) (ranked .rank .ensures) _ (c .before .before .if2 .left)
+    (rank-is _ (start .args .right) (ranked .rank .ensures) (c .before .rank2 .ensures) (c .if3 .left))
 
 pub at-stage-spec : {M : Type 1} → statement M
 at-stage-spec =

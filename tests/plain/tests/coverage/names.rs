@@ -5,7 +5,7 @@ use crate::facts::{Facts, Meeting};
 use crate::guard::Guard;
 use crate::observe::Observer;
 use crate::slots::Look;
-use plain::engine::{Engine, Stage, LEAF_LIMIT, READ_LIMIT, WORKERS, WRITE_LIMIT};
+use plain::engine::{Engine, Stage, LEAF_SET_LIMIT, READ_LIMIT, WORKERS, WRITE_LIMIT};
 use plain::map::{Leaf, Lock, Map, Payload, Write, INDEXLET_LIMIT, MAP_LIMIT};
 use plain::step::{Answer, Buffers, PLACES};
 use std::collections::{BTreeMap, BTreeSet};
@@ -74,7 +74,7 @@ impl Meeting {
         };
         check_places(before, shown, answer, &observer.buffers);
         let shown = shown.len();
-        let (many_reads, many_leaves) = (reads > READ_LIMIT, leaves > LEAF_LIMIT);
+        let (many_reads, many_leaves) = (reads > READ_LIMIT, leaves > LEAF_SET_LIMIT);
         let (full, short) = (many_reads || many_leaves, shown > PLACES);
         expect(answer, &[(backward, 5), (full, 6), (short, 8)]);
         let granted = answer.granted();
@@ -82,10 +82,10 @@ impl Meeting {
             (backward && reads == READ_LIMIT, "backward at a full read set"),
             (granted && shown > 0 && reads == READ_LIMIT, "scan fills the read set"),
             (reads == READ_LIMIT + 1 && !many_leaves, "scan beyond the read set"),
-            (granted && leaves == LEAF_LIMIT, "scan fills the leaf set"),
-            (leaves == LEAF_LIMIT + 1 && !many_reads, "scan beyond the leaf set"),
-            (granted && here == LEAF_LIMIT, "32 leaves at once"),
-            (here == LEAF_LIMIT + 1 && !many_reads, "33 leaves at once"),
+            (granted && leaves == LEAF_SET_LIMIT, "scan fills the leaf set"),
+            (leaves == LEAF_SET_LIMIT + 1 && !many_reads, "scan beyond the leaf set"),
+            (granted && here == LEAF_SET_LIMIT, "32 leaves at once"),
+            (here == LEAF_SET_LIMIT + 1 && !many_reads, "33 leaves at once"),
             (granted && shown == PLACES, "64 places"),
             (!full && shown == PLACES + 1, "65 places"),
             (full && short, "6 before 8"),

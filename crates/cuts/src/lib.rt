@@ -58,7 +58,7 @@ fn set_version(made: &mut [MadeLeaf], i: usize, version: u64)
     made[i] = made[i].versioned(version);
 }
 
-// MadeLeaf i is made, where the leaves go by value.
+// Leaf i is made, where the leaves go by value.
 pub fn make_run(made: Made, i: usize, low: u64, version: u64) -> Made
     requires { ⌜ i < mostRuns ⌝ }
     ensures { λ r. ⌜ r ≡ set made i (leaf low version) ⌝ }

@@ -7,8 +7,6 @@ use index::LEAVES;
 use index::RECORD_WORDS;
 use indexlet::SLOT_ROWS;
 use indexlet::SLOT_WORDS;
-use libc::STDIN_FILENO;
-use libc::STDOUT_FILENO;
 use map::Leaves;
 use map::Records;
 use map::Slots;
@@ -20,61 +18,24 @@ use sets::WRITE_WORDS;
 use sets::Workers;
 use sets::WriteSets;
 use shell::Work;
+use shell::system;
+use shell::system::Calls;
 use spec::LEAF_SET_LIMIT;
 use spec::MAP_LIMIT;
 use spec::READ_LIMIT;
 use spec::WORKERS;
 use spec::WRITE_LIMIT;
-ghost use Prim.Native.Nat.{_≤_, _<_, _+_, _^_};
+ghost use Prim.Native.Nat.{_≤_};
 ghost use mathlib.Core.Path.{_≡_};
 ghost use mathlib.Core.Bool.{true};
 ghost use lib.ListN.{length, take};
-ghost use Rattle.libc.specs.Io.{Moved};
 ghost use Rattle.map.specs.Views.{lent};
 ghost use Rattle.transactions.specs.Views.{logs};
 ghost use Rattle.console.specs.Finishes.{longestEnd};
-ghost use Rattle.shell.specs.Works.{Stands, Rests, Countable, Reads, Owed, ReadDone, WriteDone, Turns};
+ghost use Rattle.shell.specs.Works.{Stands, Rests, Countable, Reads, ReadDone, WriteDone, Turns, Closes, Ran};
 
-// Turns of a buffer's bytes each, so that two numbers of 64 bits count all that is read and written.
-const MOST_TURNS: u64 = u64::MAX / 65536;
-
-// Asks the system for more input. The arrays are lent for the contract alone: it says when there is something to ask for.
-fn read_next(
-    input: &mut [u8],
-    rows: &Records,
-    leaves: &Leaves,
-    slots: &Slots,
-    reads: &ReadSets,
-    leafsets: &LeafSets,
-    writes: &WriteSets,
-    workers: &Workers,
-    w: Work,
-) -> isize
-    requires { ⌜ Reads (lent (now rows) (now leaves) (now slots)) (logs (now reads) (now leafsets) (now writes)) (now workers) (now input) w ⌝ }
-    ensures { λ r. ⌜ Moved (length (now (input .entry))) r ⌝ }
-{
-    libc::read(STDIN_FILENO, input)
-}
-
-// Asks the system to write the first n bytes. The arrays are lent for the contract alone: it says that these bytes are due.
-fn write_due(
-    out: &[u8],
-    n: usize,
-    rows: &Records,
-    leaves: &Leaves,
-    slots: &Slots,
-    reads: &ReadSets,
-    leafsets: &LeafSets,
-    writes: &WriteSets,
-    workers: &Workers,
-    input: &[u8],
-    w: Work,
-) -> bool
-    requires { ⌜ n ≤ length (now out) ⌝ }
-    requires { ⌜ Owed (lent (now rows) (now leaves) (now slots)) (logs (now reads) (now leafsets) (now writes)) (now workers) (now input) w (take n (now out)) ⌝ }
-{
-    io::write_all(STDOUT_FILENO, &out[..n])
-}
+// Turns of a buffer's bytes each, so that numbers of 64 bits count all calls and their bytes.
+const MOST_TURNS: u64 = u64::MAX / 131072;
 
 // Reads the next bytes of the input. At its end there is nothing to go on with.
 fn read_more(
@@ -92,7 +53,7 @@ fn read_more(
     requires { ⌜ Countable w (length (now input)) ⌝ }
     ensures { λ r. ⌜ ReadDone w (length (now (input .exit))) r ⌝ }
 {
-    let got = read_next(
+    let calls = system::read_next(
         input,
         rows,
         leaves,
@@ -103,7 +64,7 @@ fn read_more(
         workers,
         w,
     );
-    shell::after_read(got, input, w)
+    shell::after_read(calls, input, w)
 }
 
 // After the lines that had room: whatever is due for them is written, before anything else is read or run.
@@ -120,12 +81,12 @@ fn settle(
     w: Work,
 ) -> Work
     requires { ⌜ Stands (lent (now rows) (now leaves) (now slots)) (logs (now reads) (now leafsets) (now writes)) (now workers) (now input) (take (w .session .at) (now out)) w ⌝ }
-    requires { ⌜ (w .going ≡ true) × (w .session .at ≤ length (now out)) × (w .told + w .session .at < 2 ^ 64) ⌝ }
+    requires { ⌜ (w .going ≡ true) × (w .session .at ≤ length (now out)) × Countable w (w .session .at) ⌝ }
     ensures { λ r. ⌜ WriteDone w r ⌝ }
 {
     let x = w.session;
     let n = x.at;
-    let written = write_due(
+    let calls = system::write_due(
         out,
         n,
         rows,
@@ -138,7 +99,7 @@ fn settle(
         input,
         w,
     );
-    shell::after_write(w, written)
+    shell::after_write(calls, w)
 }
 
 // One turn: more input, or the lines of what there is.
@@ -155,7 +116,7 @@ fn advance(
     w: Work,
 ) -> Work
     requires { ⌜ Rests (lent (now rows) (now leaves) (now slots)) (logs (now reads) (now leafsets) (now writes)) (now workers) (now input) w ⌝ }
-    requires { ⌜ (w .going ≡ true) × Countable w (length (now input)) × (w .told + length (now out) < 2 ^ 64) ⌝ }
+    requires { ⌜ (w .going ≡ true) × Countable w (length (now input)) × Countable w (length (now out)) ⌝ }
     ensures { λ r. ⌜ Turns (lent (now (rows .entry)) (now (leaves .entry)) (now (slots .entry)))
         (logs (now (reads .entry)) (now (leafsets .entry)) (now (writes .entry))) (now (workers .entry)) (now (input .entry)) (now (out .entry)) w
         (lent (now (rows .exit)) (now (leaves .exit)) (now (slots .exit))) (logs (now (reads .exit)) (now (leafsets .exit)) (now (writes .exit)))
@@ -190,13 +151,13 @@ fn advance(
         &input[..count],
         x,
     );
+    let calls = w.calls;
     let run = Work {
         session: y,
         count,
         going: w.going,
         failed: w.failed,
-        fed: w.fed,
-        told: w.told,
+        calls,
     };
     settle(
         out,
@@ -224,15 +185,17 @@ fn close(
     workers: &Workers,
     input: &[u8],
     w: Work,
-)
+) -> Calls
     requires { ⌜ Rests (lent (now rows) (now leaves) (now slots)) (logs (now reads) (now leafsets) (now writes)) (now workers) (now input) w ⌝ }
-    requires { ⌜ longestEnd ≤ length (now out) ⌝ }
+    requires { ⌜ (longestEnd ≤ length (now out)) × Countable w (length (now out)) ⌝ }
+    ensures { λ r. ⌜ Closes (lent (now (rows .entry)) (now (leaves .entry)) (now (slots .entry)))
+        (logs (now (reads .entry)) (now (leafsets .entry)) (now (writes .entry))) (now (workers .entry)) (now (input .entry)) w r ⌝ }
 {
     if w.failed {
-        return;
+        return w.calls;
     }
     if w.going {
-        return;
+        return w.calls;
     }
     let x = w.session;
     let last = closing::finish(
@@ -246,7 +209,7 @@ fn close(
         workers,
         x,
     );
-    write_due(
+    system::write_due(
         out,
         last,
         rows,
@@ -258,10 +221,13 @@ fn close(
         workers,
         input,
         w,
-    );
+    )
 }
 
-fn main() {
+// A whole run.
+fn run() -> Calls
+    ensures { λ r. ⌜ Ran r ⌝ }
+{
     let mut input = io::large_buffer();
     let mut out = io::large_buffer();
     let mut rows = [[0u64; RECORD_WORDS]; MAP_LIMIT];
@@ -285,8 +251,7 @@ fn main() {
         count: 0,
         going: true,
         failed: false,
-        fed: 0,
-        told: 0,
+        calls: system::none(),
     };
     // A proved loop ends: it counts its turns down from a number that no run uses up, and by which the bytes can be counted.
     let mut turns = MOST_TURNS;
@@ -316,5 +281,9 @@ fn main() {
         &workers,
         &input,
         w,
-    );
+    )
+}
+
+fn main() {
+    run();
 }

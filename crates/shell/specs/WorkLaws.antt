@@ -4,7 +4,7 @@ use Prim.Native.Nat.{ℕ, zero, suc, _+_, _<_, _≤_, min}
 use native.Mathlib.Nat.{le-trans}
 use native.Mathlib.Omega.{arith}
 use mathlib.Core.Path.{_≡_, refl, sym, ap, _∙_, subst}
-use mathlib.Core.Logic.{⊎-elim}
+use mathlib.Core.Logic.{_⊎_, inl, inr, ⊎-elim}
 use mathlib.Core.Bool.{Bool, true, false, not}
 use mathlib.Core.List.{List, [], _++_, append-assoc, append-nil}
 use lib.Dec.{T, lt→ltb}
@@ -26,7 +26,8 @@ use Rattle.console.specs.Sessions.{Standing, sessionOf, Started, due, Begins, w
 use Rattle.console.specs.Finishes.{Finishes}
 use Rattle.console.specs.WholeRuns.{told-start, told-fed, told-taken, told-piece, told-end, told-stopped}
 use Rattle.shell.specs.declared.Work.{Work}
-use Rattle.shell.specs.Works.{brought, broken, afterRead, afterWrite, withSession, Stands, Rests, Countable, Reads, Owed, ReadDone, WriteDone, Turns}
+use Rattle.shell.specs.declared.system.Calls.{Calls}
+use Rattle.shell.specs.Works.{brought, broken, noCalls, readCall, writeAnswer, writeCall, withRead, withWrite, afterRead, afterWrite, withSession, Stands, Rests, Reads, Owed, ReadMade, WriteMade, ReadDone, WriteDone, Turns, Closes, mostTurns, Ran}
 
 -- ---- texts
 
@@ -39,32 +40,44 @@ text-there {old} {new} {text} {next} h =
 
 -- ---- the work after a call
 
-pub read-work : (w : Work) (got : ℤ) (size : ℕ) {x : Session} {n : ℕ} {z : ℤ} → x ≡ withPlaces (w .session) 0 0 → n ≡ clamped z size → z ≡ got
-    → record { session = x; count = n; going = ltZ (pos 0) z; failed = ltZ z (pos 0); fed = w .fed + n; told = w .told } ≡ afterRead w got size
-read-work w got size {n = n} e f q =
-    let k : n ≡ clamped got size = f ∙ ap (λ (y : ℤ). clamped y size) q in
-    λ i. record { session = e i; count = k i; going = ltZ (pos 0) (q i); failed = ltZ (q i) (pos 0); fed = w .fed + k i; told = w .told }
+pub read-work : (w : Work) (c : Calls) (size : ℕ) {x : Session} {n : ℕ} {z : ℤ} → x ≡ withPlaces (w .session) 0 0 → n ≡ clamped z size → z ≡ c .answer
+    → record { session = x; count = n; going = ltZ (pos 0) z; failed = ltZ z (pos 0); calls = c } ≡ withRead w c size
+read-work w c size {n = n} e f q =
+    let k : n ≡ clamped (c .answer) size = f ∙ ap (λ (y : ℤ). clamped y size) q in
+    λ i. record { session = e i; count = k i; going = ltZ (pos 0) (q i); failed = ltZ (q i) (pos 0); calls = c }
 
-abbrev settled : Work → Session → Bool → Bool → Work
-settled w x going failed =
-    record { session = x; count = w .count; going = going; failed = failed; fed = w .fed; told = w .told + w .session .at }
+-- a read is counted with what it brought
+pub read-counted : (c : Calls) (got : ℤ) (size : ℕ) {n : ℕ} {z : ℤ} → n ≡ clamped z size → z ≡ got
+    → record { made = c .made + 1; fed = c .fed + n; told = c .told; answer = z } ≡ readCall c got size
+read-counted c got size {n} e q =
+    let k : n ≡ clamped got size = e ∙ ap (λ (y : ℤ). clamped y size) q in
+    λ i. record { made = c .made + 1; fed = c .fed + k i; told = c .told; answer = q i }
 
-pub write-failed : (w : Work) (written : Bool) {x : Session} → x ≡ withPlaces (w .session) (w .session .next) 0 → not written ≡ true
-    → settled w x false true ≡ afterWrite w written
-write-failed w true e q = clash refl (sym q)
-write-failed w false e q = ap (λ (y : Session). settled w y false true) e
+abbrev settled : Work → Session → Bool → Bool → Calls → Work
+settled w x going failed c = record { session = x; count = w .count; going = going; failed = failed; calls = c }
 
-pub write-worked : (w : Work) (written : Bool) {x : Session} → x ≡ withPlaces (w .session) (w .session .next) 0 → not written ≡ false
-    → settled w x (not (w .session .stopped)) false ≡ afterWrite w written
-write-worked w true e q = ap (λ (y : Session). settled w y (not (w .session .stopped)) false) e
-write-worked w false e q = clash refl q
+pub write-failed : (w : Work) (c : Calls) {x : Session} → x ≡ withPlaces (w .session) (w .session .next) 0 → broken (c .answer) ≡ true
+    → settled w x false true c ≡ withWrite w c
+write-failed w c e q = λ i. settled w (e i) (both (not (sym q i)) (not (w .session .stopped))) (sym q i) c
+
+pub write-worked : (w : Work) (c : Calls) {x : Session} → x ≡ withPlaces (w .session) (w .session .next) 0 → broken (c .answer) ≡ false
+    → settled w x (not (w .session .stopped)) false c ≡ withWrite w c
+write-worked w c e q = λ i. settled w (e i) (both (not (sym q i)) (not (w .session .stopped))) (sym q i) c
+
+-- a call made, and the work with it
+pub read-done : {w r : Work} {c : Calls} {size : ℕ} → ReadMade (w .calls) size c → r ≡ withRead w c size → ReadDone w size r
+read-done {w} {size = size} m e = record { got = m .got; moved = m .moved; after = e ∙ ap (λ (c : Calls). withRead w c size) (m .after) }
+
+pub write-done : {w r : Work} {c : Calls} → WriteMade (w .calls) (w .session .at) c → r ≡ withWrite w c → WriteDone w r
+write-done {w} m e = record { written = m .written; after = e ∙ ap (withWrite w) (m .after) }
 
 -- ---- a fresh session
 
-pub rests-start : {l : Lent} {g : Logs} {ws : List ℕ} {x : Session} (input : List ℕ) → Begins l g (sessionOf ws x)
-    → Rests l g ws input (record { session = x; count = 0; going = true; failed = false; fed = 0; told = 0 })
-rests-start {l} {g} {ws} {x} input b =
-    record {
+pub rests-start : {l : Lent} {g : Logs} {ws : List ℕ} {x : Session} {c : Calls} (input : List ℕ) → Begins l g (sessionOf ws x) → c ≡ noCalls
+    → Rests l g ws input (record { session = x; count = 0; going = true; failed = false; calls = c })
+rests-start {l} {g} {ws} {x} input b e =
+    subst (λ (c : Calls). Rests l g ws input (record { session = x; count = 0; going = true; failed = false; calls = c })) (sym e)
+    (record {
       stands =
           record {
             ready = b .fresh .ready;
@@ -78,9 +91,10 @@ rests-start {l} {g} {ws} {x} input b =
             line = [];
             tells = λ future. told-start future b;
           };
-      goes = λ e. b .goes;
-      ends = λ e. clash refl e;
-    }
+      goes = λ f. b .goes;
+      ends = λ f. clash refl f;
+      fails = refl;
+    })
 
 -- ---- a read
 
@@ -137,7 +151,7 @@ module _ {l : Lent} {g : Logs} {ws input : List ℕ} {w : Work} (h : Reads l g w
 
   rests-read : (new : List ℕ) (got : ℤ) → Rests l g ws new (afterRead w got (length new))
   unfolding stands-read
-  rests-read new got = record { stands = stands-read new got; goes = λ e. h .rests .goes (h .goes); ends = end-read new got }
+  rests-read new got = record { stands = stands-read new got; goes = λ e. h .rests .goes (h .goes); ends = end-read new got; fails = refl }
 
 -- ---- lines
 
@@ -187,7 +201,7 @@ module _ {l : Lent} {g : Logs} {ws input waiting : List ℕ} {w : Work} (h : Sta
       }
 
   -- after a malformed line nothing is missing
-  end-written : (written : Bool) → both written (not (w .session .stopped)) ≡ false → not written ≡ false
+  end-written : (written : Bool) → both (not (broken (writeAnswer written))) (not (w .session .stopped)) ≡ false → broken (writeAnswer written) ≡ false
       → (h .told ++ waiting) ++ due (stateOf l g (coreOf ws (w .session .globals))) (w .session .first) (h .line) (w .session .stopped) [] 0 [] ≡ output (h .fed)
   unfolding due
   end-written false e f = clash refl f
@@ -204,13 +218,13 @@ module _ {l : Lent} {g : Logs} {ws input waiting : List ℕ} {w : Work} (h : Sta
 
   rests-written : (written : Bool) → Rests l g ws input (afterWrite w written)
   unfolding stands-written
-  rests-written written = record { stands = stands-written written; goes = goes written; ends = end-written written }
+  rests-written written = record { stands = stands-written written; goes = goes written; ends = end-written written; fails = refl }
     where
       open-still : (b : Bool) → not b ≡ true → b ≡ false
       open-still true q = clash refl (sym q)
       open-still false q = refl
 
-      goes : (written : Bool) → both written (not (w .session .stopped)) ≡ true → w .session .stopped ≡ false
+      goes : (written : Bool) → both (not (broken (writeAnswer written))) (not (w .session .stopped)) ≡ true → w .session .stopped ≡ false
       goes true e = open-still (w .session .stopped) e
       goes false e = clash e refl
 
@@ -260,20 +274,21 @@ rests-turned {l} {g} {ws} new h d = subst (Rests l g ws new) (sym (d .after)) (r
 pub rests-settled : {l : Lent} {g : Logs} {ws input waiting : List ℕ} {w r : Work} → Stands l g ws input waiting w → WriteDone w r → Rests l g ws input r
 rests-settled {l} {g} {ws} {input} h d = subst (Rests l g ws input) (sym (d .after)) (rests-written h (d .written))
 
--- a turn reads and hands over at most what the buffers hold
+-- a turn makes one call, which reads or hands over at most what the buffers hold
 pub record Grows (w : Work) (size room : ℕ) (r : Work) : Type 0 where
-  pub fed : r .fed ≤ w .fed + size
-  pub told : r .told ≤ w .told + room
+  pub made : r .calls .made ≡ w .calls .made + 1
+  pub fed : r .calls .fed ≤ w .calls .fed + size
+  pub told : r .calls .told ≤ w .calls .told + room
 
 grown-read : {w r : Work} (size room : ℕ) → ReadDone w size r → Grows w size room r
-grown-read {w} {r} size room d = subst (Grows w size room) (sym (d .after)) (record { fed = let m = most (d .got) in omega arith; told = omega arith })
+grown-read {w} {r} size room d = subst (Grows w size room) (sym (d .after)) (record { made = refl; fed = let m = most (d .got) in omega arith; told = omega arith })
   where
     most : (z : ℤ) → clamped z size ≤ size
     most (pos k) = omega arith
     most (negsuc k) = omega arith
 
 grown-write : {w r : Work} (size room : ℕ) → w .session .at ≤ room → WriteDone w r → Grows w size room r
-grown-write {w} size room h d = subst (Grows w size room) (sym (d .after)) (record { fed = omega arith; told = omega arith })
+grown-write {w} size room h d = subst (Grows w size room) (sym (d .after)) (record { made = refl; fed = omega arith; told = omega arith })
 
 pub turn-grows : {l l' : Lent} {g g' : Logs} {ws ws' input out input' out' : List ℕ} {w r : Work} → Turns l g ws input out w l' g' ws' input' out' r
     → Grows w (length input') (length out) r
@@ -289,4 +304,58 @@ turn-grows {l} {l'} {g} {g'} {ws} {ws'} {input} {out} {input'} {out'} {w} {r} t 
         let a = h .feeds .room in
         let b = h .feeds .size in
         let e : Grows (withSession w x) (length input') (length out) r = grown-write (length input') (length out) (omega arith) d in
-        record { fed = e .fed; told = e .told }
+        record { made = e .made; fed = e .fed; told = e .told }
+
+-- ---- the end, and a whole run
+
+pub closes-failed : {l : Lent} {g : Logs} {ws input : List ℕ} {w : Work} → w .failed ≡ true → Closes l g ws input w (w .calls)
+closes-failed e = record { failed = λ f. refl; goes = λ f. refl; ends = λ f q. clash e q }
+
+pub closes-going : {l : Lent} {g : Logs} {ws input : List ℕ} {w : Work} → w .going ≡ true → Closes l g ws input w (w .calls)
+closes-going e = record { failed = λ f. refl; goes = λ f. refl; ends = λ f. clash e f }
+
+pub closes-ended : {l : Lent} {g : Logs} {ws input old new : List ℕ} {w : Work} {next : ℕ} {c : Calls} → Rests l g ws input w → w .going ≡ false → w .failed ≡ false
+    → Finishes l g (sessionOf ws (w .session)) old new next → WriteMade (w .calls) next c → Closes l g ws input w c
+unfolding owed-last
+closes-ended {new = new} {w = w} {next = next} {c = c} h e f q m =
+    let fits : length (take next new) ≡ next = length-take-le next new (finish-within (h .stands .started) q) in
+    record {
+      failed = λ t. clash t f;
+      goes = λ t. clash t e;
+      ends = λ t u s. (take next new, subst (λ (n : ℕ). WriteMade (w .calls) n c) (sym fits) m, owed-last s e f q .last e);
+    }
+
+-- a run that ended without its last line
+ran-short : {l : Lent} {g : Logs} {ws input : List ℕ} {w : Work} → Rests l g ws input w → (broken (w .calls .answer) ≡ true) ⊎ (mostTurns ≤ w .calls .made) → Ran (w .calls)
+ran-short {l} {g} {ws} {input} {w} h short =
+    let s = h .stands in
+    let rest : List ℕ = due (stateOf l g (coreOf ws (w .session .globals))) (w .session .first) (s .line) (w .session .stopped) (take (w .count) input) (w .session .next) [] in
+    record {
+      fed = s .fed;
+      told = s .told;
+      fed-count = s .fed-count;
+      told-count = s .told-count;
+      begins = (rest, ap (λ (t : List ℕ). t ++ rest) (sym (append-nil (s .told))) ∙ sym (s .tells [] .is) ∙ ap output (append-nil (s .fed)));
+      whole = λ e m. ⊎-elim (λ f. clash f e) (λ k. absurd (omega arith)) short;
+    }
+
+pub ran : {l : Lent} {g : Logs} {ws input : List ℕ} {w : Work} {c : Calls} → Rests l g ws input w → Closes l g ws input w c
+    → (w .going ≡ true → mostTurns ≤ w .calls .made) → Ran c
+ran {l} {g} {ws} {input} {w} {c} h d most =
+    ⊎-elim
+    (λ e. subst Ran (sym (d .failed e)) (ran-short h (inl (sym (h .fails) ∙ e))))
+    (λ e. ⊎-elim (λ f. subst Ran (sym (d .goes f)) (ran-short h (inr (most f)))) (λ f. ended (d .ends f e h)) (cases (w .going)))
+    (cases (w .failed))
+  where
+    ended : (text : List ℕ) × WriteMade (w .calls) (length text) c × (h .stands .told ++ text ≡ output (h .stands .fed)) → Ran c
+    ended (text, m, e) =
+        let s = h .stands in
+        subst Ran (sym (m .after))
+        (record {
+          fed = s .fed;
+          told = s .told ++ text;
+          fed-count = s .fed-count;
+          told-count = length-append (s .told) text ∙ (let a = s .told-count in omega arith);
+          begins = ([], append-nil (s .told ++ text) ∙ e);
+          whole = λ q k. e;
+        })

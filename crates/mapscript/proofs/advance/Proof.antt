@@ -33,22 +33,22 @@ feed-requires c κs = let s = c .before .before .before .before .before .before 
 
 settle-requires : tie.Need-settle-requires
 settle-requires c κs =
-    let s = c .before .before .before .before .before .before .before .before .before .before .before .before .before .before .before .before .before .before .before .before .before .before .before .before .before .before .pre in
-    let f = c .before .before .before .before .before .before .before .before .before .before .before .feed .ensures in
-    (stands-run (s .0 .stands) f, (s .1 .0, f .feeds .room, let e = f .feeds .room in let k = f .feeds .size in omega (arith, s .1 .2, e, k)))
+    let s = c .before .before .before .before .before .before .before .before .before .before .before .before .before .before .before .before .before .before .before .before .before .before .before .before .before .before .before .pre in
+    let f = c .before .before .before .before .before .before .before .before .before .before .before .before .feed .ensures in
+    (stands-run (s .0 .stands) f, (s .1 .0, f .feeds .room, let e = f .feeds .room in let k = f .feeds .size in let m = s .1 .2 in record { made = m .made; fed = omega (arith, m .fed, e, k); told = omega (arith, m .told, e, k) }))
 
 same-length-2 : tie.Need-same-length-2
 same-length-2 c = search needs
 
 same-length-3 : tie.Need-same-length-3
-same-length-3 c = c .before .before .before .before .before .before .before .before .before .before .before .before .feed .ensures .feeds .size
+same-length-3 c = c .before .before .before .before .before .before .before .before .before .before .before .before .before .feed .ensures .feeds .size
 
 returns-2 : tie.Need-returns-2
 returns-2 c =
-    let s = c .before .before .before .before .before .before .before .before .before .before .before .before .before .before .before .before .before .before .before .before .before .before .before .before .before .before .before .pre in
-    let f = c .before .before .before .before .before .before .before .before .before .before .before .before .feed .ensures in
+    let s = c .before .before .before .before .before .before .before .before .before .before .before .before .before .before .before .before .before .before .before .before .before .before .before .before .before .before .before .before .pre in
+    let f = c .before .before .before .before .before .before .before .before .before .before .before .before .before .feed .ensures in
     let d = c .settle .ensures in
-    (turn-run (c .before .before .before .before .before .before .before .before .before .before .before .before .before .before .before .before .before .before .before .before .before .before .if1 .left) f d, rests-settled (stands-run (s .0 .stands) f) d)
+    (turn-run (c .before .before .before .before .before .before .before .before .before .before .before .before .before .before .before .before .before .before .before .before .before .before .before .if1 .left) f d, rests-settled (stands-run (s .0 .stands) f) d)
 
 pub advance-spec : {M : Type 1} → statement M
 advance-spec =

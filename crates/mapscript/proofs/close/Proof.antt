@@ -1,31 +1,37 @@
 -- `close` is safe: what it writes at last is the rest of the output.
 use borrow.Author.Needs.{needs}
 use native.Mathlib.Omega.{arith}
-use Rattle.shell.specs.WorkLaws.{finish-within, owed-last}
+use Rattle.shell.specs.WorkLaws.{finish-within, owed-last, closes-failed, closes-going, closes-ended}
 use Rattle.mapscript.proofs.close.Statement.{statement}
 use Rattle.mapscript.proofs.close.Tie as tie
 
 returns : tie.Need-returns
-returns c = search needs
+returns c = closes-failed (c .before .if1 .taken)
 
 returns-2 : tie.Need-returns-2
-returns-2 c = search needs
+returns-2 c = closes-going (c .before .if2 .taken)
 
 finish-requires : tie.Need-finish-requires
 finish-requires c κs =
     let s = c .before .before .before .before .before .before .pre .0 .stands in
-    (s .ready, (s .started, (let e = s .waits in omega (arith, c .before .before .before .before .before .before .pre .1, e))))
+    (s .ready, (s .started, (let e = s .waits in omega (arith, c .before .before .before .before .before .before .pre .1 .0, e))))
 
 write-due-requires : tie.Need-write-due-requires
 write-due-requires c κs =
-    let s = c .before .before .before .before .before .before .before .before .before .before .pre .0 in
-    (finish-within (s .stands .started) (c .before .before .before .finish .ensures), owed-last s (c .before .before .before .before .before .before .if2 .left) (c .before .before .before .before .before .before .before .if1 .left) (c .before .before .before .finish .ensures))
+    let start = c .before .before .before .before .before .before .before .before .before .before in
+    let h = start .pre .0 in
+    let f = c .before .before .before .finish .ensures in
+    let k = start .pre .1 .1 in
+    let few = finish-within (h .stands .started) f in
+    (few, (owed-last h (c .before .before .before .before .before .before .if2 .left) (c .before .before .before .before .before .before .before .if1 .left) f, record { made = k .made; fed = omega (arith, few, k .fed); told = omega (arith, few, k .told) }))
 
 same-length : tie.Need-same-length
 same-length c = search needs
 
 returns-3 : tie.Need-returns-3
-returns-3 c = search needs
+returns-3 c =
+    let h = c .before .before .before .before .before .before .before .before .before .before .before .pre .0 in
+    closes-ended h (c .before .before .before .before .before .before .before .if2 .left) (c .before .before .before .before .before .before .before .before .if1 .left) (c .before .before .before .before .finish .ensures) (c .write-due .ensures)
 
 pub close-spec : {M : Type 1} → statement M
 close-spec =

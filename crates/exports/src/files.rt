@@ -3,6 +3,8 @@
 use crate::Exported;
 use crate::rows;
 use crate::rows::ExportRecord;
+use spec::ADDRESS_BYTES;
+use spec::Address;
 ghost use mathlib.Core.List.{[], _∷_};
 ghost use Prim.Native.Nat.{_+_, _*_, _<_, _≤_};
 ghost use lib.ListN.{length};
@@ -14,8 +16,12 @@ ghost use Rattle.exports.specs.Exporting.{exportedIn};
 ghost use Rattle.exports.specs.RowLaws.{rowOf};
 ghost use Rattle.exports.specs.FilePuts.{oneEntry, Putting};
 
-// How many bytes an entry has: a value and an owner.
-const ENTRY_BYTES: u64 = 10;
+// How many bytes the two numbers before the arrays have, an entry, which is a value and an owner, and a record.
+pub const HEADER_BYTES: usize = 8;
+
+const ENTRY_BYTES: usize = 10;
+
+pub const RECORD_BYTES: usize = ADDRESS_BYTES + ENTRY_BYTES;
 
 // A byte.
 fn put_byte(out: &mut [u8], at: usize, b: u8) -> usize
@@ -62,6 +68,14 @@ fn put_entry(out: &mut [u8], at: usize, r: ExportRecord) -> usize
     put_two(out, next, r.owner as u64)
 }
 
+// An address.
+fn put_address(out: &mut [u8], at: usize, a: Address) -> usize
+    requires { ⌜ at + addressSize ≤ length (now out) ⌝ }
+    ensures { λ r. ⌜ Wrote (now (out .entry)) at (littleEndian addressSize a) (now (out .exit)) r ⌝ }
+{
+    put_four(out, at, a as u64)
+}
+
 // The addresses of the first n records.
 fn put_addresses(out: &mut [u8], at: usize, exported: &Exported, n: usize) -> usize
     requires { ⌜ at + addressSize * n ≤ length (now out) ⌝ }
@@ -72,7 +86,7 @@ fn put_addresses(out: &mut [u8], at: usize, exported: &Exported, n: usize) -> us
     let mut i = 0;
     while i < n {
         let r = rows::get(exported, i);
-        next = put_four(out, next, r.address as u64);
+        next = put_address(out, next, r.address);
         i += 1;
     }
     next
@@ -101,7 +115,7 @@ pub fn put_file(out: &mut [u8], exported: &Exported, n: usize) -> usize
     ensures { λ r. ⌜ Wrote (now (out .entry)) 0 (fileOf (exportedIn (now (exported .entry)) n)) (now (out .exit)) r ⌝ }
 {
     let size = put_four(out, 0, n as u64);
-    let addresses = put_four(out, size, ENTRY_BYTES);
+    let addresses = put_four(out, size, ENTRY_BYTES as u64);
     let entries = put_addresses(out, addresses, exported, n);
     put_entries(out, entries, exported, n)
 }

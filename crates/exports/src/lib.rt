@@ -141,8 +141,7 @@ pub fn file(bytes: &mut [u8], exported: &Exported, x: Export) -> ExportDone
         (now (exported .entry)) x (space b (now (bytes .entry))) (now (exported .entry)) r (space b (now (bytes .exit)))) ⌝ }
 {
     if x.open {
-        // The header has 8 bytes, and each record 14: an address and an entry.
-        if bytes.len() < 8 + 14 * x.count {
+        if bytes.len() < files::HEADER_BYTES + files::RECORD_BYTES * x.count {
             return ExportDone {
                 export: x,
                 answer: ExportAnswer::Refused(Refusal::ShortBuffer),

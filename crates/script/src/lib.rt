@@ -7,9 +7,10 @@ use spec::WORKER_NAMES;
 ghost use mathlib.Core.Path.{_≡_};
 ghost use mathlib.Core.Bool.{true, not};
 ghost use mathlib.Core.List.{List, [], _∷_};
-ghost use Prim.Native.Nat.{ℕ, _+_, _*_, _^_, _<_};
+ghost use Prim.Native.Nat.{ℕ, _+_, _*_, _^_, _<_, _≤_};
 ghost use lib.ListN.{length};
 ghost use Rattle.lists.specs.Tests.{less};
+ghost use Rattle.spec.specs.Widths.{workerNames};
 ghost use Rattle.script.specs.Grammar.{lineOf};
 ghost use Rattle.script.specs.Parsing.{noneBefore, oneBefore, twoBefore, threeBefore, inNumber, started, filled, After, Parses};
 ghost use Rattle.script.specs.Tokens.{Advances, ParsesPart, Digits, told};
@@ -142,18 +143,26 @@ pub fn at_line_start(p: Parser) -> bool
     }
 }
 
+// A line of one number that is no seat: the address of a fold may be as wide.
+fn one_wide(letter: u8, a: u64) -> Event
+    requires { ⌜ workerNames ≤ a ⌝ }
+    ensures { λ r. ⌜ r ≡ told (lineOf letter (a ∷ [])) ⌝ }
+{
+    if letter != b'M' {
+        return Event::Malformed;
+    }
+    if a >= ADDRESSES {
+        return Event::Malformed;
+    }
+    Event::Line(Line::Merge(a as Address))
+}
+
 // A line of one number: the address of a fold, or a seat.
 fn one(letter: u8, a: u64) -> Event
     ensures { λ r. ⌜ r ≡ told (lineOf letter (a ∷ [])) ⌝ }
 {
-    if letter == b'M' {
-        if a >= ADDRESSES {
-            return Event::Malformed;
-        }
-        return Event::Line(Line::Merge(a as Address));
-    }
     if a >= WORKER_NAMES {
-        return Event::Malformed;
+        return one_wide(letter, a);
     }
     let w = a as u32;
     match letter {
@@ -162,6 +171,7 @@ fn one(letter: u8, a: u64) -> Event
         b'V' => Event::Line(Line::Validate(w)),
         b'I' => Event::Line(Line::Install(w)),
         b'A' => Event::Line(Line::Abort(w)),
+        b'M' => Event::Line(Line::Merge(a as Address)),
         _ => Event::Malformed,
     }
 }

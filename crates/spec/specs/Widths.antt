@@ -1,4 +1,4 @@
--- How wide an address is, and the number that names a worker; in the code: `Address`, `ADDRESSES` and `WORKER_NAMES`.
+-- How wide an address is, and the number that names a worker; in the code: `Address`, `ADDRESS_BYTES`, `ADDRESSES` and `WORKER_NAMES`.
 use Prim.Native.Nat.{ℕ, _*_, _^_}
 
 -- bytes of an address

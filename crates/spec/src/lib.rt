@@ -5,6 +5,9 @@ ghost use Rattle.spec.specs.Refusals.{numberOf};
 // An address of the map (document 01: 32-bit unsigned). Rows hold it as a 64-bit word.
 pub type Address = u32;
 
+// How many bytes it has.
+pub const ADDRESS_BYTES: usize = 4;
+
 // How many addresses there are.
 pub const ADDRESSES: u64 = 0x1_0000_0000;
 

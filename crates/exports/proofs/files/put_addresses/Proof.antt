@@ -5,7 +5,6 @@ use Rattle.lists.specs.TextLaws.{wrote-length}
 use Rattle.spec.specs.Widths.{addressSize}
 use Rattle.spec.specs.Files.{addressBytes}
 use Rattle.exports.specs.FilePuts.{addresses-each, Putting, putting-none, putting-on, putting-end}
-use borrow.Author.Needs.{needs}
 use Rattle.exports.proofs.files.put_addresses.Statement.{statement}
 use Rattle.exports.proofs.files.put_addresses.Tie as tie
 
@@ -21,29 +20,26 @@ loop-holds c = (putting-none addresses-each _ _ _ (omega (arith, c .before .pre 
 get-requires : tie.Need-get-requires Inv-loop μ-loop
 get-requires c κs = omega (arith, c .loop-test .taken, c .before .before .before .pre .1)
 
-cast-put-four : tie.Need-cast-put-four Inv-loop μ-loop
-cast-put-four c = search needs
-
-put-four-requires : tie.Need-put-four-requires Inv-loop μ-loop
-put-four-requires c κs =
-    let start = c .before .before .before .before .before .before in
-    let p = c .before .before .before .before .loop .inv .0 in omega (arith, p .place-is, wrote-length (p .wrote), c .before .before .before .loop-test .taken, start .pre .0)
+put-address-requires : tie.Need-put-address-requires Inv-loop μ-loop
+put-address-requires c κs =
+    let start = c .before .before .before .before .before in
+    let p = c .before .before .before .loop .inv .0 in omega (arith, p .place-is, wrote-length (p .wrote), c .before .before .loop-test .taken, start .pre .0)
 
 add-i : tie.Need-add-i Inv-loop μ-loop
 add-i c =
-    let start = c .before .before .before .before .before .before .before .before .before in
-    let in-loop = c .before .before .before .before .before .before in
+    let start = c .before .before .before .before .before .before .before .before in
+    let in-loop = c .before .before .before .before .before in
     omega (arith, in-loop .loop-test .taken, start .pre .1)
 
 loop-less : tie.Need-loop-less Inv-loop μ-loop
-loop-less c = omega (arith, c .before .before .before .before .before .before .loop-test .taken)
+loop-less c = omega (arith, c .before .before .before .before .before .loop-test .taken)
 
 loop-again : tie.Need-loop-again Inv-loop μ-loop
 loop-again c =
-    let at-loop = c .before .before .before .before .before .before .before in
-    let in-loop = c .before .before .before .before .before .before in
-    let after-get = c .before .before .before .before .before in
-    (putting-on addresses-each _ (at-loop .loop .inv .0) (after-get .get .ensures) (c .before .before .put-four .ensures), omega (arith, in-loop .loop-test .taken))
+    let at-loop = c .before .before .before .before .before .before in
+    let in-loop = c .before .before .before .before .before in
+    let after-get = c .before .before .before .before in
+    (putting-on addresses-each _ (at-loop .loop .inv .0) (after-get .get .ensures) (c .before .before .put-address .ensures), omega (arith, in-loop .loop-test .taken))
 
 same-length : tie.Need-same-length Inv-loop μ-loop
 same-length c = wrote-length (c .before .loop .inv .0 .wrote)
@@ -59,8 +55,7 @@ put-addresses-spec =
     μ-loop
     loop-holds
     get-requires
-    cast-put-four
-    put-four-requires
+    put-address-requires
     add-i
     loop-less
     loop-again

@@ -26,7 +26,9 @@ slice-reshare-prefix-feed : tie.Need-slice-reshare-prefix-feed
 slice-reshare-prefix-feed c = c .before .before .before .before .before .before .before .before .before .before .before .before .before .pre .0 .stands .count-fits
 
 slice-aggregate-feed : tie.Need-slice-aggregate-feed
-slice-aggregate-feed c = sym (length-take-le _ _ (c .before .before .before .before .before .before .before .before .before .before .before .before .before .before .pre .0 .stands .count-fits))
+slice-aggregate-feed c =
+    let start = c .before .before .before .before .before .before .before .before .before .before .before .before .before .before in
+    sym (length-take-le _ _ (start .pre .0 .stands .count-fits))
 
 feed-requires : tie.Need-feed-requires
 feed-requires c κs = let s = c .before .before .before .before .before .before .before .before .before .before .before .before .before .before .pre .0 .stands in (s .ready, (s .started, (let e = s .waits in omega (arith, e))))
@@ -45,10 +47,11 @@ same-length-3 c = c .before .before .before .before .before .before .before .bef
 
 returns-2 : tie.Need-returns-2
 returns-2 c =
+    let else1 = c .before .before .before .before .before .before .before .before .before .before .before .before .before .before .before .before .before .before .before .before .before .before .before in
     let s = c .before .before .before .before .before .before .before .before .before .before .before .before .before .before .before .before .before .before .before .before .before .before .before .before .before .before .before .before .pre in
     let f = c .before .before .before .before .before .before .before .before .before .before .before .before .before .feed .ensures in
     let d = c .settle .ensures in
-    (turn-run (c .before .before .before .before .before .before .before .before .before .before .before .before .before .before .before .before .before .before .before .before .before .before .before .if1 .left) f d, rests-settled (stands-run (s .0 .stands) f) d)
+    (turn-run (else1 .if1 .left) f d, rests-settled (stands-run (s .0 .stands) f) d)
 
 pub advance-spec : {M : Type 1} → statement M
 advance-spec =

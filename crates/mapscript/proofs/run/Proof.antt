@@ -38,11 +38,13 @@ none-requires c κs = tt
 
 loop-holds : tie.Need-loop-holds Inv-loop μ-loop
 loop-holds c =
+    let after-large-buffer = c .before .before .before .before .before .before .before .before .before .before in
+    let after-large-buffer2 = c .before .before .before .before .before .before .before .before .before in
     let n = c .none .ensures in
     let made = ap (λ (k : Calls). k .made) n in
     let fed = ap (λ (k : Calls). k .fed) n in
     let told = ap (λ (k : Calls). k .told) n in
-    (rests-start _ (c .before .fresh-session .ensures) n, c .before .before .before .before .before .before .before .before .before .large-buffer2 .ensures, c .before .before .before .before .before .before .before .before .before .before .large-buffer .ensures, omega (arith, made), omega (arith, fed, made), omega (arith, told, made))
+    (rests-start _ (c .before .fresh-session .ensures) n, after-large-buffer2 .large-buffer2 .ensures, after-large-buffer .large-buffer .ensures, omega (arith, made), omega (arith, fed, made), omega (arith, told, made))
 
 slice-aggregate-advance : tie.Need-slice-aggregate-advance Inv-loop μ-loop
 slice-aggregate-advance c = c .before .before .before .loop .inv .2
@@ -52,6 +54,7 @@ slice-aggregate-advance-2 c = c .before .before .before .before .loop .inv .1
 
 advance-requires : tie.Need-advance-requires Inv-loop μ-loop
 advance-requires c κs =
+    let then1 = c .before .before .before .before .before .before .before .before .before in
     let i = c .before .before .before .before .before .before .before .before .before .before .before .loop .inv in
     let some = c .before .before .before .before .before .before .before .before .before .before .loop-test .taken in
     let long = i .2 in
@@ -59,7 +62,7 @@ advance-requires c κs =
     let made = i .3 in
     let fed = i .4 in
     let told = i .5 in
-    (i .0, (c .before .before .before .before .before .before .before .before .before .if1 .taken, record { made = omega arith; fed = omega arith; told = omega arith }, record { made = omega arith; fed = omega arith; told = omega arith }))
+    (i .0, (then1 .if1 .taken, record { made = omega arith; fed = omega arith; told = omega arith }, record { made = omega arith; fed = omega arith; told = omega arith }))
 
 sub-turns : tie.Need-sub-turns Inv-loop μ-loop
 sub-turns c = omega (arith, c .before .before .before .before .before .before .before .before .before .before .before .before .before .loop-test .taken)
@@ -97,9 +100,10 @@ close-requires c κs =
 
 returns : tie.Need-returns Inv-loop μ-loop
 returns c =
+    let left-loop = c .before .before .before .before .before .before .before .before .before .before .before in
     let i = c .before .before .before .before .before .before .before .before .before .before .before .before .loop .inv in
     let made = i .3 in
-    ran (i .0) (c .before .close .ensures) (⊎-elim (λ p g. clash g (p .1 .left)) (λ p g. omega (arith, made, p .left)) (c .before .before .before .before .before .before .before .before .before .before .before .loop-test .came))
+    ran (i .0) (c .before .close .ensures) (⊎-elim (λ p g. clash g (p .1 .left)) (λ p g. omega (arith, made, p .left)) (left-loop .loop-test .came))
 
 pub run-spec : {M : Type 1} → statement M
 run-spec =

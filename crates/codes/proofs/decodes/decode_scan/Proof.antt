@@ -20,7 +20,10 @@ cast-t9 : tie.Need-cast-t9
 cast-t9 c = search needs
 
 returns-2 : tie.Need-returns-2
-returns-2 c = scan-meant _ _ (c .before .before .before .before .places-lent .ensures) (c .before .before .before .if2 .taken) (c .before .before .before .before .before .if1 .left)
+returns-2 c =
+    let else1 = c .before .before .before .before .before in
+    let after-places-lent = c .before .before .before .before in
+    scan-meant _ _ (after-places-lent .places-lent .ensures) (c .before .before .before .if2 .taken) (else1 .if1 .left)
 
 returns-3 : tie.Need-returns-3
 returns-3 c = scan-unlent _ _ (c .before .places-lent .ensures) (c .if2 .left) (c .before .before .if1 .left)

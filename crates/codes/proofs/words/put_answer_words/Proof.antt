@@ -26,7 +26,10 @@ enum-known-p : tie.Need-enum-known-p
 enum-known-p c = search needs
 
 put-rows-requires : tie.Need-put-rows-requires
-put-rows-requires c κs = let h = roomy-listed (c .before .before .before .before .before .before .before .before .before .before .before .before .before .pre) (c .before .before .p .given .1) in (h .places, omega (arith, h .words, wrote-length (c .before .before .before .before .before .before .put-head .ensures), c .before .before .before .before .before .before .put-head .ensures .place))
+put-rows-requires c κs =
+    let start = c .before .before .before .before .before .before .before .before .before .before .before .before .before in
+    let after-put-head = c .before .before .before .before .before .before in
+    let h = roomy-listed (start .pre) (c .before .before .p .given .1) in (h .places, omega (arith, h .words, wrote-length (after-put-head .put-head .ensures), after-put-head .put-head .ensures .place))
 
 enum-told-4 : tie.Need-enum-told-4
 enum-told-4 c = search needs
@@ -41,43 +44,65 @@ same-length : tie.Need-same-length
 same-length c = search needs
 
 returns : tie.Need-returns
-returns c = wrote-short _ _ _ (c .enum-told .given .1) refl (c .before .before .before .before .before .before .encode .ensures) (c .before .before .before .before .put-head .ensures)
+returns c =
+    let after-encode = c .before .before .before .before .before .before in
+    let after-put-head = c .before .before .before .before in
+    wrote-short _ _ _ (c .enum-told .given .1) refl (after-encode .encode .ensures) (after-put-head .put-head .ensures)
 
 same-length-2 : tie.Need-same-length-2
 same-length-2 c = search needs
 
 returns-2 : tie.Need-returns-2
-returns-2 c = wrote-short _ _ _ (c .enum-told2 .given .1) refl (c .before .before .before .before .before .before .encode .ensures) (c .before .before .before .before .put-head .ensures)
+returns-2 c =
+    let after-encode = c .before .before .before .before .before .before in
+    let after-put-head = c .before .before .before .before in
+    wrote-short _ _ _ (c .enum-told2 .given .1) refl (after-encode .encode .ensures) (after-put-head .put-head .ensures)
 
 same-length-3 : tie.Need-same-length-3
 same-length-3 c = search needs
 
 returns-3 : tie.Need-returns-3
-returns-3 c = wrote-short _ _ _ (c .enum-told3 .given .1) refl (c .before .before .before .before .before .before .encode .ensures) (c .before .before .before .before .put-head .ensures)
+returns-3 c =
+    let after-encode = c .before .before .before .before .before .before in
+    let after-put-head = c .before .before .before .before in
+    wrote-short _ _ _ (c .enum-told3 .given .1) refl (after-encode .encode .ensures) (after-put-head .put-head .ensures)
 
 same-length-4 : tie.Need-same-length-4
 same-length-4 c = search needs
 
 returns-4 : tie.Need-returns-4
-returns-4 c = wrote-long _ _ (c .before .before .before .before .before .p .given .1) (c .before .before .before .before .before .before .before .before .before .before .before .encode .ensures) (c .before .before .before .before .before .before .before .before .before .put-head .ensures) (c .before .before .put-rows .ensures)
+returns-4 c =
+    let after-encode = c .before .before .before .before .before .before .before .before .before .before .before in
+    let after-put-head = c .before .before .before .before .before .before .before .before .before in
+    let after-p = c .before .before .before .before .before in
+    wrote-long _ _ (after-p .p .given .1) (after-encode .encode .ensures) (after-put-head .put-head .ensures) (c .before .before .put-rows .ensures)
 
 same-length-5 : tie.Need-same-length-5
 same-length-5 c = search needs
 
 returns-5 : tie.Need-returns-5
-returns-5 c = wrote-short _ _ _ (c .enum-told4 .given .1) refl (c .before .before .before .before .before .before .encode .ensures) (c .before .before .before .before .put-head .ensures)
+returns-5 c =
+    let after-encode = c .before .before .before .before .before .before in
+    let after-put-head = c .before .before .before .before in
+    wrote-short _ _ _ (c .enum-told4 .given .1) refl (after-encode .encode .ensures) (after-put-head .put-head .ensures)
 
 same-length-6 : tie.Need-same-length-6
 same-length-6 c = search needs
 
 returns-6 : tie.Need-returns-6
-returns-6 c = wrote-short _ _ _ (c .enum-told5 .given .1) refl (c .before .before .before .before .before .before .encode .ensures) (c .before .before .before .before .put-head .ensures)
+returns-6 c =
+    let after-encode = c .before .before .before .before .before .before in
+    let after-put-head = c .before .before .before .before in
+    wrote-short _ _ _ (c .enum-told5 .given .1) refl (after-encode .encode .ensures) (after-put-head .put-head .ensures)
 
 same-length-7 : tie.Need-same-length-7
 same-length-7 c = search needs
 
 returns-7 : tie.Need-returns-7
-returns-7 c = wrote-short _ _ _ (c .enum-told6 .given .1) refl (c .before .before .before .before .before .before .encode .ensures) (c .before .before .before .before .put-head .ensures)
+returns-7 c =
+    let after-encode = c .before .before .before .before .before .before in
+    let after-put-head = c .before .before .before .before in
+    wrote-short _ _ _ (c .enum-told6 .given .1) refl (after-encode .encode .ensures) (after-put-head .put-head .ensures)
 
 pub put-answer-words-spec : {M : Type 1} → statement M
 put-answer-words-spec =

@@ -22,7 +22,10 @@ enum-known-p c = search needs
 
 put-rows-requires : tie.Need-put-rows-requires
 unfolding placesWritten
-put-rows-requires c κs = let h = roomy-given (c .before .before .before .before .before .before .before .before .before .before .before .before .before .pre) (c .before .before .p .given .1) in (h .places, omega (arith, h .words, wrote-length (c .before .before .before .before .before .before .put-head .ensures), c .before .before .before .before .before .before .put-head .ensures .place))
+put-rows-requires c κs =
+    let start = c .before .before .before .before .before .before .before .before .before .before .before .before .before in
+    let after-put-head = c .before .before .before .before .before .before in
+    let h = roomy-given (start .pre) (c .before .before .p .given .1) in (h .places, omega (arith, h .words, wrote-length (after-put-head .put-head .ensures), after-put-head .put-head .ensures .place))
 
 enum-told-2 : tie.Need-enum-told-2
 enum-told-2 c = search needs
@@ -37,31 +40,47 @@ same-length : tie.Need-same-length
 same-length c = search needs
 
 returns : tie.Need-returns
-returns c = export-short _ _ (c .before .before .before .before .before .before .encode-export .ensures) (c .before .before .before .before .put-head .ensures) _ (c .enum-told .given .1) refl
+returns c =
+    let after-encode-export = c .before .before .before .before .before .before in
+    let after-put-head = c .before .before .before .before in
+    export-short _ _ (after-encode-export .encode-export .ensures) (after-put-head .put-head .ensures) _ (c .enum-told .given .1) refl
 
 same-length-2 : tie.Need-same-length-2
 same-length-2 c = search needs
 
 returns-2 : tie.Need-returns-2
-returns-2 c = export-long _ _ (c .before .before .before .before .before .before .before .before .before .before .before .encode-export .ensures) (c .before .before .before .before .before .before .before .before .before .put-head .ensures) (c .before .before .before .before .before .p .given .1) (c .before .before .put-rows .ensures)
+returns-2 c =
+    let after-encode-export = c .before .before .before .before .before .before .before .before .before .before .before in
+    let after-put-head = c .before .before .before .before .before .before .before .before .before in
+    let after-p = c .before .before .before .before .before in
+    export-long _ _ (after-encode-export .encode-export .ensures) (after-put-head .put-head .ensures) (after-p .p .given .1) (c .before .before .put-rows .ensures)
 
 same-length-3 : tie.Need-same-length-3
 same-length-3 c = search needs
 
 returns-3 : tie.Need-returns-3
-returns-3 c = export-short _ _ (c .before .before .before .before .before .before .encode-export .ensures) (c .before .before .before .before .put-head .ensures) _ (c .enum-told2 .given .1) refl
+returns-3 c =
+    let after-encode-export = c .before .before .before .before .before .before in
+    let after-put-head = c .before .before .before .before in
+    export-short _ _ (after-encode-export .encode-export .ensures) (after-put-head .put-head .ensures) _ (c .enum-told2 .given .1) refl
 
 same-length-4 : tie.Need-same-length-4
 same-length-4 c = search needs
 
 returns-4 : tie.Need-returns-4
-returns-4 c = export-short _ _ (c .before .before .before .before .before .before .encode-export .ensures) (c .before .before .before .before .put-head .ensures) _ (c .enum-told3 .given .1) refl
+returns-4 c =
+    let after-encode-export = c .before .before .before .before .before .before in
+    let after-put-head = c .before .before .before .before in
+    export-short _ _ (after-encode-export .encode-export .ensures) (after-put-head .put-head .ensures) _ (c .enum-told3 .given .1) refl
 
 same-length-5 : tie.Need-same-length-5
 same-length-5 c = search needs
 
 returns-5 : tie.Need-returns-5
-returns-5 c = export-short _ _ (c .before .before .before .before .before .before .encode-export .ensures) (c .before .before .before .before .put-head .ensures) _ (c .enum-told4 .given .1) refl
+returns-5 c =
+    let after-encode-export = c .before .before .before .before .before .before in
+    let after-put-head = c .before .before .before .before in
+    export-short _ _ (after-encode-export .encode-export .ensures) (after-put-head .put-head .ensures) _ (c .enum-told4 .given .1) refl
 
 pub put-export-words-spec : {M : Type 1} → statement M
 put-export-words-spec =

@@ -48,7 +48,9 @@ cast-put-three-2 : tie.Need-cast-put-three-2 Inv-loop μ-loop
 cast-put-three-2 c = omega (arith, c .shared-slice-known6 .given (c .before .before .before .before .before .loop .i))
 
 put-three-requires : tie.Need-put-three-requires Inv-loop μ-loop
-put-three-requires c κs = omega (arith, wrote-length (c .before .before .before .before .before .loop .inv .0 .wrote), c .before .before .before .before .before .loop .inv .0 .place)
+put-three-requires c κs =
+    let at-loop = c .before .before .before .before .before in
+    omega (arith, wrote-length (at-loop .loop .inv .0 .wrote), at-loop .loop .inv .0 .place)
 
 add-i : tie.Need-add-i Inv-loop μ-loop
 unfolding shortest
@@ -58,7 +60,9 @@ loop-less : tie.Need-loop-less Inv-loop μ-loop
 loop-less c = omega arith
 
 loop-again : tie.Need-loop-again Inv-loop μ-loop
-loop-again c = (putting-on (c .before .before .before .before .before .before .before .before .loop .i) (c .before .before .before .before .before .before .before .before .loop .inv .0) (c .before .before .put-three .ensures), omega arith)
+loop-again c =
+    let at-loop = c .before .before .before .before .before .before .before .before in
+    (putting-on (at-loop .loop .i) (at-loop .loop .inv .0) (c .before .before .put-three .ensures), omega arith)
 
 same-length : tie.Need-same-length Inv-loop μ-loop
 same-length c = wrote-length (c .before .loop .inv .0 .wrote)

@@ -27,9 +27,10 @@ between-requires c κs = search needs
 
 returns : tie.Need-returns
 returns c =
+    let after-leaf-places = c .before .before .before .before in
     let s = c .before .before .before .before .before in
     let ls = s .args .leaves .now in (
-      range-next (lowsOf ls) (s .args .m) (s .args .from) (s .args .to) (column-places 0 ls (c .before .before .before .before .leaf-places .ensures)) (s .pre) _ _ _
+      range-next (lowsOf ls) (s .args .m) (s .args .from) (s .args .to) (column-places 0 ls (after-leaf-places .leaf-places .ensures)) (s .pre) _ _ _
           (low-of ls (s .args .from) (c .before .before .before .leaf-at .ensures)) (low-of ls (s .args .to) (c .before .leaf-at2 .ensures)) (c .between .ensures) (c .before .before .if1 .taken),
       refl,
       refl,

@@ -41,9 +41,10 @@ loop-less c = search needs
 
 loop-again : tie.Need-loop-again Inv-loop μ-loop
 loop-again c =
+    let after-leaf-places = c .before .before .before .before .before .before in
     let s = c .before .before .before .before .before .before .before .before in
     let l = c .before .before .before .before .before .loop in
-    let a : length (s .args .leaves .now) ≡ leafPlaces = c .before .before .before .before .before .before .leaf-places .ensures in
+    let a : length (s .args .leaves .now) ≡ leafPlaces = after-leaf-places .leaf-places .ensures in
     let b : s .args .to ≤ leafPlaces = s .pre .1 in
     let t = c .before .before .before .before .loop-test .taken in (
       cleared-on _ (l .inv .0) (l .inv .1) (omega arith)

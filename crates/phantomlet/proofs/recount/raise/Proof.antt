@@ -35,11 +35,12 @@ put-leaf-requires c κs = search needs
 
 returns : tie.Need-returns
 returns c =
+    let after-leaf-at = c .before .before .before .before in
     let s = c .before .before .before .before .before .before in
     raised
     (c .put-leaf .ensures
     ∙ ap (λ (l : LeafWords). leafPut (s .args .leaves .now) (s .args .at) (record { low = l .low; version = l .version; hidden = l .hidden + s .args .x; pending = l .pending + s .args .w }))
-    (c .before .before .before .before .leaf-at .ensures))
+    (after-leaf-at .leaf-at .ensures))
 
 pub raise-spec : {M : Type 1} → statement M
 raise-spec = tie.close (tie.spec leaf-at-requires add-t8 add-t9 put-leaf-requires returns)

@@ -42,10 +42,12 @@ addresses-of-requires c κs =
 
 tally-all-requires : tie.Need-tally-all-requires
 tally-all-requires c κs =
+    let after-leaf-places = c .before .before .before .before .before .before .before .before in
+    let after-before2 = c .before .before .before .before .before in
     let s = c .before .before .before .before .before .before .before .before .before .before in
     let r = c .before .addresses-of in
-    tally-start (r .result) (s .pre) (c .before .before .before .before .before .before .before .before .leaf-places .ensures) (r .ensures .0) (r .ensures .1)
-    (c .before .before .before .before .before .before2 .ensures) (r .ensures .2) refl (c .before .before .before .clear .ensures)
+    tally-start (r .result) (s .pre) (after-leaf-places .leaf-places .ensures) (r .ensures .0) (r .ensures .1)
+    (after-before2 .before2 .ensures) (r .ensures .2) refl (c .before .before .before .clear .ensures)
 
 returns-2 : tie.Need-returns-2
 returns-2 c =

@@ -54,9 +54,11 @@ waits-requires c κs = search needs
 
 raise-requires : tie.Need-raise-requires
 raise-requires c κs =
+    let after-reaches = c .before .before .before .before .before .before .before .before .before in
+    let else1 = c .before .before .before .before .before .before .before .before in
     let s = c .before .before .before .before .before .before .before .before .before .before .before in
     let r = c .before .before .before .before .before .before .before .before .before .before .slot-at in
-    let y = reaches-yes _ (s .args .r) (r .result .key) (c .before .before .before .before .before .before .before .before .before .reaches .ensures) (c .before .before .before .before .before .before .before .before .if1 .left) in
+    let y = reaches-yes _ (s .args .r) (r .result .key) (after-reaches .reaches .ensures) (else1 .if1 .left) in
     let l = c .before .before .before .find-leaf in
     let a = hidden-fits (s .pre .0) (s .pre .1) (l .ensures) (y .0) (y .1) (c .before .before .hides-at .result)
     (both (not (present (look (recordsOf (s .args .rows .now) (s .args .n)) (r .result .key)))) (hidesSome (contentIn (r .result .content)))) (c .before .before .hides-at .ensures) in
@@ -65,12 +67,16 @@ raise-requires c κs =
 
 returns-3 : tie.Need-returns-3
 returns-3 c =
+    let after-reaches = c .before .before .before .before .before .before .before .before .before .before in
+    let else1 = c .before .before .before .before .before .before .before .before .before in
+    let after-idle = c .before .before .before .before .before .before .before in
+    let else2 = c .before .before .before .before .before .before in
     let s = c .before .before .before .before .before .before .before .before .before .before .before .before in
     let r = c .before .before .before .before .before .before .before .before .before .before .before .slot-at in
-    let y = reaches-yes _ (s .args .r) (r .result .key) (c .before .before .before .before .before .before .before .before .before .before .reaches .ensures) (c .before .before .before .before .before .before .before .before .before .if1 .left) in
+    let y = reaches-yes _ (s .args .r) (r .result .key) (after-reaches .reaches .ensures) (else1 .if1 .left) in
     let l = c .before .before .before .before .find-leaf in
     tallied-some (s .pre .0) (s .pre .1) (r .result) (r .ensures) (l .result) (c .before .before .before .hides-at .result) (c .before .before .waits .result)
-    (sym (c .before .before .before .before .before .before .before .idle .ensures) ∙ c .before .before .before .before .before .before .if2 .left) (y .0) (y .1)
+    (sym (after-idle .idle .ensures) ∙ else2 .if2 .left) (y .0) (y .1)
     (l .ensures) (c .before .before .before .hides-at .ensures) (c .before .before .waits .ensures) (c .raise .ensures)
 
 pub tally-slot-spec : {M : Type 1} → statement M

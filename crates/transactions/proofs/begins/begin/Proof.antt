@@ -25,7 +25,10 @@ returns : tie.Need-returns
 returns c = λ k. begin-refused _ _ _ (subst (Begun _ _) (c .before .r .given .1) (c .before .before .before .vacant .ensures))
 
 returns-2 : tie.Need-returns-2
-returns-2 c = λ k. begin-granted _ _ _ _ (subst (Begun _ _) (c .before .before .before .before .x .given .1) (c .before .before .before .before .before .before .vacant .ensures)) (c .before .before .begin .ensures) (core-put _ k (c .put-worker .ensures))
+returns-2 c =
+    let after-vacant = c .before .before .before .before .before .before in
+    let after-x = c .before .before .before .before in
+    λ k. begin-granted _ _ _ _ (subst (Begun _ _) (after-x .x .given .1) (after-vacant .vacant .ensures)) (c .before .before .begin .ensures) (core-put _ k (c .put-worker .ensures))
 
 pub begin-spec : {M : Type 1} → statement M
 begin-spec =

@@ -3,7 +3,9 @@ use Rattle.transactions.proofs.merges.merge_at.Statement.{statement}
 use Rattle.transactions.proofs.merges.merge_at.Tie as tie
 
 merge-requires : tie.Need-merge-requires
-merge-requires c κs = (c .before .before .before .before .before .pre .stored .map, version-room (c .before .before .before .before .before .pre))
+merge-requires c κs =
+    let start = c .before .before .before .before .before in
+    (start .pre .stored .map, version-room (start .pre))
 
 returns : tie.Need-returns
 returns c = merge-refines (c .before .before .before .before .before .before .before .before .pre) (c .before .before .merge .ensures)

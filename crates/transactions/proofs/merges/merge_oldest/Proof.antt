@@ -13,7 +13,9 @@ merge-at-requires c κs = search needs
 
 returns : tie.Need-returns
 unfolding oldest
-returns c = oldest-refines (c .before .before .before .before .oldest-waiting .result) (c .merge-at .result .count) (c .before .before .before .before .oldest-waiting .ensures) (c .merge-at .ensures)
+returns c =
+    let after-oldest-waiting = c .before .before .before .before in
+    oldest-refines (after-oldest-waiting .oldest-waiting .result) (c .merge-at .result .count) (after-oldest-waiting .oldest-waiting .ensures) (c .merge-at .ensures)
 
 pub merge-oldest-spec : {M : Type 1} → statement M
 merge-oldest-spec = tie.close (tie.spec oldest-waiting-requires merge-at-requires returns)

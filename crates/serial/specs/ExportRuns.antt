@@ -8,7 +8,7 @@ use mathlib.Core.Option.{Option, none, some}
 use lib.ListN.{length}
 use Rattle.lists.specs.Tests.{maybe}
 use Rattle.lists.specs.Rows.{Row, any}
-use Rattle.spec.specs.Records.{standard, Payload, Record}
+use Rattle.spec.specs.Records.{standardMap, Payload, Record}
 use Rattle.spec.specs.Maps.{contents}
 use Rattle.spec.specs.Steps.{State, fresh, final, history, Event, firstCause}
 use Rattle.spec.specs.Claim.{SerialRun}
@@ -18,11 +18,11 @@ use Rattle.serial.specs.Theorem.{theorem}
 
 -- The claim of demand 3, whatever export steps stand between: of the jobs' steps with their answers, and the contents.
 pub exports-serial : (g : Bool) (rs : List Request)
-    → SerialRun (jobEvents (exchanges (startingAt (fresh standard g)) rs)) (contentsNow (finalOf (startingAt (fresh standard g)) rs))
+    → SerialRun (jobEvents (exchanges (startingAt (fresh (standardMap g))) rs)) (contentsNow (finalOf (startingAt (fresh (standardMap g))) rs))
 exports-serial g rs =
-    let ξ = startingAt (fresh standard g) in
+    let ξ = startingAt (fresh (standardMap g)) in
     subst (λ (es : List Event). SerialRun es (contentsNow (finalOf ξ rs))) (sym (jobs-alone ξ rs))
-    (subst (λ (σ : State). SerialRun (history (fresh standard g) (jobSteps rs)) (contents (σ .map))) (sym (jobs-final ξ rs))
+    (subst (λ (σ : State). SerialRun (history (fresh (standardMap g)) (jobSteps rs)) (contents (σ .map))) (sym (jobs-final ξ rs))
     (theorem g (jobSteps rs)))
 
 -- ---- opening
@@ -39,10 +39,10 @@ unfolding nextOf exportNext exportRefusal exportCauses firstCause exportEffect
 next-open ξ e = λ i. record { state = ξ .state; export = exportNext (contentsNow ξ) (e i) openExport }
 
 -- What the request says of an export's beginning.
-pub opened-serial : (g : Bool) (rs : List Request) → finalOf (startingAt (fresh standard g)) rs .export ≡ none → OpenedSerial (startingAt (fresh standard g)) rs
+pub opened-serial : (g : Bool) (rs : List Request) → finalOf (startingAt (fresh (standardMap g))) rs .export ≡ none → OpenedSerial (startingAt (fresh (standardMap g))) rs
 unfolding exchange exportOf
 opened-serial g rs e =
-    let ξ = startingAt (fresh standard g) in
+    let ξ = startingAt (fresh (standardMap g)) in
     let ζ = finalOf ξ rs in
     let q : contentsNow ζ ≡ listedThen ξ rs = sym (exports-serial g rs .same-contents) in
     record {

@@ -19,10 +19,10 @@ use Rattle.spec.specs.Records.{limits, Write, written, deleted}
 use Rattle.spec.specs.Steps as model
 use Rattle.spec.specs.Steps.{State, Step, put, remove, Answer, done, isOpen, workerOf, ownWrite, cause, noWorker, workerFree, wrongStage, writesFull, causes, firstCause, refusal, granted, effect, withWorker, writing, accessCauses, accessAnswer, accessed}
 use Rattle.laws.specs.WorkerLaws.{mild-cause}
-use Rattle.sets.specs.declared.workers.Worker.{Worker}
+use Rattle.workers.specs.declared.Worker.{Worker}
 use Rattle.sets.specs.declared.writes.FoundWrite.{FoundWrite}
-use Rattle.sets.specs.Workers.{workerIn, withWrites}
-use Rattle.sets.specs.WorkerLaws.{write-in}
+use Rattle.workers.specs.Workers.{workerIn, withWrites}
+use Rattle.workers.specs.WorkerLaws.{write-in}
 use Rattle.sets.specs.Reads.{ReadRows}
 use Rattle.sets.specs.Leaves.{LeafSetRows}
 use Rattle.sets.specs.Writes.{WriteRows, writeOf, foundIn, writeIn, writesOf, PutsWrite}

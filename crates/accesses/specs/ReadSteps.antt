@@ -22,11 +22,11 @@ use Rattle.spec.specs.Maps.{current}
 use Rattle.spec.specs.Steps as model
 use Rattle.spec.specs.Steps.{State, read, Answer, found, isOpen, workerOf, freeWorker, ownWrite, slotsExamined, cause, noWorker, workerFree, wrongStage, readLogFull, causes, firstCause, refusal, granted, effect, withWorker, logged, readRows, accessCauses, accessAnswer, accessed}
 use Rattle.laws.specs.WorkerLaws.{mild-cause}
-use Rattle.sets.specs.declared.workers.Worker.{Worker}
+use Rattle.workers.specs.declared.Worker.{Worker}
 use Rattle.sets.specs.declared.writes.FoundWrite.{FoundWrite}
 use Rattle.sets.specs.declared.writes.FoundWrite.the-variants.{Put, Deletion, Nothing}
-use Rattle.sets.specs.Workers.{workerIn, withReads}
-use Rattle.sets.specs.WorkerLaws.{read-in}
+use Rattle.workers.specs.Workers.{workerIn, withReads}
+use Rattle.workers.specs.WorkerLaws.{read-in}
 use Rattle.sets.specs.Reads.{ReadRows, recordIn, readsOf, ReadsHeld, LogsRead}
 use Rattle.sets.specs.Reads as reads
 use Rattle.sets.specs.Leaves.{LeafSetRows}

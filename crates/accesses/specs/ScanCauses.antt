@@ -17,8 +17,8 @@ use Rattle.spec.specs.Maps.{current, indexedBetween}
 use Rattle.spec.specs.Steps as model
 use Rattle.spec.specs.Steps.{Places, shortest, State, workerOf, scan, isOpen, scanned, scanReads, scanVersions, scanLogFull, Cause, cause, noWorker, workerFree, wrongStage, causes, firstCause, refusal, refused, accessCauses}
 use Rattle.laws.specs.WorkerLaws.{mild-cause}
-use Rattle.sets.specs.declared.workers.Worker.{Worker}
-use Rattle.sets.specs.Workers.{workerIn}
+use Rattle.workers.specs.declared.Worker.{Worker}
+use Rattle.workers.specs.Workers.{workerIn}
 use Rattle.sets.specs.Reads.{readIn}
 use Rattle.sets.specs.Leaves as leaves
 use Rattle.sets.specs.Writes.{writesIn}

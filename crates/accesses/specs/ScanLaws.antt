@@ -3,15 +3,15 @@ use Prim.Native.Nat.{ℕ}
 use mathlib.Core.Path.{_≡_, sym, subst}
 use Rattle.spec.specs.declared.Refusal.{Refusal}
 use Rattle.spec.specs.Steps.{listed, scan, isOpen}
-use Rattle.sets.specs.declared.workers.Worker.{Worker}
+use Rattle.workers.specs.declared.Worker.{Worker}
 use Rattle.map.specs.Views.{Lent}
 use Rattle.transactions.specs.Cores.{Core}
 use Rattle.accesses.specs.declared.scans.ScanAnswer.the-variants.{Count, Refused}
 use Rattle.ranges.specs.declared.plans.Task.{Task}
 use Rattle.ranges.specs.declared.plans.Done.{Done}
 use Rattle.transactions.specs.Admits.{Turned, Entered}
-use Rattle.ranges.specs.Buffers.{Buffers, placesOf, rowsIn}
-use Rattle.ranges.specs.BufferLaws.{beyond-refl}
+use Rattle.buffers.specs.Buffers.{Buffers, placesOf, rowsIn}
+use Rattle.buffers.specs.BufferLaws.{beyond-refl}
 use Rattle.sets.specs.Reads.{ReadRows}
 use Rattle.sets.specs.Leaves.{LeafSetRows}
 use Rattle.accesses.specs.ScanCauses.{DeclinedIn, PassedIn, scan-turned, scan-declined}

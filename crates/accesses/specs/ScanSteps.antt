@@ -18,8 +18,8 @@ use Rattle.spec.specs.Steps as model
 use Rattle.spec.specs.Steps.{listed, workerOf, scan, isOpen, scanReads, scanVersions, remembered, granted, effect, withWorker, logged, accessAnswer, accessed}
 use Rattle.laws.specs.LeafParts.{LowsFrom}
 use Rattle.laws.specs.LeafVersions.{GoodLeaves, leaf-of-low, meeting-covers}
-use Rattle.sets.specs.declared.workers.Worker.{Worker}
-use Rattle.sets.specs.Workers.{workerIn}
+use Rattle.workers.specs.declared.Worker.{Worker}
+use Rattle.workers.specs.Workers.{workerIn}
 use Rattle.sets.specs.Sets.{firstRows}
 use Rattle.sets.specs.Reads.{ReadRows, readIn, readsOf, readsIn}
 use Rattle.sets.specs.Leaves.{LeafSetRows, versionsOf, lowsOf, versionsIn, scannedIn, notesOf, joined, scansOf, scansIn}
@@ -34,7 +34,7 @@ use Rattle.queries.specs.ScanLaws.{length-leaves}
 use Rattle.ranges.specs.declared.plans.Task.{Task}
 use Rattle.ranges.specs.declared.plans.Done.{Done}
 use Rattle.ranges.specs.Parts.{length-walk, getD-walk}
-use Rattle.ranges.specs.Buffers.{Buffers, placesOf, rowsIn}
+use Rattle.buffers.specs.Buffers.{Buffers, placesOf, rowsIn}
 use Rattle.ranges.specs.Scanning.{span, across, seenIn, lowIn, noted}
 use Rattle.ranges.specs.LogLaws.{scan-remembered}
 use Rattle.ranges.specs.Plans.{scanMade, Carried}

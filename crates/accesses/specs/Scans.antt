@@ -5,7 +5,7 @@ use Rattle.map.specs.Views.{Lent}
 use Rattle.transactions.specs.Cores.{Core}
 use Rattle.accesses.specs.declared.scans.ScanAnswer.{ScanAnswer}
 use Rattle.accesses.specs.declared.scans.ScanAnswer.the-variants.{Count, Refused}
-use Rattle.ranges.specs.Buffers.{Buffers, placesOf, rowsIn, Beyond}
+use Rattle.buffers.specs.Buffers.{Buffers, placesOf, rowsIn, Beyond}
 use Rattle.transactions.specs.Views.{Logs}
 use Rattle.transactions.specs.Ready.{Refines}
 

@@ -6,18 +6,18 @@ use ranges::plans;
 use ranges::plans::Plan;
 use sets::LeafSets;
 use sets::ReadSets;
-use sets::Workers;
 use sets::WriteSets;
-use sets::workers;
 use spec::Address;
 use spec::Refusal;
 use transactions::Globals;
 use transactions::admits;
 use transactions::admits::Admit;
+use workers;
+use workers::Workers;
 ghost use Rattle.map.specs.Views.{lent};
 ghost use Rattle.transactions.specs.Views.{logs, coreOf};
 ghost use Rattle.transactions.specs.Ready.{Ready};
-ghost use Rattle.ranges.specs.Buffers.{buffers};
+ghost use Rattle.buffers.specs.Buffers.{buffers};
 ghost use Rattle.accesses.specs.Scans.{Scans};
 
 // The answer: how many records are shown, or the refusal.

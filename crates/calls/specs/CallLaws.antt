@@ -13,7 +13,7 @@ use Rattle.transactions.specs.Cores.{Core}
 use Rattle.transactions.specs.Views.{Logs, stateOf, madeOf}
 use Rattle.transactions.specs.Ready.{Ready}
 use Rattle.transactions.specs.Starts.{Fresh}
-use Rattle.ranges.specs.Buffers.{placesOf}
+use Rattle.buffers.specs.Buffers.{placesOf}
 use Rattle.engine.specs.Performs.{stepIn}
 use Rattle.calls.specs.Calls.{Calls, no-call, call, eventOf, SerialCalls}
 

@@ -11,7 +11,7 @@ use Rattle.map.specs.Views.{Lent, mapOf}
 use Rattle.transactions.specs.Cores.{Core}
 use Rattle.transactions.specs.Views.{Logs, stateOf}
 use Rattle.transactions.specs.Ready.{Ready}
-use Rattle.ranges.specs.Buffers.{Buffers, placesOf}
+use Rattle.buffers.specs.Buffers.{Buffers, placesOf}
 use Rattle.engine.specs.declared.steps.Op.{Op}
 use Rattle.engine.specs.Performs.{Performed}
 use Rattle.engine.specs.Performs.{stepIn, replyIn, Performs}

@@ -7,7 +7,7 @@ use Rattle.lists.specs.Tests.{pick, both, same, less, atMost}
 use Rattle.lists.specs.TestLaws.{same-yes, same-no, less-yes, less-no, atMost-yes, atMost-no, atMost-true, clash}
 use Rattle.spec.specs.Widths.{addresses, workerNames}
 use Rattle.spec.specs.Steps.{Places, places}
-use Rattle.ranges.specs.Buffers.{Lends}
+use Rattle.buffers.specs.Buffers.{Lends}
 use Rattle.engine.specs.declared.steps.Access.the-variants as access
 use Rattle.engine.specs.declared.steps.Ending.the-variants as ending
 use Rattle.engine.specs.declared.steps.Op.{Op}

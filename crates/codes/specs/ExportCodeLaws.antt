@@ -10,8 +10,8 @@ use Rattle.lists.specs.TestLaws.{same-no, atMost-yes, atMost-no, atMost-true}
 use Rattle.lists.specs.Texts.{Wrote}
 use Rattle.lists.specs.TextLaws.{wrote-join}
 use Rattle.spec.specs.Steps.{Places, places}
-use Rattle.ranges.specs.Buffers.{Buffers, placesOf, rowsIn, Lends}
-use Rattle.ranges.specs.BufferLaws.{length-rows}
+use Rattle.buffers.specs.Buffers.{Buffers, placesOf, rowsIn, Lends}
+use Rattle.buffers.specs.BufferLaws.{length-rows}
 use Rattle.exports.specs.declared.ExportAnswer.{ExportAnswer}
 use Rattle.exports.specs.declared.ExportAnswer.the-variants as export
 use Rattle.exports.specs.declared.ops.ExportOp.{ExportOp}

@@ -12,8 +12,8 @@ use Rattle.lists.specs.Rows.{Row}
 use Rattle.lists.specs.Texts.{Wrote}
 use Rattle.lists.specs.TextLaws.{wrote-join, wrote-length, wrote-byte}
 use Rattle.spec.specs.Records.{Payload}
-use Rattle.ranges.specs.Buffers.{Buffers, rowIn, rowsIn}
-use Rattle.ranges.specs.BufferLaws.{length-rows}
+use Rattle.buffers.specs.Buffers.{Buffers, rowIn, rowsIn}
+use Rattle.buffers.specs.BufferLaws.{length-rows}
 use Rattle.engine.specs.declared.steps.Reply.{Reply}
 use Rattle.engine.specs.declared.steps.Reply.the-variants as reply
 use Rattle.engine.specs.Performs.{replyIn}

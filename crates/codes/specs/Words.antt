@@ -3,7 +3,7 @@ use Prim.Native.Nat.{ℕ, _+_, _*_, _≤_}
 use mathlib.Core.List.{List, [], _∷_}
 use lib.ListN.{length}
 use Rattle.spec.specs.Steps.{shortest}
-use Rattle.ranges.specs.Buffers.{Buffers, placesOf, rowsIn}
+use Rattle.buffers.specs.Buffers.{Buffers, placesOf, rowsIn}
 use Rattle.exports.specs.declared.ExportAnswer.{ExportAnswer}
 use Rattle.exports.specs.declared.ExportAnswer.the-variants as export
 use Rattle.exports.specs.Exporting.{placesWritten}

@@ -11,7 +11,7 @@ ghost use Prim.Native.Nat.{ℕ, _+_, _*_, _≤_};
 ghost use lib.ListN.{length};
 ghost use Rattle.lists.specs.Texts.{Wrote};
 ghost use Rattle.spec.specs.Steps.{shortest};
-ghost use Rattle.ranges.specs.Buffers.{buffers, placesOf, rowsIn};
+ghost use Rattle.buffers.specs.Buffers.{buffers, placesOf, rowsIn};
 ghost use Rattle.exports.specs.Exporting.{space, exportAnswerIn, bytesWritten};
 ghost use Rattle.engine.specs.Performs.{replyIn};
 ghost use Rattle.codes.specs.Codes.{codedOf, noMeaning, listedWords, wordsOf};

@@ -12,9 +12,9 @@ use Rattle.spec.specs.Maps.{MapState, withSlots, unlockAll, installAll}
 use Rattle.spec.specs.Steps as model
 use Rattle.spec.specs.Steps.{State, freeWorker, workerOf, writeKeys, withWorker, withMap, installedMap, dropped, effect, install}
 use Rattle.laws.specs.MapLaws.{Installable}
-use Rattle.sets.specs.declared.workers.Worker.{Worker}
-use Rattle.sets.specs.Workers.{workerIn, freed}
-use Rattle.sets.specs.WorkerLaws.{free-in}
+use Rattle.workers.specs.declared.Worker.{Worker}
+use Rattle.workers.specs.Workers.{workerIn, freed}
+use Rattle.workers.specs.WorkerLaws.{free-in}
 use Rattle.sets.specs.Reads.{ReadRows}
 use Rattle.sets.specs.Leaves.{LeafSetRows}
 use Rattle.sets.specs.Writes.{WriteRows, writesOf, writesIn, WriteSetOrdered}

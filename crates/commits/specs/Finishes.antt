@@ -15,8 +15,8 @@ use Rattle.laws.specs.WorkerLaws.{mild-cause}
 use Rattle.laws.specs.MapLaws.{Installable}
 use Rattle.limits.specs.Invariant.{standard-counters}
 use Rattle.limits.specs.Finishing.{installable}
-use Rattle.sets.specs.declared.workers.Worker.{Worker}
-use Rattle.sets.specs.Workers.{workerIn}
+use Rattle.workers.specs.declared.Worker.{Worker}
+use Rattle.workers.specs.Workers.{workerIn}
 use Rattle.sets.specs.Reads.{ReadRows}
 use Rattle.sets.specs.Leaves.{LeafSetRows}
 use Rattle.sets.specs.Writes.{WriteRows, writesIn}

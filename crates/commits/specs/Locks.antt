@@ -24,9 +24,9 @@ use Rattle.spec.specs.Maps.{MapState, heldByOther, waitingWith, addressesWith, 
 use Rattle.spec.specs.Steps as model
 use Rattle.spec.specs.Steps.{State, workerOf, lock, isOpen, lockedByOther, writeKeys, guard, unfitPut, uncoveredPut, overlappedPut, Cause, cause, noWorker, workerFree, wrongStage, causes, firstCause, refusal, granted, effect, withWorker, withMap, atStage}
 use Rattle.laws.specs.WorkerLaws.{cause-passed}
-use Rattle.sets.specs.declared.workers.Worker.{Worker}
-use Rattle.sets.specs.Workers.{workerIn, atLock}
-use Rattle.sets.specs.WorkerLaws.{lock-in}
+use Rattle.workers.specs.declared.Worker.{Worker}
+use Rattle.workers.specs.Workers.{workerIn, atLock}
+use Rattle.workers.specs.WorkerLaws.{lock-in}
 use Rattle.sets.specs.Reads.{ReadRows, readsIn}
 use Rattle.sets.specs.Leaves.{LeafSetRows, scansIn}
 use Rattle.sets.specs.Writes.{WriteRows, writesOf, writesIn}

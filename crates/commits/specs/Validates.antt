@@ -22,8 +22,8 @@ use Rattle.counters.specs.declared.Counters.{Counters}
 use Rattle.map.specs.declared.Sizes.{Sizes}
 use Rattle.queries.specs.QueryViews.{mapWith, Sees}
 use Rattle.queries.specs.PhantomViews.{Holding, Logged}
-use Rattle.sets.specs.declared.workers.Worker.{Worker}
-use Rattle.sets.specs.Workers.{atCheck}
+use Rattle.workers.specs.declared.Worker.{Worker}
+use Rattle.workers.specs.Workers.{atCheck}
 use Rattle.sets.specs.declared.reads.Observed.{Observed}
 use Rattle.sets.specs.declared.leaves.LoggedLeaf.{LoggedLeaf}
 use Rattle.sets.specs.Reads.{ReadRows, recordIn, readsOf, noRead, ReadSetHeld, GivesRead}

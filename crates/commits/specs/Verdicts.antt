@@ -20,9 +20,9 @@ use Rattle.spec.specs.Maps.{current, phantomIn}
 use Rattle.spec.specs.Steps as model
 use Rattle.spec.specs.Steps.{State, Answer, validate, refused, numbered, isLocked, workerOf, writeKeys, changedSince, lockedByOther, Cause, cause, noWorker, workerFree, wrongStage, causes, firstCause, refusal, granted, effect, withWorker, withCounters, checkedAs, dropped, afterRefusal, answer, next}
 use Rattle.laws.specs.WorkerLaws.{mild-cause, hasLocks, locked-locks}
-use Rattle.sets.specs.declared.workers.Worker.{Worker}
-use Rattle.sets.specs.Workers.{workerIn, atCheck}
-use Rattle.sets.specs.WorkerLaws.{check-in}
+use Rattle.workers.specs.declared.Worker.{Worker}
+use Rattle.workers.specs.Workers.{workerIn, atCheck}
+use Rattle.workers.specs.WorkerLaws.{check-in}
 use Rattle.sets.specs.Reads.{ReadRows, readsOf, readsIn}
 use Rattle.sets.specs.Leaves.{LeafSetRows, versionsOf, versionsIn}
 use Rattle.sets.specs.Writes.{WriteRows, writesIn}

@@ -2,10 +2,10 @@
 use map::Leaves;
 use map::Records;
 use map::Slots;
-use sets::Workers;
 use sets::WriteSets;
-use sets::workers;
 use transactions::Globals;
+use workers;
+use workers::Workers;
 ghost use Prim.Native.Nat.{_<_};
 ghost use lib.ListN.{getD};
 ghost use mathlib.Core.List.{[]};

@@ -9,7 +9,7 @@ use Rattle.spec.specs.Steps.{shortest}
 use Rattle.transactions.specs.Cores.{Core}
 use Rattle.map.specs.Views.{Lent}
 use Rattle.transactions.specs.Views.{Logs, stateOf}
-use Rattle.ranges.specs.Buffers.{Buffers, buffers, placesOf}
+use Rattle.buffers.specs.Buffers.{Buffers, buffers, placesOf}
 use Rattle.engine.specs.declared.steps.Op.{Op}
 use Rattle.engine.specs.Performs.{stepIn, placesIn, Performed, Performs}
 use Rattle.engine.specs.Listings as listings

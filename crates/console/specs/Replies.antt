@@ -17,8 +17,8 @@ use Rattle.script.specs.declared.Line.{Line}
 use Rattle.script.specs.Grammar.{stepOf}
 use Rattle.answers.specs.Output.{field, absent, triple, triples, triplesOf, answerText}
 use Rattle.answers.specs.OutputLaws.{triple-most}
-use Rattle.ranges.specs.Buffers.{Buffers, buffers, rowIn, rowsIn}
-use Rattle.ranges.specs.BufferLaws.{length-rows}
+use Rattle.buffers.specs.Buffers.{Buffers, buffers, rowIn, rowsIn}
+use Rattle.buffers.specs.BufferLaws.{length-rows}
 use Rattle.script.specs.declared.Line.the-variants as line
 use Rattle.engine.specs.declared.steps.Access.the-variants as access
 use Rattle.engine.specs.declared.steps.Ending.the-variants as ending

@@ -18,7 +18,7 @@ use Rattle.map.specs.Views.{Lent}
 use Rattle.transactions.specs.Cores.{Core}
 use Rattle.transactions.specs.Views.{Logs, stateOf}
 use Rattle.transactions.specs.Ready.{Ready}
-use Rattle.ranges.specs.Buffers.{Buffers, buffers}
+use Rattle.buffers.specs.Buffers.{Buffers, buffers}
 use Rattle.engine.specs.declared.steps.Op.{Op}
 use Rattle.engine.specs.Performs.{Performed, Performs}
 use Rattle.script.specs.declared.Line.{Line}

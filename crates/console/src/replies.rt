@@ -7,7 +7,7 @@ ghost use Prim.Native.Nat.{_+_, _*_, _≤_};
 ghost use lib.ListN.{length, take};
 ghost use Rattle.lists.specs.Texts.{Wrote};
 ghost use Rattle.answers.specs.Output.{field, absent, triplesOf};
-ghost use Rattle.ranges.specs.Buffers.{buffers};
+ghost use Rattle.buffers.specs.Buffers.{buffers};
 ghost use Rattle.engine.specs.Performs.{placesIn};
 ghost use Rattle.console.specs.Program.{places, longestLine};
 ghost use Rattle.console.specs.Replies.{Replies};

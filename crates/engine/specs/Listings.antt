@@ -10,8 +10,8 @@ use Rattle.spec.specs.declared.Refusal.{Refusal}
 use Rattle.spec.specs.Steps as model
 use Rattle.spec.specs.Steps.{Places, shortest, State, Step, Answer, refused, done, found, listed, numbered, counted, answer, granted, refusal, causes, scanned, accessCauses, accessAnswer}
 use Rattle.laws.specs.WorkerLaws.{cause-passed}
-use Rattle.ranges.specs.Buffers.{Buffers}
-use Rattle.ranges.specs.BufferLaws.{length-rows}
+use Rattle.buffers.specs.Buffers.{Buffers}
+use Rattle.buffers.specs.BufferLaws.{length-rows}
 use Rattle.engine.specs.declared.steps.Access.the-variants as access
 use Rattle.engine.specs.declared.steps.Ending.the-variants as ending
 use Rattle.engine.specs.declared.steps.Op.{Op}

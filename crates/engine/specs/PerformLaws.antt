@@ -26,8 +26,8 @@ use Rattle.engine.specs.declared.steps.Reply.the-variants as reply
 use Rattle.engine.specs.declared.steps.Outcome.{Outcome}
 use Rattle.transactions.specs.Begins.{plainIn}
 use Rattle.accesses.specs.Answers.{readAnswer}
-use Rattle.ranges.specs.Buffers.{Buffers, placesOf, Beyond}
-use Rattle.ranges.specs.BufferLaws.{beyond-refl}
+use Rattle.buffers.specs.Buffers.{Buffers, placesOf, Beyond}
+use Rattle.buffers.specs.BufferLaws.{beyond-refl}
 use Rattle.accesses.specs.Scans.{scanIn, places, Scans}
 use Rattle.commits.specs.Answers.{validateIn}
 use Rattle.transactions.specs.Views.{Logs}

@@ -27,7 +27,7 @@ use Rattle.engine.specs.declared.steps.Op.the-variants as op
 use Rattle.engine.specs.declared.steps.Reply.{Reply}
 use Rattle.engine.specs.declared.steps.Reply.the-variants as reply
 use Rattle.engine.specs.declared.steps.Outcome.{Outcome}
-use Rattle.ranges.specs.Buffers.{Buffers, placesOf, rowsIn, Beyond}
+use Rattle.buffers.specs.Buffers.{Buffers, placesOf, rowsIn, Beyond}
 use Rattle.accesses.specs.Scans.{places}
 use Rattle.transactions.specs.Views.{Logs, coreOf}
 use Rattle.transactions.specs.Ready.{Refines}

@@ -16,7 +16,6 @@ use map::Records;
 use map::Slots;
 use sets::LeafSets;
 use sets::ReadSets;
-use sets::Workers;
 use sets::WriteSets;
 use spec::Address;
 use spec::Refusal;
@@ -25,11 +24,12 @@ use transactions::begins;
 use transactions::begins::Plain;
 use transactions::merges;
 use transactions::merges::MergeDone;
+use workers::Workers;
 ghost use mathlib.Core.Path.{_≡_};
 ghost use Rattle.map.specs.Views.{lent};
 ghost use Rattle.transactions.specs.Views.{logs, coreOf};
 ghost use Rattle.transactions.specs.Ready.{Ready};
-ghost use Rattle.ranges.specs.Buffers.{buffers};
+ghost use Rattle.buffers.specs.Buffers.{buffers};
 ghost use Rattle.engine.specs.Performs.{plainReply, readReply, scanReply, ofDone, ofValidate, ofMerge, performedOf, Quiet, Performs};
 
 // What a worker does within an open transaction. The buffers of a scan are lent beside it.

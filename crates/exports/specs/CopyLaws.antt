@@ -16,8 +16,8 @@ use Rattle.sets.specs.SetLaws.{length-rows, rows-none, rows-snoc, row-appended}
 use Rattle.queries.specs.Contents.{firstFrom}
 use Rattle.queries.specs.NextViews.{rowsFrom}
 use Rattle.queries.specs.ContentsLaws.{all-from, next-row, no-row}
-use Rattle.ranges.specs.Buffers.{Buffers, rowsIn, Beyond}
-use Rattle.ranges.specs.BufferLaws.{beyond-refl, beyond-on, rowPut, rows-put, beyond-put}
+use Rattle.buffers.specs.Buffers.{Buffers, rowsIn, Beyond}
+use Rattle.buffers.specs.BufferLaws.{beyond-refl, beyond-on, rowPut, rows-put, beyond-put}
 use Rattle.exports.specs.declared.rows.ExportRecord.{ExportRecord}
 use Rattle.exports.specs.Exporting.{ExportedRows, exportRow, exportedIn}
 use Rattle.exports.specs.RowLaws.{rowOf}

@@ -13,7 +13,7 @@ use Rattle.spec.specs.Records.{limits, Payload, Record}
 use Rattle.spec.specs.Steps.{Places, shortest}
 use Rattle.spec.specs.Exports as model
 use Rattle.sets.specs.Sets.{firstRows}
-use Rattle.ranges.specs.Buffers.{Buffers, placesOf, rowsIn, Unmoved, Beyond, Lends}
+use Rattle.buffers.specs.Buffers.{Buffers, placesOf, rowsIn, Unmoved, Beyond, Lends}
 use Rattle.exports.specs.declared.Export.{Export}
 use Rattle.exports.specs.declared.ExportAnswer.{ExportAnswer}
 use Rattle.exports.specs.declared.ExportAnswer.the-variants.{Opened, Given, Filed, Closed, Refused}

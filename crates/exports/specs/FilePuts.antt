@@ -14,7 +14,7 @@ use Rattle.spec.specs.Records.{Payload}
 use Rattle.spec.specs.Files.{littleEndian, addressBytes, entrySize, entryBytes, fileOf}
 use Rattle.laws.specs.FileLaws.{length-number}
 use Rattle.sets.specs.SetLaws.{length-rows, rows-none, rows-snoc}
-use Rattle.ranges.specs.Buffers.{Unmoved}
+use Rattle.buffers.specs.Buffers.{Unmoved}
 use Rattle.exports.specs.declared.rows.ExportRecord.{ExportRecord}
 use Rattle.exports.specs.Exporting.{ExportedRows, exportRow, exportedIn}
 use Rattle.exports.specs.RowLaws.{rowOf}

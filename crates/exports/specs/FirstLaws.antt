@@ -8,8 +8,8 @@ use Rattle.lists.specs.Rows.{Row}
 use Rattle.spec.specs.Records.{Record}
 use Rattle.spec.specs.Steps.{Places, shortest}
 use Rattle.spec.specs.Exports as model
-use Rattle.ranges.specs.Buffers.{Buffers, buffers, placesOf, Beyond, Lends, firstOf, othersOf, Unmoved}
-use Rattle.ranges.specs.FirstPlaces.{first-places, behind, behind-first, behind-others, beyond-part, unmoved-part, rows-part}
+use Rattle.buffers.specs.Buffers.{Buffers, buffers, placesOf, Beyond, Lends, firstOf, othersOf, Unmoved}
+use Rattle.buffers.specs.FirstPlaces.{first-places, behind, behind-first, behind-others, beyond-part, unmoved-part, rows-part}
 use Rattle.exports.specs.declared.Export.{Export}
 use Rattle.exports.specs.declared.ExportAnswer.{ExportAnswer}
 use Rattle.exports.specs.declared.ExportAnswer.the-variants.{Opened, Given, Filed, Closed, Refused}

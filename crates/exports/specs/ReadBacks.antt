@@ -20,7 +20,7 @@ use Rattle.spec.specs.Exports as model
 use Rattle.laws.specs.FileLaws.{FileFits, AllFit, none-fit, more-fit, file-parsed}
 use Rattle.sets.specs.Sets.{firstRows}
 use Rattle.sets.specs.SetLaws.{length-rows}
-use Rattle.ranges.specs.Buffers.{Buffers}
+use Rattle.buffers.specs.Buffers.{Buffers}
 use Rattle.exports.specs.declared.Export.{Export}
 use Rattle.exports.specs.declared.ExportAnswer.{ExportAnswer}
 use Rattle.exports.specs.declared.ExportAnswer.the-variants.{Filed}

@@ -20,8 +20,8 @@ use Rattle.spec.specs.Steps.{Places, shortest, firstCause}
 use Rattle.spec.specs.Files.{entrySize, fileOf, fileSize}
 use Rattle.spec.specs.Exports as model
 use Rattle.sets.specs.SetLaws.{length-rows}
-use Rattle.ranges.specs.Buffers.{Buffers, rowsIn, Unmoved, Beyond, placesOf}
-use Rattle.ranges.specs.BufferLaws.{length-rows as places-count, unmoved-refl, beyond-refl}
+use Rattle.buffers.specs.Buffers.{Buffers, rowsIn, Unmoved, Beyond, placesOf}
+use Rattle.buffers.specs.BufferLaws.{length-rows as places-count, unmoved-refl, beyond-refl}
 use Rattle.exports.specs.declared.Export.{Export}
 use Rattle.exports.specs.declared.ExportAnswer.the-variants.{Opened, Given, Filed, Closed, Refused}
 use Rattle.exports.specs.declared.ExportDone.{ExportDone}

@@ -13,7 +13,7 @@ ghost use lib.ListN.{length};
 ghost use Rattle.spec.specs.Records.{limits};
 ghost use Rattle.map.specs.Parts.{RecordsHeld, SlotsHeld};
 ghost use Rattle.queries.specs.Contents.{allRecords};
-ghost use Rattle.ranges.specs.Buffers.{buffers};
+ghost use Rattle.buffers.specs.Buffers.{buffers};
 ghost use Rattle.exports.specs.CopyLaws.{Copied, GiveRoom, Gives};
 
 // Copies all records, by rising address, to the first rows. Answers how many there are.

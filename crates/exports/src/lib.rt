@@ -5,7 +5,6 @@
 // `files` writes the file. `ops` takes any step as one operation.
 use map::Records;
 use map::Slots;
-use ranges::plans;
 use spec::Address;
 use spec::MAP_LIMIT;
 use spec::Refusal;
@@ -19,7 +18,7 @@ ghost use Rattle.spec.specs.Records.{limits, Record};
 ghost use Rattle.spec.specs.Exports as model;
 ghost use Rattle.map.specs.Parts.{RecordsHeld, SlotsHeld};
 ghost use Rattle.queries.specs.Contents.{allRecords};
-ghost use Rattle.ranges.specs.Buffers.{Buffers, buffers, placesOf};
+ghost use Rattle.buffers.specs.Buffers.{Buffers, buffers, placesOf};
 ghost use Rattle.exports.specs.Exporting.{ExportedRows, exportIn, ExportHeld, Space, space, ExportStepped};
 
 mod copies;
@@ -115,9 +114,9 @@ pub fn portion(
 {
     if x.open {
         let left = x.count - x.taken;
-        let two = plans::lesser(addresses.len(), values.len());
-        let shortest = plans::lesser(two, owners.len());
-        let n = plans::lesser(left, shortest);
+        let two = buffers::lesser(addresses.len(), values.len());
+        let shortest = buffers::lesser(two, owners.len());
+        let n = buffers::lesser(left, shortest);
         copies::give(addresses, values, owners, exported, x.taken, n);
         let export = Export {
             open: true,

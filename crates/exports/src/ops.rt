@@ -14,7 +14,7 @@ ghost use Rattle.spec.specs.Steps.{places};
 ghost use Rattle.spec.specs.Exports as model;
 ghost use Rattle.map.specs.Parts.{RecordsHeld, SlotsHeld};
 ghost use Rattle.queries.specs.Contents.{allRecords};
-ghost use Rattle.ranges.specs.Buffers.{Buffers, buffers, placesOf, Lends};
+ghost use Rattle.buffers.specs.Buffers.{Buffers, buffers, placesOf, Lends};
 ghost use Rattle.exports.specs.Exporting.{ExportHeld, space, ExportStepped, exportStepIn, LendsTo};
 
 // A step. A portion is handed the places that it wants beside it, a file the bytes.

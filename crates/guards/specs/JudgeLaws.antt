@@ -6,7 +6,7 @@ use Rattle.lists.specs.Tests.{pick}
 use Rattle.spec.specs.declared.Refusal.the-variants.{Unfit, Uncovered, Overlap}
 use Rattle.spec.specs.Guards.{unfit, uncovered, overlapped, anyPut}
 use Rattle.spec.specs.Steps.{firstCause}
-use Rattle.sets.specs.declared.workers.Worker.{Worker}
+use Rattle.workers.specs.declared.Worker.{Worker}
 use Rattle.sets.specs.Reads.{ReadRows, readsOf}
 use Rattle.sets.specs.Leaves.{LeafSetRows, scansOf}
 use Rattle.sets.specs.Writes.{WriteRows, writesOf}

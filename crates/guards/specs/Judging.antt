@@ -9,7 +9,7 @@ use Rattle.spec.specs.declared.Refusal.the-variants.{Unfit, Uncovered, Overlap}
 use Rattle.spec.specs.Records.{limits, Record, Write}
 use Rattle.spec.specs.Guards.{Scan, unfit, uncovered, overlapped, anyPut}
 use Rattle.spec.specs.Steps.{Cause, cause, firstCause}
-use Rattle.sets.specs.declared.workers.Worker.{Worker}
+use Rattle.workers.specs.declared.Worker.{Worker}
 use Rattle.sets.specs.Reads.{ReadRows, readsOf, ReadSetHeld}
 use Rattle.sets.specs.Leaves.{LeafSetRows, scansOf, LeafSetHeld}
 use Rattle.sets.specs.Writes.{WriteRows, writesOf, WriteSetOrdered}

@@ -2,8 +2,8 @@
 use sets::LeafSet;
 use sets::ReadSet;
 use sets::WriteSet;
-use sets::workers::Worker;
 use spec::Refusal;
+use workers::Worker;
 ghost use Rattle.guards.specs.Judging.{Guardable, Judges};
 
 mod lengths;

@@ -1,8 +1,5 @@
 pub mod Overlays
 pub mod Parts
-pub mod Buffers
-pub mod BufferLaws
-pub mod FirstPlaces
 pub mod Scanning
 pub mod Walks
 pub mod WalkLaws

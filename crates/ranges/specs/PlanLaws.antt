@@ -11,7 +11,7 @@ use Rattle.lists.specs.TestLaws.{less-true, less-false}
 use Rattle.lists.specs.Rows.{Row, Rising}
 use Rattle.spec.specs.Records.{limits, Payload, Write}
 use Rattle.spec.specs.Steps.{Places, places, shortest}
-use Rattle.sets.specs.declared.workers.Worker.{Worker}
+use Rattle.workers.specs.declared.Worker.{Worker}
 use Rattle.sets.specs.Reads.{ReadRows}
 use Rattle.sets.specs.Writes.{WriteRows, WriteSetOrdered, writeIn, writesOf}
 use Rattle.map.specs.declared.Sizes.{Sizes}
@@ -19,7 +19,7 @@ use Rattle.queries.specs.declared.Range.{Range}
 use Rattle.ranges.specs.declared.plans.Task.{Task}
 use Rattle.ranges.specs.Parts.{take-rows}
 use Rattle.ranges.specs.Overlays.{rising-first}
-use Rattle.ranges.specs.Buffers.{Buffers, placesOf}
+use Rattle.buffers.specs.Buffers.{Buffers, placesOf}
 use Rattle.ranges.specs.Walks.{Ground, ground, logRow, rest, Walks, Sees, Keeps, RecordsFit, Fills}
 use Rattle.ranges.specs.WalkLaws.{rising-index}
 use Rattle.ranges.specs.Scanning.{span, seenIn, ReadsRoom, LogsRows, LeavesRoom}

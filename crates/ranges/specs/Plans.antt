@@ -9,7 +9,7 @@ use Rattle.spec.specs.Records.{limits, Payload}
 use Rattle.spec.specs.Steps.{Places, shortest}
 use Rattle.spec.specs.declared.Refusal.{Refusal}
 use Rattle.spec.specs.declared.Refusal.the-variants.{Backward, LogFull, ShortBuffer}
-use Rattle.sets.specs.declared.workers.Worker.{Worker}
+use Rattle.workers.specs.declared.Worker.{Worker}
 use Rattle.sets.specs.Reads.{ReadRows}
 use Rattle.sets.specs.declared.leaves.Scanned.{Scanned}
 use Rattle.sets.specs.Leaves.{LeafSetRows}
@@ -21,7 +21,7 @@ use Rattle.ranges.specs.declared.plans.Task.{Task}
 use Rattle.ranges.specs.declared.plans.Done.{Done}
 use Rattle.ranges.specs.declared.plans.Plan.{Plan}
 use Rattle.ranges.specs.declared.plans.Plan.the-variants.{Refused, Go}
-use Rattle.ranges.specs.Buffers.{Buffers}
+use Rattle.buffers.specs.Buffers.{Buffers}
 use Rattle.ranges.specs.Walks.{Ground, ground, rest, Fills}
 use Rattle.ranges.specs.Scanning.{OwnSpans, span, seenIn, LogsRows, LogsLeaves}
 use Rattle.map.specs.Views.{SlotRows, RecordRows}

@@ -16,8 +16,8 @@ use Rattle.spec.specs.Records.{Payload}
 use Rattle.ranges.specs.declared.walks.Turn.{Turn}
 use Rattle.ranges.specs.Overlays.{shown}
 use Rattle.ranges.specs.Walks.{Ground, rest, Walks, Inside, turnIn, ComesNext, Fits, Shows, RecordsFit, Fills, Counting, Filling}
-use Rattle.ranges.specs.Buffers.{Buffers, buffers, rowsIn}
-use Rattle.ranges.specs.BufferLaws.{length-rows, beyond-refl, beyond-on, rows-put, beyond-put}
+use Rattle.buffers.specs.Buffers.{Buffers, buffers, rowsIn}
+use Rattle.buffers.specs.BufferLaws.{length-rows, beyond-refl, beyond-on, rows-put, beyond-put}
 use Rattle.ranges.specs.WalkLaws.{rest-end}
 
 -- ---- one turn

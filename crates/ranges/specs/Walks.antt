@@ -22,7 +22,7 @@ use Rattle.ranges.specs.declared.walks.Turn.{Turn}
 use Rattle.ranges.specs.Overlays.{shown, overlay}
 use Rattle.map.specs.Views.{SlotRows, RecordRows}
 use Rattle.map.specs.Parts.{RecordsHeld, SlotsHeld}
-use Rattle.ranges.specs.Buffers.{Buffers, rowsIn, Beyond}
+use Rattle.buffers.specs.Buffers.{Buffers, rowsIn, Beyond}
 
 -- What is walked over: the record at each place, the rows of the worker's write set, and where the walk ends.
 pub record Ground : Type 0 where

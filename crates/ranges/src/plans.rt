@@ -11,20 +11,20 @@ use sets::LeafSet;
 use sets::ReadSet;
 use sets::WriteSet;
 use sets::leaves::Scanned;
-use sets::workers::Worker;
 use sets::writes;
 use spec::Address;
 use spec::LEAF_SET_LIMIT;
 use spec::READ_LIMIT;
 use spec::Refusal;
-ghost use Prim.Native.Nat.{_≤_, min};
+use workers::Worker;
+ghost use Prim.Native.Nat.{_≤_};
 ghost use mathlib.Core.Path.{_≡_};
 ghost use Rattle.spec.specs.Steps.{places};
 ghost use Rattle.sets.specs.Reads.{ReadSetHeld};
 ghost use Rattle.sets.specs.Leaves.{LeafSetHeld};
 ghost use Rattle.sets.specs.Writes.{WriteSetOrdered};
 ghost use Rattle.map.specs.Views.{lowsOf, versionsOf};
-ghost use Rattle.ranges.specs.Buffers.{buffers, placesOf};
+ghost use Rattle.buffers.specs.Buffers.{buffers, placesOf};
 ghost use Rattle.ranges.specs.Scanning.{OwnSpans};
 ghost use Rattle.ranges.specs.Plans.{Planning, Plans, Planned, Carried};
 
@@ -65,16 +65,6 @@ fn writes_between(writes: &WriteSet, n: usize, lo: Address, hi: Address) -> Rang
     Range { from, to }
 }
 
-// The lesser of two numbers.
-pub fn lesser(a: usize, b: usize) -> usize
-    ensures { λ r. ⌜ r ≡ min a b ⌝ }
-{
-    if a <= b {
-        return a;
-    }
-    b
-}
-
 // Tests a scan of a worker with k, m and n places for addresses, values and owners, and finds what it has to do. Nothing is written.
 pub fn measure(
     rows: &Records,
@@ -108,7 +98,7 @@ pub fn measure(
         to: index.to,
         end: own.to,
     };
-    let shortest = lesser(lesser(k, m), n);
+    let shortest = buffers::lesser(buffers::lesser(k, m), n);
     if walks::exceeds(
         rows,
         slots,

@@ -16,7 +16,7 @@ ghost use mathlib.Core.Path.{_≡_};
 ghost use Prim.Native.Nat.{_+_, _<_};
 ghost use lib.ListN.{length};
 ghost use Rattle.lists.specs.Tests.{pick, less};
-ghost use Rattle.ranges.specs.Buffers.{buffers};
+ghost use Rattle.buffers.specs.Buffers.{buffers};
 ghost use Rattle.ranges.specs.Scanning.{seenIn};
 ghost use Rattle.ranges.specs.Walks.{ground, logRow, rest, Walks, Nears, Sees, Keeps, Inside, Stands, GoesOn, indexTurn, ownTurn, Fits, Shows, RecordsFit, Fills};
 

@@ -4,7 +4,7 @@ use mathlib.Core.Path.{_≡_}
 use mathlib.Core.List.{List}
 use Rattle.spec.specs.Steps.{Places}
 use Rattle.map.specs.Views.{Lent}
-use Rattle.ranges.specs.Buffers.{Buffers, placesOf, firstOf, othersOf}
+use Rattle.buffers.specs.Buffers.{Buffers, placesOf, firstOf, othersOf}
 use Rattle.transactions.specs.Cores.{Core}
 use Rattle.transactions.specs.Views.{Logs, coreOf}
 use Rattle.engine.specs.declared.steps.Op.{Op}

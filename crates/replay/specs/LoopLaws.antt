@@ -16,7 +16,7 @@ use Rattle.spec.specs.Claim.{SerialRun}
 use Rattle.spec.specs.Exports.{Exporting, Exchange, startingAt, jobEvents}
 use Rattle.calls.specs.CallLaws.{map-in, reached-good}
 use Rattle.map.specs.Views.{Lent, mapOf}
-use Rattle.ranges.specs.Buffers.{placesOf}
+use Rattle.buffers.specs.Buffers.{placesOf}
 use Rattle.exports.specs.declared.Export.{Export}
 use Rattle.exports.specs.Exporting.{ExportedRows, exportIn, ExportHeld, Space}
 use Rattle.transactions.specs.Cores.{Core}

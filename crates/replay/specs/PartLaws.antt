@@ -3,8 +3,8 @@ use mathlib.Core.Path.{_≡_, refl, sym, ap, subst}
 use Prim.Native.Nat.{_≤_}
 use Rattle.spec.specs.Steps.{Places, shortest, listed, Answer}
 use Rattle.map.specs.Views.{Lent}
-use Rattle.ranges.specs.Buffers.{Buffers, placesOf, Beyond, Lends, firstOf}
-use Rattle.ranges.specs.FirstPlaces.{first-places, behind, behind-first, behind-others, beyond-part, rows-part}
+use Rattle.buffers.specs.Buffers.{Buffers, placesOf, Beyond, Lends, firstOf}
+use Rattle.buffers.specs.FirstPlaces.{first-places, behind, behind-first, behind-others, beyond-part, rows-part}
 use Rattle.transactions.specs.Cores.{Core}
 use Rattle.transactions.specs.Views.{Logs, stateOf}
 use Rattle.transactions.specs.Ready.{Refines}

@@ -15,7 +15,7 @@ use Rattle.spec.specs.Steps.{Places, places, shortest, fresh, Answer, refused, 
 use Rattle.spec.specs.Claim.{SerialRun}
 use Rattle.spec.specs.Exports.{ExportAnswer, declined, opened, given, filed, closed, Exporting, Request, job, exporting, Exchange, jobTold, exportTold, exchange, nextOf, startingAt, jobEvents, recordsGiven}
 use Rattle.map.specs.Views.{Lent, mapOf}
-use Rattle.ranges.specs.Buffers.{placesOf}
+use Rattle.buffers.specs.Buffers.{placesOf}
 use Rattle.exports.specs.declared.Export.{Export}
 use Rattle.exports.specs.Exporting.{ExportedRows, exportIn, ExportHeld, Space, exportStepIn}
 use Rattle.transactions.specs.Cores.{Core}

@@ -18,8 +18,8 @@ use Rattle.spec.specs.Files.{parsed}
 use Rattle.spec.specs.Exports.{Export as ModelExport, ExportStep, ExportAnswer as ModelAnswer, filed, exportOf, exportAnswer, exportNext, Exporting, job, exporting, Exchange, jobTold, exportTold, exchange, nextOf, contentsNow}
 use Rattle.calls.specs.CallLaws.{map-in}
 use Rattle.map.specs.Views.{Lent, mapOf}
-use Rattle.ranges.specs.Buffers.{Buffers, placesOf, Lends}
-use Rattle.ranges.specs.BufferLaws.{unmoved-refl}
+use Rattle.buffers.specs.Buffers.{Buffers, placesOf, Lends}
+use Rattle.buffers.specs.BufferLaws.{unmoved-refl}
 use Rattle.exports.specs.declared.Export.{Export}
 use Rattle.exports.specs.declared.ExportDone.{ExportDone}
 use Rattle.exports.specs.declared.ops.ExportOp.{ExportOp}

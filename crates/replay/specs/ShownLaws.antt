@@ -11,7 +11,7 @@ use Rattle.lists.specs.Rows.{Row}
 use Rattle.spec.specs.Records.{Payload}
 use Rattle.spec.specs.Steps.{Places, shortest}
 use Rattle.spec.specs.Exports.{Exchange, recordsGiven}
-use Rattle.ranges.specs.Buffers.{Buffers, placesOf, rowIn, rowsIn, Unmoved, Beyond, Lends}
+use Rattle.buffers.specs.Buffers.{Buffers, placesOf, rowIn, rowsIn, Unmoved, Beyond, Lends}
 use Rattle.exports.specs.declared.ExportAnswer.{ExportAnswer}
 use Rattle.exports.specs.declared.ExportAnswer.the-variants as export
 use Rattle.exports.specs.Exporting.{Space, exportAnswerIn, placesWritten, bytesWritten}

@@ -18,7 +18,7 @@ use Rattle.spec.specs.Exports.{ExportStep, openExport, portion, file, closeExpo
 use Rattle.spec.specs.Events.{event}
 use Rattle.spec.specs.Runs.{wide, owned, ownersTold, Run, home, leaves, script, starred}
 use Rattle.map.specs.Views.{Lent, mapOf}
-use Rattle.ranges.specs.Buffers.{placesOf}
+use Rattle.buffers.specs.Buffers.{placesOf}
 use Rattle.exports.specs.Exporting.{ExportedRows, Space}
 use Rattle.transactions.specs.Views.{Logs, stateOf}
 use Rattle.calls.specs.CallLaws.{map-in}

@@ -3,7 +3,7 @@ use Prim.Native.Nat.{ℕ}
 use mathlib.Core.Path.{_≡_, refl, sym, _∙_, subst}
 use Rattle.spec.specs.Steps.{Places, places}
 use Rattle.map.specs.Views.{Lent}
-use Rattle.ranges.specs.Buffers.{Buffers, placesOf}
+use Rattle.buffers.specs.Buffers.{Buffers, placesOf}
 use Rattle.transactions.specs.Cores.{Core}
 use Rattle.transactions.specs.Views.{Logs}
 use Rattle.engine.specs.declared.steps.Op.{Op}

@@ -19,7 +19,7 @@ ghost use Rattle.spec.specs.Maps.{contents};
 ghost use Rattle.map.specs.Views.{Lent, mapOf};
 ghost use Rattle.map.specs.Parts.{RecordsHeld, SlotsHeld};
 ghost use Rattle.queries.specs.Contents.{allRecords};
-ghost use Rattle.ranges.specs.Buffers.{buffers};
+ghost use Rattle.buffers.specs.Buffers.{buffers};
 ghost use Rattle.exports.specs.Exporting.{ExportHeld, space};
 ghost use Rattle.transactions.specs.Cores.{Core};
 ghost use Rattle.transactions.specs.Views.{Logs};

@@ -7,15 +7,15 @@ use map::Records;
 use map::Slots;
 use sets::LeafSets;
 use sets::ReadSets;
-use sets::Workers;
 use sets::WriteSets;
 use spec::Address;
 use transactions::Globals;
+use workers::Workers;
 ghost use Rattle.spec.specs.Steps.{places};
 ghost use Rattle.map.specs.Views.{lent};
 ghost use Rattle.transactions.specs.Views.{logs, coreOf};
 ghost use Rattle.transactions.specs.Ready.{Ready};
-ghost use Rattle.ranges.specs.Buffers.{buffers, placesOf, Lends};
+ghost use Rattle.buffers.specs.Buffers.{buffers, placesOf, Lends};
 ghost use Rattle.engine.specs.Performs.{performedOf};
 ghost use Rattle.replay.specs.CodedSteps.{PerformsFirst};
 

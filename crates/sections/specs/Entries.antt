@@ -14,7 +14,7 @@ use Rattle.map.specs.Views.{Lent, mapOf}
 use Rattle.queries.specs.Contents.{firstFrom}
 use Rattle.transactions.specs.Views.{Logs}
 use Rattle.transactions.specs.Ready.{Ready}
-use Rattle.ranges.specs.Buffers.{Buffers}
+use Rattle.buffers.specs.Buffers.{Buffers}
 use Rattle.exports.specs.declared.ExportAnswer.{ExportAnswer}
 use Rattle.exports.specs.declared.ExportDone.{ExportDone}
 use Rattle.exports.specs.Exporting.{ExportedRows, exportIn, ExportHeld, Space, ExportStepped}

@@ -24,7 +24,7 @@ use Rattle.transactions.specs.declared.Globals.{Globals}
 use Rattle.transactions.specs.Views.{Logs, coreOf}
 use Rattle.transactions.specs.Ready.{Ready}
 use Rattle.transactions.specs.Starts.{Fresh}
-use Rattle.ranges.specs.Buffers.{Buffers, placesOf}
+use Rattle.buffers.specs.Buffers.{Buffers, placesOf}
 use Rattle.exports.specs.declared.Export.{Export}
 use Rattle.exports.specs.declared.ExportDone.{ExportDone}
 use Rattle.exports.specs.Exporting.{ExportedRows, exportIn, ExportHeld, Space, ExportStepped}

@@ -16,7 +16,7 @@ use Rattle.spec.specs.Claim.{SerialRun}
 use Rattle.spec.specs.Exports.{unstamped, ExportStep, exportOf, exportAnswer, exportNext, Exporting, job, exporting, Exchange, jobTold, exportTold, contentsNow, exchange, nextOf, startingAt, jobSteps, jobEvents}
 use Rattle.spec.specs.GoodTuning.{GoodTuning}
 use Rattle.map.specs.Views.{Lent, mapOf}
-use Rattle.ranges.specs.Buffers.{Buffers, placesOf}
+use Rattle.buffers.specs.Buffers.{Buffers, placesOf}
 use Rattle.exports.specs.Exporting.{ExportedRows, exportIn, Space, exportAnswerIn}
 use Rattle.exports.specs.ReadBacks.{told-read-back}
 use Rattle.transactions.specs.Views.{Logs, stateOf}

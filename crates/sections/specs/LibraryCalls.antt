@@ -9,7 +9,7 @@ use Rattle.spec.specs.Steps.{Places, fresh}
 use Rattle.spec.specs.Claim.{SerialRun}
 use Rattle.spec.specs.Exports.{ExportStep, Exchange, jobTold, exportTold, finalOf, exchanges, startingAt, jobEvents}
 use Rattle.map.specs.Views.{Lent}
-use Rattle.ranges.specs.Buffers.{Buffers, placesOf}
+use Rattle.buffers.specs.Buffers.{Buffers, placesOf}
 use Rattle.exports.specs.Exporting.{ExportedRows, Space, exportAnswerIn}
 use Rattle.transactions.specs.Views.{Logs}
 use Rattle.transactions.specs.Starts.{Fresh}

@@ -3,10 +3,7 @@ pub mod Reads
 pub mod Leaves
 pub mod Writes
 pub mod WritePlaces
-pub mod Workers
 pub mod SetLaws
 pub mod ReadLaws
 pub mod LeafLaws
 pub mod WriteLaws
-pub mod WorkerLaws
-pub mod WordLaws

@@ -1,5 +1,5 @@
-// The transactions of the workers: the worker itself, and its read set, leaf set and write set, each in rows of words that
-// the caller lends. How many rows of a set are in use stands in the worker.
+// The read set, the leaf set and the write set of each worker, in rows of words that the caller lends. How many rows of a set are
+// in use stands in the worker.
 use spec::LEAF_SET_LIMIT;
 use spec::READ_LIMIT;
 use spec::WORKERS;
@@ -7,7 +7,6 @@ use spec::WRITE_LIMIT;
 
 pub mod leaves;
 pub mod reads;
-pub mod workers;
 pub mod writes;
 
 // How many words a row of each set has.
@@ -30,6 +29,3 @@ pub type ReadSets = [ReadSet; WORKERS];
 pub type LeafSets = [LeafSet; WORKERS];
 
 pub type WriteSets = [WriteSet; WORKERS];
-
-// All workers, a word each.
-pub type Workers = [u64; WORKERS];

@@ -14,8 +14,8 @@ use Rattle.spec.specs.declared.Refusal.the-variants.{NoWorker, WorkerFree, Work
 use Rattle.spec.specs.Records.{limits}
 use Rattle.spec.specs.Refusals.{ends}
 use Rattle.spec.specs.Steps.{workerOf, isFree, isOpen, isLocked, isChecked, begin, cause, noWorker, causes, firstCause, refusal}
-use Rattle.sets.specs.declared.workers.Worker.{Worker}
-use Rattle.sets.specs.Workers.{workerIn, freed, rankOf}
+use Rattle.workers.specs.declared.Worker.{Worker}
+use Rattle.workers.specs.Workers.{workerIn, freed, rankOf}
 use Rattle.map.specs.Views.{Lent}
 use Rattle.transactions.specs.Cores.{Core}
 use Rattle.transactions.specs.declared.admits.Admit.{Admit}

@@ -6,9 +6,9 @@ use Rattle.spec.specs.declared.Refusal.{Refusal}
 use Rattle.spec.specs.declared.Stage.the-variants.{Open}
 use Rattle.spec.specs.Records.{limits}
 use Rattle.spec.specs.Steps.{begin, granted, effect, withWorker, atStage, freeWorker}
-use Rattle.sets.specs.declared.workers.Worker.{Worker}
-use Rattle.sets.specs.Workers.{begun}
-use Rattle.sets.specs.WorkerLaws.{begin-in}
+use Rattle.workers.specs.declared.Worker.{Worker}
+use Rattle.workers.specs.Workers.{begun}
+use Rattle.workers.specs.WorkerLaws.{begin-in}
 use Rattle.map.specs.Views.{Lent}
 use Rattle.transactions.specs.Cores.{Core}
 use Rattle.transactions.specs.declared.begins.Plain.the-variants.{Granted, Refused}

@@ -15,8 +15,8 @@ use Rattle.spec.specs.Leaves.{Leaf}
 use Rattle.spec.specs.Records.{limits}
 use Rattle.spec.specs.Steps as model
 use Rattle.spec.specs.Steps.{workerOf}
-use Rattle.sets.specs.declared.workers.Worker.{Worker}
-use Rattle.sets.specs.Workers.{workerIn, freed}
+use Rattle.workers.specs.declared.Worker.{Worker}
+use Rattle.workers.specs.Workers.{workerIn, freed}
 use Rattle.sets.specs.Reads.{ReadRows, ReadsHeld}
 use Rattle.sets.specs.Leaves.{LeafSetRows, LeavesHeld}
 use Rattle.sets.specs.Writes.{WriteRows, WritesHeld, WriteSetOrdered}

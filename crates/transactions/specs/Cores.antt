@@ -1,7 +1,7 @@
 -- The core: the workers and what goes by value beside the lent arrays, as statements have them together.
 use Prim.Native.Nat.{ℕ}
 use mathlib.Core.List.{List}
-use Rattle.sets.specs.declared.workers.Worker.{Worker}
+use Rattle.workers.specs.declared.Worker.{Worker}
 use Rattle.counters.specs.declared.Counters.{Counters}
 use Rattle.map.specs.declared.Sizes.{Sizes}
 

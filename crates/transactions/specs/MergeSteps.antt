@@ -111,7 +111,7 @@ module _ {l l' : Lent} {g : Logs} {c : Core} {a : ℕ} {r : Merged} (h : Ready l
       }
 
   versions-at : (w : ℕ) → w < limits .workers → model.workerOf (stateOf l g c) w .versions ≡ versionsIn (g .leaves) w (workerAt c w .leaves)
-  unfolding Rattle.sets.specs.Workers.workerIn
+  unfolding Rattle.workers.specs.Workers.workerIn
   versions-at w b =
       ap (λ (x : model.Worker). x .versions) (worker-at l g c w (subst (λ (n : ℕ). w < n) (sym (h .stored .workers)) b))
 

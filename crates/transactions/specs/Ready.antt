@@ -10,8 +10,8 @@ use Rattle.spec.specs.Leaves.{Leaf, versionAt, live}
 use Rattle.spec.specs.Steps.{Step, Answer, answer, next}
 use Rattle.limits.specs.Invariant.{Kept}
 use Rattle.limits.specs.LoggedVersions.{LoggedOld}
-use Rattle.sets.specs.declared.workers.Worker.{Worker}
-use Rattle.sets.specs.Workers.{freed}
+use Rattle.workers.specs.declared.Worker.{Worker}
+use Rattle.workers.specs.Workers.{freed}
 use Rattle.sets.specs.Reads.{ReadsHeld}
 use Rattle.sets.specs.Leaves.{LeafSetRows, LeavesHeld, versionsOf, lowsOf}
 use Rattle.sets.specs.Writes.{WritesHeld}

@@ -11,13 +11,13 @@ use Rattle.spec.specs.Steps.{State, fresh, freeWorker}
 use Rattle.laws.specs.WorkerLaws.{standard-tuning}
 use Rattle.limits.specs.Invariant.{Kept, fresh-kept}
 use Rattle.limits.specs.LoggedVersions.{LoggedOld, fresh-logged}
-use Rattle.sets.specs.declared.workers.Worker.{Worker}
-use Rattle.sets.specs.Workers.{freed}
+use Rattle.workers.specs.declared.Worker.{Worker}
+use Rattle.workers.specs.Workers.{freed}
 use Rattle.sets.specs.ReadLaws.{reads-zero, flag-back}
 use Rattle.sets.specs.LeafLaws.{leaves-zero}
 use Rattle.sets.specs.WriteLaws.{writes-zero}
-use Rattle.sets.specs.WorkerLaws.{free-in}
-use Rattle.sets.specs.WordLaws.{workers-free}
+use Rattle.workers.specs.WorkerLaws.{free-in}
+use Rattle.workers.specs.WordLaws.{workers-free}
 use Rattle.map.specs.declared.Sizes.{Sizes}
 use Rattle.map.specs.Views.{Lent}
 use Rattle.map.specs.Entries.{MapBecomes}

@@ -7,7 +7,7 @@ use lib.ListN.{replicate}
 use mir.Val.{boolByte}
 use Rattle.spec.specs.Records.{limits, Made}
 use Rattle.spec.specs.Steps.{fresh}
-use Rattle.sets.specs.Workers.{freed}
+use Rattle.workers.specs.Workers.{freed}
 use Rattle.sets.specs.Reads.{readWords}
 use Rattle.sets.specs.Leaves.{leafSetWords}
 use Rattle.sets.specs.Writes.{writeWords}

@@ -7,8 +7,8 @@ use mathlib.Core.List.{List, [], _∷_}
 use lib.ListN.{length, getD, set}
 use Rattle.spec.specs.Steps as model
 use Rattle.spec.specs.Steps.{workerOf, freeWorker, withWorker}
-use Rattle.sets.specs.declared.workers.Worker.{Worker}
-use Rattle.sets.specs.Workers.{workerIn, freed, workersOf}
+use Rattle.workers.specs.declared.Worker.{Worker}
+use Rattle.workers.specs.Workers.{workerIn, freed, workersOf}
 use Rattle.map.specs.Views.{Lent, mapOf}
 use Rattle.transactions.specs.Cores.{Core}
 use Rattle.transactions.specs.declared.Globals.{Globals}

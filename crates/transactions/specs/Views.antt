@@ -8,8 +8,8 @@ use lib.ListN.{set}
 use Rattle.spec.specs.Records.{Made, standardMap}
 use Rattle.spec.specs.Steps as model
 use Rattle.spec.specs.Steps.{State}
-use Rattle.sets.specs.declared.workers.Worker.{Worker}
-use Rattle.sets.specs.Workers.{workerIn, workersOf}
+use Rattle.workers.specs.declared.Worker.{Worker}
+use Rattle.workers.specs.Workers.{workerIn, workersOf}
 use Rattle.sets.specs.Reads.{ReadRows, readsIn}
 use Rattle.sets.specs.Leaves.{LeafSetRows, versionsIn, scansIn}
 use Rattle.sets.specs.Writes.{WriteRows, writesIn}

@@ -1,12 +1,12 @@
 // The causes that most steps share, tested first: no worker, a free worker, a wrong stage.
-use sets::Workers;
-use sets::workers;
-use sets::workers::Worker;
 use spec::Refusal;
 use spec::Stage;
 use spec::WORKERS;
+use workers;
+use workers::Worker;
+use workers::Workers;
 ghost use Rattle.spec.specs.Steps.{isOpen, isLocked, isChecked};
-ghost use Rattle.sets.specs.Workers.{workersOf};
+ghost use Rattle.workers.specs.Workers.{workersOf};
 ghost use Rattle.transactions.specs.Admits.{isAt, anyStage, Admitted, Begun};
 
 // A worker whose stage is right, or the refusal.

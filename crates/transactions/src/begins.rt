@@ -1,9 +1,9 @@
 // Begin: a free worker opens a transaction.
 use crate::admits;
 use crate::admits::Admit;
-use sets::Workers;
-use sets::workers;
 use spec::Refusal;
+use workers;
+use workers::Workers;
 ghost use Rattle.transactions.specs.declared.Globals.{Globals};
 ghost use Rattle.transactions.specs.Views.{coreOf};
 ghost use Rattle.transactions.specs.Begins.{Begins};

@@ -1,6 +1,6 @@
 -- `portion` meets its contract.
 use Prim.Native.Nat.{_-_}
-use Rattle.ranges.specs.Buffers.{buffers}
+use Rattle.buffers.specs.Buffers.{buffers}
 use Rattle.exports.specs.StepLaws.{no-portion, least-is, portion-room, gives}
 use borrow.Author.Needs.{needs}
 use Rattle.exports.proofs.portion.Statement.{statement}

@@ -3,7 +3,7 @@ use Prim.Native.Nat.{_-_, _≤_}
 use native.Mathlib.Omega.{arith}
 use Rattle.lists.specs.TextLaws.{wrote-length}
 use Rattle.spec.specs.Steps.{shortest}
-use Rattle.ranges.specs.Buffers.{buffers}
+use Rattle.buffers.specs.Buffers.{buffers}
 use Rattle.codes.specs.WordLaws.{Putting, putting-none, putting-on, putting-end}
 use Rattle.codes.proofs.words.put_rows.Statement.{statement}
 use Rattle.codes.proofs.words.put_rows.Tie as tie

@@ -1,7 +1,7 @@
 -- `copies::give` meets its contract. The invariant: the first i records are written.
 use Prim.Native.Nat.{_-_, _≤_}
 use native.Mathlib.Omega.{arith}
-use Rattle.ranges.specs.Buffers.{buffers}
+use Rattle.buffers.specs.Buffers.{buffers}
 use Rattle.exports.specs.CopyLaws.{Gives, gives-none, gives-room, gives-on, gives-end}
 use borrow.Author.Needs.{needs}
 use Rattle.exports.proofs.copies.give.Statement.{statement}

@@ -1,7 +1,7 @@
 -- `walks::fill` meets its contract. The invariant: those written and those left are all.
 use Prim.Native.Nat.{_+_, _-_}
 use native.Mathlib.Omega.{arith}
-use Rattle.ranges.specs.Buffers.{buffers}
+use Rattle.buffers.specs.Buffers.{buffers}
 use Rattle.ranges.specs.Walks.{ground, logRow, Filling}
 use Rattle.ranges.specs.ShowLaws.{filling-start, filling-fits, filling-on, filling-end}
 use Rattle.ranges.proofs.walks.fill.Statement.{statement}

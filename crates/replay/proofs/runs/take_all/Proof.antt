@@ -5,7 +5,7 @@ use mathlib.Core.Path.{refl, ap, _∙_}
 use borrow.Author.Needs.{needs}
 use Rattle.spec.specs.Steps.{Places}
 use Rattle.map.specs.Views.{lent}
-use Rattle.ranges.specs.Buffers.{buffers}
+use Rattle.buffers.specs.Buffers.{buffers}
 use Rattle.exports.specs.Exporting.{space}
 use Rattle.transactions.specs.Views.{logs, coreOf, madeOf}
 use Rattle.replay.specs.declared.stops.Stop.the-variants as stop

@@ -1,8 +1,8 @@
 use mathlib.Core.Path.{_∙_}
 use borrow.Author.Needs.{needs}
-use Rattle.sets.specs.WordLaws.{worker-of}
-use Rattle.sets.proofs.workers.worker_at.Statement.{statement}
-use Rattle.sets.proofs.workers.worker_at.Tie as tie
+use Rattle.workers.specs.WordLaws.{worker-of}
+use Rattle.workers.proofs.worker_at.Statement.{statement}
+use Rattle.workers.proofs.worker_at.Tie as tie
 
 eight-requires : tie.Need-eight-requires
 eight-requires c κs = search needs

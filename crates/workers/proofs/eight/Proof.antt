@@ -1,8 +1,8 @@
 use mathlib.Core.Path.{_∙_}
 use borrow.Author.Needs.{needs}
-use Rattle.sets.specs.WordLaws.{workers-length}
-use Rattle.sets.proofs.workers.eight.Statement.{statement}
-use Rattle.sets.proofs.workers.eight.Tie as tie
+use Rattle.workers.specs.WordLaws.{workers-length}
+use Rattle.workers.proofs.eight.Statement.{statement}
+use Rattle.workers.proofs.eight.Tie as tie
 
 size-of-requires : tie.Need-size-of-requires
 size-of-requires c κs = search needs

@@ -1,7 +1,7 @@
-use Rattle.sets.specs.WordLaws.{workers-put}
+use Rattle.workers.specs.WordLaws.{workers-put}
 use borrow.Author.Needs.{needs}
-use Rattle.sets.proofs.workers.put_worker.Statement.{statement}
-use Rattle.sets.proofs.workers.put_worker.Tie as tie
+use Rattle.workers.proofs.put_worker.Statement.{statement}
+use Rattle.workers.proofs.put_worker.Tie as tie
 
 pack-requires : tie.Need-pack-requires
 pack-requires c κs = search needs

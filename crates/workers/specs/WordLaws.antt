@@ -9,8 +9,8 @@ use Rattle.lists.specs.Tests.{same}
 use Rattle.lists.specs.TestLaws.{same-no}
 use Rattle.spec.specs.declared.Stage.{Stage}
 use Rattle.spec.specs.declared.Stage.the-variants.{Free, Open, Locked, Checked}
-use Rattle.sets.specs.declared.workers.Worker.{Worker}
-use Rattle.sets.specs.Workers.{numberField, freed, rankOf, stageAt, packedAt, packed, unpackedAt, unpacked, workersOf}
+use Rattle.workers.specs.declared.Worker.{Worker}
+use Rattle.workers.specs.Workers.{numberField, freed, rankOf, stageAt, packedAt, packed, unpackedAt, unpacked, workersOf}
 
 rank-small : (s : Stage) → rankOf s < 256
 rank-small Free = omega arith

@@ -1,7 +1,7 @@
-use Rattle.sets.specs.WordLaws.{unpack-is}
+use Rattle.workers.specs.WordLaws.{unpack-is}
 use borrow.Author.Needs.{needs}
-use Rattle.sets.proofs.workers.unpack.Statement.{statement}
-use Rattle.sets.proofs.workers.unpack.Tie as tie
+use Rattle.workers.proofs.unpack.Statement.{statement}
+use Rattle.workers.proofs.unpack.Tie as tie
 
 stage-at-requires : tie.Need-stage-at-requires
 stage-at-requires c κs = search needs

@@ -12,7 +12,7 @@ use Rattle.lists.specs.TestLaws.{less-true, less-false, cases}
 use Rattle.lists.specs.Rows.{row}
 use Rattle.spec.specs.Records.{Payload}
 use Rattle.spec.specs.Steps.{Places, places, shortest}
-use Rattle.ranges.specs.Buffers.{Buffers, buffers, placesOf, rowIn, rowsIn, Unmoved, Beyond, Lends, firstOf, othersOf}
+use Rattle.buffers.specs.Buffers.{Buffers, buffers, placesOf, rowIn, rowsIn, Unmoved, Beyond, Lends, firstOf, othersOf}
 
 -- as many as are wanted
 pub first-places : (w : Places) (b : Buffers) → Lends (placesOf b) w → placesOf (firstOf w b) ≡ w

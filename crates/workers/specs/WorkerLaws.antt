@@ -11,13 +11,13 @@ use Rattle.spec.specs.Records.{limits, Record, Write}
 use Rattle.spec.specs.Guards.{Scan}
 use Rattle.spec.specs.Steps as model
 use Rattle.spec.specs.Steps.{freeWorker, atStage, logged, writing, checkedAs}
-use Rattle.sets.specs.declared.workers.Worker.{Worker}
+use Rattle.workers.specs.declared.Worker.{Worker}
 use Rattle.sets.specs.Reads.{ReadRows, recordIn, readIn, readsOf, readsIn, ReadsHeld, LogsRead}
 use Rattle.sets.specs.Leaves.{LeafSetRows, versionIn, scansAt, joined, versionsIn, scansIn}
 use Rattle.spec.specs.declared.PayloadWords.{PayloadWords}
 use Rattle.sets.specs.Writes.{WriteRows, writeOf, writeIn, writesOf, writesIn, WritesHeld, PutsWrite}
-use Rattle.sets.specs.Workers.{workerIn, begun, atLock, atCheck, freed, withReads, withWrites}
+use Rattle.workers.specs.Workers.{workerIn, begun, atLock, atCheck, freed, withReads, withWrites}
 use Rattle.sets.specs.SetLaws.{own-set, rows-none}
 
 made : Worker → List (Row (Option Record)) → List ℕ → List Scan → List (Row Write) → model.Worker
 made x rs vs cs es = record { stage = x .stage; reads = rs; versions = vs; scans = cs; writes = es; number = x .number }

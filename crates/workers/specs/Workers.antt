@@ -5,10 +5,10 @@ use Rattle.lists.specs.Tests.{pick, same}
 use Rattle.spec.specs.declared.Stage.{Stage}
 use Rattle.spec.specs.declared.Stage.the-variants.{Free, Open, Locked, Checked}
 use Rattle.spec.specs.Steps as model
-use Rattle.sets.specs.declared.workers.Worker.{Worker}
+use Rattle.workers.specs.declared.Worker.{Worker}
 use Rattle.sets.specs.Reads.{ReadRows, readsIn}
 use Rattle.sets.specs.Leaves.{LeafSetRows, versionsIn, scansIn}
 use Rattle.sets.specs.Writes.{WriteRows, writesIn}
 
 -- worker w (document 01: a seat), with the rows of all read sets, leaf sets and write sets
 unfoldable pub workerIn : Worker → List ReadRows → List LeafSetRows → List WriteRows → ℕ → model.Worker

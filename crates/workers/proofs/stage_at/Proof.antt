@@ -1,9 +1,9 @@
 use mathlib.Core.Path.{refl}
 use Rattle.lists.specs.Tests.{same}
-use Rattle.sets.specs.Workers.{stageAt}
-use Rattle.sets.specs.WordLaws.{stage-is, stage-checked}
-use Rattle.sets.proofs.workers.stage_at.Statement.{statement}
-use Rattle.sets.proofs.workers.stage_at.Tie as tie
+use Rattle.workers.specs.Workers.{stageAt}
+use Rattle.workers.specs.WordLaws.{stage-is, stage-checked}
+use Rattle.workers.proofs.stage_at.Statement.{statement}
+use Rattle.workers.proofs.stage_at.Tie as tie
 
 returns : tie.Need-returns
 unfolding stageAt same

@@ -1,9 +1,9 @@
 use mathlib.Core.Path.{ap, _∙_}
-use Rattle.sets.specs.Workers.{unpacked}
-use Rattle.sets.specs.WordLaws.{pack-is, unpack-pack}
+use Rattle.workers.specs.Workers.{unpacked}
+use Rattle.workers.specs.WordLaws.{pack-is, unpack-pack}
 use borrow.Author.Needs.{needs}
-use Rattle.sets.proofs.workers.pack.Statement.{statement}
-use Rattle.sets.proofs.workers.pack.Tie as tie
+use Rattle.workers.proofs.pack.Statement.{statement}
+use Rattle.workers.proofs.pack.Tie as tie
 
 cast-counts : tie.Need-cast-counts
 cast-counts c = search needs

@@ -1,12 +1,15 @@
 // A worker (document 01: a seat) and the stages of its transaction (a job): free, open, locked, checked, and free again.
 // The eight stand in lent words; one function gives a worker by value and one puts it.
-use crate::Workers;
 use spec::Stage;
+use spec::WORKERS;
 ghost use mathlib.Core.Path.{_≡_};
 ghost use Prim.Native.Nat.{_<_};
 ghost use lib.ListN.{length, getD, set};
 ghost use Rattle.spec.specs.Records.{limits};
-ghost use Rattle.sets.specs.Workers.{begun, atLock, atCheck, freed, rankOf, stageAt, packed, unpacked, workersOf};
+ghost use Rattle.workers.specs.Workers.{begun, atLock, atCheck, freed, rankOf, stageAt, packed, unpacked, workersOf};
+
+// All workers, a word each.
+pub type Workers = [u64; WORKERS];
 
 // How many values the commit number can have in a worker's word, and each of the other fields.
 const NUMBER_FIELD: u64 = 0x1_0000_0000;

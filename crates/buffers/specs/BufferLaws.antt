@@ -11,7 +11,7 @@ use Rattle.lists.specs.Rows.{Row, row}
 use Rattle.lists.specs.Tabulation.{tab}
 use Rattle.lists.specs.Shifts.{tab-same, tab-snoc, length-tab}
 use Rattle.spec.specs.Records.{Payload}
-use Rattle.ranges.specs.Buffers.{Buffers, buffers, rowIn, rowsIn, Unmoved, Beyond}
+use Rattle.buffers.specs.Buffers.{Buffers, buffers, rowIn, rowsIn, Unmoved, Beyond}
 
 pub length-rows : (n : ℕ) (b : Buffers) → length (rowsIn n b) ≡ n
 unfolding rowsIn

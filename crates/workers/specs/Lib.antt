@@ -1,0 +1,3 @@
+pub mod Workers
+pub mod WorkerLaws
+pub mod WordLaws

@@ -21,6 +21,6 @@ pub reached-apart : (l : Lent) (g : Logs) (c : Core) (d : Made) (ss : List Step)
 reached-apart l g c d ss e r t =
     subst (λ (m : MapState). NoOverlap (contents m)) (sym (ap (λ (σ : State). σ .map) e) ∙ map-in l g c) (no-overlap d t (reached-good l g c d ss e r) ss)
 
-pub calls-apart : {l l' : Lent} {g g' : Logs} {c c' : Core} {h : List Event} {d : Made} → Fresh l g d c → d .guarded ≡ true → Calls l g c h l' g' c'
+pub calls-apart : {l l' : Lent} {g g' : Logs} {c c' : Core} {h : List Event} {d : Made} → d .guarded ≡ true → Fresh l g d c → Calls l g c h l' g' c'
     → NoOverlap (contents (mapOf l' (c' .sizes)))
-calls-apart {l' = l'} {g' = g'} {c' = c'} {h = h} {d = d} f t q = let s : SerialCalls d h l' g' c' = calls-serial f q in reached-apart l' g' c' d (stepsOf h) (s .state) (s .ready) t
+calls-apart {l' = l'} {g' = g'} {c' = c'} {h = h} {d = d} t f q = let s : SerialCalls d h l' g' c' = calls-serial f q in reached-apart l' g' c' d (stepsOf h) (s .state) (s .ready) t

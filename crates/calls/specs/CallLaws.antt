@@ -2,11 +2,11 @@
 use mathlib.Core.Path.{_≡_, refl, sym, ap, _∙_, subst}
 use mathlib.Core.List.{List, _∷_}
 use Rattle.spec.specs.Records.{Made}
-use Rattle.limits.specs.Keeping.{final-made}
 use Rattle.spec.specs.Maps.{MapState, contents}
 use Rattle.spec.specs.Steps.{State, Answer, fresh, final, history, next, answer, Event, stepsOf, Step}
 use Rattle.spec.specs.Claim.{SerialRun}
 use Rattle.spec.specs.GoodTuning.{GoodTuning}
+use Rattle.limits.specs.Keeping.{final-made}
 use Rattle.serial.specs.Theorem.{every-run-is-serial}
 use Rattle.map.specs.Views.{Lent, mapOf}
 use Rattle.transactions.specs.Cores.{Core}

@@ -120,12 +120,12 @@ member-unstamped (x ∷ rs) r (List·Memᴰ·head e) = List·Memᴰ·head (ap (�
 member-unstamped (x ∷ rs) r (List·Memᴰ·tail m) = List·Memᴰ·tail (member-unstamped rs r m)
 
 -- commit numbers do not matter
-apart-unstamped : (rs qs : List (Row Record)) → unstamped rs ≡ unstamped qs → NoOverlap s rs → NoOverlap s qs
-apart-unstamped s rs qs e h =
+apart-unstamped : (rs qs : List (Row Record)) → unstamped rs ≡ unstamped qs → NoOverlap rs → NoOverlap qs
+apart-unstamped rs qs e h =
     record {
       fit =
           λ q m. let w = in-first q m in
-          sym (ap (λ (x : Row Payload). unfit s (x .key) (x .item .value)) (w .is)) ∙ h .fit (w .at) (w .member);
+          sym (ap (λ (x : Row Payload). unfit (x .key) (x .item .value)) (w .is)) ∙ h .fit (w .at) (w .member);
       apart =
           λ p q m n d. let v = in-first p m in let w = in-first q n in
           sym (ap (λ (x : Row Payload). share (x .key) (x .item .value) (q .key) (q .item .payload .value)) (v .is))

@@ -63,7 +63,7 @@ final-kept h (s ∷ ss) = final-kept (next-kept h s) ss
 
 -- ---- the limits stay what they are
 
-pub next-made : (σ : State) (s : Step) → next σ s .made ≡ σ .made
+next-made : (σ : State) (s : Step) → next σ s .made ≡ σ .made
 next-made σ s = go (refusal σ s) refl
   where
     granted-made : (x : Step) → effect σ x .made ≡ σ .made
@@ -113,8 +113,7 @@ standard-limits {σ} h e =
       records = record-count (h .map);
       leaves = leaf-limit (h .map);
       waiting = subst (λ (s : Tuning). length (entries (σ .map .slots)) ≤ s .waitingLimit) e (h .map .waiting);
-      addresses =
-          h .map .addresses;
+      addresses = h .map .addresses;
       reads = λ w. h .worker w .reads;
       versions = λ w. h .worker w .versions;
       writes = λ w. h .worker w .writes;

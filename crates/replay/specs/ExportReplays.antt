@@ -8,11 +8,11 @@ use mathlib.Core.List.{List, [], _∷_, _++_}
 use lib.ListN.{length, take, drop}
 use lib.Seq.{sets, sets-eq, take-all, take-append-le}
 use Rattle.lists.specs.TestLaws.{clash}
-use Rattle.calls.specs.CallLaws.{reached-good}
 use Rattle.lists.specs.Rows.{any}
 use Rattle.spec.specs.Exports.{unstamped, ExportStep, file, declined, opened, given, filed, closed, exportOf, Exchange, jobTold, exportTold}
 use Rattle.spec.specs.GoodTuning.{GoodTuning}
 use Rattle.spec.specs.Records.{Made}
+use Rattle.calls.specs.CallLaws.{reached-good}
 use Rattle.map.specs.Views.{Lent}
 use Rattle.exports.specs.Exporting.{ExportedRows, exportIn, Space}
 use Rattle.transactions.specs.Views.{Logs}

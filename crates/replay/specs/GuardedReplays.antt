@@ -1,4 +1,5 @@
 -- Request 102 of a replay: run on a fresh guarded map, whatever the steps are, no two present sections overlap.
+use mathlib.Core.Path.{_≡_}
 use mathlib.Core.Bool.{true}
 use mathlib.Core.List.{List}
 use Prim.Native.Nat.{ℕ}

@@ -15,7 +15,7 @@ use Rattle.spec.specs.Payloads.{owners, noPayload}
 use Rattle.spec.specs.declared.Refusal.{Refusal}
 use Rattle.spec.specs.declared.Refusal.the-variants.{WritesFull}
 use Rattle.spec.specs.Refusals.{ends}
-use Rattle.spec.specs.Records.{standard, Write, written, deleted}
+use Rattle.spec.specs.Records.{limits, Write, written, deleted}
 use Rattle.spec.specs.Steps as model
 use Rattle.spec.specs.Steps.{State, Step, put, remove, Answer, done, isOpen, workerOf, ownWrite, cause, noWorker, workerFree, wrongStage, writesFull, causes, firstCause, refusal, granted, effect, withWorker, writing, accessCauses, accessAnswer, accessed}
 use Rattle.laws.specs.WorkerLaws.{mild-cause}
@@ -48,7 +48,7 @@ editing w a deleted = remove w a
 
 -- a write set of n writes has no write at the address, and no room for one
 abbrev pub fullAt : WriteRows → ℕ → ℕ → Bool
-fullAt ws n a = both (not (present (look (writesOf ws n) a))) (not (less n (standard .writeLimit)))
+fullAt ws n a = both (not (present (look (writesOf ws n) a))) (not (less n (limits .writeLimit)))
 
 -- The step, whatever the other arrays hold: ws are the write sets before it, us those after it, and c' is the core after it.
 pub record Edits (ws : List WriteRows) (c : Core) (w a : ℕ) (e : Write) (us : List WriteRows) (c' : Core) (r : Plain) : Type 0 where
@@ -62,21 +62,21 @@ both-last true = refl
 both-last false = refl
 
 module _ (ws : WriteRows) (n a : ℕ) where
-  pub full-room : n < standard .writeLimit → false ≡ fullAt ws n a
+  pub full-room : n < limits .writeLimit → false ≡ fullAt ws n a
   full-room h =
       both-last (not (present (look (writesOf ws n) a)))
-      ∙ ap (λ (b : Bool). both (not (present (look (writesOf ws n) a))) (not b)) (sym (less-yes {m = n} {n = standard .writeLimit} h))
+      ∙ ap (λ (b : Bool). both (not (present (look (writesOf ws n) a))) (not b)) (sym (less-yes {m = n} {n = limits .writeLimit} h))
 
   pub full-there : (f g : FoundWrite) → f ≡ g → present (foundIn g) ≡ true → foundIn f ≡ look (writesOf ws n) a → false ≡ fullAt ws n a
   full-there f g e t q =
-      ap (λ (b : Bool). both (not b) (not (less n (standard .writeLimit)))) (sym (ap present (sym q ∙ ap foundIn e) ∙ t))
+      ap (λ (b : Bool). both (not b) (not (less n (limits .writeLimit)))) (sym (ap present (sym q ∙ ap foundIn e) ∙ t))
 
-  pub full-none : (f g : FoundWrite) → f ≡ g → foundIn g ≡ none → foundIn f ≡ look (writesOf ws n) a → standard .writeLimit ≤ n → true ≡ fullAt ws n a
+  pub full-none : (f g : FoundWrite) → f ≡ g → foundIn g ≡ none → foundIn f ≡ look (writesOf ws n) a → limits .writeLimit ≤ n → true ≡ fullAt ws n a
   full-none f g e t q h =
-      ap (λ (b : Bool). not b) (sym (less-no {m = n} {n = standard .writeLimit} h))
-      ∙ ap (λ (o : Option Write). both (not (present o)) (not (less n (standard .writeLimit)))) (sym (sym q ∙ ap foundIn e ∙ t))
+      ap (λ (b : Bool). not b) (sym (less-no {m = n} {n = limits .writeLimit} h))
+      ∙ ap (λ (o : Option Write). both (not (present o)) (not (less n (limits .writeLimit)))) (sym (sym q ∙ ap foundIn e ∙ t))
 
-  pub room-here : (b : Bool) → b ≡ fullAt ws n a → b ≡ false → (n < standard .writeLimit) ⊎ (present (look (writesOf ws n) a) ≡ true)
+  pub room-here : (b : Bool) → b ≡ fullAt ws n a → b ≡ false → (n < limits .writeLimit) ⊎ (present (look (writesOf ws n) a) ≡ true)
   room-here b q f = room-found ws n a (sym q ∙ f)
 
 -- ---- the refusals
@@ -113,8 +113,8 @@ module _ (l : Lent) (g : Logs) (c : Core) (w : ℕ) (x : Worker) (k : Ready l g 
   full-is : (a : ℕ) → writesFull (stateOf l g c) w a ≡ fullAt (getD (g .writes) w []) (x .writes) a
   unfolding writesFull ownWrite workerIn stateOf
   full-is a =
-      ap (λ (y : model.Worker). both (not (present (look (y .writes) a))) (not (less (length (y .writes)) (standard .writeLimit)))) (worker-is isOpen l g c w x k t)
-      ∙ ap (λ (n : ℕ). both (not (present (look (writesOf (getD (g .writes) w []) (x .writes)) a))) (not (less n (standard .writeLimit))))
+      ap (λ (y : model.Worker). both (not (present (look (y .writes) a))) (not (less (length (y .writes)) (limits .writeLimit)))) (worker-is isOpen l g c w x k t)
+      ∙ ap (λ (n : ℕ). both (not (present (look (writesOf (getD (g .writes) w []) (x .writes)) a))) (not (less n (limits .writeLimit))))
       (length-rows writeIn (getD (g .writes) w []) (x .writes))
 
   refusal-is : (a : ℕ) (e : Write) (b : Bool) → b ≡ fullAt (getD (g .writes) w []) (x .writes) a

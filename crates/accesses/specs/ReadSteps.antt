@@ -16,7 +16,7 @@ use Rattle.spec.specs.declared.Current.{Current}
 use Rattle.spec.specs.declared.Refusal.{Refusal}
 use Rattle.spec.specs.declared.Refusal.the-variants.{LogFull}
 use Rattle.spec.specs.Refusals.{ends}
-use Rattle.spec.specs.Records.{standard, Record, Write, written, deleted, ownView, payloadOf}
+use Rattle.spec.specs.Records.{limits, Record, Write, written, deleted, ownView, payloadOf}
 use Rattle.spec.specs.Slots.{search}
 use Rattle.spec.specs.Maps.{current}
 use Rattle.spec.specs.Steps as model
@@ -127,21 +127,21 @@ module _ (l : Lent) (g : Logs) (c : Core) (w : ℕ) (x : Worker) (k : Ready l g 
   own-is = ap (λ (y : model.Worker). look (y .writes) a) (worker-is isOpen l g c w x k t)
 
   full-is : (o : Option Write) → look (writesIn (g .writes) w (x .writes)) a ≡ o
-      → readLogFull (stateOf l g c) w a ≡ both (not (present o)) (not (less (x .reads) (standard .readLimit)))
+      → readLogFull (stateOf l g c) w a ≡ both (not (present o)) (not (less (x .reads) (limits .readLimit)))
   unfolding readLogFull workerIn stateOf
   full-is o q =
-      ap (λ (p : Option Write). both (not (present p)) (not (less (length (workerOf (stateOf l g c) w .reads)) (standard .readLimit)))) (own-is ∙ q)
-      ∙ ap (λ (n : ℕ). both (not (present o)) (not (less n (standard .readLimit))))
+      ap (λ (p : Option Write). both (not (present p)) (not (less (length (workerOf (stateOf l g c) w .reads)) (limits .readLimit)))) (own-is ∙ q)
+      ∙ ap (λ (n : ℕ). both (not (present o)) (not (less n (limits .readLimit))))
       (ap (λ (y : model.Worker). length (y .reads)) (worker-is isOpen l g c w x k t)
       ∙ length-rows reads.readIn (getD (g .reads) w []) (x .reads))
 
   refusal-is : (o : Option Write) → look (writesIn (g .writes) w (x .writes)) a ≡ o
-      → refusal (stateOf l g c) (read w a) ≡ firstCause (cause (both (not (present o)) (not (less (x .reads) (standard .readLimit)))) LogFull ∷ [])
+      → refusal (stateOf l g c) (read w a) ≡ firstCause (cause (both (not (present o)) (not (less (x .reads) (limits .readLimit)))) LogFull ∷ [])
   refusal-is o q =
       refusal-front (stateOf l g c) w a none (t .front-is l g c refl)
       ∙ ap (λ (d : Bool). firstCause (cause d LogFull ∷ [])) (full-is o q)
 
-pub read-full : {rs : List ReadRows} {rows : RecordRows} {slots : SlotRows} {c : Core} {w a : ℕ} {x : Worker} → Entered isOpen (c .workers) w x → standard .readLimit ≤ x .reads
+pub read-full : {rs : List ReadRows} {rows : RecordRows} {slots : SlotRows} {c : Core} {w a : ℕ} {x : Worker} → Entered isOpen (c .workers) w x → limits .readLimit ≤ x .reads
     → TellsCurrent rs rows slots c w x a rs c (Refused LogFull)
 read-full {rs} {rows} {slots} {c} {w} {a} {x} t h =
     record {
@@ -149,7 +149,7 @@ read-full {rs} {rows} {slots} {c} {w} {a} {x} t h =
         refines-so = λ lows versions hidden pending ls k.
             refines-refused k
             (refusal-is (byColumns rows lows versions hidden pending slots) (logs rs ls ws) c w x k t a none q
-            ∙ cause-holds (not (less (x .reads) (standard .readLimit))) LogFull [] (ap not (less-no {m = x .reads} {n = standard .readLimit} h)))
+            ∙ cause-holds (not (less (x .reads) (limits .readLimit))) LogFull [] (ap not (less-no {m = x .reads} {n = limits .readLimit} h)))
             refl;
       };
     }
@@ -171,14 +171,14 @@ logged-none x =
 worker-back : (σ : State) (w : ℕ) → withWorker σ w (workerOf σ w) ≡ σ
 unfolding withWorker workerOf
 worker-back σ w =
-    ap (λ (xs : List model.Worker). record { settings = σ .settings; guarded = σ .guarded; counters = σ .counters; map = σ .map; workers = xs })
+    ap (λ (xs : List model.Worker). record { made = σ .made; counters = σ .counters; map = σ .map; workers = xs })
     (set-getD (σ .workers) w freeWorker)
 
 -- the answer and the state, by the worker's write at the address
 -- what is told, where the worker has this write at the address
 abbrev toldBy : State → ℕ → Option Write → Answer
 toldBy σ a o =
-    found (maybe o (payloadOf (current (σ .map) a)) ownView) (maybe o (search (σ .settings .bytes) (σ .map .slots) a .examined) (λ (e : Write). 0))
+    found (maybe o (payloadOf (current (σ .map) a)) ownView) (maybe o (search (limits .bytes) (σ .map .slots) a .examined) (λ (e : Write). 0))
 
 granted-is : (σ : State) (w a : ℕ) (o : Option Write) → ownWrite σ w a ≡ o → granted σ (read w a) ≡ toldBy σ a o
 unfolding granted accessAnswer slotsExamined
@@ -234,7 +234,7 @@ read-nothing {ws = ws} e q k = k .tells ws (sym q ∙ ap foundIn e)
 -- ---- the current record
 
 pub read-logged : {rs : List ReadRows} {rows : RecordRows} {slots : SlotRows} {us : ReadRows} {c c' : Core} {w a : ℕ} {x : Worker} {r : Taken} {v : ReadAnswer}
-    → Entered isOpen (c .workers) w x → x .reads < standard .readLimit → LogsCurrent (getD rs w []) rows slots (c .sizes .records) (x .reads) a us r
+    → Entered isOpen (c .workers) w x → x .reads < limits .readLimit → LogsCurrent (getD rs w []) rows slots (c .sizes .records) (x .reads) a us r
     → c' ≡ coreWith c w (withReads x (r .count)) → readAnswer v ≡ found (payloadOf (recordIn (r .seen))) (r .examined)
     → TellsCurrent rs rows slots c w x a (set rs w us) c' v
 unfolding firstCause
@@ -246,10 +246,10 @@ read-logged {rs} {rows} {slots} {us} {c} {c'} {w} {a} {x} {r} {v} t h p m s =
             let g = logs rs ls ws in
             let σ = stateOf l g c in
             let seen : recordIn (r .seen) ≡ current (σ .map) a = unfold stateOf in p .examines .sees .record-is (leavesIn lows versions (c .sizes .leaves)) in
-            let examined : r .examined ≡ search (σ .settings .bytes) (σ .map .slots) a .examined = unfold stateOf in p .examines .examined in
+            let examined : r .examined ≡ search (limits .bytes) (σ .map .slots) a .examined = unfold stateOf in p .examines .examined in
             let room : refusal σ (read w a) ≡ none
             = refusal-is l g c w x k t a none q
-            ∙ cause-fails (not (less (x .reads) (standard .readLimit))) LogFull [] (ap not (less-yes {m = x .reads} {n = standard .readLimit} h)) in
+            ∙ cause-fails (not (less (x .reads) (limits .readLimit))) LogFull [] (ap not (less-yes {m = x .reads} {n = limits .readLimit} h)) in
             let count : r .count ≡ x .reads + 1 = p .logs .count in
             let b : Within x = within isOpen l g c w x k t in
             subst (λ (z : Core). Refines l g c (read w a) l (logs (set rs w us) ls ws) z (readAnswer v)) (sym m)

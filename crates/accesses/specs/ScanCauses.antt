@@ -12,7 +12,7 @@ use Rattle.lists.specs.Rows.{Row, between, mapItems, any}
 use Rattle.spec.specs.declared.Refusal.{Refusal}
 use Rattle.spec.specs.declared.Refusal.the-variants.{Backward, LogFull, ShortBuffer}
 use Rattle.spec.specs.Refusals.{ends}
-use Rattle.spec.specs.Records.{standard, Payload, Record, Write, ownView, payloadOf}
+use Rattle.spec.specs.Records.{limits, Payload, Record, Write, ownView, payloadOf}
 use Rattle.spec.specs.Maps.{current, indexedBetween}
 use Rattle.spec.specs.Steps as model
 use Rattle.spec.specs.Steps.{Places, shortest, State, workerOf, scan, isOpen, scanned, scanReads, scanVersions, scanLogFull, Cause, cause, noWorker, workerFree, wrongStage, causes, firstCause, refusal, refused, accessCauses}
@@ -151,17 +151,17 @@ module _ {l : Lent} {g : Logs} {c : Core} {w : ℕ} {x : Worker} (k : Ready l g 
         (sym (worker-is isOpen l g c w x k e))
 
     log-full : (a b : Range) → Spans (l .rows) (c .sizes .records) lo hi a → Meets (l .lows) (c .sizes .leaves) lo hi b
-        → scanLogFull (stateOf l g c) w lo hi ≡ either (less (standard .readLimit) (x .reads + span a)) (less (standard .leafSetLimit) (x .leaves + span b))
+        → scanLogFull (stateOf l g c) w lo hi ≡ either (less (limits .readLimit) (x .reads + span a)) (less (limits .leafSetLimit) (x .leaves + span b))
     unfolding scanLogFull stateOf
     log-full a b s t =
-        λ i. either (less (standard .readLimit) (reads-size i + reads-count a s i)) (less (standard .leafSetLimit) (versions-size i + versions-count b t i))
+        λ i. either (less (limits .readLimit) (reads-size i + reads-count a s i)) (less (limits .leafSetLimit) (versions-size i + versions-count b t i))
 
     not-full : (t : Task) → MeasuredIn l g c w x lo hi t → scanLogFull (stateOf l g c) w lo hi ≡ false
     not-full t d =
         log-full (t .index) (t .met) (d .index) (d .met)
         ∙ (λ i.
-        either (less-no {m = standard .readLimit} {n = x .reads + span (t .index)} (d .reads-fit) i)
-        (less-no {m = standard .leafSetLimit} {n = x .leaves + span (t .met)} (d .leaves-fit) i))
+        either (less-no {m = limits .readLimit} {n = x .reads + span (t .index)} (d .reads-fit) i)
+        (less-no {m = limits .leafSetLimit} {n = x .leaves + span (t .met)} (d .leaves-fit) i))
 
     module _ (b : Places) where
       past-front : refusal (stateOf l g c) (scan w lo hi b) ≡ firstCause (further (stateOf l g c) w lo hi b)
@@ -187,8 +187,8 @@ module _ {l : Lent} {g : Logs} {c : Core} {w : ℕ} {x : Worker} (k : Ready l g 
           ∙ cause-holds (scanLogFull (stateOf l g c) w lo hi) LogFull _
           (log-full a d s t
           ∙ ⊎-elim
-          (λ i. ap (λ (f : Bool). either f (less (standard .leafSetLimit) (x .leaves + span d))) (less-yes {m = standard .readLimit} {n = x .reads + span a} i))
-          (λ i. ap (either (less (standard .readLimit) (x .reads + span a))) (less-yes {m = standard .leafSetLimit} {n = x .leaves + span d} i) ∙ either-last (less (standard .readLimit) (x .reads + span a)))
+          (λ i. ap (λ (f : Bool). either f (less (limits .leafSetLimit) (x .leaves + span d))) (less-yes {m = limits .readLimit} {n = x .reads + span a} i))
+          (λ i. ap (either (less (limits .readLimit) (x .reads + span a))) (less-yes {m = limits .leafSetLimit} {n = x .leaves + span d} i) ∙ either-last (less (limits .readLimit) (x .reads + span a)))
           h)
           ∙ ap (λ (y : Refusal). some y) (sym q)
       declined-is r (short q t d h) =

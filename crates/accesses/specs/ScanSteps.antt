@@ -11,7 +11,7 @@ use lib.Seq.{split-at, getD-append-add}
 use Rattle.lists.specs.Tests.{less}
 use Rattle.lists.specs.TestLaws.{cases, less-true, less-false}
 use Rattle.lists.specs.Rows.{Row}
-use Rattle.spec.specs.Records.{standard, Payload, Record}
+use Rattle.spec.specs.Records.{limits, Payload, Record}
 use Rattle.spec.specs.Leaves.{Leaf, firstLeaf, leafOf, versionAt, live}
 use Rattle.spec.specs.Guards.{Scan}
 use Rattle.spec.specs.Steps as model
@@ -184,7 +184,7 @@ module _ {l : Lent} {g : Logs} {c : Core} {w : ℕ} {x : Worker} (k : Ready l g 
       record {
         reads = omega (arith, d .logs-rows .count, p .measured .reads-fit);
         leaves = omega (arith, d .logs-leaves .count, p .measured .leaves-fit);
-        writes = subst (λ (a : Worker). a .writes ≤ standard .writeLimit) (sym (d .worker)) (within isOpen l g c w x k e .writes);
+        writes = subst (λ (a : Worker). a .writes ≤ limits .writeLimit) (sym (d .worker)) (within isOpen l g c w x k e .writes);
       }
 
   own-lows : LowsStay (leavesIn (l .lows) (l .versions) (c .sizes .leaves)) ls (y .leaves)

@@ -22,7 +22,7 @@ use workers::Worker;
 use workers::Workers;
 ghost use mathlib.Core.Path.{_≡_};
 ghost use Prim.Native.Nat.{_<_};
-ghost use Rattle.spec.specs.Records.{standard, payloadOf};
+ghost use Rattle.spec.specs.Records.{limits, payloadOf};
 ghost use Rattle.spec.specs.Steps.{read, found, isOpen};
 ghost use Rattle.workers.specs.Workers.{workersOf};
 ghost use Rattle.sets.specs.Reads.{recordIn, ReadSetHeld};
@@ -71,7 +71,7 @@ fn take(
     requires { ⌜ ReadSetHeld (now reads) ⌝ }
     requires { ⌜ RecordsHeld (now rows) records ⌝ }
     requires { ⌜ SlotsHeld (now slots) ⌝ }
-    requires { ⌜ n < standard .readLimit ⌝ }
+    requires { ⌜ n < limits .readLimit ⌝ }
     ensures { λ r. ⌜ LogsCurrent (now (reads .entry)) (now (rows .entry)) (now (slots .entry)) records n a (now (reads .exit)) r ⌝ }
 {
     let looked = queries::see(rows, slots, records, a);

@@ -6,7 +6,7 @@ use mathlib.Core.Logic.{inr}
 use mathlib.Core.List.{List}
 use lib.ListN.{length, set}
 use Rattle.lists.specs.Rows.{Row, keys}
-use Rattle.spec.specs.Records.{standard, Write}
+use Rattle.spec.specs.Records.{limits, Write}
 use Rattle.spec.specs.Slots.{Slot}
 use Rattle.spec.specs.Maps.{MapState, withSlots, unlockAll, installAll}
 use Rattle.spec.specs.Steps as model
@@ -25,7 +25,7 @@ use Rattle.map.specs.Parts.{installCounted}
 use Rattle.map.specs.Entries.{MapBecomes}
 use Rattle.map.specs.WriteWalks.{Writing}
 use Rattle.transactions.specs.Cores.{Core}
-use Rattle.transactions.specs.Views.{Logs, logs, modelWorker, workersFrom, guardedIn, stateOf, withBoth}
+use Rattle.transactions.specs.Views.{Logs, logs, modelWorker, workersFrom, madeOf, stateOf, withBoth}
 use Rattle.transactions.specs.ViewLaws.{worker-at, same-logs, state-with}
 use Rattle.transactions.specs.Ready.{workerAt, Within, Stored}
 use Rattle.transactions.specs.CoreLaws.{LeavesKept, stored-put, lows-kept}
@@ -59,8 +59,7 @@ new-map l l' g c z m e =
     ap
     (λ (x : MapState).
     record {
-      settings = standard;
-      guarded = guardedIn (c .guarded);
+      made = madeOf c;
       counters = record { number = c .counters .number; version = c .counters .version; installs = c .counters .installs };
       map = x;
       workers = workersFrom g (c .workers) 0;
@@ -73,7 +72,7 @@ state-both l l' g c w x z m e =
     state-with l' g g (withWorkers c (c .workers) z) w x (same-logs g w)
     ∙ ap (λ (σ : State). withWorker σ w (modelWorker g x w)) (new-map l l' g c z m e)
 
-stored-both : (l l' : Lent) (g : Logs) (c : Core) (w : ℕ) (x : Worker) (z : Sizes) (m : MapState) → w < standard .workers
+stored-both : (l l' : Lent) (g : Logs) (c : Core) (w : ℕ) (x : Worker) (z : Sizes) (m : MapState) → w < limits .workers
     → MapBecomes l' z (c .counters .version) m → m .leaves ≡ mapOf l (c .sizes) .leaves → Within x → LeavesKept c w x
     → Stored l g c → Stored l' g (withBoth c w x z)
 stored-both l l' g c w x z m h b e q k t =
@@ -81,7 +80,7 @@ stored-both l l' g c w x z m h b e q k t =
 
 -- ---- the worker's write set
 
-pub worker-inside : {l : Lent} {g : Logs} {c : Core} → Stored l g c → (w : ℕ) → w < standard .workers → w < length (c .workers)
+pub worker-inside : {l : Lent} {g : Logs} {c : Core} → Stored l g c → (w : ℕ) → w < limits .workers → w < length (c .workers)
 worker-inside t w h = subst (λ (n : ℕ). w < n) (sym (t .workers)) h
 
 module _ (l : Lent) (g : Logs) (c : Core) (w : ℕ) (inside : w < length (c .workers)) where
@@ -99,7 +98,7 @@ module _ (l : Lent) (g : Logs) (c : Core) (w : ℕ) (inside : w < length (c .wor
 
 -- A change f of the state that is a new map m and x put as worker w: `is` says that it is, `within` that the worker's
 -- counts stay within its rows.
-pub reached : (f : State → State) (l l' : Lent) (ws : List WriteRows) (c : Core) (w : ℕ) (x : Worker) (z : Sizes) (m : MapState) → w < standard .workers
+pub reached : (f : State → State) (l l' : Lent) (ws : List WriteRows) (c : Core) (w : ℕ) (x : Worker) (z : Sizes) (m : MapState) → w < limits .workers
     → MapBecomes l' z (c .counters .version) m → m .leaves ≡ mapOf l (c .sizes) .leaves → LeavesKept c w x
     → ((rs : List ReadRows) (ls : List LeafSetRows) → Stored l (logs rs ls ws) c → Within x)
     → ((rs : List ReadRows) (ls : List LeafSetRows) → Stored l (logs rs ls ws) c
@@ -116,13 +115,13 @@ freed-within = record { reads = zero-le; leaves = zero-le; writes = zero-le }
 
 -- ---- the end of a transaction
 
-unlock-leaves : (w : ℕ) (m : MapState) (ks : List ℕ) → unlockAll standard w m ks .leaves ≡ m .leaves
+unlock-leaves : (w : ℕ) (m : MapState) (ks : List ℕ) → unlockAll w m ks .leaves ≡ m .leaves
 unfolding unlockAll withSlots
 unlock-leaves w m ks = refl
 
 -- x the worker before it, y after it, xs the workers after it
-pub drops : (l l' : Lent) (ws : List WriteRows) (c : Core) {xs : List Worker} (w : ℕ) (x y : Worker) (z : Sizes) → w < standard .workers → x ≡ workerAt c w
-    → y ≡ freed → MapBecomes l' z (c .counters .version) (unlockAll standard w (mapOf l (c .sizes)) (keys (writesIn ws w (x .writes))))
+pub drops : (l l' : Lent) (ws : List WriteRows) (c : Core) {xs : List Worker} (w : ℕ) (x y : Worker) (z : Sizes) → w < limits .workers → x ≡ workerAt c w
+    → y ≡ freed → MapBecomes l' z (c .counters .version) (unlockAll w (mapOf l (c .sizes)) (keys (writesIn ws w (x .writes))))
     → xs ≡ set (c .workers) w y → Reaches (λ (σ : State). dropped σ w) l ws c l' (withWorkers c xs z)
 drops l l' ws c w x y z h e q b p =
     subst (λ (us : List Worker). Reaches (λ (σ : State). dropped σ w) l ws c l' (withWorkers c us z))
@@ -130,7 +129,7 @@ drops l l' ws c w x y z h e q b p =
     (reached (λ (σ : State). dropped σ w) l l' ws c w freed z _ h b (unlock-leaves w (mapOf l (c .sizes)) (keys (writesIn ws w (x .writes)))) (inr refl)
     (λ rs ls t. freed-within)
     (λ rs ls t.
-    (λ i. withWorker (withMap (stateOf l (logs rs ls ws) c) (unlockAll standard w (mapOf l (c .sizes)) (ks rs ls t i))) w (free-in rs ls ws w i))
+    (λ i. withWorker (withMap (stateOf l (logs rs ls ws) c) (unlockAll w (mapOf l (c .sizes)) (ks rs ls t i))) w (free-in rs ls ws w i))
     ∙ (unfold dropped stateOf in refl)))
   where
     ks : (rs : List ReadRows) (ls : List LeafSetRows) → Stored l (logs rs ls ws) c → keys (writesIn ws w (x .writes)) ≡ writeKeys (stateOf l (logs rs ls ws) c) w
@@ -138,7 +137,7 @@ drops l l' ws c w x y z h e q b p =
 
 -- ---- install
 
-install-leaves : (n t : ℕ) (m : MapState) (rs : List (Row Write)) → installAll standard n t m rs .leaves ≡ m .leaves
+install-leaves : (n t : ℕ) (m : MapState) (rs : List (Row Write)) → installAll n t m rs .leaves ≡ m .leaves
 unfolding installAll withSlots
 install-leaves n t m rs = refl
 
@@ -155,8 +154,7 @@ counted-state l g c =
     ap
     (λ (n : ℕ).
     record {
-      settings = standard;
-      guarded = guardedIn (c .guarded);
+      made = madeOf c;
       counters = record { number = c .counters .number; version = c .counters .version; installs = n };
       map = mapOf l (c .sizes);
       workers = workersFrom g (c .workers) 0;
@@ -189,9 +187,9 @@ abbrev installedState : ℕ → State → State
 installedState w σ = withWorker (withMap σ (installedMap σ w)) w freeWorker
 
 -- x the worker before it, y after it, k the counters and xs the workers after it
-pub installs : (l l' : Lent) (ws : List WriteRows) (c : Core) {xs : List Worker} (w : ℕ) (x y : Worker) (z : Sizes) (k : Counters) → w < standard .workers
+pub installs : (l l' : Lent) (ws : List WriteRows) (c : Core) {xs : List Worker} (w : ℕ) (x y : Worker) (z : Sizes) (k : Counters) → w < limits .workers
     → x ≡ workerAt c w → y ≡ freed → k ≡ installCounted (c .counters)
-    → MapBecomes l' z (c .counters .version) (installAll standard (x .number) (k .installs) (mapOf l (c .sizes)) (writesIn ws w (x .writes)))
+    → MapBecomes l' z (c .counters .version) (installAll (x .number) (k .installs) (mapOf l (c .sizes)) (writesIn ws w (x .writes)))
     → xs ≡ set (c .workers) w y
     → Reaches (λ (σ : State). effect σ (install w)) l ws c l' (record { workers = xs; sizes = z; counters = k; guarded = c .guarded })
 unfolding effect
@@ -203,7 +201,7 @@ installs l l' ws c w x y z k h f q e b p =
     (install-leaves (x .number) (k .installs) (mapOf l (c .sizes)) (writesIn ws w (x .writes))) (inr refl) (λ rs ls t. freed-within)
     (λ rs ls t.
     (λ i.
-    withWorker (withMap (stateOf l (logs rs ls ws) c) (installAll standard (number rs ls t i) (install-number i) (mapOf l (c .sizes)) (writes rs ls t i))) w (free-in rs ls ws w i))
+    withWorker (withMap (stateOf l (logs rs ls ws) c) (installAll (number rs ls t i) (install-number i) (mapOf l (c .sizes)) (writes rs ls t i))) w (free-in rs ls ws w i))
     ∙ (unfold stateOf in refl))))
   where
     install-number : k .installs ≡ suc (c .counters .installs)

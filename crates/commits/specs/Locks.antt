@@ -15,7 +15,7 @@ use Rattle.lists.specs.RowLaws.{rising-different}
 use Rattle.spec.specs.declared.Refusal.{Refusal}
 use Rattle.spec.specs.declared.Refusal.the-variants.{Held, IndexletFull, MapFull, Unfit, Uncovered, Overlap}
 use Rattle.spec.specs.declared.Stage.the-variants.{Locked}
-use Rattle.spec.specs.Records.{standard, Record, Write}
+use Rattle.spec.specs.Records.{limits, standard, Record, Write}
 use Rattle.spec.specs.Guards.{Scan, unfit, uncovered, overlapped, anyPut}
 use Rattle.spec.specs.Refusals.{ends}
 use Rattle.spec.specs.Leaves.{Leaf}
@@ -66,7 +66,7 @@ lockTests m ks w =
     firstCause
     (cause (any (λ (k : ℕ). heldByOther w (contentOf (m .slots) k)) ks) Held
     ∷ cause (less (standard .waitingLimit) (waitingWith m ks)) IndexletFull
-    ∷ cause (less (standard .mapLimit) (addressesWith m ks)) MapFull
+    ∷ cause (less (limits .mapLimit) (addressesWith m ks)) MapFull
     ∷ [])
 
 -- what they answer, of every map with these records and slots
@@ -91,7 +91,7 @@ module _ (rows : RecordRows) (slots : SlotRows) (us : WriteRows) (z : Sizes) (n 
 
     module _ (few : v ≡ false) {u : Bool} (all : AddressedBeyond rows slots us z n u) where
       past : (m : MapState) → m .slots ≡ slotsIn slots
-          → lockTests m (keys (writesOf us n)) w ≡ firstCause (cause (less (standard .mapLimit) (addressesWith m (keys (writesOf us n)))) MapFull ∷ [])
+          → lockTests m (keys (writesOf us n)) w ≡ firstCause (cause (less (limits .mapLimit) (addressesWith m (keys (writesOf us n)))) MapFull ∷ [])
       unfolding lockTests
       past m s =
           cause-fails _ Held _ (in-map m s ∙ free)
@@ -113,7 +113,7 @@ tested-lockable m us w e f =
     let c = cause-passed _ _ (b .1) in
     record {
       waiting = less-false (standard .waitingLimit) (waitingWith m (keys us)) (b .0);
-      addresses = less-false (standard .mapLimit) (addressesWith m (keys us)) (c .0);
+      addresses = less-false (limits .mapLimit) (addressesWith m (keys us)) (c .0);
       once = rising-different us f;
     }
 
@@ -123,7 +123,7 @@ tested-can rows slots us z n w ls Granted t f p = tested-lockable _ (writesOf us
 tested-can rows slots us z n w ls (Refused r) t f p = clash refl p
 
 -- a worker's number and one more is a word
-pub worker-fits : (w : ℕ) → w < standard .workers → w + 1 < 2 ^ 64
+pub worker-fits : (w : ℕ) → w < limits .workers → w + 1 < 2 ^ 64
 worker-fits w h = omega arith
 
 -- ---- an open worker's lock
@@ -145,13 +145,13 @@ locks-refused l ws c w x Granted e t p = clash p refl
 locks-refused l ws c w x (Refused r) e t p =
     record { tests = same-tests l ws c w x (Refused r) e t; reaches = record { state = λ rs ls s. refl; stored = λ rs ls s. s } }
 
-lock-leaves : (w : ℕ) (m : MapState) (us : List (Row Write)) → lockAll standard w m us .leaves ≡ m .leaves
+lock-leaves : (w : ℕ) (m : MapState) (us : List (Row Write)) → lockAll w m us .leaves ≡ m .leaves
 unfolding lockAll withSlots
 lock-leaves w m us = refl
 
 -- x the worker before it, y after it, xs the workers after it
-locks : (l l' : Lent) (ws : List WriteRows) (c : Core) {xs : List Worker} (w : ℕ) (x y : Worker) (z : Sizes) → w < standard .workers → x ≡ workerAt c w → y ≡ atLock x
-    → MapBecomes l' z (c .counters .version) (lockAll standard w (mapOf l (c .sizes)) (writesIn ws w (x .writes)))
+locks : (l l' : Lent) (ws : List WriteRows) (c : Core) {xs : List Worker} (w : ℕ) (x y : Worker) (z : Sizes) → w < limits .workers → x ≡ workerAt c w → y ≡ atLock x
+    → MapBecomes l' z (c .counters .version) (lockAll w (mapOf l (c .sizes)) (writesIn ws w (x .writes)))
     → xs ≡ set (c .workers) w y → Reaches (λ (σ : State). effect σ (lock w)) l ws c l' (withWorkers c xs z)
 locks l l' ws c w x y z h e q b p =
     subst (λ (us : List Worker). Reaches (λ (σ : State). effect σ (lock w)) l ws c l' (withWorkers c us z))
@@ -160,7 +160,7 @@ locks l l' ws c w x y z h e q b p =
     (lock-leaves w (mapOf l (c .sizes)) (writesIn ws w (x .writes))) (inl refl)
     (λ rs ls t. record { reads = t .counts w h .reads; leaves = t .counts w h .leaves; writes = t .counts w h .writes })
     (λ rs ls t.
-    (λ i. withWorker (withMap (stateOf l (logs rs ls ws) c) (lockAll standard w (mapOf l (c .sizes)) (us rs ls t i))) w (worker rs ls t i))
+    (λ i. withWorker (withMap (stateOf l (logs rs ls ws) c) (lockAll w (mapOf l (c .sizes)) (us rs ls t i))) w (worker rs ls t i))
     ∙ (unfold effect stateOf in refl)))
   where
     us : (rs : List ReadRows) (ls : List LeafSetRows) → Stored l (logs rs ls ws) c → writesIn ws w (x .writes) ≡ workerOf (stateOf l (logs rs ls ws) c) w .writes
@@ -170,9 +170,9 @@ locks l l' ws c w x y z h e q b p =
         → workerIn (atLock (workerAt c w)) rs ls ws w ≡ atStage Locked (workerOf (stateOf l (logs rs ls ws) c) w)
     worker rs ls t = lock-in rs ls ws w (workerAt c w) ∙ ap (atStage Locked) (sym (worker-at l (logs rs ls ws) c w (worker-inside t w h)))
 
-pub locks-granted : (l l' : Lent) (ws : List WriteRows) (c : Core) {xs : List Worker} (w : ℕ) (x y : Worker) (z : Sizes) (a : Plain) → w < standard .workers
+pub locks-granted : (l l' : Lent) (ws : List WriteRows) (c : Core) {xs : List Worker} (w : ℕ) (x y : Worker) (z : Sizes) (a : Plain) → w < limits .workers
     → x ≡ workerAt c w → Tested (l .rows) (l .slots) (getD ws w []) (c .sizes) (x .writes) w a → present (refusalIn a) ≡ false → y ≡ atLock x
-    → MapBecomes l' z (c .counters .version) (lockAll standard w (mapOf l (c .sizes)) (writesIn ws w (x .writes)))
+    → MapBecomes l' z (c .counters .version) (lockAll w (mapOf l (c .sizes)) (writesIn ws w (x .writes)))
     → xs ≡ set (c .workers) w y → LocksOpen l ws c w l' (withWorkers c xs z) a
 locks-granted l l' ws c w x y z Granted h e t p q b u = record { tests = same-tests l ws c w x Granted e t; reaches = locks l l' ws c w x y z h e q b u }
 locks-granted l l' ws c w x y z (Refused r) h e t p q b u = clash refl p
@@ -196,9 +196,9 @@ guard-judged g reads cs ws o e q = q ∙ (rw e)
 guardedBy : Bool → model.Worker → Option Refusal
 guardedBy g x =
     firstCause
-    (cause (both g (anyPut (unfit standard) (x .writes))) Unfit
-    ∷ cause (both g (anyPut (uncovered standard (x .scans)) (x .writes))) Uncovered
-    ∷ cause (both g (anyPut (overlapped standard (x .reads) (x .scans) (x .writes)) (x .writes))) Overlap
+    (cause (both g (anyPut unfit (x .writes))) Unfit
+    ∷ cause (both g (anyPut (uncovered (x .scans)) (x .writes))) Uncovered
+    ∷ cause (both g (anyPut (overlapped (x .reads) (x .scans) (x .writes)) (x .writes))) Overlap
     ∷ [])
 
 guarded-tests : (g : Bool) (x : model.Worker) → guardedBy g x ≡ guardTests g (x .reads) (x .scans) (x .writes)

@@ -15,7 +15,7 @@ use Rattle.spec.specs.declared.Current.{Current}
 use Rattle.spec.specs.declared.Refusal.{Refusal}
 use Rattle.spec.specs.declared.Refusal.the-variants.{Changed, UnderLock, Phantom, Spent}
 use Rattle.spec.specs.Steps.{numbered, cause, firstCause}
-use Rattle.spec.specs.Records.{standard, Record, Write, isPut, samePayload, sameRecord}
+use Rattle.spec.specs.Records.{limits, Record, Write, isPut, samePayload, sameRecord}
 use Rattle.spec.specs.Slots.{contentOf}
 use Rattle.spec.specs.Maps.{MapState, current, heldByOther, phantomIn}
 use Rattle.counters.specs.declared.Counters.{Counters}
@@ -107,7 +107,7 @@ takes c w x left =
 
 -- the next commit number, if one is left
 unfoldable pub numbering : Core → ℕ → Worker → Validated
-numbering c w x = takes c w x (less (c .counters .number) (standard .lastNumber))
+numbering c w x = takes c w x (less (c .counters .number) (limits .lastNumber))
 
 -- ---- two records compared
 
@@ -197,17 +197,17 @@ row-logged {l} {leaves} {z} {i} {m} k h a g =
 -- ---- the next commit number
 
 module _ (c : Core) (w : ℕ) (x : Worker) where
-  pub number-spent : standard .lastNumber ≤ c .counters .number → record { core = c; answer = answer.Refused Spent } ≡ numbering c w x
+  pub number-spent : limits .lastNumber ≤ c .counters .number → record { core = c; answer = answer.Refused Spent } ≡ numbering c w x
   unfolding numbering
-  number-spent h = sym (ap (takes c w x) (less-no {m = c .counters .number} {n = standard .lastNumber} h))
+  number-spent h = sym (ap (takes c w x) (less-no {m = c .counters .number} {n = limits .lastNumber} h))
 
-  pub number-left : c .counters .number < standard .lastNumber
+  pub number-left : c .counters .number < limits .lastNumber
       → record { core = withNumber c w (atCheck x (c .counters .number + 1)) (c .counters .number + 1); answer = Number (c .counters .number + 1) } ≡ numbering c w x
   unfolding numbering
-  number-left h = sym (ap (takes c w x) (less-yes {m = c .counters .number} {n = standard .lastNumber} h))
+  number-left h = sym (ap (takes c w x) (less-yes {m = c .counters .number} {n = limits .lastNumber} h))
 
   -- the number is taken from the counters, xs the workers after it
-  pub number-taken : {xs : List Worker} (k : Counters) (n : ℕ) (y : Worker) → c .counters .number < standard .lastNumber
+  pub number-taken : {xs : List Worker} (k : Counters) (n : ℕ) (y : Worker) → c .counters .number < limits .lastNumber
       → (n ≡ map-parts.numbered (c .counters) .number) × (k ≡ map-parts.numbered (c .counters)) → y ≡ atCheck x n
       → xs ≡ set (c .workers) w y
       → record { core = record { workers = xs; sizes = c .sizes; counters = k; guarded = c .guarded }; answer = Number n } ≡ numbering c w x

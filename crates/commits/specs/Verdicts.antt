@@ -14,7 +14,7 @@ use Rattle.spec.specs.declared.Refusal.{Refusal}
 use Rattle.spec.specs.declared.Refusal.the-variants.{Changed, UnderLock, Phantom, Spent}
 use Rattle.spec.specs.declared.Stage.{Stage}
 use Rattle.spec.specs.Refusals.{ends}
-use Rattle.spec.specs.Records.{standard, Record, Write}
+use Rattle.spec.specs.Records.{limits, Record, Write}
 use Rattle.spec.specs.Slots.{contentOf}
 use Rattle.spec.specs.Maps.{current, phantomIn}
 use Rattle.spec.specs.Steps as model
@@ -90,7 +90,7 @@ tested σ w =
     firstOf (any (changedSince σ) (workerOf σ w .reads)) (any (lockedByOther σ w) (keys (workerOf σ w .reads))) (any (phantomIn (σ .map) w) (workerOf σ w .versions))
 
 abbrev spent : State → Option Refusal
-spent σ = firstCause (cause (not (less (σ .counters .number) (σ .settings .lastNumber))) Spent ∷ [])
+spent σ = firstCause (cause (not (less (σ .counters .number) (limits .lastNumber))) Spent ∷ [])
 
 refusal-is : (σ : State) (w : ℕ) → refusal σ (validate w) ≡ maybe (front isLocked σ w) (maybe (tested σ w) (spent σ) some) some
 unfolding refusal causes
@@ -255,7 +255,7 @@ module _ {l : Lent} {rs : List ReadRows} {ls : List LeafSetRows} {ws : List Writ
 
     -- ---- the next commit number
 
-    spent-is : (b : Bool) → less (c .counters .number) (standard .lastNumber) ≡ b → spent now ≡ firstCause (cause (not b) Spent ∷ [])
+    spent-is : (b : Bool) → less (c .counters .number) (limits .lastNumber) ≡ b → spent now ≡ firstCause (cause (not b) Spent ∷ [])
     unfolding stateOf
     spent-is b e = ap (λ (u : Bool). firstCause (cause (not u) Spent ∷ [])) e
 
@@ -319,12 +319,12 @@ module _ {l : Lent} {rs : List ReadRows} {ls : List LeafSetRows} {ws : List Writ
     validate-passed v y p j e =
         let q = sym (ap verdictIn p) ∙ j in
         ⊎-elim
-        (λ b. subst Taken (number-left c w x (less-true (c .counters .number) (standard .lastNumber) b) ∙ sym e)
+        (λ b. subst Taken (number-left c w x (less-true (c .counters .number) (limits .lastNumber) b) ∙ sym e)
         (numbered-refines (c .counters .number + 1) (add-one (c .counters .number))
         (refusal-by none q ∙ spent-is true b ∙ cause-fails false Spent [] refl ∙ (unfold firstCause in refl))))
-        (λ b. subst Taken (number-spent c w x (less-false (c .counters .number) (standard .lastNumber) b) ∙ sym e)
+        (λ b. subst Taken (number-spent c w x (less-false (c .counters .number) (limits .lastNumber) b) ∙ sym e)
         (refines-refused k (refusal-by none q ∙ spent-is false b ∙ cause-holds true Spent [] refl) refl))
-        (cases (less (c .counters .number) (standard .lastNumber)))
+        (cases (less (c .counters .number) (limits .lastNumber)))
       where
         Taken : Validated → Type 0
         Taken r = Refines l (logs rs ls ws) c (validate w) l (logs rs ls ws) (r .core) (validateIn (r .answer))

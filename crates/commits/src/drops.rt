@@ -9,7 +9,7 @@ use workers::Workers;
 ghost use Prim.Native.Nat.{_<_};
 ghost use lib.ListN.{getD};
 ghost use mathlib.Core.List.{[]};
-ghost use Rattle.spec.specs.Records.{standard};
+ghost use Rattle.spec.specs.Records.{limits};
 ghost use Rattle.spec.specs.Steps.{State, dropped};
 ghost use Rattle.sets.specs.Writes.{WriteSetOrdered};
 ghost use Rattle.map.specs.Views.{lent};
@@ -29,7 +29,7 @@ pub fn drop_transaction(
     w: usize,
 ) -> Globals
     requires { ⌜ map.MapHeld (lent (now rows) (now leaves) (now slots)) (c .sizes) (c .counters .version) ⌝ }
-    requires { ⌜ w < standard .workers ⌝ }
+    requires { ⌜ w < limits .workers ⌝ }
     requires { ⌜ WriteSetOrdered (getD (now writes) w []) (workerAt (coreOf (now workers) c) w .writes) ⌝ }
     ensures { λ r. ⌜ Reaches (λ (σ : State). dropped σ w) (lent (now (rows .entry)) (now (leaves .entry)) (now (slots .entry))) (now (writes .entry)) (coreOf (now (workers .entry)) c) (lent (now (rows .entry)) (now (leaves .exit)) (now (slots .exit))) (coreOf (now (workers .exit)) r) ⌝ }
 {

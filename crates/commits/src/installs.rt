@@ -15,7 +15,7 @@ use workers::Workers;
 ghost use mathlib.Core.List.{[]};
 ghost use Prim.Native.Nat.{_+_, _^_, _<_};
 ghost use lib.ListN.{getD};
-ghost use Rattle.spec.specs.Records.{standard};
+ghost use Rattle.spec.specs.Records.{limits};
 ghost use Rattle.spec.specs.Steps as model;
 ghost use Rattle.spec.specs.Steps.{State, effect};
 ghost use Rattle.laws.specs.MapLaws.{Installable};
@@ -38,7 +38,7 @@ fn install_transaction(
     w: usize,
 ) -> Globals
     requires { ⌜ map.MapHeld (lent (now rows) (now leaves) (now slots)) (c .sizes) (c .counters .version) ⌝ }
-    requires { ⌜ w < standard .workers ⌝ }
+    requires { ⌜ w < limits .workers ⌝ }
     requires { ⌜ WriteSetOrdered (getD (now writes) w []) (workerAt (coreOf (now workers) c) w .writes) ⌝ }
     requires { ⌜ Installable (slotsIn (now slots)) (writesIn (now writes) w (workerAt (coreOf (now workers) c) w .writes)) ⌝ }
     requires { ⌜ c .counters .installs + 1 < 2 ^ 64 ⌝ }

@@ -22,7 +22,7 @@ ghost use mathlib.Core.List.{[]};
 ghost use Prim.Native.Nat.{_<_};
 ghost use lib.ListN.{length, getD};
 ghost use Rattle.lists.specs.Tests.{present};
-ghost use Rattle.spec.specs.Records.{standard};
+ghost use Rattle.spec.specs.Records.{limits};
 ghost use Rattle.spec.specs.Slots.{entries};
 ghost use Rattle.spec.specs.Steps as model;
 ghost use Rattle.sets.specs.Reads.{readsIn};
@@ -77,7 +77,7 @@ fn lock_open(
     w: usize,
 ) -> Done
     requires { ⌜ map.MapHeld (lent (now rows) (now leaves) (now slots)) (c .sizes) (c .counters .version) ⌝ }
-    requires { ⌜ w < standard .workers ⌝ }
+    requires { ⌜ w < limits .workers ⌝ }
     requires { ⌜ WriteSetOrdered (getD (now writes) w []) (workerAt (coreOf (now workers) c) w .writes) ⌝ }
     ensures { λ r. ⌜ LocksOpen (lent (now (rows .entry)) (now (leaves .entry)) (now (slots .entry))) (now (writes .entry)) (coreOf (now (workers .entry)) c) w (lent (now (rows .entry)) (now (leaves .exit)) (now (slots .exit))) (coreOf (now (workers .exit)) (r .globals)) (r .answer) ⌝ }
 {
@@ -124,7 +124,7 @@ fn guard(
     w: usize,
     x: Worker,
 ) -> Judged
-    requires { ⌜ w < standard .workers ⌝ }
+    requires { ⌜ w < limits .workers ⌝ }
     requires { ⌜ Guardable (getD (now reads) w []) (getD (now leafsets) w []) (getD (now writes) w []) x ⌝ }
     ensures { λ r. ⌜ judgedIn r ≡ guardTests guarded (readsIn (now (reads .entry)) w (x .reads)) (scansIn (now (leafsets .entry)) w (x .leaves)) (writesIn (now (writes .entry)) w (x .writes)) ⌝ }
 {

@@ -30,7 +30,7 @@ ghost use Prim.Native.Nat.{_<_, _≤_};
 ghost use Rattle.spec.specs.Maps.{phantomIn};
 ghost use Rattle.lists.specs.Rows.{any, keys};
 ghost use Rattle.spec.specs.Payloads.{payloadIn};
-ghost use Rattle.spec.specs.Records.{samePayload, standard, sameRecord};
+ghost use Rattle.spec.specs.Records.{limits, samePayload, sameRecord};
 ghost use Rattle.spec.specs.Steps as model;
 ghost use Rattle.map.specs.Parts.{RecordsHeld, SlotsHeld};
 ghost use Rattle.map.specs.Views.{lent, mapOf};
@@ -93,7 +93,7 @@ fn changed(rows: &Records, slots: &Slots, reads: &ReadSet, n: usize, k: usize) -
     requires { ⌜ RecordsHeld (now rows) n ⌝ }
     requires { ⌜ SlotsHeld (now slots) ⌝ }
     requires { ⌜ ReadSetHeld (now reads) ⌝ }
-    requires { ⌜ k ≤ standard .readLimit ⌝ }
+    requires { ⌜ k ≤ limits .readLimit ⌝ }
     ensures { λ r. ⌜ r ≡ any (changedIn (now (rows .entry)) n (now (slots .entry))) (readsOf (now (reads .entry)) k) ⌝ }
 {
     let mut i = 0;
@@ -113,7 +113,7 @@ fn changed(rows: &Records, slots: &Slots, reads: &ReadSet, n: usize, k: usize) -
 fn under_lock(slots: &Slots, reads: &ReadSet, w: usize, k: usize) -> bool
     requires { ⌜ SlotsHeld (now slots) ⌝ }
     requires { ⌜ ReadSetHeld (now reads) ⌝ }
-    requires { ⌜ k ≤ standard .readLimit ⌝ }
+    requires { ⌜ k ≤ limits .readLimit ⌝ }
     ensures { λ r. ⌜ r ≡ any (lockedIn (now (slots .entry)) w) (keys (readsOf (now (reads .entry)) k)) ⌝ }
 {
     let mut i = 0;
@@ -143,7 +143,7 @@ fn phantoms(
     requires { ⌜ Owns (now slots) (now ws) n w ⌝ }
     requires { ⌜ LeafSetHeld (now leafset) ⌝ }
     requires { ⌜ LoggedAll (lent (now rows) (now leaves) (now slots)) (now leafset) z k ⌝ }
-    requires { ⌜ k ≤ standard .leafSetLimit ⌝ }
+    requires { ⌜ k ≤ limits .leafSetLimit ⌝ }
     ensures { λ r. ⌜ r ≡ any (phantomIn (mapOf (lent (now (rows .entry)) (now (leaves .entry)) (now (slots .entry))) z) w) (versionsOf (now (leafset .entry)) k) ⌝ }
 {
     let mut i = 0;
@@ -196,7 +196,7 @@ fn judge(
 
 // Worker w, of a valid log, takes the next commit number, if one is left (refusal 15). No array is touched but the workers.
 fn take_number(workers: &mut Workers, c: Globals, w: usize, x: Worker) -> ValidateDone
-    requires { ⌜ w < standard .workers ⌝ }
+    requires { ⌜ w < limits .workers ⌝ }
     ensures { λ r. ⌜ validatedOf (now (workers .exit)) r ≡ numbering (coreOf (now (workers .entry)) c) w x ⌝ }
 {
     let last = c.counters;

@@ -5,7 +5,7 @@ use mathlib.Core.Bool.{Bool, true, false}
 use mathlib.Core.List.{List, [], _∷_, _++_, append-assoc}
 use mathlib.Core.Option.{Option, some}
 use Rattle.lists.specs.Rows.{has}
-use Rattle.spec.specs.Records.{standard}
+use Rattle.spec.specs.Records.{standardMap}
 use Rattle.spec.specs.Steps.{State, fresh}
 use Rattle.script.specs.declared.Line.{Line}
 use Rattle.script.specs.Grammar.{meaning, guardLine, isGuard}
@@ -28,14 +28,14 @@ whole-starts : (seen taken l rest : List ℕ) → Whole l (seen ++ taken) → se
 whole-starts seen taken l rest w =
     sym (append-assoc seen taken rest) ∙ ap (λ (bs : List ℕ). bs ++ rest) (w .fed) ∙ append-assoc l (10 ∷ []) rest
 
-module _ (σ : State) (first : Bool) (o : first ≡ true → σ ≡ fresh standard false) where
+module _ (σ : State) (first : Bool) (o : first ≡ true → σ ≡ fresh (standardMap false)) where
   -- the first line is not G
   pub due-unguarded : (line rest : List ℕ) → has 10 line ≡ false → startsGuarded (line ++ rest) ≡ false
       → dueFor σ first line rest ≡ writtenFrom σ line rest
   unfolding dueFor
   due-unguarded line rest h e = go first o
     where
-      go : (b : Bool) → (b ≡ true → σ ≡ fresh standard false) → dueFor σ b line rest ≡ writtenFrom σ line rest
+      go : (b : Bool) → (b ≡ true → σ ≡ fresh (standardMap false)) → dueFor σ b line rest ≡ writtenFrom σ line rest
       go true q = output-unguarded line rest h e ∙ ap (λ (s : State). writtenFrom s line rest) (sym (q refl))
       go false q = refl
 
@@ -62,7 +62,7 @@ module _ (σ : State) (first : Bool) (o : first ≡ true → σ ≡ fresh standa
 
 -- G, as the first line and as another one
 pub due-guarded : (σ : State) (first : Bool) (seen taken rest : List ℕ) → first ≡ true → Whole guardLine (seen ++ taken)
-    → dueFor σ first seen (taken ++ rest) ≡ guardedAnswer ++ writtenFrom (fresh standard true) [] rest
+    → dueFor σ first seen (taken ++ rest) ≡ guardedAnswer ++ writtenFrom (fresh (standardMap true)) [] rest
 unfolding dueFor
 due-guarded σ first seen taken rest e w =
     rw e (ap output (whole-starts seen taken guardLine rest w) ∙ output-guarded rest)

@@ -2,7 +2,7 @@
 use Prim.Native.Nat.{ℕ, _+_, _*_}
 use mathlib.Core.List.{List, []}
 use Rattle.lists.specs.Texts.{Wrote}
-use Rattle.spec.specs.Records.{standard}
+use Rattle.spec.specs.Records.{limits}
 use Rattle.map.specs.Views.{Lent}
 use Rattle.transactions.specs.Views.{Logs, stateOf}
 use Rattle.script.specs.Parsing.{After}
@@ -10,7 +10,7 @@ use Rattle.console.specs.Sessions.{Standing, due}
 
 -- the longest last line: a letter, a number, the triples of a full map and a line feed
 abbrev pub longestEnd : ℕ
-longestEnd = 23 + 63 * standard .mapLimit
+longestEnd = 23 + 63 * limits .mapLimit
 
 -- all that is still due was written, when no more input comes
 pub record Finishes (l : Lent) (g : Logs) (x : Standing) (old new : List ℕ) (next : ℕ) : Type 0 where

@@ -9,7 +9,7 @@ use lib.ListN.{length, drop}
 use Rattle.lists.specs.Tests.{pick, less, atMost}
 use Rattle.lists.specs.TestLaws.{less-true, atMost-yes, atMost-no}
 use Rattle.lists.specs.Rows.{Row, row, mapItems, any}
-use Rattle.spec.specs.Records.{Settings, standard, Payload, Record}
+use Rattle.spec.specs.Records.{standardMap, Payload, Record}
 use Rattle.spec.specs.Guards.{share, unfit, NoOverlap}
 use Rattle.spec.specs.Maps.{contents}
 use Rattle.spec.specs.Steps.{Event, fresh, final}
@@ -120,12 +120,12 @@ member-unstamped (x ∷ rs) r (List·Memᴰ·head e) = List·Memᴰ·head (ap (�
 member-unstamped (x ∷ rs) r (List·Memᴰ·tail m) = List·Memᴰ·tail (member-unstamped rs r m)
 
 -- commit numbers do not matter
-apart-unstamped : (s : Settings) (rs qs : List (Row Record)) → unstamped rs ≡ unstamped qs → NoOverlap s rs → NoOverlap s qs
-apart-unstamped s rs qs e h =
+apart-unstamped : (rs qs : List (Row Record)) → unstamped rs ≡ unstamped qs → NoOverlap rs → NoOverlap qs
+apart-unstamped rs qs e h =
     record {
       fit =
           λ q m. let w = in-first q m in
-          sym (ap (λ (x : Row Payload). unfit s (x .key) (x .item .value)) (w .is)) ∙ h .fit (w .at) (w .member);
+          sym (ap (λ (x : Row Payload). unfit (x .key) (x .item .value)) (w .is)) ∙ h .fit (w .at) (w .member);
       apart =
           λ p q m n d. let v = in-first p m in let w = in-first q n in
           sym (ap (λ (x : Row Payload). share (x .key) (x .item .value) (q .key) (q .item .payload .value)) (v .is))
@@ -138,13 +138,13 @@ apart-unstamped s rs qs e h =
     in-first q m = stands rs (row (q .key) (q .item .payload)) (subst (List·Memᴰ (row (q .key) (q .item .payload))) (sym e) (member-unstamped qs q m))
 
 -- what ends with the line of contents without overlaps ends with no other line
-ends-apart : (written before : List ℕ) (rs : List (Row Record)) → written ≡ before ++ endLine rs → NoOverlap standard rs → EndsApart written
+ends-apart : (written before : List ℕ) (rs : List (Row Record)) → written ≡ before ++ endLine rs → NoOverlap rs → EndsApart written
 ends-apart written before rs e h =
     record {
       before = before;
       sections = rs;
       last-line = e;
-      apart = λ other qs q. apart-unstamped standard rs qs (same-records rs qs (same-last before other rs qs (sym e ∙ q))) h;
+      apart = λ other qs q. apart-unstamped rs qs (same-records rs qs (same-last before other rs qs (sym e ∙ q))) h;
     }
 
 -- ---- the statement
@@ -169,12 +169,12 @@ unfolding output
 output-apart input ls g e = go (startsGuarded input) g e
   where
     go : (x : Bool) → x ≡ true → linesFrom [] (pick x (drop 2 input) input) ≡ some ls
-        → EndsApart (pick x (guardedAnswer ++ writtenFrom (fresh standard true) [] (drop 2 input)) (writtenFrom (fresh standard false) [] input))
+        → EndsApart (pick x (guardedAnswer ++ writtenFrom (fresh (standardMap true)) [] (drop 2 input)) (writtenFrom (fresh (standardMap false)) [] input))
     go false y q = let z : _≡_ {A = ℕ} 0 1 = cc in absurd (omega arith)
     go true y q =
-        let text = writtenFrom (fresh standard true) [] (drop 2 input) in
-        let w = ended (transcribes (fresh standard true) [] (drop 2 input) ls q) in
-        ends-apart (guardedAnswer ++ text) (guardedAnswer ++ w .before) (contents (final (fresh standard true) (stepsIn ls) .map))
+        let text = writtenFrom (fresh (standardMap true)) [] (drop 2 input) in
+        let w = ended (transcribes (fresh (standardMap true)) [] (drop 2 input) ls q) in
+        ends-apart (guardedAnswer ++ text) (guardedAnswer ++ w .before) (contents (final (fresh (standardMap true)) (stepsIn ls) .map))
         (ap (λ (t : List ℕ). guardedAnswer ++ t) (w .is)
-        ∙ sym (append-assoc guardedAnswer (w .before) (endLine (contents (final (fresh standard true) (stepsIn ls) .map)))))
+        ∙ sym (append-assoc guardedAnswer (w .before) (endLine (contents (final (fresh (standardMap true)) (stepsIn ls) .map)))))
         (no-overlap-standard (stepsIn ls))

@@ -11,7 +11,7 @@ use lib.ListN.{drop}
 use Rattle.lists.specs.Tests.{pick, both, maybe, same}
 use Rattle.lists.specs.TestLaws.{cases, clash, same-true}
 use Rattle.lists.specs.Rows.{Row}
-use Rattle.spec.specs.Records.{standard, Record}
+use Rattle.spec.specs.Records.{standardMap, Record}
 use Rattle.spec.specs.Maps.{contents}
 use Rattle.spec.specs.Steps.{State, fresh, answer, next}
 use Rattle.script.specs.declared.Line.{Line}
@@ -167,7 +167,7 @@ module _ (input : List ℕ) where
   guarded-until : startsGuarded input ≡ true → linesFrom [] (drop 2 input) ≡ none → SerialUntilMalformed input
   unfolding output startsGuarded same
   guarded-until g e =
-      let t = until-malformed (fresh standard true) [] (drop 2 input) unended-none e in
+      let t = until-malformed (fresh (standardMap true)) [] (drop 2 input) unended-none e in
       record {
         whole = 71 ∷ 10 ∷ t .whole;
         rest = t .rest;
@@ -178,7 +178,7 @@ module _ (input : List ℕ) where
         contents = t .contents;
         alone = ap (λ (x : List ℕ). guardedAnswer ++ x) (t .alone) ∙ ap (λ (b : Bool). pick b guardedAnswer [] ++ (t .text ++ endLine (t .contents))) (sym g);
         stopped =
-            ap (λ (b : Bool). pick b (guardedAnswer ++ writtenFrom (fresh standard true) [] (drop 2 input)) (writtenFrom (fresh standard false) [] input)) g
+            ap (λ (b : Bool). pick b (guardedAnswer ++ writtenFrom (fresh (standardMap true)) [] (drop 2 input)) (writtenFrom (fresh (standardMap false)) [] input)) g
             ∙ ap (λ (x : List ℕ). guardedAnswer ++ x) (t .stopped)
             ∙ ap (λ (b : Bool). pick b guardedAnswer [] ++ (t .text ++ malformedLine)) (sym g);
         serial = subst (SerialOutput (t .lines)) (t .alone) (written-serial true (t .whole) (t .lines) (t .well-formed));
@@ -188,7 +188,7 @@ module _ (input : List ℕ) where
   plain-until : startsGuarded input ≡ false → linesFrom [] input ≡ none → SerialUntilMalformed input
   unfolding output
   plain-until g e =
-      let t = until-malformed (fresh standard false) [] input unended-none e in
+      let t = until-malformed (fresh (standardMap false)) [] input unended-none e in
       let f : startsGuarded (t .whole) ≡ false = guarded-front (t .whole) (t .rest) (sym (ap startsGuarded (t .cut)) ∙ g) in
       record {
         whole = t .whole;
@@ -199,11 +199,11 @@ module _ (input : List ℕ) where
         text = t .text;
         contents = t .contents;
         alone =
-            ap (λ (b : Bool). pick b (guardedAnswer ++ writtenFrom (fresh standard true) [] (drop 2 (t .whole))) (writtenFrom (fresh standard false) [] (t .whole))) f
+            ap (λ (b : Bool). pick b (guardedAnswer ++ writtenFrom (fresh (standardMap true)) [] (drop 2 (t .whole))) (writtenFrom (fresh (standardMap false)) [] (t .whole))) f
             ∙ t .alone
             ∙ ap (λ (b : Bool). pick b guardedAnswer [] ++ (t .text ++ endLine (t .contents))) (sym g);
         stopped =
-            ap (λ (b : Bool). pick b (guardedAnswer ++ writtenFrom (fresh standard true) [] (drop 2 input)) (writtenFrom (fresh standard false) [] input)) g
+            ap (λ (b : Bool). pick b (guardedAnswer ++ writtenFrom (fresh (standardMap true)) [] (drop 2 input)) (writtenFrom (fresh (standardMap false)) [] input)) g
             ∙ t .stopped
             ∙ ap (λ (b : Bool). pick b guardedAnswer [] ++ (t .text ++ malformedLine)) (sym g);
         serial = subst (SerialOutput (t .lines)) (t .alone) (written-serial false (t .whole) (t .lines) (t .well-formed));

@@ -6,7 +6,7 @@ use mathlib.Core.Bool.{true}
 use mathlib.Core.List.{List, _++_}
 use mathlib.Core.Option.{some}
 use Rattle.lists.specs.Rows.{Row}
-use Rattle.spec.specs.Records.{standard, Record}
+use Rattle.spec.specs.Records.{Record}
 use Rattle.spec.specs.Guards.{NoOverlap}
 use Rattle.script.specs.declared.Line.{Line}
 use Rattle.answers.specs.Output.{endLine, malformedLine}
@@ -19,7 +19,7 @@ pub record EndsApart (written : List ℕ) : Type 0 where
   pub before : List ℕ
   pub sections : List (Row Record)
   pub last-line : written ≡ before ++ endLine sections
-  pub apart : (other : List ℕ) (rs : List (Row Record)) → written ≡ other ++ endLine rs → NoOverlap standard rs
+  pub apart : (other : List ℕ) (rs : List (Row Record)) → written ≡ other ++ endLine rs → NoOverlap rs
 
 -- An input with a malformed line, or a last line without its line feed: its output is that of the lines before, which is serial,
 -- with `?` in place of the line of the end.

@@ -7,7 +7,7 @@ use mathlib.Core.Bool.{Bool, true, false}
 use mathlib.Core.List.{List, [], _∷_, _++_}
 use lib.ListN.{drop}
 use Rattle.lists.specs.Tests.{pick, both, maybe, same}
-use Rattle.spec.specs.Records.{standard}
+use Rattle.spec.specs.Records.{standardMap}
 use Rattle.spec.specs.Maps.{contents}
 use Rattle.spec.specs.Steps.{State, Answer, fresh, answer, next}
 use Rattle.script.specs.declared.Line.{Line}
@@ -44,8 +44,8 @@ startsGuarded (b ∷ c ∷ bs) = both (same b 71) (same c 10)
 unfoldable pub output : List ℕ → List ℕ
 output input =
     pick (startsGuarded input)
-    (guardedAnswer ++ writtenFrom (fresh standard true) [] (drop 2 input))
-    (writtenFrom (fresh standard false) [] input)
+    (guardedAnswer ++ writtenFrom (fresh (standardMap true)) [] (drop 2 input))
+    (writtenFrom (fresh (standardMap false)) [] input)
 
 -- the longest line: a letter, two numbers, a scan's triples and a line feed
 abbrev pub longestLine : ℕ

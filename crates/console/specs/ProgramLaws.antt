@@ -10,7 +10,7 @@ use Rattle.lists.specs.Tests.{pick, both, maybe, same, less, atMost, within}
 use Rattle.lists.specs.TestLaws.{cases, clash, same-true, same-refl}
 use Rattle.lists.specs.Rows.{has}
 use Rattle.lists.specs.Counting.{has-cons, has-append}
-use Rattle.spec.specs.Records.{standard}
+use Rattle.spec.specs.Records.{standardMap}
 use Rattle.spec.specs.Steps.{State, fresh, answer, next}
 use Rattle.script.specs.declared.Line.{Line}
 use Rattle.script.specs.declared.Line.the-variants.{Begin}
@@ -165,10 +165,10 @@ starts-spoiled (b ∷ c ∷ bs) rest h n = starts-other b c (bs ++ rest) (apart 
 
 -- what is written then
 pub output-unguarded : (line bs : List ℕ) → has 10 line ≡ false → startsGuarded (line ++ bs) ≡ false
-    → output (line ++ bs) ≡ writtenFrom (fresh standard false) line bs
+    → output (line ++ bs) ≡ writtenFrom (fresh (standardMap false)) line bs
 unfolding output
-output-unguarded line bs h e = rw e (from-clear (fresh standard false) [] line bs h)
+output-unguarded line bs h e = rw e (from-clear (fresh (standardMap false)) [] line bs h)
 
-pub output-guarded : (rest : List ℕ) → output (71 ∷ 10 ∷ rest) ≡ guardedAnswer ++ writtenFrom (fresh standard true) [] rest
+pub output-guarded : (rest : List ℕ) → output (71 ∷ 10 ∷ rest) ≡ guardedAnswer ++ writtenFrom (fresh (standardMap true)) [] rest
 unfolding output startsGuarded
 output-guarded rest = rw (same-refl 71, same-refl 10)

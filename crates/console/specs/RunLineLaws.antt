@@ -12,7 +12,7 @@ use Rattle.lists.specs.Rows.{has}
 use Rattle.lists.specs.Counting.{has-cons, has-append}
 use Rattle.lists.specs.Texts.{Wrote}
 use Rattle.lists.specs.TextLaws.{wrote-length}
-use Rattle.spec.specs.Records.{standard}
+use Rattle.spec.specs.Records.{standardMap}
 use Rattle.spec.specs.Steps.{State, fresh, answer, next}
 use Rattle.map.specs.Views.{Lent}
 use Rattle.transactions.specs.Cores.{Core}
@@ -156,7 +156,7 @@ module _ (l : Lent) (g : Logs) (x : Standing) (input old : List ℕ) (t : Parsed
           (says-as event.Malformed e seen a .0)
 
   -- the first line is G
-  turn-opening : {new : List ℕ} {y : Standing} → Ready l g (guardedCore (x .core)) → stateOf l g (guardedCore (x .core)) ≡ fresh standard true
+  turn-opening : {new : List ℕ} {y : Standing} → Ready l g (guardedCore (x .core)) → stateOf l g (guardedCore (x .core)) ≡ fresh (standardMap true)
       → x .first ≡ true → t .event ≡ event.Guard → BeginsGuarded x (t .parser) (t .next) old new y → RunsLine l g x input old l g y new
   unfolding Says due dueFor
   turn-opening {new} {y} r q b e m =
@@ -193,7 +193,7 @@ module _ (l : Lent) (g : Logs) (x : Standing) (input old : List ℕ) (t : Parsed
 
   -- a line G, the first or another one
   pub turn-guard : {new : List ℕ} {y : Standing} → Ready l g (x .core)
-      → (x .first ≡ true → Ready l g (guardedCore (x .core)) × (stateOf l g (guardedCore (x .core)) ≡ fresh standard true))
+      → (x .first ≡ true → Ready l g (guardedCore (x .core)) × (stateOf l g (guardedCore (x .core)) ≡ fresh (standardMap true)))
       → t .event ≡ event.Guard → RunsGuard x (t .parser) (t .next) old new y → RunsLine l g x input old l g y new
   unfolding Says
   turn-guard r o e m =

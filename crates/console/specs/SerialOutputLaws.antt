@@ -8,7 +8,7 @@ use mathlib.Core.Option.{Option, none, some}
 use lib.ListN.{drop}
 use Rattle.lists.specs.Tests.{pick, maybe, same}
 use Rattle.spec.specs.declared.Refusal.{Refusal}
-use Rattle.spec.specs.Records.{standard}
+use Rattle.spec.specs.Records.{standardMap}
 use Rattle.spec.specs.Maps.{contents}
 use Rattle.spec.specs.Steps.{State, Step, refused, fresh, refusal, accessAnswer, granted, answer, next, final, history}
 use Rattle.serial.specs.Theorem.{theorem}
@@ -93,12 +93,12 @@ transcribes σ line (b ∷ bs) ls e =
     go true (some l) (some ms) q f g = transcribes-line σ l ms ls (writtenFrom (next σ (stepOf places l)) [] bs) q (f l ms refl)
     go false o p q f g = g q
 
-pub written-serial : (g : Bool) (bs : List ℕ) (ls : List Line) → linesFrom [] bs ≡ some ls → SerialOutput ls (writtenFrom (fresh standard g) [] bs)
+pub written-serial : (g : Bool) (bs : List ℕ) (ls : List Line) → linesFrom [] bs ≡ some ls → SerialOutput ls (writtenFrom (fresh (standardMap g)) [] bs)
 written-serial g bs ls e =
-    let t : Transcribes (fresh standard g) ls (writtenFrom (fresh standard g) [] bs) = transcribes (fresh standard g) [] bs ls e in
+    let t : Transcribes (fresh (standardMap g)) ls (writtenFrom (fresh (standardMap g)) [] bs) = transcribes (fresh (standardMap g)) [] bs ls e in
     record {
-      events = history (fresh standard g) (stepsIn ls);
-      contents = contents (final (fresh standard g) (stepsIn ls) .map);
+      events = history (fresh (standardMap g)) (stepsIn ls);
+      contents = contents (final (fresh (standardMap g)) (stepsIn ls) .map);
       transcript = t;
       only = λ h rs q. one-history q t;
       serial = theorem g (stepsIn ls);
@@ -112,7 +112,7 @@ output-serial input ls e = go (startsGuarded input) e
   where
     go : (g : Bool) → linesFrom [] (pick g (drop 2 input) input) ≡ some ls
         → (text : List ℕ)
-        × (pick g (guardedAnswer ++ writtenFrom (fresh standard true) [] (drop 2 input)) (writtenFrom (fresh standard false) [] input) ≡ pick g guardedAnswer [] ++ text)
+        × (pick g (guardedAnswer ++ writtenFrom (fresh (standardMap true)) [] (drop 2 input)) (writtenFrom (fresh (standardMap false)) [] input) ≡ pick g guardedAnswer [] ++ text)
         × SerialOutput ls text
-    go true q = (writtenFrom (fresh standard true) [] (drop 2 input), refl, written-serial true (drop 2 input) ls q)
-    go false q = (writtenFrom (fresh standard false) [] input, refl, written-serial false input ls q)
+    go true q = (writtenFrom (fresh (standardMap true)) [] (drop 2 input), refl, written-serial true (drop 2 input) ls q)
+    go false q = (writtenFrom (fresh (standardMap false)) [] input, refl, written-serial false input ls q)

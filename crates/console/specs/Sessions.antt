@@ -7,7 +7,7 @@ use mathlib.Core.List.{List, [], _++_}
 use lib.ListN.{length, drop}
 use Rattle.lists.specs.Tests.{pick, both, less, atMost}
 use Rattle.lists.specs.Texts.{Wrote}
-use Rattle.spec.specs.Records.{standard}
+use Rattle.spec.specs.Records.{standardMap}
 use Rattle.spec.specs.Steps.{State, fresh}
 use Rattle.map.specs.Views.{Lent}
 use Rattle.transactions.specs.Cores.{Core}
@@ -37,7 +37,7 @@ sessionOf ws x =
 pub record Started (l : Lent) (g : Logs) (x : Standing) : Type 0 where
   pub seen : List ℕ
   pub after : After seen (x .parser)
-  pub opening : x .first ≡ true → stateOf l g (x .core) ≡ fresh standard false
+  pub opening : x .first ≡ true → stateOf l g (x .core) ≡ fresh (standardMap false)
 
 -- What is written for the bytes that come, when the bytes `line` of the current line are read. The first line may still turn
 -- out to be G.
@@ -109,7 +109,7 @@ pub record Runs (l : Lent) (g : Logs) (x : Standing) (input old : List ℕ) (l' 
 
 -- a fresh map that is not guarded, at the start of the first line
 pub record Begins (l : Lent) (g : Logs) (x : Standing) : Type 0 where
-  pub fresh : Fresh l g false (x .core)
+  pub fresh : Fresh l g (standardMap false) (x .core)
   pub after : After [] (x .parser)
   pub next-is : x .next ≡ 0
   pub at-is : x .at ≡ 0

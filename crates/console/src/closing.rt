@@ -13,7 +13,7 @@ use workers::Workers;
 ghost use Prim.Native.Nat.{_+_, _*_, _≤_};
 ghost use lib.ListN.{length};
 ghost use Rattle.lists.specs.Texts.{Wrote};
-ghost use Rattle.spec.specs.Records.{standard};
+ghost use Rattle.spec.specs.Records.{limits};
 ghost use Rattle.map.specs.Parts.{RecordsHeld, SlotsHeld};
 ghost use Rattle.map.specs.Views.{lent};
 ghost use Rattle.queries.specs.Contents.{allRecords};
@@ -55,7 +55,7 @@ fn put_records(out: &mut [u8], at: usize, rows: &Records, slots: &Slots, n: usiz
 fn put_contents(out: &mut [u8], at: usize, rows: &Records, slots: &Slots, n: usize) -> usize
     requires { ⌜ RecordsHeld (now rows) n ⌝ }
     requires { ⌜ SlotsHeld (now slots) ⌝ }
-    requires { ⌜ (length (allRecords (now rows) n (now slots)) ≤ standard .mapLimit) × (at + longestEnd ≤ length (now out)) ⌝ }
+    requires { ⌜ (length (allRecords (now rows) n (now slots)) ≤ limits .mapLimit) × (at + longestEnd ≤ length (now out)) ⌝ }
     ensures { λ r. ⌜ Wrote (now (out .entry)) at (endLine (allRecords (now (rows .entry)) n (now (slots .entry)))) (now (out .exit)) r ⌝ }
 {
     let count = queries::count_records(rows, slots, n);

@@ -9,7 +9,7 @@ use lib.ListN.{length, drop, getD, set, length-append, length-set}
 use lib.Seq.{getD-drop}
 use Rattle.lists.specs.Rows.{Row, row, Rising, mapItems}
 use Rattle.lists.specs.Tabulation.{tab, tabFrom}
-use Rattle.spec.specs.Records.{standard, Payload, Record}
+use Rattle.spec.specs.Records.{limits, Payload, Record}
 use Rattle.spec.specs.Exports.{unstamped}
 use Rattle.sets.specs.Sets.{firstRows}
 use Rattle.sets.specs.SetLaws.{length-rows, rows-none, rows-snoc, row-appended}
@@ -31,7 +31,7 @@ pub record Copied (rs : List (Row Record)) (rows : ExportedRows) (count : ℕ) :
 
 -- those below address k are copied
 pub record Copying (rs : List (Row Record)) (rows : ExportedRows) (count k : ℕ) : Type 0 where
-  pub size : length rows ≡ standard .mapLimit
+  pub size : length rows ≡ limits .mapLimit
   pub all : exportedIn rows count ++ unstamped (rowsFrom k rs) ≡ unstamped rs
 
 length-unstamped : (rs : List (Row Record)) → length (unstamped rs) ≡ length rs
@@ -39,7 +39,7 @@ unfolding mapItems
 length-unstamped [] = refl
 length-unstamped (r ∷ rs) = ap suc (length-unstamped rs)
 
-pub copying-start : (rs : List (Row Record)) (rows : ExportedRows) → Rising rs → length rows ≡ standard .mapLimit → Copying rs rows 0 0
+pub copying-start : (rs : List (Row Record)) (rows : ExportedRows) → Rising rs → length rows ≡ limits .mapLimit → Copying rs rows 0 0
 unfolding Rising
 copying-start rs rows f l =
     record {
@@ -68,14 +68,14 @@ module _ {rs : List (Row Record)} {rows : ExportedRows} {count k : ℕ} (f : Ris
       let q : length (rowsFrom k rs) ≡ suc (length (rowsFrom (suc a) rs)) = ap (λ (zs : List (Row Record)). length zs) (row-is .0) in
       omega arith
 
-  pub copying-room : length rs ≤ standard .mapLimit → count < standard .mapLimit
+  pub copying-room : length rs ≤ limits .mapLimit → count < limits .mapLimit
   copying-room h = let c : suc count ≤ length rs = counted in omega arith
 
-  pub copying-on : (ws : List ℕ) → length rs ≤ standard .mapLimit → exportRow ws ≡ row a (r .payload) → Copying rs (set rows count ws) (count + 1) (a + 1)
+  pub copying-on : (ws : List ℕ) → length rs ≤ limits .mapLimit → exportRow ws ≡ row a (r .payload) → Copying rs (set rows count ws) (count + 1) (a + 1)
   unfolding mapItems
   copying-on ws h w =
       let s : a + 1 ≡ suc a = omega arith in
-      let z : length rows ≡ standard .mapLimit = p .size in
+      let z : length rows ≡ limits .mapLimit = p .size in
       let c : suc count ≤ length rs = counted in
       record {
         size = length-set rows count ws ∙ z;
@@ -105,7 +105,7 @@ pub record GiveRoom (b : Buffers) (from n : ℕ) : Type 0 where
   pub addresses : n ≤ length (b .addresses)
   pub values : n ≤ length (b .values)
   pub owners : n ≤ length (b .owners)
-  pub rows : from + n ≤ standard .mapLimit
+  pub rows : from + n ≤ limits .mapLimit
 
 -- the first n places are the n records from row `from` on
 pub record Gives (rows : ExportedRows) (from n : ℕ) (b c : Buffers) : Type 0 where

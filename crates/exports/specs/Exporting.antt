@@ -9,7 +9,7 @@ use Rattle.lists.specs.Tests.{pick}
 use Rattle.lists.specs.Rows.{Row, row}
 use Rattle.spec.specs.Widths.{addresses}
 use Rattle.spec.specs.Payloads.{owners}
-use Rattle.spec.specs.Records.{standard, Payload, Record}
+use Rattle.spec.specs.Records.{limits, Payload, Record}
 use Rattle.spec.specs.Steps.{Places, shortest}
 use Rattle.spec.specs.Exports as model
 use Rattle.sets.specs.Sets.{firstRows}
@@ -41,7 +41,7 @@ exportIn rows x = pick (x .open) (some (record { records = exportedIn rows (x .c
 
 -- There is room for its records, no more are taken than there are, and one that is not open has none.
 pub record ExportHeld (x : Export) : Type 0 where
-  pub room : x .count ≤ standard .mapLimit
+  pub room : x .count ≤ limits .mapLimit
   pub within : x .taken ≤ x .count
   pub none-closed : x .open ≡ false → x .count ≡ 0
 

@@ -13,7 +13,7 @@ use Rattle.lists.specs.Rows.{Row}
 use Rattle.lists.specs.Options.{both-options, some-same}
 use Rattle.lists.specs.Tabulation.{tab, tabFrom}
 use Rattle.spec.specs.declared.Refusal.the-variants.{ShortBuffer}
-use Rattle.spec.specs.Records.{standard, Payload, Record}
+use Rattle.spec.specs.Records.{limits, Payload, Record}
 use Rattle.spec.specs.Steps.{firstCause}
 use Rattle.spec.specs.Files.{fileOf, fileSize, parsed}
 use Rattle.spec.specs.Exports as model
@@ -53,7 +53,7 @@ fileable rows x h = by-cases (x .open)
     by-cases : (b : Bool) → Fileable (model.exportOf (pick b (some (record { records = exportedIn rows (x .count); taken = x .taken })) none) .records)
     by-cases true =
         let l : length (exportedIn rows (x .count)) ≡ x .count = length-rows exportRow rows (x .count) in
-        let r : x .count ≤ standard .mapLimit = h .room in
+        let r : x .count ≤ limits .mapLimit = h .room in
         record { fit = exported-fit rows (x .count); few = omega arith }
     by-cases false = record { fit = none-fit; few = omega arith }
 

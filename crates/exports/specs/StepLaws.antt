@@ -15,7 +15,7 @@ use Rattle.lists.specs.Texts.{Wrote}
 use Rattle.spec.specs.declared.Refusal.{Refusal}
 use Rattle.spec.specs.declared.Refusal.the-variants.{ShortBuffer, ExportOpen, NoExport}
 use Rattle.spec.specs.Widths.{addressSize}
-use Rattle.spec.specs.Records.{standard, Payload, Record}
+use Rattle.spec.specs.Records.{limits, Payload, Record}
 use Rattle.spec.specs.Steps.{Places, shortest, firstCause}
 use Rattle.spec.specs.Files.{entrySize, fileOf, fileSize}
 use Rattle.spec.specs.Exports as model
@@ -143,7 +143,7 @@ module _ (contents : List (Row Record)) (rows : ExportedRows) (x : Export) where
 
   -- ---- granted
 
-  pub opens : {rows' : ExportedRows} {count : ℕ} (s : Space) → x .open ≡ false → length contents ≤ standard .mapLimit → Copied contents rows' count
+  pub opens : {rows' : ExportedRows} {count : ℕ} (s : Space) → x .open ≡ false → length contents ≤ limits .mapLimit → Copied contents rows' count
       → ExportStepped contents model.openExport rows x s rows'
       (record { export = record { «open» = true; count = count; taken = 0 }; answer = Opened count }) s
   unfolding exportAnswerIn placesWritten bytesWritten exportIn model.exportRefusal model.exportCauses firstCause model.exportGranted model.exportEffect
@@ -211,7 +211,7 @@ module _ (x : Export) (h : ExportHeld x) {b : Buffers} {n : ℕ} (m : n ≡ min 
   unfolding shortest
   portion-room =
       let w : x .taken ≤ x .count = h .within in
-      let r : x .count ≤ standard .mapLimit = h .room in
+      let r : x .count ≤ limits .mapLimit = h .room in
       record { addresses = omega arith; values = omega arith; owners = omega arith; rows = omega arith }
 
   module _ (contents : List (Row Record)) (rows : ExportedRows) (bs : List ℕ) {c : Buffers} (e : x .open ≡ true) (g : Gives rows (x .taken) n b c) where
@@ -230,7 +230,7 @@ module _ (x : Export) (h : ExportHeld x) {b : Buffers} {n : ℕ} (m : n ≡ min 
     unfolding exportAnswerIn placesWritten bytesWritten placesWanted exportIn model.exportRefusal model.exportCauses firstCause model.exportGranted model.exportEffect model.exportOf
     gives =
         let w : x .taken ≤ x .count = h .within in
-        let r : x .count ≤ standard .mapLimit = h .room in
+        let r : x .count ≤ limits .mapLimit = h .room in
         let k : length (model.portionOf (openIn rows x) (placesOf b)) ≡ n = sym (ap length portion-is) ∙ places-count n c in
         let l : length (exportedIn rows (x .count)) ≡ x .count = length-rows exportRow rows (x .count) in
         let left : x .count - x .taken - n ≡ length (model.remaining (model.afterPortion (openIn rows x) (placesOf b)))

@@ -10,7 +10,7 @@ use spec::Address;
 use spec::OWNERS;
 ghost use Prim.Native.Nat.{_+_, _≤_};
 ghost use lib.ListN.{length};
-ghost use Rattle.spec.specs.Records.{standard};
+ghost use Rattle.spec.specs.Records.{limits};
 ghost use Rattle.map.specs.Parts.{RecordsHeld, SlotsHeld};
 ghost use Rattle.queries.specs.Contents.{allRecords};
 ghost use Rattle.buffers.specs.Buffers.{buffers};
@@ -20,7 +20,7 @@ ghost use Rattle.exports.specs.CopyLaws.{Copied, GiveRoom, Gives};
 pub fn copy_contents(exported: &mut Exported, rows: &Records, slots: &Slots, n: usize) -> usize
     requires { ⌜ RecordsHeld (now rows) n ⌝ }
     requires { ⌜ SlotsHeld (now slots) ⌝ }
-    requires { ⌜ length (allRecords (now rows) n (now slots)) ≤ standard .mapLimit ⌝ }
+    requires { ⌜ length (allRecords (now rows) n (now slots)) ≤ limits .mapLimit ⌝ }
     ensures { λ r. ⌜ Copied (allRecords (now (rows .entry)) n (now (slots .entry))) (now (exported .exit)) r ⌝ }
 {
     rows::places(exported);

@@ -10,7 +10,7 @@ ghost use Prim.Native.Nat.{_+_, _*_, _<_, _≤_};
 ghost use lib.ListN.{length};
 ghost use Rattle.lists.specs.Texts.{Wrote};
 ghost use Rattle.spec.specs.Widths.{addressSize};
-ghost use Rattle.spec.specs.Records.{standard};
+ghost use Rattle.spec.specs.Records.{limits};
 ghost use Rattle.spec.specs.Files.{littleEndian, addressBytes, entrySize, entryBytes, fileOf};
 ghost use Rattle.exports.specs.Exporting.{exportedIn};
 ghost use Rattle.exports.specs.RowLaws.{rowOf};
@@ -79,7 +79,7 @@ fn put_address(out: &mut [u8], at: usize, a: Address) -> usize
 // The addresses of the first n records.
 fn put_addresses(out: &mut [u8], at: usize, exported: &Exported, n: usize) -> usize
     requires { ⌜ at + addressSize * n ≤ length (now out) ⌝ }
-    requires { ⌜ n ≤ standard .mapLimit ⌝ }
+    requires { ⌜ n ≤ limits .mapLimit ⌝ }
     ensures { λ r. ⌜ Putting addressBytes addressSize (now (exported .entry)) (now (out .entry)) at n (now (out .exit)) r ⌝ }
 {
     let mut next = at;
@@ -95,7 +95,7 @@ fn put_addresses(out: &mut [u8], at: usize, exported: &Exported, n: usize) -> us
 // Their entries.
 fn put_entries(out: &mut [u8], at: usize, exported: &Exported, n: usize) -> usize
     requires { ⌜ at + entrySize * n ≤ length (now out) ⌝ }
-    requires { ⌜ n ≤ standard .mapLimit ⌝ }
+    requires { ⌜ n ≤ limits .mapLimit ⌝ }
     ensures { λ r. ⌜ Putting entryBytes entrySize (now (exported .entry)) (now (out .entry)) at n (now (out .exit)) r ⌝ }
 {
     let mut next = at;
@@ -111,7 +111,7 @@ fn put_entries(out: &mut [u8], at: usize, exported: &Exported, n: usize) -> usiz
 // The file of the first n records, from the first byte on: how many they are, the bytes of an entry, addresses, entries.
 pub fn put_file(out: &mut [u8], exported: &Exported, n: usize) -> usize
     requires { ⌜ 8 + (addressSize + entrySize) * n ≤ length (now out) ⌝ }
-    requires { ⌜ n ≤ standard .mapLimit ⌝ }
+    requires { ⌜ n ≤ limits .mapLimit ⌝ }
     ensures { λ r. ⌜ Wrote (now (out .entry)) 0 (fileOf (exportedIn (now (exported .entry)) n)) (now (out .exit)) r ⌝ }
 {
     let size = put_four(out, 0, n as u64);

@@ -14,7 +14,7 @@ ghost use mathlib.Core.Option.{none};
 ghost use Prim.Native.Nat.{ℕ, _≤_};
 ghost use lib.ListN.{length};
 ghost use Rattle.lists.specs.Rows.{Row};
-ghost use Rattle.spec.specs.Records.{standard, Record};
+ghost use Rattle.spec.specs.Records.{limits, Record};
 ghost use Rattle.spec.specs.Exports as model;
 ghost use Rattle.map.specs.Parts.{RecordsHeld, SlotsHeld};
 ghost use Rattle.queries.specs.Contents.{allRecords};
@@ -76,7 +76,7 @@ pub fn open_export(
 ) -> ExportDone
     requires { ⌜ RecordsHeld (now rows) n ⌝ }
     requires { ⌜ SlotsHeld (now slots) ⌝ }
-    requires { ⌜ (length (allRecords (now rows) n (now slots)) ≤ standard .mapLimit) × ExportHeld x ⌝ }
+    requires { ⌜ (length (allRecords (now rows) n (now slots)) ≤ limits .mapLimit) × ExportHeld x ⌝ }
     ensures { λ r. ⌜ ((s : Space) → ExportStepped (allRecords (now (rows .entry)) n (now (slots .entry))) model.openExport
         (now (exported .entry)) x s (now (exported .exit)) r s) ⌝ }
 {

@@ -9,7 +9,7 @@ ghost use mathlib.Core.List.{List};
 ghost use Prim.Native.Nat.{ℕ, _≤_};
 ghost use lib.ListN.{length};
 ghost use Rattle.lists.specs.Rows.{Row};
-ghost use Rattle.spec.specs.Records.{standard, Record};
+ghost use Rattle.spec.specs.Records.{limits, Record};
 ghost use Rattle.spec.specs.Steps.{places};
 ghost use Rattle.spec.specs.Exports as model;
 ghost use Rattle.map.specs.Parts.{RecordsHeld, SlotsHeld};
@@ -79,7 +79,7 @@ pub fn perform_export(
 ) -> ExportDone
     requires { ⌜ RecordsHeld (now rows) count ⌝ }
     requires { ⌜ SlotsHeld (now slots) ⌝ }
-    requires { ⌜ (length (allRecords (now rows) count (now slots)) ≤ standard .mapLimit) × ExportHeld x ⌝ }
+    requires { ⌜ (length (allRecords (now rows) count (now slots)) ≤ limits .mapLimit) × ExportHeld x ⌝ }
     requires { ⌜ LendsTo (space (buffers (now addresses) (now values) (now owners)) (now bytes)) op (places m n q) ⌝ }
     ensures { λ r. ⌜ ExportStepped (allRecords (now (rows .entry)) count (now (slots .entry))) (exportStepIn op (places m n q))
         (now (exported .entry)) x (space (buffers (now (addresses .entry)) (now (values .entry)) (now (owners .entry))) (now (bytes .entry)))

@@ -8,7 +8,7 @@ ghost use mathlib.Core.Path.{_≡_};
 ghost use mathlib.Core.List.{[], _∷_};
 ghost use Prim.Native.Nat.{_<_};
 ghost use lib.ListN.{length, getD, set};
-ghost use Rattle.spec.specs.Records.{standard};
+ghost use Rattle.spec.specs.Records.{limits};
 ghost use Rattle.exports.specs.Exporting.{exportRow};
 ghost use Rattle.exports.specs.RowLaws.{rowOf, exportWords};
 
@@ -27,7 +27,7 @@ fn count(exported: &[[u64; EXPORT_WORDS]]) -> usize
 }
 
 pub fn places(exported: &Exported)
-    ensures { λ _. ⌜ length (now (exported .entry)) ≡ standard .mapLimit ⌝ }
+    ensures { λ _. ⌜ length (now (exported .entry)) ≡ limits .mapLimit ⌝ }
 {
     count(exported);
 }
@@ -45,7 +45,7 @@ fn record_of(address: u64, value: u64, owner: u64) -> ExportRecord
 
 // Row i.
 pub fn get(exported: &Exported, i: usize) -> ExportRecord
-    requires { ⌜ i < standard .mapLimit ⌝ }
+    requires { ⌜ i < limits .mapLimit ⌝ }
     ensures { λ r. ⌜ rowOf r ≡ exportRow (getD (now (exported .entry)) i []) ⌝ }
 {
     let row = exported[i];
@@ -54,7 +54,7 @@ pub fn get(exported: &Exported, i: usize) -> ExportRecord
 
 // Writes row i.
 pub fn store(exported: &mut Exported, i: usize, r: ExportRecord)
-    requires { ⌜ i < standard .mapLimit ⌝ }
+    requires { ⌜ i < limits .mapLimit ⌝ }
     ensures { λ _. ⌜ now (exported .exit) ≡ set (now (exported .entry)) i (exportWords r) ⌝ }
 {
     let row = [r.address as u64, r.value, r.owner as u64];

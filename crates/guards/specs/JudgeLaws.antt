@@ -4,7 +4,6 @@ use mathlib.Core.Bool.{Bool}
 use mathlib.Core.Option.{none, some}
 use Rattle.lists.specs.Tests.{pick}
 use Rattle.spec.specs.declared.Refusal.the-variants.{Unfit, Uncovered, Overlap}
-use Rattle.spec.specs.Records.{standard}
 use Rattle.spec.specs.Guards.{unfit, uncovered, overlapped, anyPut}
 use Rattle.spec.specs.Steps.{firstCause}
 use Rattle.workers.specs.declared.Worker.{Worker}
@@ -16,13 +15,13 @@ use Rattle.guards.specs.Judging.{judgedIn, Judges}
 
 module _ (rs : ReadRows) (ls : LeafSetRows) (ws : WriteRows) (x : Worker) where
   abbrev unfitPut : Bool
-  unfitPut = anyPut (unfit standard) (writesOf ws (x .writes))
+  unfitPut = anyPut unfit (writesOf ws (x .writes))
 
   abbrev uncoveredPut : Bool
-  uncoveredPut = anyPut (uncovered standard (scansOf ls (x .leaves))) (writesOf ws (x .writes))
+  uncoveredPut = anyPut (uncovered (scansOf ls (x .leaves))) (writesOf ws (x .writes))
 
   abbrev overlappedPut : Bool
-  overlappedPut = anyPut (overlapped standard (readsOf rs (x .reads)) (scansOf ls (x .leaves)) (writesOf ws (x .writes))) (writesOf ws (x .writes))
+  overlappedPut = anyPut (overlapped (readsOf rs (x .reads)) (scansOf ls (x .leaves)) (writesOf ws (x .writes))) (writesOf ws (x .writes))
 
   -- the tests p, q and s say a, b and c
   pub judged : (a b c : Bool) (r : Judged) {p q s : Bool} → p ≡ unfitPut → p ≡ a → q ≡ uncoveredPut → q ≡ b → s ≡ overlappedPut → s ≡ c

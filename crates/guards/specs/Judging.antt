@@ -6,7 +6,7 @@ use mathlib.Core.Option.{Option, none, some}
 use Rattle.lists.specs.Rows.{Row}
 use Rattle.spec.specs.declared.Refusal.{Refusal}
 use Rattle.spec.specs.declared.Refusal.the-variants.{Unfit, Uncovered, Overlap}
-use Rattle.spec.specs.Records.{standard, Record, Write}
+use Rattle.spec.specs.Records.{limits, Record, Write}
 use Rattle.spec.specs.Guards.{Scan, unfit, uncovered, overlapped, anyPut}
 use Rattle.spec.specs.Steps.{Cause, cause, firstCause}
 use Rattle.workers.specs.declared.Worker.{Worker}
@@ -23,9 +23,9 @@ judgedIn (Refused r) = some r
 -- the guard's causes, in the order in which they are answered
 abbrev pub guardCauses : List (Row (Option Record)) → List Scan → List (Row Write) → List Cause
 guardCauses reads cs ws =
-    cause (anyPut (unfit standard) ws) Unfit
-    ∷ cause (anyPut (uncovered standard cs) ws) Uncovered
-    ∷ cause (anyPut (overlapped standard reads cs ws) ws) Overlap
+    cause (anyPut unfit ws) Unfit
+    ∷ cause (anyPut (uncovered cs) ws) Uncovered
+    ∷ cause (anyPut (overlapped reads cs ws) ws) Overlap
     ∷ []
 
 -- one worker's rows, as the tests need them
@@ -33,8 +33,8 @@ pub record Guardable (rs : ReadRows) (ls : LeafSetRows) (ws : WriteRows) (x : Wo
   pub reads-held : ReadSetHeld rs
   pub leaves-held : LeafSetHeld ls
   pub set : WriteSetOrdered ws (x .writes)
-  pub reads : x .reads ≤ standard .readLimit
-  pub leaves : x .leaves ≤ standard .leafSetLimit
+  pub reads : x .reads ≤ limits .readLimit
+  pub leaves : x .leaves ≤ limits .leafSetLimit
 
 -- the verdict is the first cause that holds
 pub record Judges (rs : ReadRows) (ls : LeafSetRows) (ws : WriteRows) (x : Worker) (r : Judged) : Type 0 where

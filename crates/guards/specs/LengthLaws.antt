@@ -8,35 +8,35 @@ use lib.Dec.{leb}
 use Rattle.lists.specs.Tests.{both, either, less, atMost, within}
 use Rattle.lists.specs.TestLaws.{cases, clash, atMost-yes, atMost-no, atMost-true}
 use Rattle.spec.specs.Widths.{addresses}
-use Rattle.spec.specs.Records.{standard}
+use Rattle.spec.specs.Records.{limits}
 use Rattle.spec.specs.Guards.{lastByte, unfit}
 
 -- by the two tests of the length
-by-length : (k n : ℕ) (a b : Bool) → atMost 1 n ≡ a → atMost n (standard .longest) ≡ b
-    → unfit standard k n ≡ either (not (both a b)) (less (standard .highest) (lastByte k n))
+by-length : (k n : ℕ) (a b : Bool) → atMost 1 n ≡ a → atMost n (limits .longest) ≡ b
+    → unfit k n ≡ either (not (both a b)) (less (limits .highest) (lastByte k n))
 unfolding unfit within
-by-length k n a b e f = λ i. either (not (both (e i) (f i))) (less (standard .highest) (lastByte k n))
+by-length k n a b e f = λ i. either (not (both (e i) (f i))) (less (limits .highest) (lastByte k n))
 
 module _ (k n : ℕ) where
-  pub unfit-empty : n ≡ 0 → true ≡ unfit standard k n
-  unfit-empty e = sym (by-length k n false (atMost n (standard .longest)) (atMost-no {m = 1} {n = n} (omega arith)) refl)
+  pub unfit-empty : n ≡ 0 → true ≡ unfit k n
+  unfit-empty e = sym (by-length k n false (atMost n (limits .longest)) (atMost-no {m = 1} {n = n} (omega arith)) refl)
 
-  pub unfit-long : standard .longest < n → true ≡ unfit standard k n
-  unfit-long h = sym (by-length k n true false (atMost-yes {m = 1} {n = n} (omega arith)) (atMost-no {m = n} {n = standard .longest} h))
+  pub unfit-long : limits .longest < n → true ≡ unfit k n
+  unfit-long h = sym (by-length k n true false (atMost-yes {m = 1} {n = n} (omega arith)) (atMost-no {m = n} {n = limits .longest} h))
 
-  pub unfit-end : (n ≡ 0 → ⊥) → n ≤ standard .longest → leb addresses (k + n - 1) ≡ unfit standard k n
+  pub unfit-end : (n ≡ 0 → ⊥) → n ≤ limits .longest → leb addresses (k + n - 1) ≡ unfit k n
   unfolding less lastByte
   unfit-end z h =
-      sym (by-length k n true true (atMost-yes {m = 1} {n = n} (omega arith)) (atMost-yes {m = n} {n = standard .longest} h))
+      sym (by-length k n true true (atMost-yes {m = 1} {n = n} (omega arith)) (atMost-yes {m = n} {n = limits .longest} h))
 
 -- the length of a section
 pub record Sized (n : ℕ) : Type 0 where
   pub least : 1 ≤ n
-  pub most : n ≤ standard .longest
+  pub most : n ≤ limits .longest
 
-pub fit-sized : (k n : ℕ) → unfit standard k n ≡ false → Sized n
+pub fit-sized : (k n : ℕ) → unfit k n ≡ false → Sized n
 fit-sized k n e =
     ⊎-elim
-    (λ t. ⊎-elim (λ u. record { least = atMost-true 1 n t; most = atMost-true n (standard .longest) u }) (λ u. clash (by-length k n true false t u) e) (cases (atMost n (standard .longest))))
-    (λ t. clash (by-length k n false (atMost n (standard .longest)) t refl) e)
+    (λ t. ⊎-elim (λ u. record { least = atMost-true 1 n t; most = atMost-true n (limits .longest) u }) (λ u. clash (by-length k n true false t u) e) (cases (atMost n (limits .longest))))
+    (λ t. clash (by-length k n false (atMost n (limits .longest)) t refl) e)
     (cases (atMost 1 n))

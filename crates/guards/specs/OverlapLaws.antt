@@ -13,7 +13,7 @@ use borrow.Author.Tests.{ltb-true, ltb-false}
 use Rattle.lists.specs.Tests.{pick, both, either, maybe, present, same, atMost}
 use Rattle.lists.specs.TestLaws.{cases, same-yes, same-no, atMost-yes, atMost-no, atMost-true, atMost-false}
 use Rattle.lists.specs.Rows.{Row, row, look, mapItems, any, filter}
-use Rattle.spec.specs.Records.{standard, Payload, Record, Write, written, deleted, ownView, payloadOf}
+use Rattle.spec.specs.Records.{Payload, Record, Write, written, deleted, ownView, payloadOf}
 use Rattle.spec.specs.Guards.{Scan, stretch, lastByte, share, deciding, standing, untouched, laidOver, overlaps, overlapped, ofPut, anyPut}
 use Rattle.sets.specs.declared.leaves.Scanned.{Scanned}
 use Rattle.sets.specs.declared.reads.Observed.{Observed}
@@ -115,30 +115,30 @@ any-laid k n ws rs =
 
 module _ (reads : List (Row (Option Record))) (cs : List Scan) (ws : List (Row Write)) (k n : ℕ) where
   -- by what decides
-  by-decision : {d g : Decision} → d ≡ g → decisionIn d ≡ deciding standard cs k n
-      → overlapped standard reads cs ws k n ≡ maybe (decisionIn g) false (λ (c : Scan). any (overlaps k n) (laidOver ws (stretch reads c)))
+  by-decision : {d g : Decision} → d ≡ g → decisionIn d ≡ deciding cs k n
+      → overlapped reads cs ws k n ≡ maybe (decisionIn g) false (λ (c : Scan). any (overlaps k n) (laidOver ws (stretch reads c)))
   unfolding overlapped
   by-decision q e =
       ap (λ (o : Option Scan). maybe o false (λ (c : Scan). any (overlaps k n) (laidOver ws (stretch reads c)))) (sym e ∙ ap decisionIn q)
 
-  pub overlapped-none : {d : Decision} → d ≡ Nothing → decisionIn d ≡ deciding standard cs k n → false ≡ overlapped standard reads cs ws k n
+  pub overlapped-none : {d : Decision} → d ≡ Nothing → decisionIn d ≡ deciding cs k n → false ≡ overlapped reads cs ws k n
   overlapped-none q e = sym (by-decision q e)
 
   -- of a scan: by whether an own put overlaps the section
-  by-own : {d : Decision} {s : Scanned} {a c : Bool} → d ≡ By s → decisionIn d ≡ deciding standard cs k n → a ≡ anyPut (overlapsAt k n) ws → a ≡ c
-      → either c (any (overlapsLogged ws k n) (stretch reads (scannedIn s))) ≡ overlapped standard reads cs ws k n
+  by-own : {d : Decision} {s : Scanned} {a c : Bool} → d ≡ By s → decisionIn d ≡ deciding cs k n → a ≡ anyPut (overlapsAt k n) ws → a ≡ c
+      → either c (any (overlapsLogged ws k n) (stretch reads (scannedIn s))) ≡ overlapped reads cs ws k n
   by-own {s = s} q e f t =
       sym
       (by-decision q e
       ∙ any-laid k n ws (stretch reads (scannedIn s))
       ∙ ap (λ (b : Bool). either b (any (overlapsLogged ws k n) (stretch reads (scannedIn s)))) (sym f ∙ t))
 
-  pub overlapped-own : {d : Decision} {s : Scanned} {a : Bool} → d ≡ By s → decisionIn d ≡ deciding standard cs k n → a ≡ anyPut (overlapsAt k n) ws → a ≡ true
-      → true ≡ overlapped standard reads cs ws k n
+  pub overlapped-own : {d : Decision} {s : Scanned} {a : Bool} → d ≡ By s → decisionIn d ≡ deciding cs k n → a ≡ anyPut (overlapsAt k n) ws → a ≡ true
+      → true ≡ overlapped reads cs ws k n
   overlapped-own q e f t = by-own q e f t
 
-  pub overlapped-logged : {d : Decision} {s : Scanned} {a b : Bool} → d ≡ By s → decisionIn d ≡ deciding standard cs k n → a ≡ anyPut (overlapsAt k n) ws → a ≡ false
-      → b ≡ any (overlapsLogged ws k n) (stretch reads (scannedIn s)) → b ≡ overlapped standard reads cs ws k n
+  pub overlapped-logged : {d : Decision} {s : Scanned} {a b : Bool} → d ≡ By s → decisionIn d ≡ deciding cs k n → a ≡ anyPut (overlapsAt k n) ws → a ≡ false
+      → b ≡ any (overlapsLogged ws k n) (stretch reads (scannedIn s)) → b ≡ overlapped reads cs ws k n
   overlapped-logged q e f t g = g ∙ by-own q e f t
 
 -- ---- the rows that a scan logged: m of the k rows of the read set

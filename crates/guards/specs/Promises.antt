@@ -5,7 +5,7 @@ use mathlib.Core.List.{List}
 use mathlib.Core.Option.{Option, none, some}
 use Rattle.lists.specs.Tests.{both, maybe}
 use Rattle.lists.specs.Rows.{Row, row}
-use Rattle.spec.specs.Records.{standard, Payload, Record, Write, payloadOf}
+use Rattle.spec.specs.Records.{limits, Payload, Record, Write, payloadOf}
 use Rattle.spec.specs.Guards.{Scan, untouched, overlaps, ofPut}
 use Rattle.sets.specs.declared.writes.Entry.{Entry}
 use Rattle.sets.specs.Reads.{ReadRows, ReadSetHeld}
@@ -36,5 +36,5 @@ pub record RowsHeld (rs : ReadRows) (k : ℕ) (ls : LeafSetRows) (m : ℕ) (ws :
   pub reads-held : ReadSetHeld rs
   pub leaves-held : LeafSetHeld ls
   pub set : WriteSetOrdered ws n
-  pub reads : k ≤ standard .readLimit
-  pub leaves : m ≤ standard .leafSetLimit
+  pub reads : k ≤ limits .readLimit
+  pub leaves : m ≤ limits .leafSetLimit

@@ -9,7 +9,7 @@ use lib.Dec.{leb}
 use lib.ListN.{getD}
 use Rattle.lists.specs.Tests.{pick, both, maybe, present, atMost}
 use Rattle.lists.specs.TestLaws.{atMost-yes, atMost-no}
-use Rattle.spec.specs.Records.{standard}
+use Rattle.spec.specs.Records.{limits}
 use Rattle.spec.specs.Guards.{Scan, lastByte, covers, latest, deciding, uncovered}
 use Rattle.sets.specs.declared.leaves.ScanNote.{ScanNote}
 use Rattle.sets.specs.Leaves.{LeafSetRows, scannedIn, rememberedIf, scansAt, notesOf, joined, scansOf, GivesNote}
@@ -19,14 +19,14 @@ use Rattle.guards.specs.declared.scans.Decision.{Decision}
 use Rattle.guards.specs.Promises.{decisionIn}
 
 module _ (k n : ℕ) (c : Scan) where
-  pub covers-late : k - (standard .longest - 1) < c .lo → false ≡ covers standard k n c
+  pub covers-late : k - (limits .longest - 1) < c .lo → false ≡ covers k n c
   unfolding covers
-  covers-late h = sym (ap (λ (b : Bool). both b (atMost (lastByte k n) (c .hi))) (atMost-no {m = c .lo} {n = k - (standard .longest - 1)} h))
+  covers-late h = sym (ap (λ (b : Bool). both b (atMost (lastByte k n) (c .hi))) (atMost-no {m = c .lo} {n = k - (limits .longest - 1)} h))
 
-  pub covers-from : c .lo ≤ k - (standard .longest - 1) → leb (k + n - 1) (c .hi) ≡ covers standard k n c
+  pub covers-from : c .lo ≤ k - (limits .longest - 1) → leb (k + n - 1) (c .hi) ≡ covers k n c
   unfolding covers atMost lastByte
   covers-from h =
-      sym (ap (λ (b : Bool). both b (atMost (lastByte k n) (c .hi))) (atMost-yes {m = c .lo} {n = k - (standard .longest - 1)} h))
+      sym (ap (λ (b : Bool). both b (atMost (lastByte k n) (c .hi))) (atMost-yes {m = c .lo} {n = k - (limits .longest - 1)} h))
 
 -- of a row that remembers a scan
 pub both-first : {a : Bool} (b : Bool) → a ≡ true → b ≡ both a b
@@ -57,52 +57,52 @@ latest-one f false s = refl
 
 -- one row more: its scan, if that covers the section, else what decided before
 decide-row : (rs : LeafSetRows) (i k n : ℕ) (m : ScanNote) → GivesNote rs i m
-    → deciding standard (scansOf rs (suc i)) k n
-    ≡ maybe (pick (both (m .first) (covers standard k n (scannedIn (m .scan)))) (some (scannedIn (m .scan))) none) (deciding standard (scansOf rs i) k n) some
+    → deciding (scansOf rs (suc i)) k n
+    ≡ maybe (pick (both (m .first) (covers k n (scannedIn (m .scan)))) (some (scannedIn (m .scan))) none) (deciding (scansOf rs i) k n) some
 unfolding deciding
 decide-row rs i k n m g =
-    ap (latest (covers standard k n)) (scans-snoc rs i)
-    ∙ latest-append (covers standard k n) (scansOf rs i) (getD (notesOf rs (suc i)) i [])
-    ∙ ap (λ (o : Option Scan). maybe o (latest (covers standard k n) (scansOf rs i)) some)
-    (ap (latest (covers standard k n)) (sym (g .mark (suc i) (omega arith))) ∙ latest-one (covers standard k n) (m .first) (scannedIn (m .scan)))
+    ap (latest (covers k n)) (scans-snoc rs i)
+    ∙ latest-append (covers k n) (scansOf rs i) (getD (notesOf rs (suc i)) i [])
+    ∙ ap (λ (o : Option Scan). maybe o (latest (covers k n) (scansOf rs i)) some)
+    (ap (latest (covers k n)) (sym (g .mark (suc i) (omega arith))) ∙ latest-one (covers k n) (m .first) (scannedIn (m .scan)))
 
 -- the loop from the last row to the first: what decides among the first i is what decides
 pub record Deciding (rs : LeafSetRows) (k n m i : ℕ) : Type 0 where
   pub within : i ≤ m
-  pub rest : deciding standard (scansOf rs i) k n ≡ deciding standard (scansOf rs m) k n
+  pub rest : deciding (scansOf rs i) k n ≡ deciding (scansOf rs m) k n
 
 pub decide-start : (rs : LeafSetRows) (k n m : ℕ) → Deciding rs k n m m
 decide-start rs k n m = record { within = omega arith; rest = refl }
 
 module _ {rs : LeafSetRows} {k n m i : ℕ} (s : Deciding rs k n m i) where
   -- row i - 1 is looked at, and its test says b
-  last : {r : ScanNote} {b c : Bool} → 0 < i → GivesNote rs (i - 1) r → b ≡ both (r .first) (covers standard k n (scannedIn (r .scan))) → b ≡ c
-      → maybe (pick c (some (scannedIn (r .scan))) none) (deciding standard (scansOf rs (i - 1)) k n) some ≡ deciding standard (scansOf rs m) k n
+  last : {r : ScanNote} {b c : Bool} → 0 < i → GivesNote rs (i - 1) r → b ≡ both (r .first) (covers k n (scannedIn (r .scan))) → b ≡ c
+      → maybe (pick c (some (scannedIn (r .scan))) none) (deciding (scansOf rs (i - 1)) k n) some ≡ deciding (scansOf rs m) k n
   last {r} {b} {c} h g e f =
       let q : suc (i - 1) ≡ i = omega arith in
-      ap (λ (x : Bool). maybe (pick x (some (scannedIn (r .scan))) none) (deciding standard (scansOf rs (i - 1)) k n) some) (sym f ∙ e)
+      ap (λ (x : Bool). maybe (pick x (some (scannedIn (r .scan))) none) (deciding (scansOf rs (i - 1)) k n) some) (sym f ∙ e)
       ∙ sym (decide-row rs (i - 1) k n r g)
-      ∙ ap (λ (j : ℕ). deciding standard (scansOf rs j) k n) q
+      ∙ ap (λ (j : ℕ). deciding (scansOf rs j) k n) q
       ∙ s .rest
 
-  pub decide-on : {r : ScanNote} {b : Bool} → 0 < i → GivesNote rs (i - 1) r → b ≡ both (r .first) (covers standard k n (scannedIn (r .scan))) → b ≡ false
+  pub decide-on : {r : ScanNote} {b : Bool} → 0 < i → GivesNote rs (i - 1) r → b ≡ both (r .first) (covers k n (scannedIn (r .scan))) → b ≡ false
       → Deciding rs k n m (i - 1)
   decide-on h g e f = let w : i ≤ m = s .within in record { within = omega arith; rest = last h g e f }
 
-  pub decide-hit : {r : ScanNote} {b : Bool} → 0 < i → GivesNote rs (i - 1) r → b ≡ both (r .first) (covers standard k n (scannedIn (r .scan))) → b ≡ true
-      → some (scannedIn (r .scan)) ≡ deciding standard (scansOf rs m) k n
+  pub decide-hit : {r : ScanNote} {b : Bool} → 0 < i → GivesNote rs (i - 1) r → b ≡ both (r .first) (covers k n (scannedIn (r .scan))) → b ≡ true
+      → some (scannedIn (r .scan)) ≡ deciding (scansOf rs m) k n
   decide-hit h g e f = last h g e f
 
-  pub decide-end : i ≤ 0 → none ≡ deciding standard (scansOf rs m) k n
+  pub decide-end : i ≤ 0 → none ≡ deciding (scansOf rs m) k n
   unfolding deciding latest joined
   decide-end h =
       let q : 0 ≡ i = omega arith in
-      sym (ap (λ (xs : List (List Scan)). latest (covers standard k n) (joined xs)) (rows-none scansAt rs))
-      ∙ ap (λ (j : ℕ). deciding standard (scansOf rs j) k n) q
+      sym (ap (λ (xs : List (List Scan)). latest (covers k n) (joined xs)) (rows-none scansAt rs))
+      ∙ ap (λ (j : ℕ). deciding (scansOf rs j) k n) q
       ∙ s .rest
 
 -- by what decides
-pub uncovered-by : (cs : List Scan) (k n : ℕ) {d g : Decision} → d ≡ g → decisionIn d ≡ deciding standard cs k n
-    → not (present (decisionIn g)) ≡ uncovered standard cs k n
+pub uncovered-by : (cs : List Scan) (k n : ℕ) {d g : Decision} → d ≡ g → decisionIn d ≡ deciding cs k n
+    → not (present (decisionIn g)) ≡ uncovered cs k n
 unfolding uncovered
 uncovered-by cs k n q e = ap (λ (o : Option Scan). not (present o)) (sym (ap decisionIn q) ∙ e)

@@ -6,14 +6,13 @@ use spec::ADDRESSES;
 use spec::Address;
 use spec::LONGEST;
 ghost use mathlib.Core.Path.{_≡_};
-ghost use Rattle.spec.specs.Records.{standard};
 ghost use Rattle.spec.specs.Guards.{unfit, anyPut};
 ghost use Rattle.sets.specs.Writes.{writesOf, WriteSetOrdered};
 ghost use Rattle.guards.specs.Promises.{ofEntry};
 
 // No section can have this address and length. The length is tested first, so that the sum does not wrap.
 fn unfit(a: Address, len: u64) -> bool
-    ensures { λ r. ⌜ r ≡ unfit standard a len ⌝ }
+    ensures { λ r. ⌜ r ≡ unfit a len ⌝ }
 {
     if len == 0 {
         return true;
@@ -26,7 +25,7 @@ fn unfit(a: Address, len: u64) -> bool
 
 // The write is a put of an unfit section.
 fn unfit_write(e: Entry) -> bool
-    ensures { λ r. ⌜ r ≡ ofEntry (unfit standard) e ⌝ }
+    ensures { λ r. ⌜ r ≡ ofEntry unfit e ⌝ }
 {
     if e.kind == 1 {
         let v = e.payload;
@@ -38,7 +37,7 @@ fn unfit_write(e: Entry) -> bool
 // One of the n writes is a put of an unfit section.
 pub fn unfit_put(writes: &WriteSet, n: usize) -> bool
     requires { ⌜ WriteSetOrdered (now writes) n ⌝ }
-    ensures { λ r. ⌜ r ≡ anyPut (unfit standard) (writesOf (now (writes .entry)) n) ⌝ }
+    ensures { λ r. ⌜ r ≡ anyPut unfit (writesOf (now (writes .entry)) n) ⌝ }
 {
     let mut i = 0;
     while i < n {

@@ -16,7 +16,7 @@ ghost use mathlib.Core.Path.{_≡_};
 ghost use mathlib.Core.Bool.{false};
 ghost use Prim.Native.Nat.{_-_, _≤_, min};
 ghost use Rattle.lists.specs.Rows.{any};
-ghost use Rattle.spec.specs.Records.{standard};
+ghost use Rattle.spec.specs.Records.{limits};
 ghost use Rattle.spec.specs.Guards.{stretch, unfit, overlapped, anyPut};
 ghost use Rattle.sets.specs.Reads.{observedIn, readsOf, ReadSetHeld};
 ghost use Rattle.sets.specs.Leaves.{scannedIn, scansOf};
@@ -108,7 +108,7 @@ fn logged_overlap(
     len: u64,
 ) -> bool
     requires { ⌜ ReadSetHeld (now reads) ⌝ }
-    requires { ⌜ k ≤ standard .readLimit ⌝ }
+    requires { ⌜ k ≤ limits .readLimit ⌝ }
     requires { ⌜ WriteSetOrdered (now writes) n ⌝ }
     ensures { λ r. ⌜ r ≡ any (overlapsLogged (writesOf (now (writes .entry)) n) a len) (stretch (readsOf (now (reads .entry)) k) (scannedIn s)) ⌝ }
 {
@@ -136,8 +136,8 @@ fn overlapped_write(
     e: Entry,
 ) -> bool
     requires { ⌜ RowsHeld (now reads) k (now leafset) m (now writes) n ⌝ }
-    requires { ⌜ ofEntry (unfit standard) e ≡ false ⌝ }
-    ensures { λ r. ⌜ r ≡ ofEntry (overlapped standard (readsOf (now (reads .entry)) k) (scansOf (now (leafset .entry)) m) (writesOf (now (writes .entry)) n)) e ⌝ }
+    requires { ⌜ ofEntry unfit e ≡ false ⌝ }
+    ensures { λ r. ⌜ r ≡ ofEntry (overlapped (readsOf (now (reads .entry)) k) (scansOf (now (leafset .entry)) m) (writesOf (now (writes .entry)) n)) e ⌝ }
 {
     if e.kind == 1 {
         let v = e.payload;
@@ -164,8 +164,8 @@ pub fn overlapped_put(
     n: usize,
 ) -> bool
     requires { ⌜ RowsHeld (now reads) k (now leafset) m (now writes) n ⌝ }
-    requires { ⌜ anyPut (unfit standard) (writesOf (now writes) n) ≡ false ⌝ }
-    ensures { λ r. ⌜ r ≡ anyPut (overlapped standard (readsOf (now (reads .entry)) k) (scansOf (now (leafset .entry)) m) (writesOf (now (writes .entry)) n)) (writesOf (now (writes .entry)) n) ⌝ }
+    requires { ⌜ anyPut unfit (writesOf (now writes) n) ≡ false ⌝ }
+    ensures { λ r. ⌜ r ≡ anyPut (overlapped (readsOf (now (reads .entry)) k) (scansOf (now (leafset .entry)) m) (writesOf (now (writes .entry)) n)) (writesOf (now (writes .entry)) n) ⌝ }
 {
     let mut i = 0;
     while i < n {

@@ -12,7 +12,7 @@ ghost use mathlib.Core.Path.{_≡_};
 ghost use mathlib.Core.Bool.{false};
 ghost use Prim.Native.Nat.{_-_, _≤_};
 ghost use Rattle.lists.specs.Tests.{both};
-ghost use Rattle.spec.specs.Records.{standard};
+ghost use Rattle.spec.specs.Records.{limits};
 ghost use Rattle.spec.specs.Guards.{unfit, covers, deciding, uncovered, anyPut};
 ghost use Rattle.sets.specs.Leaves.{scannedIn, scansOf, LeafSetHeld};
 ghost use Rattle.sets.specs.Writes.{writesOf, WriteSetOrdered};
@@ -26,7 +26,7 @@ pub enum Decision {
 
 // The lowest address from which a section can reach the address.
 fn lowest_reaching(a: Address) -> u64
-    ensures { λ r. ⌜ r ≡ a - (standard .longest - 1) ⌝ }
+    ensures { λ r. ⌜ r ≡ a - (limits .longest - 1) ⌝ }
 {
     let k = a as u64;
     if k < LONGEST {
@@ -37,8 +37,8 @@ fn lowest_reaching(a: Address) -> u64
 
 // The scan covers the section and all addresses from which another one could reach into it.
 fn covers(s: Scanned, a: Address, len: u64) -> bool
-    requires { ⌜ unfit standard a len ≡ false ⌝ }
-    ensures { λ r. ⌜ r ≡ covers standard a len (scannedIn s) ⌝ }
+    requires { ⌜ unfit a len ≡ false ⌝ }
+    ensures { λ r. ⌜ r ≡ covers a len (scannedIn s) ⌝ }
 {
     if lowest_reaching(a) < s.lo {
         return false;
@@ -48,8 +48,8 @@ fn covers(s: Scanned, a: Address, len: u64) -> bool
 
 // The row remembers a scan that covers the section.
 fn decides(note: ScanNote, a: Address, len: u64) -> bool
-    requires { ⌜ unfit standard a len ≡ false ⌝ }
-    ensures { λ r. ⌜ r ≡ both (note .first) (covers standard a len (scannedIn (note .scan))) ⌝ }
+    requires { ⌜ unfit a len ≡ false ⌝ }
+    ensures { λ r. ⌜ r ≡ both (note .first) (covers a len (scannedIn (note .scan))) ⌝ }
 {
     if note.first {
         return covers(note.scan, a, len);
@@ -60,9 +60,9 @@ fn decides(note: ScanNote, a: Address, len: u64) -> bool
 // Which scan decides: the m rows of the leaf set are walked from the last to the first, since later scans stand behind.
 pub fn deciding(leafset: &LeafSet, m: usize, a: Address, len: u64) -> Decision
     requires { ⌜ LeafSetHeld (now leafset) ⌝ }
-    requires { ⌜ m ≤ standard .leafSetLimit ⌝ }
-    requires { ⌜ unfit standard a len ≡ false ⌝ }
-    ensures { λ r. ⌜ decisionIn r ≡ deciding standard (scansOf (now (leafset .entry)) m) a len ⌝ }
+    requires { ⌜ m ≤ limits .leafSetLimit ⌝ }
+    requires { ⌜ unfit a len ≡ false ⌝ }
+    ensures { λ r. ⌜ decisionIn r ≡ deciding (scansOf (now (leafset .entry)) m) a len ⌝ }
 {
     let mut i = m;
     while 0 < i {
@@ -79,9 +79,9 @@ pub fn deciding(leafset: &LeafSet, m: usize, a: Address, len: u64) -> Decision
 // The write is a put that no scan covers.
 fn uncovered_write(leafset: &LeafSet, m: usize, e: Entry) -> bool
     requires { ⌜ LeafSetHeld (now leafset) ⌝ }
-    requires { ⌜ m ≤ standard .leafSetLimit ⌝ }
-    requires { ⌜ ofEntry (unfit standard) e ≡ false ⌝ }
-    ensures { λ r. ⌜ r ≡ ofEntry (uncovered standard (scansOf (now (leafset .entry)) m)) e ⌝ }
+    requires { ⌜ m ≤ limits .leafSetLimit ⌝ }
+    requires { ⌜ ofEntry unfit e ≡ false ⌝ }
+    ensures { λ r. ⌜ r ≡ ofEntry (uncovered (scansOf (now (leafset .entry)) m)) e ⌝ }
 {
     if e.kind == 1 {
         let v = e.payload;
@@ -96,10 +96,10 @@ fn uncovered_write(leafset: &LeafSet, m: usize, e: Entry) -> bool
 // One of the n writes is a put that no scan covers. No put is unfit.
 pub fn uncovered_put(leafset: &LeafSet, m: usize, writes: &WriteSet, n: usize) -> bool
     requires { ⌜ LeafSetHeld (now leafset) ⌝ }
-    requires { ⌜ m ≤ standard .leafSetLimit ⌝ }
+    requires { ⌜ m ≤ limits .leafSetLimit ⌝ }
     requires { ⌜ WriteSetOrdered (now writes) n ⌝ }
-    requires { ⌜ anyPut (unfit standard) (writesOf (now writes) n) ≡ false ⌝ }
-    ensures { λ r. ⌜ r ≡ anyPut (uncovered standard (scansOf (now (leafset .entry)) m)) (writesOf (now (writes .entry)) n) ⌝ }
+    requires { ⌜ anyPut unfit (writesOf (now writes) n) ≡ false ⌝ }
+    ensures { λ r. ⌜ r ≡ anyPut (uncovered (scansOf (now (leafset .entry)) m)) (writesOf (now (writes .entry)) n) ⌝ }
 {
     let mut i = 0;
     while i < n {

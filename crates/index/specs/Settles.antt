@@ -9,7 +9,7 @@ use lib.ListN.{length, take, drop, getD, set, length-drop, length-set}
 use lib.Seq.{length-take-le, getD-take, set-split, split-at, set-append-left, take-set-lt}
 use Rattle.lists.specs.Tabulation.{tab, tabFrom}
 use Rattle.lists.specs.Shifts.{tab-cons, tab-same, length-tab, over, moved, spread, taken-out}
-use Rattle.spec.specs.Records.{Settings, standard}
+use Rattle.spec.specs.Records.{Tuning, standard}
 use Rattle.spec.specs.Leaves.{Leaf, around, freshLeaves, newLows, widened, settled, settle, versionsTaken}
 use Rattle.laws.specs.LeafCuts.{taken-some}
 use Rattle.laws.specs.StandardCuts.{whole-lows, whole-taken, cut-lows, cut-taken}
@@ -33,14 +33,14 @@ fresh-paired v (l ∷ ls) =
 
 -- ---- the model's three cases
 
-settled-fresh : (s : Settings) (v : ℕ) (before : List Leaf) (own : Leaf) (ks : List ℕ) → (length before ≡ 0) ⊎ (1 ≤ length ks)
+settled-fresh : (s : Tuning) (v : ℕ) (before : List Leaf) (own : Leaf) (ks : List ℕ) → (length before ≡ 0) ⊎ (1 ≤ length ks)
     → settled s v before own ks ≡ before ++ freshLeaves v (newLows s (own .low) ks)
 unfolding settled
 settled-fresh s v [] own ks h = refl
 settled-fresh s v (l ∷ ls) own (k ∷ ks) h = refl
 settled-fresh s v (l ∷ ls) own [] h = absurd (⊎-elim (λ e. omega arith) (λ e. not-suc-le-zero e) h)
 
-settled-joined : (s : Settings) (v : ℕ) (l : Leaf) (ls : List Leaf) (own : Leaf) (ks : List ℕ) → length ks ≡ 0 → settled s v (l ∷ ls) own ks ≡ widened v l ls
+settled-joined : (s : Tuning) (v : ℕ) (l : Leaf) (ls : List Leaf) (own : Leaf) (ks : List ℕ) → length ks ≡ 0 → settled s v (l ∷ ls) own ks ≡ widened v l ls
 unfolding settled
 settled-joined s v l ls own [] h = refl
 settled-joined s v l ls own (k ∷ ks) h = absurd (omega arith)
@@ -52,7 +52,7 @@ widened-set v x u [] (w ∷ ws) e = absurd (omega arith)
 widened-set v x u (y ∷ ys) [] e = absurd (omega arith)
 widened-set v x u (y ∷ ys) (w ∷ ws) e = ap (λ (zs : List Leaf). leaf x u ∷ zs) (widened-set v y w ys ws (omega arith))
 
-joined-set : (s : Settings) (v : ℕ) (xs us : List ℕ) (own : Leaf) (ks : List ℕ) → length xs ≡ length us → 1 ≤ length us → length ks ≡ 0
+joined-set : (s : Tuning) (v : ℕ) (xs us : List ℕ) (own : Leaf) (ks : List ℕ) → length xs ≡ length us → 1 ≤ length us → length ks ≡ 0
     → settled s v (paired xs us) own ks ≡ paired xs (set us (length us - 1) (v + 1))
 unfolding paired
 joined-set s v [] [] own ks e h k = absurd (not-suc-le-zero h)

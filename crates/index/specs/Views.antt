@@ -6,7 +6,7 @@ use mathlib.Core.Option.{Option, none, some}
 use lib.ListN.{take, drop, getD, set}
 use Rattle.lists.specs.Rows.{Row, row, keys, Rising}
 use Rattle.lists.specs.Tabulation.{tab}
-use Rattle.spec.specs.Records.{standard, Record}
+use Rattle.spec.specs.Records.{limits, Record}
 use Rattle.spec.specs.Payloads.{payloadIn, noPayload}
 use Rattle.spec.specs.declared.PayloadWords.{PayloadWords}
 use Rattle.spec.specs.Leaves.{Leaf}
@@ -16,7 +16,7 @@ use Rattle.index.specs.declared.records.FoundRecord.the-variants.{At, No
 
 -- how many records there is room for
 abbrev pub recordPlaces : ℕ
-recordPlaces = standard .mapLimit
+recordPlaces = limits .mapLimit
 
 -- how many leaves there is room for: the first, and one for each record
 abbrev pub leafPlaces : ℕ

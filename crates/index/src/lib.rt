@@ -4,7 +4,6 @@
 // reads and writes the leaves' words, and nothing else touches them, moves leaves, and finds the leaf of an address;
 // `settles` settles leaves after a merge.
 use spec::MAP_LIMIT;
-use spec::RUN;
 
 pub mod leaves;
 pub mod records;
@@ -18,12 +17,13 @@ pub const RECORD_WORDS: usize = 4;
 pub type Records = [[u64; RECORD_WORDS]; MAP_LIMIT];
 
 // So many records or leaves take 3, 5, 7 or 9 steps of a search; more take 11. Each has code of its own, without a loop, so that
-// no branch is guessed within a search: steps that fit the number exactly took longer. A full index in runs has FEW leaves.
+// no branch is guessed within a search: steps that fit the number exactly took longer. FEW is a number of its own, whatever run
+// a map's leaves are cut by: it only says how many steps a search takes.
 const LEAST: usize = FEW / 16;
 
 const FEWER: usize = FEW / 4;
 
-const FEW: usize = MAP_LIMIT / RUN;
+const FEW: usize = 128;
 
 const HALF: usize = MAP_LIMIT / 2;
 

@@ -12,7 +12,7 @@ ghost use mathlib.Core.Path.{_≡_};
 ghost use Prim.Native.Nat.{_+_, _-_, _*_, _^_, _<_, _≤_};
 ghost use Rattle.lists.specs.Tabulation.{tab};
 ghost use Rattle.lists.specs.Shifts.{over};
-ghost use Rattle.spec.specs.Records.{standard};
+ghost use Rattle.spec.specs.Records.{standard, Made};
 ghost use Rattle.cuts.specs.Making.{mostRuns};
 ghost use Rattle.index.specs.Views.{recordPlaces, leafPlaces, keysBetween};
 ghost use Rattle.index.specs.Settles.{Settling};

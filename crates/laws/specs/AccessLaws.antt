@@ -14,19 +14,19 @@ use Rattle.lists.specs.TestLaws.{clash, less-true, less-false}
 use Rattle.lists.specs.Rows.{Row, look, any, Rising}
 use Rattle.lists.specs.Memberships.{rising-insert, insert-longer, insert-replaces}
 use Rattle.spec.specs.Refusals.{ends}
-use Rattle.spec.specs.Records.{Settings, Record, Write, written, deleted}
+use Rattle.spec.specs.Records.{limits, Record, Write, written, deleted}
 use Rattle.spec.specs.Leaves.{meeting}
 use Rattle.spec.specs.Guards.{Scan}
 use Rattle.spec.specs.Steps.{Worker, freeWorker, State, workerOf, Access, readAt, scanOver, putTo, removeAt, isFree, isChecked, ownWrite, scanReads, scanVersions, remembered, Cause, readLogFull, scanLogFull, writesFull, accessCauses, firstCause, logged, writing, readRows, accessed}
 use Rattle.laws.specs.LeafLaws.{GoodLeaves, meeting-old}
 use Rattle.laws.specs.WorkerLaws.{not-false, cause-passed}
 
--- A worker within the limits s, n the last commit number given.
-pub record GoodWorker (s : Settings) (n : ℕ) (x : Worker) : Type 0 where
+-- A worker within the limits, n the last commit number given.
+pub record GoodWorker (n : ℕ) (x : Worker) : Type 0 where
   pub rising : Rising (x .writes)
-  pub writes : length (x .writes) ≤ s .writeLimit
-  pub reads : length (x .reads) ≤ s .readLimit
-  pub versions : length (x .versions) ≤ s .leafSetLimit
+  pub writes : length (x .writes) ≤ limits .writeLimit
+  pub reads : length (x .reads) ≤ limits .readLimit
+  pub versions : length (x .versions) ≤ limits .leafSetLimit
   -- a free worker has nothing
   pub free : isFree (x .stage) ≡ true → x ≡ freeWorker
   -- a commit number is had from the check on
@@ -45,12 +45,12 @@ more-old v us vs a b u m = ⊎-elim (λ q. a u q) (λ q. b u q) (List·Memᴰ·a
 
 -- ---- workers that log or write
 
-logged-good : {s : Settings} {n : ℕ} {x : Worker} → GoodWorker s n x → isFree (x .stage) ≡ false
+logged-good : {n : ℕ} {x : Worker} → GoodWorker n x → isFree (x .stage) ≡ false
     → (rs : List (Row (Option Record))) (vs : List ℕ) (cs : List Scan)
-    → length (x .reads) + length rs ≤ s .readLimit → length (x .versions) + length vs ≤ s .leafSetLimit
-    → GoodWorker s n (logged rs vs cs x)
+    → length (x .reads) + length rs ≤ limits .readLimit → length (x .versions) + length vs ≤ limits .leafSetLimit
+    → GoodWorker n (logged rs vs cs x)
 unfolding logged
-logged-good {s} {n} {x} g b rs vs cs r l =
+logged-good {n} {x} g b rs vs cs r l =
     record {
       rising = g .rising;
       writes = g .writes;
@@ -61,11 +61,11 @@ logged-good {s} {n} {x} g b rs vs cs r l =
       checked = g .checked;
     }
 
-writing-good : {s : Settings} {n : ℕ} {x : Worker} → GoodWorker s n x → isFree (x .stage) ≡ false → (k : ℕ) (e : Write)
-    → (present (look (x .writes) k) ≡ true) ⊎ (length (x .writes) < s .writeLimit)
-    → GoodWorker s n (writing k e x)
+writing-good : {n : ℕ} {x : Worker} → GoodWorker n x → isFree (x .stage) ≡ false → (k : ℕ) (e : Write)
+    → (present (look (x .writes) k) ≡ true) ⊎ (length (x .writes) < limits .writeLimit)
+    → GoodWorker n (writing k e x)
 unfolding writing
-writing-good {s} {n} {x} g b k e f =
+writing-good {n} {x} g b k e f =
     record {
       rising = rising-insert k e (x .writes) (g .rising);
       writes =
@@ -92,51 +92,51 @@ either-false false b e = (refl, e)
 
 -- ---- step by step
 
-module _ (σ : State) (w : ℕ) {n : ℕ} (g : GoodWorker (σ .settings) n (workerOf σ w)) (busy : isFree (workerOf σ w .stage) ≡ false) where
+module _ (σ : State) (w : ℕ) {n : ℕ} (g : GoodWorker n (workerOf σ w)) (busy : isFree (workerOf σ w .stage) ≡ false) where
   -- a read of the worker's own write is not logged
-  read-good : (k : ℕ) → readLogFull σ w k ≡ false → GoodWorker (σ .settings) n (logged (readRows σ w k) [] [] (workerOf σ w))
+  read-good : (k : ℕ) → readLogFull σ w k ≡ false → GoodWorker n (logged (readRows σ w k) [] [] (workerOf σ w))
   unfolding readLogFull
   read-good k e =
       logged-good g busy (readRows σ w k) [] [] (rows (ownWrite σ w k) refl (both-false (not (present (ownWrite σ w k))) _ e))
       (le-trans (le-of-eq (omega arith)) (g .versions))
     where
       rows : (o : Option Write) → ownWrite σ w k ≡ o
-          → (not (present (ownWrite σ w k)) ≡ false) ⊎ (not (less (length (workerOf σ w .reads)) (σ .settings .readLimit)) ≡ false)
-          → length (workerOf σ w .reads) + length (readRows σ w k) ≤ σ .settings .readLimit
+          → (not (present (ownWrite σ w k)) ≡ false) ⊎ (not (less (length (workerOf σ w .reads)) (limits .readLimit)) ≡ false)
+          → length (workerOf σ w .reads) + length (readRows σ w k) ≤ limits .readLimit
       rows none q f =
           unfold readRows in
           rw q
           (⊎-elim
           (λ t. clash (not-false (present (ownWrite σ w k)) t) (ap present q))
           (λ t.
-          let l : length (workerOf σ w .reads) < σ .settings .readLimit
-          = less-true (length (workerOf σ w .reads)) (σ .settings .readLimit) (not-false (less (length (workerOf σ w .reads)) (σ .settings .readLimit)) t) in
+          let l : length (workerOf σ w .reads) < limits .readLimit
+          = less-true (length (workerOf σ w .reads)) (limits .readLimit) (not-false (less (length (workerOf σ w .reads)) (limits .readLimit)) t) in
           omega arith)
           f)
-      rows (some e) q f = unfold readRows in rw q (let r : length (workerOf σ w .reads) ≤ σ .settings .readLimit = g .reads in omega arith)
+      rows (some e) q f = unfold readRows in rw q (let r : length (workerOf σ w .reads) ≤ limits .readLimit = g .reads in omega arith)
 
   scan-good : (lo hi : ℕ) → scanLogFull σ w lo hi ≡ false
-      → GoodWorker (σ .settings) n (logged (scanReads σ lo hi) (scanVersions σ lo hi) (remembered σ w lo hi ∷ []) (workerOf σ w))
+      → GoodWorker n (logged (scanReads σ lo hi) (scanVersions σ lo hi) (remembered σ w lo hi ∷ []) (workerOf σ w))
   unfolding scanLogFull
   scan-good lo hi e =
-      let d = either-false (less (σ .settings .readLimit) (length (workerOf σ w .reads) + length (scanReads σ lo hi))) _ e in
+      let d = either-false (less (limits .readLimit) (length (workerOf σ w .reads) + length (scanReads σ lo hi))) _ e in
       logged-good g busy (scanReads σ lo hi) (scanVersions σ lo hi) (remembered σ w lo hi ∷ [])
-      (less-false (σ .settings .readLimit) (length (workerOf σ w .reads) + length (scanReads σ lo hi)) (d .0))
-      (less-false (σ .settings .leafSetLimit) (length (workerOf σ w .versions) + length (scanVersions σ lo hi)) (d .1))
+      (less-false (limits .readLimit) (length (workerOf σ w .reads) + length (scanReads σ lo hi)) (d .0))
+      (less-false (limits .leafSetLimit) (length (workerOf σ w .versions) + length (scanVersions σ lo hi)) (d .1))
 
   -- the address has a write already, or there is room for one
-  write-good : (k : ℕ) (x : Write) → writesFull σ w k ≡ false → GoodWorker (σ .settings) n (writing k x (workerOf σ w))
+  write-good : (k : ℕ) (x : Write) → writesFull σ w k ≡ false → GoodWorker n (writing k x (workerOf σ w))
   unfolding writesFull ownWrite
   write-good k x e =
       writing-good g busy k x
       (⊎-elim
       (λ t. inl (not-false (present (look (workerOf σ w .writes) k)) t))
       (λ t.
-      inr (less-true (length (workerOf σ w .writes)) (σ .settings .writeLimit) (not-false (less (length (workerOf σ w .writes)) (σ .settings .writeLimit)) t)))
+      inr (less-true (length (workerOf σ w .writes)) (limits .writeLimit) (not-false (less (length (workerOf σ w .writes)) (limits .writeLimit)) t)))
       (both-false (not (present (look (workerOf σ w .writes) k))) _ e))
 
   -- each keeps the limits of its worker's sets
-  pub accessed-good : (a : Access) → firstCause (accessCauses σ w a) ≡ none → GoodWorker (σ .settings) n (accessed σ w a)
+  pub accessed-good : (a : Access) → firstCause (accessCauses σ w a) ≡ none → GoodWorker n (accessed σ w a)
   unfolding accessCauses accessed
   accessed-good (readAt k) e = read-good k (cause-passed _ _ e .0)
   accessed-good (scanOver lo hi b) e = scan-good lo hi (cause-passed _ _ (cause-passed _ _ e .1) .0)

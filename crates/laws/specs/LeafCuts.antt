@@ -10,9 +10,9 @@ use lib.ListN.{length, drop, getD, length-drop}
 use Rattle.lists.specs.Tests.{less, atMost}
 use Rattle.lists.specs.TestLaws.{cases, clash, less-false, less-yes, less-no, atMost-yes}
 use Rattle.lists.specs.Ascending.{Ascends, ascends-at, ascends-drop, ascends-mem, mem-getD, mem-drop}
-use Rattle.spec.specs.Records.{Settings, standard}
+use Rattle.spec.specs.Records.{Tuning, standard}
 use Rattle.spec.specs.Leaves.{Leaf, leafFrom, live, runs, cuts, starts, newLows, freshLeaves, versionsTaken}
-use Rattle.spec.specs.GoodSettings.{GoodCut}
+use Rattle.spec.specs.GoodTuning.{GoodCut}
 use Rattle.laws.specs.LeafParts.{LowsFrom, Above, Apart, live-nil, live-cons, not-live, lows-weaken}
 
 pub standard-cut : GoodCut standard
@@ -39,7 +39,7 @@ runs-fit limit run (suc fuel) n h i =
     (runs-fit limit run fuel (n - run) h i)))
     (cases (less n limit))
 
-pub cuts-fit : {s : Settings} → GoodCut s → (n : ℕ) → Fits (cuts s n) n
+pub cuts-fit : {s : Tuning} → GoodCut s → (n : ℕ) → Fits (cuts s n) n
 unfolding cuts Fits
 cuts-fit {s} c n =
     ⊎-elim (λ e. rw e tt) (λ e. rw e (runs-fit (s .leafLimit) (s .run) n n (c .positive) (c .smaller))) (cases (atMost n (s .leafLimit)))
@@ -51,15 +51,15 @@ unfolding runs
 runs-some limit run zero n = le-refl 1
 runs-some limit run (suc fuel) n = ⊎-elim (λ e. rw e (le-refl 1)) (λ e. rw e (omega arith)) (cases (less n limit))
 
-cuts-some : (s : Settings) (n : ℕ) → 1 ≤ length (cuts s n)
+cuts-some : (s : Tuning) (n : ℕ) → 1 ≤ length (cuts s n)
 unfolding cuts
 cuts-some s n = ⊎-elim (λ e. rw e (le-refl 1)) (λ e. rw e (runs-some (s .leafLimit) (s .run) n n)) (cases (atMost n (s .leafLimit)))
 
-pub taken-some : (s : Settings) (ks : List ℕ) → 1 ≤ versionsTaken s ks
+pub taken-some : (s : Tuning) (ks : List ℕ) → 1 ≤ versionsTaken s ks
 unfolding versionsTaken
 taken-some s ks = cuts-some s (length ks)
 
-pub taken-none : (s : Settings) → versionsTaken s [] ≡ 1
+pub taken-none : (s : Tuning) → versionsTaken s [] ≡ 1
 unfolding versionsTaken cuts
 taken-none s = rw (atMost-yes {m = 0} {n = s .leafLimit} zero-le)
 
@@ -70,11 +70,11 @@ starts-length (n ∷ []) ks h = refl
 starts-length (n ∷ m ∷ ns) ks h = ap suc (starts-length (m ∷ ns) (drop n ks) (omega arith))
 
 -- no addresses make no further run
-pub starts-none : (s : Settings) → starts (cuts s 0) [] ≡ []
+pub starts-none : (s : Tuning) → starts (cuts s 0) [] ≡ []
 unfolding starts cuts
 starts-none s = rw (atMost-yes {m = 0} {n = s .leafLimit} zero-le)
 
-pub lows-taken : (s : Settings) (low : ℕ) (ks : List ℕ) → length (newLows s low ks) ≡ versionsTaken s ks
+pub lows-taken : (s : Tuning) (low : ℕ) (ks : List ℕ) → length (newLows s low ks) ≡ versionsTaken s ks
 unfolding newLows versionsTaken
 lows-taken s low ks = starts-length (cuts s (length ks)) ks (cuts-some s (length ks))
 
@@ -91,7 +91,7 @@ runs-bound limit run (suc fuel) n h =
     cut i m j = rw (suc-mul m run) (omega arith)
 
 -- a cut takes at most one version for each `run` addresses, and one more
-pub taken-most : {s : Settings} → GoodCut s → (ks : List ℕ) → versionsTaken s ks * s .run ≤ length ks + s .run
+pub taken-most : {s : Tuning} → GoodCut s → (ks : List ℕ) → versionsTaken s ks * s .run ≤ length ks + s .run
 unfolding versionsTaken cuts
 taken-most {s} c ks =
     ⊎-elim

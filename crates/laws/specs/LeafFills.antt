@@ -13,10 +13,10 @@ use Rattle.lists.specs.Rows.{Row, keys, any, has, Different}
 use Rattle.lists.specs.RowLaws.{length-keys}
 use Rattle.lists.specs.Counting.{has-nil, has-cons}
 use Rattle.lists.specs.Memberships.{same-sym, member-has, different-length}
-use Rattle.spec.specs.Records.{Settings}
+use Rattle.spec.specs.Records.{Tuning}
 use Rattle.spec.specs.Leaves.{Leaf, firstLeaf, versionAt, live, settle, versionsTaken}
 use Rattle.laws.specs.LeafParts.{Apart, live-nil, live-later, live-left, live-right, live-parts, not-live, apart-right, apart-cross}
-use Rattle.spec.specs.GoodSettings.{GoodCut}
+use Rattle.spec.specs.GoodTuning.{GoodCut}
 use Rattle.laws.specs.LeafVersions.{GoodLeaves}
 use Rattle.laws.specs.LeafSwaps.{Swap, swap-leaves}
 use Rattle.laws.specs.SettleLaws.{InLeaf, Settled, Holding, by-key, by-neighbour, settle-settled}
@@ -91,7 +91,7 @@ swap-old {v} {n} {ls} {ms} u g w h e =
     (subst (λ (zs : List Leaf). live (tail zs) u ≡ true) (w .is) e))
 
 -- After a merge at a, with `ks` the addresses that the leaf of a holds now: the records outside of it are kept.
-pub settle-filled : {A B : Type 0} {s : Settings} {v : ℕ} {ls : List Leaf} {a : ℕ} {ks : List ℕ} {rs : List (Row A)} {rs' : List (Row B)}
+pub settle-filled : {A B : Type 0} {s : Tuning} {v : ℕ} {ls : List Leaf} {a : ℕ} {ks : List ℕ} {rs : List (Row A)} {rs' : List (Row B)}
     → GoodCut s → GoodLeaves v ls → InLeaf ls a ks → Filled rs ls
     → ((k : ℕ) → List·Memᴰ k (keys rs) → same (versionAt ls k) (versionAt ls a) ≡ false → List·Memᴰ k (keys rs'))
     → ((k : ℕ) → List·Memᴰ k ks → List·Memᴰ k (keys rs'))

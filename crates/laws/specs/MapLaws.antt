@@ -13,7 +13,7 @@ use Rattle.lists.specs.TestLaws.{cases, clash, same-true, same-false, same-yes,
 use Rattle.lists.specs.Rows.{Row, look, keys, has, distinct, Different}
 use Rattle.lists.specs.RowLaws.{has-keys, length-keys, look-here, look-there}
 use Rattle.lists.specs.Counting.{has-nil, has-cons, has-append, Within, distinct-within, different-within}
-use Rattle.spec.specs.Records.{Settings, Write}
+use Rattle.spec.specs.Records.{limits, Write}
 use Rattle.spec.specs.Slots.{Pending, Content, isIdle, Slot, slotCount, entries, contentOf, enter}
 use Rattle.spec.specs.Maps.{MapState, lockedFor, lockRow, withoutLock, unlockKey, writtenOver, installRow, each, withSlots, lockAll, unlockAll, installAll}
 use Rattle.laws.specs.SlotCounts.{Good}
@@ -373,35 +373,35 @@ installing bytes n t =
 
 -- ---- the three changes of a map
 
-abbrev pub GoodMap : Settings → MapState → Type 0
-GoodMap s m = Good (s .bytes) (m .slots)
+abbrev pub GoodMap : MapState → Type 0
+GoodMap m = Good (limits .bytes) (m .slots)
 
-pub lock-good : (s : Settings) (w : ℕ) (m : MapState) (ws : List (Row Write)) → GoodMap s m → LockRoom (m .slots) ws → GoodMap s (lockAll s w m ws)
+pub lock-good : (w : ℕ) (m : MapState) (ws : List (Row Write)) → GoodMap m → LockRoom (m .slots) ws → GoodMap (lockAll w m ws)
 unfolding lockAll withSlots
-lock-good s w m ws a r = each-good (locking (s .bytes) w) (m .slots) ws a r
+lock-good w m ws a r = each-good (locking (limits .bytes) w) (m .slots) ws a r
 
-pub lock-says : (s : Settings) (w : ℕ) (m : MapState) (ws : List (Row Write)) → GoodMap s m → LockRoom (m .slots) ws
-    → (j : ℕ) → contentOf (lockAll s w m ws .slots) j ≡ lockedBy w (look ws j) (contentOf (m .slots) j)
+pub lock-says : (w : ℕ) (m : MapState) (ws : List (Row Write)) → GoodMap m → LockRoom (m .slots) ws
+    → (j : ℕ) → contentOf (lockAll w m ws .slots) j ≡ lockedBy w (look ws j) (contentOf (m .slots) j)
 unfolding lockAll withSlots
-lock-says s w m ws a r j =
-    each-says (locking (s .bytes) w) (m .slots) ws a r j ∙ updated-rows (lockedFor w) ws j (contentOf (m .slots) j)
+lock-says w m ws a r j =
+    each-says (locking (limits .bytes) w) (m .slots) ws a r j ∙ updated-rows (lockedFor w) ws j (contentOf (m .slots) j)
 
-pub unlock-good : (s : Settings) (w : ℕ) (m : MapState) (ks : List ℕ) → GoodMap s m → GoodMap s (unlockAll s w m ks)
+pub unlock-good : (w : ℕ) (m : MapState) (ks : List ℕ) → GoodMap m → GoodMap (unlockAll w m ks)
 unfolding unlockAll withSlots
-unlock-good s w m ks a = each-good (unlocking (s .bytes) w) (m .slots) ks a tt
+unlock-good w m ks a = each-good (unlocking (limits .bytes) w) (m .slots) ks a tt
 
-pub unlock-says : (s : Settings) (w : ℕ) (m : MapState) (ks : List ℕ) → GoodMap s m
-    → (j : ℕ) → contentOf (unlockAll s w m ks .slots) j ≡ pick (has j ks) (unlocked w (contentOf (m .slots) j)) (contentOf (m .slots) j)
+pub unlock-says : (w : ℕ) (m : MapState) (ks : List ℕ) → GoodMap m
+    → (j : ℕ) → contentOf (unlockAll w m ks .slots) j ≡ pick (has j ks) (unlocked w (contentOf (m .slots) j)) (contentOf (m .slots) j)
 unfolding unlockAll withSlots
-unlock-says s w m ks a j =
-    each-says (unlocking (s .bytes) w) (m .slots) ks a tt j ∙ updated-keys (unlocked w) ks j (contentOf (m .slots) j)
+unlock-says w m ks a j =
+    each-says (unlocking (limits .bytes) w) (m .slots) ks a tt j ∙ updated-keys (unlocked w) ks j (contentOf (m .slots) j)
 
-pub install-good : (s : Settings) (n t : ℕ) (m : MapState) (ws : List (Row Write)) → GoodMap s m → Installable (m .slots) ws → GoodMap s (installAll s n t m ws)
+pub install-good : (n t : ℕ) (m : MapState) (ws : List (Row Write)) → GoodMap m → Installable (m .slots) ws → GoodMap (installAll n t m ws)
 unfolding installAll withSlots
-install-good s n t m ws a i = each-good (installing (s .bytes) n t) (m .slots) ws a i
+install-good n t m ws a i = each-good (installing (limits .bytes) n t) (m .slots) ws a i
 
-pub install-says : (s : Settings) (n t : ℕ) (m : MapState) (ws : List (Row Write)) → GoodMap s m → Installable (m .slots) ws
-    → (j : ℕ) → contentOf (installAll s n t m ws .slots) j ≡ writtenBy n t (look ws j) (contentOf (m .slots) j)
+pub install-says : (n t : ℕ) (m : MapState) (ws : List (Row Write)) → GoodMap m → Installable (m .slots) ws
+    → (j : ℕ) → contentOf (installAll n t m ws .slots) j ≡ writtenBy n t (look ws j) (contentOf (m .slots) j)
 unfolding installAll withSlots
-install-says s n t m ws a i j =
-    each-says (installing (s .bytes) n t) (m .slots) ws a i j ∙ updated-rows (writtenOver n t) ws j (contentOf (m .slots) j)
+install-says n t m ws a i j =
+    each-says (installing (limits .bytes) n t) (m .slots) ws a i j ∙ updated-rows (writtenOver n t) ws j (contentOf (m .slots) j)

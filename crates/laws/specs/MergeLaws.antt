@@ -12,7 +12,7 @@ use Rattle.lists.specs.TestLaws.{cases, clash, same-true, same-false, same-yes,
 use Rattle.lists.specs.Rows.{Row, look, keys, has, filter, Rising}
 use Rattle.lists.specs.RowLaws.{look-assign, rising-assign}
 use Rattle.lists.specs.Counting.{has-nil, has-cons}
-use Rattle.spec.specs.Records.{Settings, Record}
+use Rattle.spec.specs.Records.{limits, Tuning, Record}
 use Rattle.spec.specs.Leaves.{Leaf, versionAt, settle, versionsTaken}
 use Rattle.spec.specs.Slots.{Pending, Content, isIdle, entries, contentOf}
 use Rattle.spec.specs.Maps.{MapState, outcomeOf, current, each, mergesAt, merging, takenIn, mergeEntry, recordsIn, Merged, settleMap, mergeAll, mergeAt}
@@ -20,7 +20,7 @@ use Rattle.laws.specs.SlotCounts.{Good}
 use Rattle.laws.specs.SlotLaws.{EntryRoom, enter-good, said, said-pending, said-holder, said-kind, content-said}
 use Rattle.laws.specs.MapLaws.{idle-holder, room-old}
 use Rattle.laws.specs.LeafLaws.{GoodLeaves}
-use Rattle.spec.specs.GoodSettings.{GoodCut}
+use Rattle.spec.specs.GoodTuning.{GoodCut}
 use Rattle.laws.specs.LeafSwaps.{Kept}
 use Rattle.laws.specs.SettleLaws.{InLeaf, records-in-leaf, settle-good, settle-keeps}
 
@@ -196,8 +196,8 @@ unfolding merging
 merging-leaf m a j h = merges-in (m .leaves) a j (entries (m .slots)) h
 
 -- What a merge at address a, from the last version v, makes of a map.
-pub record Merges (s : Settings) (v : ℕ) (m : MapState) (r : Merged) : Type 0 where
-  pub good : Good (s .bytes) (r .map .slots)
+pub record Merges (v : ℕ) (m : MapState) (r : Merged) : Type 0 where
+  pub good : Good (limits .bytes) (r .map .slots)
   pub rising : Rising (r .map .records)
   pub leaves : GoodLeaves (r .version) (r .map .leaves)
   pub later : v ≤ r .version
@@ -209,19 +209,19 @@ pub record Merges (s : Settings) (v : ℕ) (m : MapState) (r : Merged) : Type 0 
   pub kept-version : (k : ℕ) → gone (versionAt (m .leaves) k) ≡ false → versionAt (r .map .leaves) k ≡ versionAt (m .leaves) k
   pub kept-record : (k : ℕ) → gone (versionAt (m .leaves) k) ≡ false → look (r .map .records) k ≡ look (m .records) k
 
-module _ {s : Settings} {v : ℕ} {m : MapState} (a : ℕ) (c : GoodCut s) (g : Good (s .bytes) (m .slots)) (f : Rising (m .records)) (l : GoodLeaves v (m .leaves)) where
+module _ {s : Tuning} {v : ℕ} {m : MapState} (a : ℕ) (c : GoodCut s) (g : Good (limits .bytes) (m .slots)) (f : Rising (m .records)) (l : GoodLeaves v (m .leaves)) where
   merges-some : (es : List (Row Content)) → ((j : ℕ) → has j (keys es) ≡ true → versionAt (m .leaves) j ≡ versionAt (m .leaves) a)
-      → Merges s v m (settleMap s v (each (mergeEntry (s .bytes)) m es) a)
+      → Merges v m (settleMap s v (each (mergeEntry (limits .bytes)) m es) a)
   unfolding settleMap recordsIn current
   merges-some es inside =
       record {
-        good = merged-good (s .bytes) m es g;
-        rising = merged-rising (s .bytes) m es g f;
+        good = merged-good (limits .bytes) m es g;
+        rising = merged-rising (limits .bytes) m es g f;
         leaves = settle-good c l' in-leaf;
         later = le-add-right v (versionsTaken s ks);
-        same-current = λ k. merged-current (s .bytes) m es g k;
-        same-holder = λ k. merged-holder (s .bytes) m es g k;
-        same-kind = λ k w q. merged-kind (s .bytes) m es g k w q;
+        same-current = λ k. merged-current (limits .bytes) m es g k;
+        same-holder = λ k. merged-holder (limits .bytes) m es g k;
+        same-kind = λ k w q. merged-kind (limits .bytes) m es g k w q;
         gone = kept .gone;
         renewed = λ k e. kept .renewed k (subst (λ (ls : List Leaf). kept .gone (versionAt ls k) ≡ true) (sym same-leaves) e);
         kept-version =
@@ -229,14 +229,14 @@ module _ {s : Settings} {v : ℕ} {m : MapState} (a : ℕ) (c : GoodCut s) (g : 
             kept .unchanged k (subst (λ (ls : List Leaf). kept .gone (versionAt ls k) ≡ false) (sym same-leaves) e)
             ∙ ap (λ (ls : List Leaf). versionAt ls k) same-leaves;
         kept-record =
-            λ k e. merged-look (s .bytes) m es g k (⊎-elim (λ t. clash (own-gone k (inside k t)) e) (λ t. t) (cases (has k (keys es))));
+            λ k e. merged-look (limits .bytes) m es g k (⊎-elim (λ t. clash (own-gone k (inside k t)) e) (λ t. t) (cases (has k (keys es))));
       }
     where
       m' : MapState
-      m' = each (mergeEntry (s .bytes)) m es
+      m' = each (mergeEntry (limits .bytes)) m es
 
       same-leaves : m' .leaves ≡ m .leaves
-      same-leaves = merged-leaves (s .bytes) m es
+      same-leaves = merged-leaves (limits .bytes) m es
 
       l' : GoodLeaves v (m' .leaves)
       l' = subst (GoodLeaves v) (sym same-leaves) l
@@ -245,7 +245,7 @@ module _ {s : Settings} {v : ℕ} {m : MapState} (a : ℕ) (c : GoodCut s) (g : 
       ks = keys (filter (λ (r : Row Record). same (versionAt (m' .leaves) (r .key)) (versionAt (m' .leaves) a)) (m' .records))
 
       in-leaf : InLeaf (m' .leaves) a ks
-      in-leaf = records-in-leaf (m' .leaves) a (m' .records) (merged-rising (s .bytes) m es g f)
+      in-leaf = records-in-leaf (m' .leaves) a (m' .records) (merged-rising (limits .bytes) m es g f)
 
       kept : Kept v (m' .leaves) (settle s v (m' .leaves) a ks) a
       kept = settle-keeps c l' in-leaf
@@ -253,12 +253,12 @@ module _ {s : Settings} {v : ℕ} {m : MapState} (a : ℕ) (c : GoodCut s) (g : 
       own-gone : (k : ℕ) → versionAt (m .leaves) k ≡ versionAt (m .leaves) a → kept .gone (versionAt (m .leaves) k) ≡ true
       own-gone k q = ap (kept .gone) (q ∙ ap (λ (ls : List Leaf). versionAt ls a) (sym same-leaves)) ∙ kept .own
 
-  pub merges : Merges s v m (mergeAt s v m a)
+  pub merges : Merges v m (mergeAt s v m a)
   unfolding mergeAt
   merges = go (merging m a) (merging-leaf m a)
     where
       go : (es : List (Row Content)) → ((j : ℕ) → has j (keys es) ≡ true → versionAt (m .leaves) j ≡ versionAt (m .leaves) a)
-          → Merges s v m (mergeAll s v m a es)
+          → Merges v m (mergeAll s v m a es)
       go [] inside =
           unfold mergeAll in
           record {

@@ -14,7 +14,7 @@ use Rattle.lists.specs.Rows.{Row, row, look, keys, has, Different}
 use Rattle.lists.specs.RowLaws.{has-keys, length-keys}
 use Rattle.lists.specs.Counting.{Within, has-here, has-cons}
 use Rattle.lists.specs.Memberships.{has-left, has-right, different-length}
-use Rattle.spec.specs.Records.{Settings, Record, Write}
+use Rattle.spec.specs.Records.{Record, Write}
 use Rattle.spec.specs.Slots.{Slot, Pending, Content, idle, emptySlots, entries, contentOf}
 use Rattle.spec.specs.Maps.{MapState, outcomeOf, pendingRows, each, lockAll, unlockAll, installAll, mergeEntry}
 use Rattle.laws.specs.SlotLaws.{Good, keys-differ}
@@ -92,40 +92,40 @@ pending-fewer {bytes} {ss} {ts} g h i =
 
 -- ---- lock, unlock, install
 
-pub lock-pending : (s : Settings) (w : ℕ) (m : MapState) (ws : List (Row Write)) → GoodMap s m → LockRoom (m .slots) ws
-    → pendingCount (lockAll s w m ws .slots) ≤ pendingCount (m .slots)
-lock-pending s w m ws g r =
-    pending-fewer g (lock-good s w m ws g r) (λ k e. sym (says k) ∙ e)
+pub lock-pending : (w : ℕ) (m : MapState) (ws : List (Row Write)) → GoodMap m → LockRoom (m .slots) ws
+    → pendingCount (lockAll w m ws .slots) ≤ pendingCount (m .slots)
+lock-pending w m ws g r =
+    pending-fewer g (lock-good w m ws g r) (λ k e. sym (says k) ∙ e)
   where
-    says : (k : ℕ) → pendingAt (lockAll s w m ws .slots) k ≡ pendingAt (m .slots) k
+    says : (k : ℕ) → pendingAt (lockAll w m ws .slots) k ≡ pendingAt (m .slots) k
     says k =
-        ap (λ (c : Content). present (c .pending)) (lock-says s w m ws g r k)
+        ap (λ (c : Content). present (c .pending)) (lock-says w m ws g r k)
         ∙ ap present (locked-pending w (look ws k) (contentOf (m .slots) k))
 
-pub unlock-pending : (s : Settings) (w : ℕ) (m : MapState) (ks : List ℕ) → GoodMap s m
-    → pendingCount (unlockAll s w m ks .slots) ≤ pendingCount (m .slots)
-unlock-pending s w m ks g =
-    pending-fewer g (unlock-good s w m ks g) (λ k e. sym (says k) ∙ e)
+pub unlock-pending : (w : ℕ) (m : MapState) (ks : List ℕ) → GoodMap m
+    → pendingCount (unlockAll w m ks .slots) ≤ pendingCount (m .slots)
+unlock-pending w m ks g =
+    pending-fewer g (unlock-good w m ks g) (λ k e. sym (says k) ∙ e)
   where
-    says : (k : ℕ) → pendingAt (unlockAll s w m ks .slots) k ≡ pendingAt (m .slots) k
+    says : (k : ℕ) → pendingAt (unlockAll w m ks .slots) k ≡ pendingAt (m .slots) k
     says k =
-        ap (λ (c : Content). present (c .pending)) (unlock-says s w m ks g k)
+        ap (λ (c : Content). present (c .pending)) (unlock-says w m ks g k)
         ∙ ⊎-elim (λ t. rw t (ap present (unlocked-pending w (contentOf (m .slots) k)))) (λ t. rw t) (cases (has k ks))
 
-pub install-pending : (s : Settings) (n t : ℕ) (m : MapState) (ws : List (Row Write)) → GoodMap s m → Installable (m .slots) ws
-    → pendingCount (installAll s n t m ws .slots) ≤ pendingCount (m .slots) + length ws
-install-pending s n t m ws g i =
-    le-trans (pending-within (install-good s n t m ws g i) (pendingKeys (entries (m .slots)) ++ keys ws) (λ k e. inside k e (look ws k) refl))
+pub install-pending : (n t : ℕ) (m : MapState) (ws : List (Row Write)) → GoodMap m → Installable (m .slots) ws
+    → pendingCount (installAll n t m ws .slots) ≤ pendingCount (m .slots) + length ws
+install-pending n t m ws g i =
+    le-trans (pending-within (install-good n t m ws g i) (pendingKeys (entries (m .slots)) ++ keys ws) (λ k e. inside k e (look ws k) refl))
     (le-of-eq (length-append (pendingKeys (entries (m .slots))) (keys ws)
     ∙ ap (λ (x : ℕ). x + length (keys ws)) (sym (count-keys (m .slots)))
     ∙ ap (λ (x : ℕ). pendingCount (m .slots) + x) (length-keys ws)))
   where
-    inside : (k : ℕ) → pendingAt (installAll s n t m ws .slots) k ≡ true → (o : Option Write) → look ws k ≡ o
+    inside : (k : ℕ) → pendingAt (installAll n t m ws .slots) k ≡ true → (o : Option Write) → look ws k ≡ o
         → has k (pendingKeys (entries (m .slots)) ++ keys ws) ≡ true
     inside k e none q =
         has-left k (pendingKeys (entries (m .slots))) (keys ws)
         (pending-has g k
-        ∙ sym (ap (λ (c : Content). present (c .pending)) (install-says s n t m ws g i k ∙ ap (λ (o : Option Write). writtenBy n t o (contentOf (m .slots) k)) q))
+        ∙ sym (ap (λ (c : Content). present (c .pending)) (install-says n t m ws g i k ∙ ap (λ (o : Option Write). writtenBy n t o (contentOf (m .slots) k)) q))
         ∙ e)
     inside k e (some x) q = has-right k (pendingKeys (entries (m .slots))) (keys ws) (has-keys ws k ∙ ap present q)
 

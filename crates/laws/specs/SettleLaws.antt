@@ -11,10 +11,10 @@ use Rattle.lists.specs.Tests.{same, less}
 use Rattle.lists.specs.TestLaws.{cases, clash, same-true}
 use Rattle.lists.specs.Rows.{Row, Rising, keys, filter}
 use Rattle.lists.specs.Ascending.{Ascends, rising-keys, rising-filter, mem-filter, mem-keys}
-use Rattle.spec.specs.Records.{Settings}
+use Rattle.spec.specs.Records.{Tuning}
 use Rattle.spec.specs.Leaves.{Leaf, leafFrom, leafOf, versionAt, live, cuts, starts, newLows, freshLeaves, Around, aroundFrom, around, widened, settled, settle, versionsTaken}
 use Rattle.laws.specs.LeafParts.{LowsFrom, Covers, Above, Apart, live-nil, live-head, live-later, live-cons, live-left, live-right, live-parts, apart-right, lows-right, lows-weaken}
-use Rattle.spec.specs.GoodSettings.{GoodCut}
+use Rattle.spec.specs.GoodTuning.{GoodCut}
 use Rattle.laws.specs.LeafCuts.{starts-none, cuts-fit, fresh-holds, taken-some, lows-taken, fresh-versions, fresh-apart, fresh-rise}
 use Rattle.laws.specs.LeafVersions.{GoodLeaves, version-old}
 use Rattle.laws.specs.LeafSwaps.{Swap, Kept, gone-side, new-inside, swap-good, swap-renews, swap-keeps}
@@ -79,7 +79,7 @@ pub record Settled (v n : ℕ) (ls ms : List Leaf) (own : ℕ) (ks : List ℕ) :
   pub holding : (u : ℕ) → v < u → live (tail ms) u ≡ true → Holding ls ms own ks u
 
 -- a leaf replaced by those that its addresses make
-fresh-swap : (s : Settings) (v : ℕ) (pre : List Leaf) (own : Leaf) (post : List Leaf) (ks : List ℕ) → GoodCut s
+fresh-swap : (s : Tuning) (v : ℕ) (pre : List Leaf) (own : Leaf) (post : List Leaf) (ks : List ℕ) → GoodCut s
     → Ascends (own .low) ks → ((k : ℕ) → List·Memᴰ k ks → Above k post) → LowsFrom (suc (own .low)) post
     → Swap v (versionsTaken s ks) (pre ++ (own ∷ post)) (pre ++ (freshLeaves v (newLows s (own .low) ks) ++ post))
 unfolding newLows freshLeaves
@@ -167,7 +167,7 @@ fresh-part v pre mid new post u g h e =
     (live-parts new post u q))
     (live-parts pre (new ++ post) u e)
 
-module _ (s : Settings) (v : ℕ) (pre : List Leaf) (own : Leaf) (post : List Leaf) (ks : List ℕ) (c : GoodCut s)
+module _ (s : Tuning) (v : ℕ) (pre : List Leaf) (own : Leaf) (post : List Leaf) (ks : List ℕ) (c : GoodCut s)
     (g : GoodLeaves v (pre ++ (own ∷ post))) (f : Ascends 0 ks)
     (in-own : (k : ℕ) → List·Memᴰ k ks → (own .low ≤ k) × Above k post) where
   own-ascends : Ascends (own .low) ks
@@ -205,7 +205,7 @@ module _ (s : Settings) (v : ℕ) (pre : List Leaf) (own : Leaf) (post : List Le
       }
 
 -- the first leaf, left with none
-first-settled : (s : Settings) (v : ℕ) (own : Leaf) (post : List Leaf) → GoodCut s → GoodLeaves v (own ∷ post)
+first-settled : (s : Tuning) (v : ℕ) (own : Leaf) (post : List Leaf) → GoodCut s → GoodLeaves v (own ∷ post)
     → Settled v (versionsTaken s []) (own ∷ post) (freshLeaves v (newLows s (own .low) []) ++ post) (own .version) []
 unfolding own-swap fresh-swap newLows freshLeaves Ascends
 first-settled s v own post c g =
@@ -218,7 +218,7 @@ first-settled s v own post c g =
     rest : (u : ℕ) → live (freshLeaves (suc v) (starts (cuts s 0) []) ++ post) u ≡ true → live post u ≡ true
     rest u e = subst (λ (zs : List ℕ). live (freshLeaves (suc v) zs ++ post) u ≡ true) (starts-none s) e
 
-module _ (s : Settings) (v : ℕ) (left own : Leaf) (post : List Leaf) where
+module _ (s : Tuning) (v : ℕ) (left own : Leaf) (post : List Leaf) where
   wide : Leaf
   wide = record { low = left .low; version = suc v }
 
@@ -250,7 +250,7 @@ module _ (s : Settings) (v : ℕ) (left own : Leaf) (post : List Leaf) where
         holding = λ u h e. join-holding pre u g h e;
       }
 
-settled-settled : (s : Settings) (v : ℕ) (pre : List Leaf) (own : Leaf) (post : List Leaf) (ks : List ℕ) → GoodCut s
+settled-settled : (s : Tuning) (v : ℕ) (pre : List Leaf) (own : Leaf) (post : List Leaf) (ks : List ℕ) → GoodCut s
     → GoodLeaves v (pre ++ (own ∷ post)) → Ascends 0 ks → ((k : ℕ) → List·Memᴰ k ks → (own .low ≤ k) × Above k post)
     → Settled v (versionsTaken s ks) (pre ++ (own ∷ post)) (settled s v pre own ks ++ post) (own .version) ks
 unfolding settled wide
@@ -276,7 +276,7 @@ in-leaf-bounds : (v : ℕ) (pre : List Leaf) (own : Leaf) (post : List Leaf) (k 
 in-leaf-bounds v pre own post k g e =
     gone-side v pre own [] post g k (live-head own [] (versionAt (pre ++ (own ∷ post)) k) (sym e))
 
-pub settle-settled : {s : Settings} {v : ℕ} {ls : List Leaf} {a : ℕ} {ks : List ℕ} → GoodCut s → GoodLeaves v ls → InLeaf ls a ks
+pub settle-settled : {s : Tuning} {v : ℕ} {ls : List Leaf} {a : ℕ} {ks : List ℕ} → GoodCut s → GoodLeaves v ls → InLeaf ls a ks
     → Settled v (versionsTaken s ks) ls (settle s v ls a ks) (versionAt ls a) ks
 unfolding settle
 settle-settled {s} {v} {ls} {a} {ks} c g i =
@@ -295,10 +295,10 @@ settle-settled {s} {v} {ls} {a} {ks} c g i =
 
 -- ---- what others build on
 
-pub settle-good : {s : Settings} {v : ℕ} {ls : List Leaf} {a : ℕ} {ks : List ℕ} → GoodCut s → GoodLeaves v ls → InLeaf ls a ks
+pub settle-good : {s : Tuning} {v : ℕ} {ls : List Leaf} {a : ℕ} {ks : List ℕ} → GoodCut s → GoodLeaves v ls → InLeaf ls a ks
     → GoodLeaves (v + versionsTaken s ks) (settle s v ls a ks)
 settle-good c g i = swap-good g (settle-settled c g i .swap)
 
-pub settle-keeps : {s : Settings} {v : ℕ} {ls : List Leaf} {a : ℕ} {ks : List ℕ} → GoodCut s → GoodLeaves v ls → InLeaf ls a ks
+pub settle-keeps : {s : Tuning} {v : ℕ} {ls : List Leaf} {a : ℕ} {ks : List ℕ} → GoodCut s → GoodLeaves v ls → InLeaf ls a ks
     → Kept v ls (settle s v ls a ks) a
 settle-keeps {a = a} c g i = let t = settle-settled c g i in swap-keeps g (t .swap) a (t .own-gone)

@@ -15,7 +15,7 @@ use Rattle.lists.specs.RowLaws.{has-keys, length-keys}
 use Rattle.lists.specs.Counting.{has-cons}
 use Rattle.lists.specs.Memberships.{different-length}
 use Rattle.lists.specs.Filters.{has-filter, different-filter, filter-has}
-use Rattle.spec.specs.Records.{Settings, Write}
+use Rattle.spec.specs.Records.{limits, Tuning, Write}
 use Rattle.spec.specs.Leaves.{versionAt}
 use Rattle.spec.specs.Slots.{Pending, Content, isIdle, entries, contentOf}
 use Rattle.spec.specs.Maps.{MapState, lockAll, unlockAll, installAll, waitingSince, mergesAt, merging, settleMap, mergeAll, mergeAt, ages, older, oldestOf, oldestKey, oldest}
@@ -107,24 +107,24 @@ module _ {bytes : ℕ} (m : MapState) (g : Good bytes (m .slots)) where
 
 -- ---- the four changes
 
-module _ (s : Settings) (m : MapState) (g : GoodMap s m) where
-  pub lock-waits : (w : ℕ) (ws : List (Row Write)) → LockRoom (m .slots) ws → (k : ℕ) → waitsSince (lockAll s w m ws) k ≡ waitsSince m k
+module _ (m : MapState) (g : GoodMap m) where
+  pub lock-waits : (w : ℕ) (ws : List (Row Write)) → LockRoom (m .slots) ws → (k : ℕ) → waitsSince (lockAll w m ws) k ≡ waitsSince m k
   lock-waits w ws r k =
-      waits-by m (lockAll s w m ws) k
-      (ap (λ (c : Content). c .pending) (lock-says s w m ws g r k) ∙ locked-pending w (look ws k) (contentOf (m .slots) k))
+      waits-by m (lockAll w m ws) k
+      (ap (λ (c : Content). c .pending) (lock-says w m ws g r k) ∙ locked-pending w (look ws k) (contentOf (m .slots) k))
 
-  pub unlock-waits : (w : ℕ) (ks : List ℕ) (k : ℕ) → waitsSince (unlockAll s w m ks) k ≡ waitsSince m k
+  pub unlock-waits : (w : ℕ) (ks : List ℕ) (k : ℕ) → waitsSince (unlockAll w m ks) k ≡ waitsSince m k
   unlock-waits w ks k =
-      waits-by m (unlockAll s w m ks) k
-      (ap (λ (c : Content). c .pending) (unlock-says s w m ks g k)
+      waits-by m (unlockAll w m ks) k
+      (ap (λ (c : Content). c .pending) (unlock-says w m ks g k)
       ∙ ⊎-elim (λ t. rw t (unlocked-pending w (contentOf (m .slots) k))) (λ t. rw t) (cases (has k ks)))
 
   -- an address that waits goes on waiting, and one that begins to wait does so since install t
   pub install-waits : (n t : ℕ) (ws : List (Row Write)) → Installable (m .slots) ws
-      → (k : ℕ) → waitsSince (installAll s n t m ws) k ≡ maybe (look ws k) (waitsSince m k) (λ (e : Write). some (maybe (waitsSince m k) t (λ (u : ℕ). u)))
+      → (k : ℕ) → waitsSince (installAll n t m ws) k ≡ maybe (look ws k) (waitsSince m k) (λ (e : Write). some (maybe (waitsSince m k) t (λ (u : ℕ). u)))
   unfolding waitsSince waitingSince
   install-waits n t ws i k =
-      ap (λ (c : Content). sinceOf (c .pending)) (install-says s n t m ws g i k) ∙ go (look ws k)
+      ap (λ (c : Content). sinceOf (c .pending)) (install-says n t m ws g i k) ∙ go (look ws k)
     where
       since : (o : Option Pending) → waitingSince t o ≡ maybe (sinceOf o) t (λ (u : ℕ). u)
       since none = refl
@@ -137,9 +137,9 @@ module _ (s : Settings) (m : MapState) (g : GoodMap s m) where
       go (some e) = ap some (since (contentOf (m .slots) k .pending))
 
   -- what a merge takes in waits no more
-  pub merge-waits : (v a k : ℕ) → waitsSince (mergeAt s v m a .map) k ≡ pick (has k (keys (merging m a))) none (waitsSince m k)
+  pub merge-waits : (s : Tuning) (v a k : ℕ) → waitsSince (mergeAt s v m a .map) k ≡ pick (has k (keys (merging m a))) none (waitsSince m k)
   unfolding waitsSince mergeAt mergeAll settleMap keys has any
-  merge-waits v a k = go (merging m a)
+  merge-waits s v a k = go (merging m a)
     where
       spread : (b : Bool) (o : Option Pending) → sinceOf (pick b none o) ≡ pick b none (sinceOf o)
       spread true o = refl
@@ -149,7 +149,7 @@ module _ (s : Settings) (m : MapState) (g : GoodMap s m) where
           → sinceOf (contentOf (mergeAll s v m a es .map .slots) k .pending) ≡ pick (has k (keys es)) none (sinceOf (contentOf (m .slots) k .pending))
       go [] = refl
       go (e ∷ es) =
-          ap sinceOf (merged-pending (s .bytes) m (e ∷ es) g k) ∙ spread (has k (keys (e ∷ es))) (contentOf (m .slots) k .pending)
+          ap sinceOf (merged-pending (limits .bytes) m (e ∷ es) g k) ∙ spread (has k (keys (e ∷ es))) (contentOf (m .slots) k .pending)
 
 -- ---- how many have waited longer
 

@@ -18,13 +18,13 @@ use Rattle.spec.specs.declared.Refusal.{Refusal}
 use Rattle.spec.specs.declared.Stage.{Stage}
 use Rattle.spec.specs.declared.Stage.the-variants.{Free, Open, Locked, Checked}
 use Rattle.spec.specs.Refusals.{ends}
-use Rattle.spec.specs.Records.{Settings, standard}
+use Rattle.spec.specs.Records.{limits, standard, Made}
 use Rattle.spec.specs.Steps.{Worker, freeWorker, State, fresh, workerOf, isFree, isOpen, isLocked, isChecked, Cause, noWorker, workerFree, wrongStage, firstCause}
-use Rattle.spec.specs.GoodSettings.{GoodSettings}
+use Rattle.spec.specs.GoodTuning.{GoodTuning}
 use Rattle.laws.specs.LeafCuts.{standard-cut}
 
-pub standard-settings : GoodSettings standard
-standard-settings = record { cut = standard-cut; roomy = omega arith }
+pub standard-tuning : GoodTuning standard
+standard-tuning = record { cut = standard-cut; roomy = omega arith }
 
 -- ---- workers
 
@@ -34,9 +34,9 @@ set-same xs w x h = getD-set-same xs w x freeWorker h
 pub set-other : (xs : List Worker) (w : ℕ) (x : Worker) (v : ℕ) → (v ≡ w → ⊥) → getD (set xs w x) v freeWorker ≡ getD xs v freeWorker
 set-other xs w x v d = getD-set-other xs w v x freeWorker d
 
-pub worker-fresh : (s : Settings) (g : Bool) (w : ℕ) → workerOf (fresh s g) w ≡ freeWorker
+pub worker-fresh : (d : Made) (w : ℕ) → workerOf (fresh d) w ≡ freeWorker
 unfolding workerOf
-worker-fresh s g w = go (s .workers) w
+worker-fresh d w = go (limits .workers) w
   where
     go : (n w : ℕ) → getD (replicate n freeWorker) w freeWorker ≡ freeWorker
     go zero w = refl
@@ -138,19 +138,19 @@ cause-passes c cs t e = rw t e
 -- the causes of every step at a worker that is in the right stage
 pub stage-passed : (σ : State) (right : Stage → Bool) (w : ℕ) (cs : List Cause)
     → firstCause (noWorker σ w ∷ workerFree σ w ∷ wrongStage right σ w ∷ cs) ≡ none
-    → (w < σ .settings .workers) × (right (workerOf σ w .stage) ≡ true) × (firstCause cs ≡ none)
+    → (w < limits .workers) × (right (workerOf σ w .stage) ≡ true) × (firstCause cs ≡ none)
 unfolding noWorker workerFree wrongStage
 stage-passed σ right w cs e =
     let a = cause-passed _ _ e in
     let b = cause-passed _ _ (a .1) in
     let c = cause-passed _ _ (b .1) in (
-      less-true w (σ .settings .workers) (not-false (less w (σ .settings .workers)) (a .0)),
+      less-true w (limits .workers) (not-false (less w (limits .workers)) (a .0)),
       not-false (right (workerOf σ w .stage)) (c .0),
       c .1,
     )
 
 pub stage-passes : (σ : State) (right : Stage → Bool) (w : ℕ) (cs : List Cause)
-    → w < σ .settings .workers → isFree (workerOf σ w .stage) ≡ false → right (workerOf σ w .stage) ≡ true → firstCause cs ≡ none
+    → w < limits .workers → isFree (workerOf σ w .stage) ≡ false → right (workerOf σ w .stage) ≡ true → firstCause cs ≡ none
     → firstCause (noWorker σ w ∷ workerFree σ w ∷ wrongStage right σ w ∷ cs) ≡ none
 unfolding noWorker workerFree wrongStage
 stage-passes σ right w cs i f r e = cause-passes _ _ (ap not (less-yes i)) (cause-passes _ _ f (cause-passes _ _ (ap not r) e))

@@ -62,7 +62,7 @@ module _ {σ : State} (h : Kept σ) where
   unfolding dropped withWorker withMap
   dropped-same s w o =
       record {
-        waits = λ k. unlock-waits (σ .settings) (σ .map) (h .map .slots) w (writeKeys σ w) k;
+        waits = λ k. unlock-waits (σ .map) (h .map .slots) w (writeKeys σ w) k;
         installs = refl;
         other = o;
       }
@@ -73,7 +73,7 @@ module _ {σ : State} (h : Kept σ) where
   merged-less s a t o =
       record {
         at = a;
-        waits = λ k. merge-waits (σ .settings) (σ .map) (h .map .slots) (σ .counters .version) a k;
+        waits = λ k. merge-waits (σ .map) (h .map .slots) (σ .made .tuning) (σ .counters .version) a k;
         takes = t;
         installs = refl;
         oldest-first = o;
@@ -88,7 +88,7 @@ module _ {σ : State} (h : Kept σ) where
       (record {
         waits =
             λ k.
-            lock-waits (σ .settings) (σ .map) (h .map .slots) w (workerOf σ w .writes) (lockable h w (lock-passed σ w e .1)) k;
+            lock-waits (σ .map) (h .map .slots) w (workerOf σ w .writes) (lockable h w (lock-passed σ w e .1)) k;
         installs = refl;
         other = refl;
       })
@@ -100,7 +100,7 @@ module _ {σ : State} (h : Kept σ) where
         writes = workerOf σ w .writes;
         waits =
             λ k.
-            install-waits (σ .settings) (σ .map) (h .map .slots) (workerOf σ w .number) (suc (σ .counters .installs)) (workerOf σ w .writes)
+            install-waits (σ .map) (h .map .slots) (workerOf σ w .number) (suc (σ .counters .installs)) (workerOf σ w .writes)
             (installable h w (install-passed σ w e .stage)) k;
         installs = refl;
         other = refl;

@@ -17,17 +17,17 @@ use Rattle.lists.specs.Tests.{pick, maybe}
 use Rattle.lists.specs.TestLaws.{cases, clash}
 use Rattle.lists.specs.Options.{both-options, some-same}
 use Rattle.lists.specs.Rows.{row, look, keys, has}
-use Rattle.spec.specs.Records.{Settings, Write}
+use Rattle.spec.specs.Records.{limits, Made, Write}
 use Rattle.spec.specs.Slots.{entries, contentOf}
 use Rattle.spec.specs.Maps.{MapState, merging, older, oldest}
 use Rattle.spec.specs.Steps.{State, fresh, Step, next, final}
 use Rattle.spec.specs.Waiting.{waitsSince, isMergeOldest, oldestMerges, takesIn, TakenWithin}
 use Rattle.laws.specs.SlotLaws.{Good}
-use Rattle.spec.specs.GoodSettings.{GoodSettings}
+use Rattle.spec.specs.GoodTuning.{GoodTuning}
 use Rattle.laws.specs.OldestLaws.{older-true, strictly-older}
 use Rattle.laws.specs.WaitingLaws.{olderAt, olderCount, older-fewer-than-entries, older-no-more, older-one-less, oldest-waits, merging-takes}
 use Rattle.limits.specs.Invariant.{Kept, fresh-kept}
-use Rattle.limits.specs.Keeping.{next-kept, next-settings, final-kept, final-settings}
+use Rattle.limits.specs.Keeping.{next-kept, final-kept, final-made}
 use Rattle.limits.specs.Aging.{WaitsSame, WaitsMore, WaitsLess, WaitChange, wait-change}
 
 -- ---- ages are installs that were
@@ -72,9 +72,9 @@ unfolding final
 final-aged h a [] = a
 final-aged h a (s ∷ ss) = final-aged (next-kept h s) (next-aged h a s) ss
 
-fresh-aged : (s : Settings) (g : Bool) → Aged (fresh s g)
+fresh-aged : (d : Made) → Aged (fresh d)
 unfolding waitsSince contentOf entries look
-fresh-aged s g = record { past = λ k t e. both-options e refl }
+fresh-aged d = record { past = λ k t e. both-options e refl }
 
 -- ---- one step
 
@@ -84,8 +84,8 @@ record WaitsOn (σ : State) (k t : ℕ) (s : Step) : Type 0 where
   pub fewer : olderCount (next σ s .map) k t + pick (isMergeOldest s) 1 0 ≤ olderCount (σ .map) k t
 
 module _ {σ : State} (h : Kept σ) (a : Aged σ) (k t : ℕ) (e : waitsSince (σ .map) k ≡ some t) (s : Step) where
-  good-next : Good (σ .settings .bytes) (next σ s .map .slots)
-  good-next = subst (λ (x : Settings). Good (x .bytes) (next σ s .map .slots)) (next-settings σ s) (next-kept h s .map .slots)
+  good-next : Good (limits .bytes) (next σ s .map .slots)
+  good-next = next-kept h s .map .slots
 
   -- j has waited longer after the step only if it had before
   abbrev NoneNew : Type 0
@@ -229,15 +229,15 @@ within {σ} h a k t n e l (s ∷ ss) m =
         taken-later s e w (subst (λ (b : Bool). n + pick b 1 0 ≤ n) (sym o) (let z : n + 0 ≤ n = omega arith in z))
         (ih n (let z : olderCount (next σ s .map) k t < n = omega arith in z) m)
 
-pub bounded-waiting : (s : Settings) (g : Bool) → GoodSettings s → (ss : List Step) (k t : ℕ) → waitsSince (final (fresh s g) ss .map) k ≡ some t
-    → (ts : List Step) → s .waitingLimit ≤ oldestMerges ts → TakenWithin (final (fresh s g) ss) k (s .waitingLimit) ts
-bounded-waiting s g c ss k t e ts m =
-    within h (final-aged (fresh-kept s g c) (fresh-aged s g) ss) k t (s .waitingLimit) e few ts m
+pub bounded-waiting : (d : Made) → GoodTuning (d .tuning) → (ss : List Step) (k t : ℕ) → waitsSince (final (fresh d) ss .map) k ≡ some t
+    → (ts : List Step) → d .tuning .waitingLimit ≤ oldestMerges ts → TakenWithin (final (fresh d) ss) k (d .tuning .waitingLimit) ts
+bounded-waiting d c ss k t e ts m =
+    within h (final-aged (fresh-kept d c) (fresh-aged d) ss) k t (d .tuning .waitingLimit) e few ts m
   where
-    h : Kept (final (fresh s g) ss)
-    h = final-kept (fresh-kept s g c) ss
+    h : Kept (final (fresh d) ss)
+    h = final-kept (fresh-kept d c) ss
 
-    few : olderCount (final (fresh s g) ss .map) k t < s .waitingLimit
+    few : olderCount (final (fresh d) ss .map) k t < d .tuning .waitingLimit
     few =
-        lt-of-lt-of-le (older-fewer-than-entries (final (fresh s g) ss .map) k t (h .map .slots) e)
-        (subst (λ (x : Settings). length (entries (final (fresh s g) ss .map .slots)) ≤ x .waitingLimit) (final-settings (fresh s g) ss) (h .map .waiting))
+        lt-of-lt-of-le (older-fewer-than-entries (final (fresh d) ss .map) k t (h .map .slots) e)
+        (subst (λ (x : Made). length (entries (final (fresh d) ss .map .slots)) ≤ x .tuning .waitingLimit) (final-made (fresh d) ss) (h .map .waiting))

@@ -29,18 +29,18 @@ pub record GrantedInstall (σ : State) (s : Step) : Type 0 where
 module _ {σ : State} (h : Kept σ) where
   dropped-current : (w k : ℕ) → current (dropped σ w .map) k ≡ current (σ .map) k
   unfolding dropped withWorker withMap
-  dropped-current w k = unlock-current (σ .settings) w (σ .map) (writeKeys σ w) (h .map .slots) k
+  dropped-current w k = unlock-current w (σ .map) (writeKeys σ w) (h .map .slots) k
 
   merged-current : (a k : ℕ) → current (effect σ (merge a) .map) k ≡ current (σ .map) k
   unfolding effect merged withMap withCounters
-  merged-current a k = merges a (h .settings .cut) (h .map .slots) (h .map .records) (h .map .leaves) .same-current k
+  merged-current a k = merges a (h .tuning .cut) (h .map .slots) (h .map .records) (h .map .leaves) .same-current k
 
   granted-current : (s : Step) → refusal σ s ≡ none → (GrantedInstall σ s → ⊥) → (k : ℕ) → current (effect σ s .map) k ≡ current (σ .map) k
   unfolding effect merged withWorker withMap withCounters
   granted-current (act w beginning) e n k = refl
   granted-current (act w (access a)) e n k = refl
   granted-current (act w locking) e n k =
-      lock-current (σ .settings) w (σ .map) (workerOf σ w .writes) (h .map .slots) (lockable h w (lock-passed σ w e .1)) k
+      lock-current w (σ .map) (workerOf σ w .writes) (h .map .slots) (lockable h w (lock-passed σ w e .1)) k
   granted-current (act w validating) e n k = refl
   granted-current (act w installing) e n k = absurd (n (record { worker = w; is = refl; granted = e }))
   granted-current (act w aborting) e n k = dropped-current w k
@@ -70,5 +70,5 @@ module _ {σ : State} (h : Kept σ) where
   installed-current w e k =
       ap (λ (τ : State). current (τ .map) k) (next-granted σ (install w) e)
       ∙ (unfold effect installCounted withWorker withMap in
-      install-current (σ .settings) (workerOf σ w .number) (suc (σ .counters .installs)) (σ .map) (workerOf σ w .writes) (h .map .slots)
+      install-current (workerOf σ w .number) (suc (σ .counters .installs)) (σ .map) (workerOf σ w .writes) (h .map .slots)
       (installable h w (install-passed σ w e .stage)) k)

@@ -10,7 +10,7 @@ use Rattle.lists.specs.TestLaws.{clash}
 use Rattle.lists.specs.Rows.{Row, look, keys, any}
 use Rattle.lists.specs.RowLaws.{any-false, none-any}
 use Rattle.spec.specs.declared.Refusal.the-variants.{Changed, UnderLock, Phantom, Spent}
-use Rattle.spec.specs.Records.{isPut}
+use Rattle.spec.specs.Records.{limits, isPut}
 use Rattle.spec.specs.Leaves.{versionAt, live}
 use Rattle.spec.specs.Slots.{Pending, Content, entries}
 use Rattle.spec.specs.Maps.{MapState, heldByOther, putPending, hiding, hiddenIn, hides, phantomIn}
@@ -40,7 +40,7 @@ causesAny σ w =
     ∷ cause (any (changedSince σ) (workerOf σ w .reads)) Changed
     ∷ cause (any (lockedByOther σ w) (keys (workerOf σ w .reads))) UnderLock
     ∷ cause (any (phantomInAny σ w) (workerOf σ w .versions)) Phantom
-    ∷ cause (not (less (σ .counters .number) (σ .settings .lastNumber))) Spent
+    ∷ cause (not (less (σ .counters .number) (limits .lastNumber))) Spent
     ∷ []
 
 -- ---- each test is narrower

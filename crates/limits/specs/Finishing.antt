@@ -11,7 +11,7 @@ use Rattle.lists.specs.TestLaws.{cases, clash}
 use Rattle.lists.specs.Options.{both-options, some-same}
 use Rattle.lists.specs.Rows.{look}
 use Rattle.lists.specs.RowLaws.{has-keys, rising-different}
-use Rattle.spec.specs.Records.{Write}
+use Rattle.spec.specs.Records.{limits, Write}
 use Rattle.spec.specs.Slots.{Content, isIdle, contentOf}
 use Rattle.spec.specs.Maps.{MapState, mergeAt}
 use Rattle.spec.specs.Steps.{freeWorker, State, workerOf, isFree, isLocked, isChecked, writeKeys, withWorker, withMap, withCounters, installCounted, checkedAs, installedMap, merged}
@@ -27,7 +27,7 @@ use Rattle.limits.specs.Granting.{AtStage}
 use Rattle.limits.specs.Opening.{inside}
 
 module _ {σ : State} (h : Kept σ) where
-  pub validate-kept : (w : ℕ) → AtStage isLocked σ w → σ .counters .number < σ .settings .lastNumber
+  pub validate-kept : (w : ℕ) → AtStage isLocked σ w → σ .counters .number < limits .lastNumber
       → Kept (withWorker (withCounters σ (suc (σ .counters .number)) (σ .counters .version)) w (checkedAs (suc (σ .counters .number)) (workerOf σ w)))
   unfolding withWorker withCounters checkedAs writeKeys isChecked
   validate-kept w a l =
@@ -58,10 +58,10 @@ module _ {σ : State} (h : Kept σ) where
             (installs-validate (σ .counters .installs) _ _ (h .installs));
         versions =
             subst
-            (λ (c : ℕ). σ .counters .version + versionsPerMerge (σ .settings) * (pendingCount (σ .map .slots) + σ .settings .writeLimit * c)
-            ≤ versionsPerMerge (σ .settings) * σ .settings .writeLimit * suc (σ .counters .number))
+            (λ (c : ℕ). σ .counters .version + versionsPerMerge (σ .made .tuning) * (pendingCount (σ .map .slots) + limits .writeLimit * c)
+            ≤ versionsPerMerge (σ .made .tuning) * limits .writeLimit * suc (σ .counters .number))
             (sym (count-more σ w _ (inside h w (a .inside)) (locked-unchecked (workerOf σ w .stage) (a .stage)) refl))
-            (owed-validate (versionsPerMerge (σ .settings)) (σ .settings .writeLimit) _ _ _ _ (h .versions));
+            (owed-validate (versionsPerMerge (σ .made .tuning)) (limits .writeLimit) _ _ _ _ (h .versions));
       })
 
   -- ---- install
@@ -85,7 +85,7 @@ module _ {σ : State} (h : Kept σ) where
       (record {
         inside = inside h w (a .inside);
         map = install-bounded (h .map) (workerOf σ w .number) (suc (σ .counters .installs)) (workerOf σ w .writes) can;
-        worker = free-good (σ .settings) (σ .counters .number);
+        worker = free-good (σ .counters .number);
         others-keep = λ v k d e. keep v k d e (look (workerOf σ w .writes) k) refl;
         others-get = λ v k d e. get v k e (look (workerOf σ w .writes) k) refl;
         holds = λ k t e. clash t (unfold hasLocks isLocked isChecked in refl);
@@ -97,8 +97,8 @@ module _ {σ : State} (h : Kept σ) where
             installs-install (σ .counters .installs) _ _ _
             (count-spent σ w freeWorker (inside h w (a .inside)) (a .stage) (unfold isChecked in refl)) (h .installs);
         versions =
-            owed-install (versionsPerMerge (σ .settings)) (σ .settings .writeLimit) _ _ _ _ _ (length (workerOf σ w .writes)) _
-            (install-pending (σ .settings) (workerOf σ w .number) (suc (σ .counters .installs)) (σ .map) (workerOf σ w .writes) (h .map .slots) can)
+            owed-install (versionsPerMerge (σ .made .tuning)) (limits .writeLimit) _ _ _ _ _ (length (workerOf σ w .writes)) _
+            (install-pending (workerOf σ w .number) (suc (σ .counters .installs)) (σ .map) (workerOf σ w .writes) (h .map .slots) can)
             (h .worker w .writes)
             (count-spent σ w freeWorker (inside h w (a .inside)) (a .stage) (unfold isChecked in refl)) (h .versions);
       })
@@ -112,7 +112,7 @@ module _ {σ : State} (h : Kept σ) where
       says : (k : ℕ) (o : Option Write) → look (workerOf σ w .writes) k ≡ o
           → contentOf (after .slots) k ≡ writtenBy (workerOf σ w .number) (suc (σ .counters .installs)) o (contentOf (σ .map .slots) k)
       says k o q =
-          install-says (σ .settings) (workerOf σ w .number) (suc (σ .counters .installs)) (σ .map) (workerOf σ w .writes) (h .map .slots) can k
+          install-says (workerOf σ w .number) (suc (σ .counters .installs)) (σ .map) (workerOf σ w .writes) (h .map .slots) can k
           ∙ ap (λ (x : Option Write). writtenBy (workerOf σ w .number) (suc (σ .counters .installs)) x (contentOf (σ .map .slots) k)) q
 
       holder : (k : ℕ) (o : Option Write) → look (workerOf σ w .writes) k ≡ o
@@ -138,12 +138,12 @@ module _ {σ : State} (h : Kept σ) where
 
   -- ---- merge
 
-  pub merge-kept : (a : ℕ) → Kept (merged σ (mergeAt (σ .settings) (σ .counters .version) (σ .map) a))
+  pub merge-kept : (a : ℕ) → Kept (merged σ (mergeAt (σ .made .tuning) (σ .counters .version) (σ .map) a))
   unfolding merged withMap withCounters workerOf writeKeys
   merge-kept a =
       record {
-        settings = h .settings;
-        map = merge-bounded a (h .settings .cut) (h .map);
+        tuning = h .tuning;
+        map = merge-bounded a (h .tuning .cut) (h .map);
         worker-count = h .worker-count;
         worker = h .worker;
         holds = λ w k t e. r .same-holder k ∙ h .holds w k t e;
@@ -152,9 +152,9 @@ module _ {σ : State} (h : Kept σ) where
         numbers = h .numbers;
         installs = h .installs;
         versions =
-            owed-merge (versionsPerMerge (σ .settings)) (σ .settings .writeLimit) _ _ _ _ _ _
-            (merge-spends a (h .settings .cut) (h .map)) (h .versions);
+            owed-merge (versionsPerMerge (σ .made .tuning)) (limits .writeLimit) _ _ _ _ _ _
+            (merge-spends a (h .tuning .cut) (h .map)) (h .versions);
       }
     where
-      r : Merges (σ .settings) (σ .counters .version) (σ .map) (mergeAt (σ .settings) (σ .counters .version) (σ .map) a)
-      r = merges a (h .settings .cut) (h .map .slots) (h .map .records) (h .map .leaves)
+      r : Merges (σ .counters .version) (σ .map) (mergeAt (σ .made .tuning) (σ .counters .version) (σ .map) a)
+      r = merges a (h .tuning .cut) (h .map .slots) (h .map .records) (h .map .leaves)

@@ -10,7 +10,7 @@ use Prim.Native.Nat.{ℕ, zero, suc, _+_, _*_, _^_, _<_, _≤_, zero-le}
 use native.Mathlib.Nat.{le-of-eq, mul-zero, mul-le-mul-left}
 use native.Mathlib.Omega.{arith}
 use mathlib.Core.Path.{_≡_, refl, sym, ap, _∙_, subst}
-use mathlib.Core.Bool.{Bool, true, false}
+use mathlib.Core.Bool.{true, false}
 use mathlib.Core.List.{List}
 use mathlib.Core.Option.{some}
 use lib.ListN.{length, replicate, length-replicate}
@@ -20,14 +20,14 @@ use Rattle.lists.specs.Options.{both-options}
 use Rattle.lists.specs.Rows.{look, has}
 use Rattle.lists.specs.RowLaws.{rising-nil}
 use Rattle.lists.specs.Sums.{total}
-use Rattle.spec.specs.Records.{Settings, standard, Write, isPut}
+use Rattle.spec.specs.Records.{limits, Tuning, standard, Made, Write, isPut}
 use Rattle.spec.specs.Slots.{emptySlots, entries, contentOf}
 use Rattle.spec.specs.Steps.{Worker, freeWorker, State, fresh, workerOf, writeKeys, isFree, isLocked, isChecked}
 use Rattle.laws.specs.AccessLaws.{GoodWorker}
 use Rattle.laws.specs.MapBounds.{Bounded, fresh-bounded}
 use Rattle.laws.specs.PendingCounts.{pendingCount, none-pending}
 use Rattle.laws.specs.VersionBounds.{standard-per, versionsPerMerge}
-use Rattle.spec.specs.GoodSettings.{GoodSettings}
+use Rattle.spec.specs.GoodTuning.{GoodTuning}
 use Rattle.laws.specs.WorkerLaws.{worker-fresh, hasLocks}
 
 -- how many workers are checked
@@ -36,13 +36,13 @@ checkedCount xs = total (λ (i : ℕ) (x : Worker). pick (isChecked (x .stage)) 
 
 -- pending writes, and those that the checked workers may still install
 abbrev owed : State → ℕ
-owed σ = pendingCount (σ .map .slots) + σ .settings .writeLimit * checkedCount (σ .workers)
+owed σ = pendingCount (σ .map .slots) + limits .writeLimit * checkedCount (σ .workers)
 
 pub record Kept (σ : State) : Type 0 where
-  pub settings : GoodSettings (σ .settings)
-  pub map : Bounded (σ .settings) (σ .counters .version) (σ .map)
-  pub worker-count : length (σ .workers) ≡ σ .settings .workers
-  pub worker : (w : ℕ) → GoodWorker (σ .settings) (σ .counters .number) (workerOf σ w)
+  pub tuning : GoodTuning (σ .made .tuning)
+  pub map : Bounded (σ .made .tuning) (σ .counters .version) (σ .map)
+  pub worker-count : length (σ .workers) ≡ limits .workers
+  pub worker : (w : ℕ) → GoodWorker (σ .counters .number) (workerOf σ w)
   -- a locked or checked worker has the locks of its write set
   pub holds : (w k : ℕ) → hasLocks (workerOf σ w .stage) ≡ true → has k (writeKeys σ w) ≡ true → contentOf (σ .map .slots) k .holder ≡ some w
   -- and there are no other locks
@@ -51,44 +51,44 @@ pub record Kept (σ : State) : Type 0 where
   pub kinds :
       (w k : ℕ) (e : Write) → hasLocks (workerOf σ w .stage) ≡ true → look (workerOf σ w .writes) k ≡ some e
       → contentOf (σ .map .slots) k .forPut ≡ isPut e
-  pub numbers : σ .counters .number ≤ σ .settings .lastNumber
+  pub numbers : σ .counters .number ≤ limits .lastNumber
   -- an install uses up a checked transaction, which took a commit number
   pub installs : σ .counters .installs + checkedCount (σ .workers) ≤ σ .counters .number
   pub versions :
-      σ .counters .version + versionsPerMerge (σ .settings) * owed σ
-      ≤ versionsPerMerge (σ .settings) * σ .settings .writeLimit * σ .counters .number
+      σ .counters .version + versionsPerMerge (σ .made .tuning) * owed σ
+      ≤ versionsPerMerge (σ .made .tuning) * limits .writeLimit * σ .counters .number
 
 -- ---- what follows
 
 version-limit : {σ : State} → Kept σ
-    → σ .counters .version ≤ versionsPerMerge (σ .settings) * σ .settings .writeLimit * σ .settings .lastNumber
+    → σ .counters .version ≤ versionsPerMerge (σ .made .tuning) * limits .writeLimit * limits .lastNumber
 version-limit {σ} h =
-    let a : σ .counters .version + versionsPerMerge (σ .settings) * owed σ ≤ versionsPerMerge (σ .settings) * σ .settings .writeLimit * σ .counters .number
+    let a : σ .counters .version + versionsPerMerge (σ .made .tuning) * owed σ ≤ versionsPerMerge (σ .made .tuning) * limits .writeLimit * σ .counters .number
     = h .versions in
-    let b : versionsPerMerge (σ .settings) * σ .settings .writeLimit * σ .counters .number ≤ versionsPerMerge (σ .settings) * σ .settings .writeLimit * σ .settings .lastNumber
-    = mul-le-mul-left (versionsPerMerge (σ .settings) * σ .settings .writeLimit) (h .numbers) in
+    let b : versionsPerMerge (σ .made .tuning) * limits .writeLimit * σ .counters .number ≤ versionsPerMerge (σ .made .tuning) * limits .writeLimit * limits .lastNumber
+    = mul-le-mul-left (versionsPerMerge (σ .made .tuning) * limits .writeLimit) (h .numbers) in
     omega arith
 
 -- under document 01's limits: 129 versions a merge, 16 writes a transaction, 1,000,000 commit numbers
-pub standard-version : {σ : State} → Kept σ → σ .settings ≡ standard → σ .counters .version ≤ versionsPerMerge standard * standard .writeLimit * standard .lastNumber
+pub standard-version : {σ : State} → Kept σ → σ .made .tuning ≡ standard → σ .counters .version ≤ versionsPerMerge standard * limits .writeLimit * limits .lastNumber
 standard-version {σ} h e =
-    subst (λ (s : Settings). σ .counters .version ≤ versionsPerMerge s * s .writeLimit * s .lastNumber) e (version-limit h)
+    subst (λ (s : Tuning). σ .counters .version ≤ versionsPerMerge s * limits .writeLimit * limits .lastNumber) e (version-limit h)
 
 -- no counter wraps
-pub standard-counters : {σ : State} → Kept σ → σ .settings ≡ standard
+pub standard-counters : {σ : State} → Kept σ → σ .made .tuning ≡ standard
     → (σ .counters .number < 2 ^ 64) × (σ .counters .version < 2 ^ 64) × (σ .counters .installs + 1 < 2 ^ 64)
 standard-counters {σ} h e =
-    let n : σ .counters .number ≤ standard .lastNumber = subst (λ (s : Settings). σ .counters .number ≤ s .lastNumber) e (h .numbers) in
-    let v : σ .counters .version ≤ versionsPerMerge standard * standard .writeLimit * standard .lastNumber = standard-version h e in
+    let n : σ .counters .number ≤ limits .lastNumber = h .numbers in
+    let v : σ .counters .version ≤ versionsPerMerge standard * limits .writeLimit * limits .lastNumber = standard-version h e in
     let p : versionsPerMerge standard ≡ 129 = standard-per in
     let i : σ .counters .installs + checkedCount (σ .workers) ≤ σ .counters .number = h .installs in
     (omega arith, omega arith, omega arith)
 
 -- ---- a fresh map
 
-pub free-good : (s : Settings) (n : ℕ) → GoodWorker s n freeWorker
+pub free-good : (n : ℕ) → GoodWorker n freeWorker
 unfolding isFree isChecked
-free-good s n =
+free-good n =
     record {
       rising = rising-nil Write;
       writes = zero-le;
@@ -107,24 +107,24 @@ none-checked (suc n) = let e : total (λ (i : ℕ) (x : Worker). pick (isChecked
 at-most-none : (c : ℕ) → c ≡ 0 → 0 + c ≤ 0
 at-most-none c e = omega arith
 
-pub fresh-kept : (s : Settings) (g : Bool) → GoodSettings s → Kept (fresh s g)
-fresh-kept s g h =
+pub fresh-kept : (d : Made) → GoodTuning (d .tuning) → Kept (fresh d)
+fresh-kept d h =
     record {
-      settings = h;
-      map = fresh-bounded s;
-      worker-count = length-replicate (s .workers) freeWorker;
-      worker = λ w. subst (GoodWorker s 0) (sym (worker-fresh s g w)) (free-good s 0);
+      tuning = h;
+      map = fresh-bounded (d .tuning);
+      worker-count = length-replicate (limits .workers) freeWorker;
+      worker = λ w. subst (GoodWorker 0) (sym (worker-fresh d w)) (free-good 0);
       holds = λ w k t. clash t (unlocked w);
       held-by = λ w k e. both-options e (unfold contentOf entries look in refl);
       kinds = λ w k e t. clash t (unlocked w);
       numbers = zero-le;
-      installs = at-most-none _ (none-checked (s .workers));
+      installs = at-most-none _ (none-checked (limits .workers));
       versions = nothing;
     }
   where
-    unlocked : (w : ℕ) → hasLocks (workerOf (fresh s g) w .stage) ≡ false
-    unlocked w = ap (λ (x : Worker). hasLocks (x .stage)) (worker-fresh s g w) ∙ (unfold hasLocks isLocked isChecked in refl)
+    unlocked : (w : ℕ) → hasLocks (workerOf (fresh d) w .stage) ≡ false
+    unlocked w = ap (λ (x : Worker). hasLocks (x .stage)) (worker-fresh d w) ∙ (unfold hasLocks isLocked isChecked in refl)
 
-    nothing : 0 + versionsPerMerge s * (pendingCount emptySlots + s .writeLimit * checkedCount (replicate (s .workers) freeWorker)) ≤ versionsPerMerge s * s .writeLimit * 0
+    nothing : 0 + versionsPerMerge (d .tuning) * (pendingCount emptySlots + limits .writeLimit * checkedCount (replicate (limits .workers) freeWorker)) ≤ versionsPerMerge (d .tuning) * limits .writeLimit * 0
     nothing =
-        le-of-eq (rw (none-pending, none-checked (s .workers), mul-zero (s .writeLimit)) (omega (arith, mul-zero (versionsPerMerge s))))
+        le-of-eq (rw (none-pending, none-checked (limits .workers), mul-zero (limits .writeLimit)) (omega (arith, mul-zero (versionsPerMerge (d .tuning)))))

@@ -1,7 +1,7 @@
 -- Every step keeps the invariant (`next-kept`), and so it holds after every list of steps from a fresh map. Under
 -- document 01's limits no list of steps passes any of them (`every-run`): 1,024 records, 1,025 leaves, 192 waiting and
 -- locked addresses, a worker's 64, 32 and 16, 1,000,000 commit numbers, and the versions that these allow.
-use Prim.Native.Nat.{_+_, ℕ, suc, _*_, _≤_}
+use Prim.Native.Nat.{_+_, ℕ, _*_, _≤_}
 use native.Mathlib.Omega.{arith}
 use mathlib.Core.Path.{_≡_, refl, sym, ap, _∙_, subst}
 use mathlib.Core.Logic.{⊎-elim}
@@ -13,12 +13,12 @@ use Rattle.lists.specs.TestLaws.{cases}
 use Rattle.lists.specs.Rows.{keys, distinct}
 use Rattle.spec.specs.declared.Refusal.{Refusal}
 use Rattle.spec.specs.Refusals.{ends}
-use Rattle.spec.specs.Records.{Settings, standard}
+use Rattle.spec.specs.Records.{limits, Tuning, standard, Made, standardMap}
 use Rattle.spec.specs.Slots.{entries}
 use Rattle.spec.specs.Maps.{oldest}
 use Rattle.spec.specs.Steps.{State, fresh, workerOf, beginning, access, locking, validating, installing, aborting, Step, act, merge, mergeOldest, refusal, withWorker, withMap, withCounters, installCounted, dropped, merged, effect, next, final}
 use Rattle.laws.specs.MapBounds.{record-count, leaf-limit}
-use Rattle.laws.specs.WorkerLaws.{standard-settings}
+use Rattle.laws.specs.WorkerLaws.{standard-tuning}
 use Rattle.limits.specs.Invariant.{Kept, fresh-kept, standard-version}
 use Rattle.limits.specs.Granting.{begin-passed, access-passed, lock-passed, validate-passed, install-passed, abort-passed}
 use Rattle.limits.specs.Refusing.{ends-validation, next-granted, refused-same, refused-ends}
@@ -63,66 +63,65 @@ final-kept h (s ∷ ss) = final-kept (next-kept h s) ss
 
 -- ---- the limits stay what they are
 
-pub next-settings : (σ : State) (s : Step) → next σ s .settings ≡ σ .settings
-next-settings σ s = go (refusal σ s) refl
+next-made : (σ : State) (s : Step) → next σ s .made ≡ σ .made
+next-made σ s = go (refusal σ s) refl
   where
-    granted-settings : (x : Step) → effect σ x .settings ≡ σ .settings
-    granted-settings (act w beginning) = unfold effect withWorker in refl
-    granted-settings (act w (access a)) = unfold effect withWorker in refl
-    granted-settings (act w locking) = unfold effect withWorker withMap in refl
-    granted-settings (act w validating) = unfold effect withWorker withCounters in refl
-    granted-settings (act w installing) = unfold effect installCounted withWorker withMap in refl
-    granted-settings (act w aborting) = unfold effect dropped withWorker withMap in refl
-    granted-settings (merge a) = unfold effect merged withCounters withMap in refl
-    granted-settings mergeOldest = unfold effect merged withCounters withMap in refl
+    granted-made : (x : Step) → effect σ x .made ≡ σ .made
+    granted-made (act w beginning) = unfold effect withWorker in refl
+    granted-made (act w (access a)) = unfold effect withWorker in refl
+    granted-made (act w locking) = unfold effect withWorker withMap in refl
+    granted-made (act w validating) = unfold effect withWorker withCounters in refl
+    granted-made (act w installing) = unfold effect installCounted withWorker withMap in refl
+    granted-made (act w aborting) = unfold effect dropped withWorker withMap in refl
+    granted-made (merge a) = unfold effect merged withCounters withMap in refl
+    granted-made mergeOldest = unfold effect merged withCounters withMap in refl
 
-    go : (o : Option Refusal) → refusal σ s ≡ o → next σ s .settings ≡ σ .settings
-    go none e = ap (λ (τ : State). τ .settings) (next-granted σ s e) ∙ granted-settings s
+    go : (o : Option Refusal) → refusal σ s ≡ o → next σ s .made ≡ σ .made
+    go none e = ap (λ (τ : State). τ .made) (next-granted σ s e) ∙ granted-made s
     go (some r) e =
         ⊎-elim
-        (λ t. ap (λ (τ : State). τ .settings) (refused-ends σ s r e t) ∙ (unfold dropped withWorker withMap in refl))
-        (λ t. ap (λ (τ : State). τ .settings) (refused-same σ s r e t))
+        (λ t. ap (λ (τ : State). τ .made) (refused-ends σ s r e t) ∙ (unfold dropped withWorker withMap in refl))
+        (λ t. ap (λ (τ : State). τ .made) (refused-same σ s r e t))
         (cases (ends r))
 
-pub final-settings : (σ : State) (ss : List Step) → final σ ss .settings ≡ σ .settings
+pub final-made : (σ : State) (ss : List Step) → final σ ss .made ≡ σ .made
 unfolding final
-final-settings σ [] = refl
-final-settings σ (s ∷ ss) = final-settings (next σ s) ss ∙ next-settings σ s
+final-made σ [] = refl
+final-made σ (s ∷ ss) = final-made (next σ s) ss ∙ next-made σ s
 
 -- ---- document 01's limits
 
 -- What no list of steps passes.
 pub record WithinLimits (σ : State) : Type 0 where
-  pub records : length (σ .map .records) ≤ standard .mapLimit
-  pub leaves : length (σ .map .leaves) ≤ standard .mapLimit + 1
+  pub records : length (σ .map .records) ≤ limits .mapLimit
+  pub leaves : length (σ .map .leaves) ≤ limits .mapLimit + 1
   pub waiting : length (entries (σ .map .slots)) ≤ standard .waitingLimit
-  pub addresses : distinct (keys (σ .map .records) ++ keys (entries (σ .map .slots))) ≤ standard .mapLimit
-  pub reads : (w : ℕ) → length (workerOf σ w .reads) ≤ standard .readLimit
-  pub versions : (w : ℕ) → length (workerOf σ w .versions) ≤ standard .leafSetLimit
-  pub writes : (w : ℕ) → length (workerOf σ w .writes) ≤ standard .writeLimit
-  pub number : σ .counters .number ≤ standard .lastNumber
+  pub addresses : distinct (keys (σ .map .records) ++ keys (entries (σ .map .slots))) ≤ limits .mapLimit
+  pub reads : (w : ℕ) → length (workerOf σ w .reads) ≤ limits .readLimit
+  pub versions : (w : ℕ) → length (workerOf σ w .versions) ≤ limits .leafSetLimit
+  pub writes : (w : ℕ) → length (workerOf σ w .writes) ≤ limits .writeLimit
+  pub number : σ .counters .number ≤ limits .lastNumber
   pub installs : σ .counters .installs ≤ σ .counters .number
-  pub version : σ .counters .version ≤ versionsPerMerge standard * standard .writeLimit * standard .lastNumber
+  pub version : σ .counters .version ≤ versionsPerMerge standard * limits .writeLimit * limits .lastNumber
 
 at-most : (i c n : ℕ) → i + c ≤ n → i ≤ n
 at-most i c n h = omega arith
 
-standard-limits : {σ : State} → Kept σ → σ .settings ≡ standard → WithinLimits σ
+standard-limits : {σ : State} → Kept σ → σ .made .tuning ≡ standard → WithinLimits σ
 standard-limits {σ} h e =
     record {
-      records = subst (λ (s : Settings). length (σ .map .records) ≤ s .mapLimit) e (record-count (h .map));
-      leaves = subst (λ (s : Settings). length (σ .map .leaves) ≤ suc (s .mapLimit)) e (leaf-limit (h .map));
-      waiting = subst (λ (s : Settings). length (entries (σ .map .slots)) ≤ s .waitingLimit) e (h .map .waiting);
-      addresses =
-          subst (λ (s : Settings). distinct (keys (σ .map .records) ++ keys (entries (σ .map .slots))) ≤ s .mapLimit) e (h .map .addresses);
-      reads = λ w. subst (λ (s : Settings). length (workerOf σ w .reads) ≤ s .readLimit) e (h .worker w .reads);
-      versions = λ w. subst (λ (s : Settings). length (workerOf σ w .versions) ≤ s .leafSetLimit) e (h .worker w .versions);
-      writes = λ w. subst (λ (s : Settings). length (workerOf σ w .writes) ≤ s .writeLimit) e (h .worker w .writes);
-      number = subst (λ (s : Settings). σ .counters .number ≤ s .lastNumber) e (h .numbers);
+      records = record-count (h .map);
+      leaves = leaf-limit (h .map);
+      waiting = subst (λ (s : Tuning). length (entries (σ .map .slots)) ≤ s .waitingLimit) e (h .map .waiting);
+      addresses = h .map .addresses;
+      reads = λ w. h .worker w .reads;
+      versions = λ w. h .worker w .versions;
+      writes = λ w. h .worker w .writes;
+      number = h .numbers;
       installs = at-most (σ .counters .installs) _ _ (h .installs);
       version = standard-version h e;
     }
 
 -- after every list of steps from a fresh map
-pub every-run : (g : Bool) (ss : List Step) → WithinLimits (final (fresh standard g) ss)
-every-run g ss = standard-limits (final-kept (fresh-kept standard g standard-settings) ss) (final-settings (fresh standard g) ss)
+pub every-run : (g : Bool) (ss : List Step) → WithinLimits (final (fresh (standardMap g)) ss)
+every-run g ss = standard-limits (final-kept (fresh-kept (standardMap g) standard-tuning) ss) (ap (λ (d : Made). d .tuning) (final-made (fresh (standardMap g)) ss))

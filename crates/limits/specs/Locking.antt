@@ -11,7 +11,7 @@ use Rattle.lists.specs.Options.{both-options, some-same}
 use Rattle.lists.specs.Rows.{look, keys, has}
 use Rattle.lists.specs.RowLaws.{has-keys, rising-different}
 use Rattle.spec.specs.declared.Stage.the-variants.{Locked}
-use Rattle.spec.specs.Records.{Write}
+use Rattle.spec.specs.Records.{limits, Write}
 use Rattle.spec.specs.Slots.{Content, contentOf}
 use Rattle.spec.specs.Maps.{MapState, heldByOther, withoutLock, lockAll, unlockAll}
 use Rattle.spec.specs.Steps.{freeWorker, State, workerOf, isFree, isOpen, isLocked, isChecked, lockedByOther, writeKeys, withWorker, withMap, atStage, dropped}
@@ -69,17 +69,17 @@ module _ {σ : State} (h : Kept σ) where
   pub lockable : (w : ℕ) → LockFits σ w → LockRoom (σ .map .slots) (workerOf σ w .writes)
   unfolding writeKeys
   lockable w f =
-      lock-room (σ .settings) (σ .map) (workerOf σ w .writes) (h .settings .roomy) (rising-different (workerOf σ w .writes) (h .worker w .rising)) (f .waiting)
+      lock-room (σ .made .tuning) (σ .map) (workerOf σ w .writes) (h .tuning .roomy) (rising-different (workerOf σ w .writes) (h .worker w .rising)) (f .waiting)
 
   pub lock-kept : (w : ℕ) → AtStage isOpen σ w → LockFits σ w
-      → Kept (withWorker (withMap σ (lockAll (σ .settings) w (σ .map) (workerOf σ w .writes))) w (atStage Locked (workerOf σ w)))
+      → Kept (withWorker (withMap σ (lockAll w (σ .map) (workerOf σ w .writes))) w (atStage Locked (workerOf σ w)))
   unfolding withWorker withMap atStage lockedByOther writeKeys isChecked
   lock-kept w a f =
       moved-kept h
       (record {
         inside = inside h w (a .inside);
         map =
-            lock-bounded (h .map) (h .settings .roomy) w (workerOf σ w .writes) (rising-different (workerOf σ w .writes) (h .worker w .rising)) (f .waiting)
+            lock-bounded (h .map) (h .tuning .roomy) w (workerOf σ w .writes) (rising-different (workerOf σ w .writes) (h .worker w .rising)) (f .waiting)
             (f .addresses);
         worker =
             record {
@@ -100,8 +100,8 @@ module _ {σ : State} (h : Kept σ) where
         numbers = h .numbers;
         installs = installs-less (σ .counters .installs) _ _ _ (count-fewer σ w _ (inside h w (a .inside)) refl) (h .installs);
         versions =
-            owed-less (versionsPerMerge (σ .settings)) (σ .settings .writeLimit) _ _ _ _ _ _
-            (lock-pending (σ .settings) w (σ .map) (workerOf σ w .writes) (h .map .slots) (lockable w f))
+            owed-less (versionsPerMerge (σ .made .tuning)) (limits .writeLimit) _ _ _ _ _ _
+            (lock-pending w (σ .map) (workerOf σ w .writes) (h .map .slots) (lockable w f))
             (count-fewer σ w _ (inside h w (a .inside)) refl) (h .versions);
       })
     where
@@ -109,11 +109,11 @@ module _ {σ : State} (h : Kept σ) where
       before = open-no-locks (workerOf σ w .stage) (a .stage)
 
       after : MapState
-      after = lockAll (σ .settings) w (σ .map) (workerOf σ w .writes)
+      after = lockAll w (σ .map) (workerOf σ w .writes)
 
       says : (k : ℕ) (o : Option Write) → look (workerOf σ w .writes) k ≡ o → contentOf (after .slots) k ≡ lockedBy w o (contentOf (σ .map .slots) k)
       says k o q =
-          lock-says (σ .settings) w (σ .map) (workerOf σ w .writes) (h .map .slots) (lockable w f) k
+          lock-says w (σ .map) (workerOf σ w .writes) (h .map .slots) (lockable w f) k
           ∙ ap (λ (x : Option Write). lockedBy w x (contentOf (σ .map .slots) k)) q
 
       -- a key that another has locked is not written
@@ -141,16 +141,16 @@ module _ {σ : State} (h : Kept σ) where
 
   -- ---- the end of a transaction
 
-  pub dropped-kept : (w : ℕ) → w < σ .settings .workers → Kept (dropped σ w)
+  pub dropped-kept : (w : ℕ) → w < limits .workers → Kept (dropped σ w)
   unfolding dropped withWorker withMap writeKeys isChecked
   dropped-kept w i =
       moved-kept h
       (record {
         inside = inside h w i;
         map = unlock-bounded (h .map) w (writeKeys σ w);
-        worker = free-good (σ .settings) (σ .counters .number);
+        worker = free-good (σ .counters .number);
         others-keep = λ v k d e.
-            unlock-says (σ .settings) w (σ .map) (writeKeys σ w) (h .map .slots) k
+            unlock-says w (σ .map) (writeKeys σ w) (h .map .slots) k
             ∙ ⊎-elim
             (λ t. (rw t) ∙ unlocked-other w (contentOf (σ .map .slots) k) v d e)
             (λ t. rw t)
@@ -171,14 +171,14 @@ module _ {σ : State} (h : Kept σ) where
         numbers = h .numbers;
         installs = installs-less (σ .counters .installs) _ _ _ (count-fewer σ w freeWorker (inside h w i) refl) (h .installs);
         versions =
-            owed-less (versionsPerMerge (σ .settings)) (σ .settings .writeLimit) _ _ _ _ _ _
-            (unlock-pending (σ .settings) w (σ .map) (writeKeys σ w) (h .map .slots))
+            owed-less (versionsPerMerge (σ .made .tuning)) (limits .writeLimit) _ _ _ _ _ _
+            (unlock-pending w (σ .map) (writeKeys σ w) (h .map .slots))
             (count-fewer σ w freeWorker (inside h w i) refl) (h .versions);
       })
     where
-      holder : (k : ℕ) → holderOf (unlockAll (σ .settings) w (σ .map) (writeKeys σ w)) k
+      holder : (k : ℕ) → holderOf (unlockAll w (σ .map) (writeKeys σ w)) k
           ≡ pick (has k (writeKeys σ w)) (unlocked w (contentOf (σ .map .slots) k)) (contentOf (σ .map .slots) k) .holder
-      holder k = ap (λ (c : Content). c .holder) (unlock-says (σ .settings) w (σ .map) (writeKeys σ w) (h .map .slots) k)
+      holder k = ap (λ (c : Content). c .holder) (unlock-says w (σ .map) (writeKeys σ w) (h .map .slots) k)
 
       mine : (k : ℕ) → has k (writeKeys σ w) ≡ true
           → pick (has k (writeKeys σ w)) (unlocked w (contentOf (σ .map .slots) k)) (contentOf (σ .map .slots) k) .holder ≡ gaveUp w (holderOf (σ .map) k)

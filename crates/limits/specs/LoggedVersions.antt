@@ -12,7 +12,7 @@ use Rattle.lists.specs.Tests.{pick, maybe, same, less}
 use Rattle.lists.specs.TestLaws.{cases, same-true, same-false, less-true, less-false}
 use Rattle.spec.specs.declared.Refusal.{Refusal}
 use Rattle.spec.specs.Refusals.{ends}
-use Rattle.spec.specs.Records.{Settings}
+use Rattle.spec.specs.Records.{Made}
 use Rattle.spec.specs.Maps.{mergeAt, oldest}
 use Rattle.spec.specs.Steps.{Worker, freeWorker, State, fresh, workerOf, beginning, access, locking, validating, installing, aborting, Step, act, merge, mergeOldest, stepWorker, refusal, withWorker, withMap, withCounters, installCounted, atStage, checkedAs, dropped, merged, effect, afterRefusal, next}
 use Rattle.laws.specs.AccessLaws.{Old, none-old, accessed-old}
@@ -49,8 +49,8 @@ module _ {σ : State} (k : Kept σ) (h : AllOld (σ .counters .version) (σ .wor
   unfolding dropped withWorker withMap
   dropped-old w = set-old (σ .counters .version) (σ .workers) w freeWorker h (none-old (σ .counters .version))
 
-  merged-old : (a : ℕ) → AllOld (mergeAt (σ .settings) (σ .counters .version) (σ .map) a .version) (σ .workers)
-  merged-old a w u m = le-trans (h w u m) (merges a (k .settings .cut) (k .map .slots) (k .map .records) (k .map .leaves) .later)
+  merged-old : (a : ℕ) → AllOld (mergeAt (σ .made .tuning) (σ .counters .version) (σ .map) a .version) (σ .workers)
+  merged-old a w u m = le-trans (h w u m) (merges a (k .tuning .cut) (k .map .slots) (k .map .records) (k .map .leaves) .later)
 
   granted-old : (s : Step) → AllOld (effect σ s .counters .version) (effect σ s .workers)
   unfolding effect installCounted withWorker withMap withCounters atStage checkedAs merged
@@ -84,5 +84,5 @@ pub next-logged : {σ : State} → Kept σ → LoggedOld σ → (s : Step) → L
 unfolding workerOf
 next-logged k h s = record { old = next-old k (h .old) s }
 
-pub fresh-logged : (s : Settings) (g : Bool) → LoggedOld (fresh s g)
-fresh-logged s g = record { old = λ w. subst (λ (x : Worker). Old 0 (x .versions)) (sym (worker-fresh s g w)) (none-old 0) }
+pub fresh-logged : (d : Made) → LoggedOld (fresh d)
+fresh-logged d = record { old = λ w. subst (λ (x : Worker). Old 0 (x .versions)) (sym (worker-fresh d w)) (none-old 0) }

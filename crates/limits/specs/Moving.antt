@@ -12,7 +12,7 @@ use Rattle.lists.specs.TestLaws.{cases, same-true, same-false}
 use Rattle.lists.specs.Rows.{look, keys, has}
 use Rattle.lists.specs.RowLaws.{has-keys}
 use Rattle.lists.specs.Sums.{total-set}
-use Rattle.spec.specs.Records.{Settings, Write, isPut}
+use Rattle.spec.specs.Records.{limits, Write, isPut}
 use Rattle.spec.specs.Slots.{Content, contentOf}
 use Rattle.spec.specs.Maps.{MapState}
 use Rattle.spec.specs.Steps.{Worker, freeWorker, Counters, State, workerOf, writeKeys, isChecked}
@@ -25,7 +25,7 @@ use Rattle.limits.specs.Invariant.{checkedCount, Kept}
 
 -- the state with worker w as x, and another map and other counters
 abbrev pub movedTo : State → ℕ → Worker → MapState → Counters → State
-movedTo σ w x m c = record { settings = σ .settings; guarded = σ .guarded; counters = c; map = m; workers = set (σ .workers) w x }
+movedTo σ w x m c = record { made = σ .made; counters = c; map = m; workers = set (σ .workers) w x }
 
 -- who has the lock of k
 abbrev pub holderOf : MapState → ℕ → Option ℕ
@@ -34,8 +34,8 @@ holderOf m k = contentOf (m .slots) k .holder
 -- What keeps the invariant, of worker w, the map and the counters.
 pub record Moves (σ : State) (w : ℕ) (x : Worker) (m : MapState) (c : Counters) : Type 0 where
   pub inside : w < length (σ .workers)
-  pub map : Bounded (σ .settings) (c .version) m
-  pub worker : GoodWorker (σ .settings) (c .number) x
+  pub map : Bounded (σ .made .tuning) (c .version) m
+  pub worker : GoodWorker (c .number) x
   -- the locks of the others stay, and they get none
   pub others-keep : (v k : ℕ) → (v ≡ w → ⊥) → holderOf (σ .map) k ≡ some v → contentOf (m .slots) k ≡ contentOf (σ .map .slots) k
   pub others-get : (v k : ℕ) → (v ≡ w → ⊥) → holderOf m k ≡ some v → holderOf (σ .map) k ≡ some v
@@ -43,13 +43,13 @@ pub record Moves (σ : State) (w : ℕ) (x : Worker) (m : MapState) (c : Counter
   pub held-by : (k : ℕ) → holderOf m k ≡ some w → (hasLocks (x .stage) ≡ true) × (has k (keys (x .writes)) ≡ true)
   pub kinds : (k : ℕ) (e : Write) → hasLocks (x .stage) ≡ true → look (x .writes) k ≡ some e → contentOf (m .slots) k .forPut ≡ isPut e
   pub later : σ .counters .number ≤ c .number
-  pub numbers : c .number ≤ σ .settings .lastNumber
+  pub numbers : c .number ≤ limits .lastNumber
   pub installs : c .installs + checkedCount (set (σ .workers) w x) ≤ c .number
   pub versions :
-      c .version + versionsPerMerge (σ .settings) * (pendingCount (m .slots) + σ .settings .writeLimit * checkedCount (set (σ .workers) w x))
-      ≤ versionsPerMerge (σ .settings) * σ .settings .writeLimit * c .number
+      c .version + versionsPerMerge (σ .made .tuning) * (pendingCount (m .slots) + limits .writeLimit * checkedCount (set (σ .workers) w x))
+      ≤ versionsPerMerge (σ .made .tuning) * limits .writeLimit * c .number
 
-good-later : {s : Settings} {n n' : ℕ} {x : Worker} → n ≤ n' → GoodWorker s n x → GoodWorker s n' x
+good-later : {n n' : ℕ} {x : Worker} → n ≤ n' → GoodWorker n x → GoodWorker n' x
 good-later h g =
     record {
       rising = g .rising;
@@ -65,10 +65,10 @@ pub moved-kept : {σ : State} {w : ℕ} {x : Worker} {m : MapState} {c : Counter
 unfolding workerOf writeKeys
 moved-kept {σ} {w} {x} {m} {c} h g =
     record {
-      settings = h .settings;
+      tuning = h .tuning;
       map = g .map;
       worker-count = length-set (σ .workers) w x ∙ h .worker-count;
-      worker = λ v. at v (GoodWorker (σ .settings) (c .number)) (λ e. g .worker) (λ d. good-later (g .later) (h .worker v));
+      worker = λ v. at v (GoodWorker (c .number)) (λ e. g .worker) (λ d. good-later (g .later) (h .worker v));
       holds = λ v k.
           at v (λ (y : Worker). hasLocks (y .stage) ≡ true → has k (keys (y .writes)) ≡ true → holderOf m k ≡ some v)
           (λ e t i. g .holds k t i ∙ ap some (sym e))

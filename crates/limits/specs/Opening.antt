@@ -9,7 +9,7 @@ use lib.ListN.{length}
 use Rattle.lists.specs.TestLaws.{clash}
 use Rattle.lists.specs.RowLaws.{rising-nil}
 use Rattle.spec.specs.declared.Stage.the-variants.{Open}
-use Rattle.spec.specs.Records.{Write}
+use Rattle.spec.specs.Records.{limits, Write}
 use Rattle.spec.specs.Steps.{Worker, freeWorker, State, workerOf, isFree, isOpen, isLocked, isChecked, withWorker, atStage, Access, accessCauses, firstCause, accessed}
 use Rattle.laws.specs.VersionBounds.{versionsPerMerge}
 use Rattle.laws.specs.WorkerLaws.{hasLocks, free-no-locks, open-no-locks, no-locks-unchecked, open-busy}
@@ -21,12 +21,12 @@ use Rattle.limits.specs.Granting.{AtStage}
 -- ---- steps
 
 module _ {σ : State} (h : Kept σ) where
-  pub inside : (w : ℕ) → w < σ .settings .workers → w < length (σ .workers)
+  pub inside : (w : ℕ) → w < limits .workers → w < length (σ .workers)
   inside w i = le-trans i (le-of-eq (sym (h .worker-count)))
 
   -- a worker without locks, before and after, alone
-  quiet : (w : ℕ) (x : Worker) → w < σ .settings .workers → hasLocks (workerOf σ w .stage) ≡ false → hasLocks (x .stage) ≡ false
-      → GoodWorker (σ .settings) (σ .counters .number) x → Kept (withWorker σ w x)
+  quiet : (w : ℕ) (x : Worker) → w < limits .workers → hasLocks (workerOf σ w .stage) ≡ false → hasLocks (x .stage) ≡ false
+      → GoodWorker (σ .counters .number) x → Kept (withWorker σ w x)
   unfolding withWorker
   quiet w x i o n g =
       moved-kept h
@@ -43,7 +43,7 @@ module _ {σ : State} (h : Kept σ) where
         numbers = h .numbers;
         installs = installs-less (σ .counters .installs) _ _ _ (count-fewer σ w x (inside w i) (no-locks-unchecked (x .stage) n)) (h .installs);
         versions =
-            owed-less (versionsPerMerge (σ .settings)) (σ .settings .writeLimit) _ _ _ _ _ _ (le-refl _)
+            owed-less (versionsPerMerge (σ .made .tuning)) (limits .writeLimit) _ _ _ _ _ _ (le-refl _)
             (count-fewer σ w x (inside w i) (no-locks-unchecked (x .stage) n)) (h .versions);
       })
 
@@ -51,7 +51,7 @@ module _ {σ : State} (h : Kept σ) where
   begin-kept w a =
       quiet w (atStage Open freeWorker) (a .inside) (free-no-locks (workerOf σ w .stage) (a .stage)) (unfold atStage hasLocks isLocked isChecked in refl) good
     where
-      good : GoodWorker (σ .settings) (σ .counters .number) (atStage Open freeWorker)
+      good : GoodWorker (σ .counters .number) (atStage Open freeWorker)
       good =
           unfold atStage in
           record {

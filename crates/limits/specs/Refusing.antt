@@ -11,6 +11,7 @@ use Rattle.spec.specs.declared.Refusal.{Refusal}
 use Rattle.spec.specs.declared.Refusal.the-variants.{NoWorker, WorkerFree, WorkerTaken, WrongStage, Backward, LogFull, WritesFull, ShortBuffer, Held, IndexletFull, MapFull, Changed, UnderLock, Phantom, Spent, Unfit, Uncovered, Overlap, ExportOpen, NoExport}
 use Rattle.spec.specs.Refusals.{numberOf, ends}
 use Rattle.spec.specs.Steps.{State, workerOf, beginning, access, locking, validating, installing, aborting, Step, act, validate, merge, mergeOldest, stepWorker, isLocked, Cause, noWorker, workerFree, wrongStage, causes, refusal, effect, afterRefusal, dropped, next}
+use Rattle.spec.specs.Records.{limits}
 use Rattle.laws.specs.AccessLaws.{access-mild}
 use Rattle.laws.specs.WorkerLaws.{not-false, ended-later, mild-cause}
 use Rattle.limits.specs.Granting.{AtStage}
@@ -52,7 +53,7 @@ ends-locked σ w r e t =
     let b = ended-later _ _ r refl t (a .1) in
     let c = ended-later _ _ r refl t (b .1) in
     record {
-      inside = less-true w (σ .settings .workers) (not-false (less w (σ .settings .workers)) (a .0));
+      inside = less-true w (limits .workers) (not-false (less w (limits .workers)) (a .0));
       stage = not-false (isLocked (workerOf σ w .stage)) (c .0);
     }
 

@@ -13,7 +13,7 @@ use Rattle.lists.specs.Rows.{Row, row, look, keys, any}
 use Rattle.lists.specs.RowLaws.{any-false, any-true, none-any, some-any}
 use Rattle.lists.specs.Ascending.{mem-keys, keys-mem}
 use Rattle.spec.specs.declared.Stage.the-variants.{Locked, Checked}
-use Rattle.spec.specs.Records.{Record, isPut, sameRecord}
+use Rattle.spec.specs.Records.{limits, Record, isPut, sameRecord}
 use Rattle.spec.specs.Leaves.{Leaf, versionAt, live}
 use Rattle.spec.specs.Slots.{Pending, Content, isIdle, entries, contentOf}
 use Rattle.spec.specs.Maps.{MapState, current, heldByOther, putPending, hiding, hiddenIn, hides, phantomIn}
@@ -37,7 +37,7 @@ pub record Hidden (m : MapState) (w v k : ℕ) (c : Content) : Type 0 where
 
 -- What a validation asks, of every member of the log.
 pub record Valid (σ : State) (w : ℕ) : Type 0 where
-  pub inside : w < σ .settings .workers
+  pub inside : w < limits .workers
   pub stage : workerOf σ w .stage ≡ Locked
   pub unchanged : (r : Row (Option Record)) → List·Memᴰ r (workerOf σ w .reads) → current (σ .map) (r .key) ≡ r .item
   pub unlocked :
@@ -47,7 +47,7 @@ pub record Valid (σ : State) (w : ℕ) : Type 0 where
   pub no-phantom :
       (v : ℕ) → List·Memᴰ v (workerOf σ w .versions)
       → (e : Row Content) → List·Memᴰ e (entries (σ .map .slots)) → Hidden (σ .map) w v (e .key) (e .item) → ⊥
-  pub number-left : σ .counters .number < σ .settings .lastNumber
+  pub number-left : σ .counters .number < limits .lastNumber
 
 -- ---- tests and what they say
 
@@ -194,7 +194,7 @@ module _ (σ : State) (w : ℕ) where
         unlocked = unlocked-is .0 (c .0);
         same-leaf = λ v m. phantom-is v .0 (any-false (phantomIn (σ .map) w) (workerOf σ w .versions) (d .0) v m) .0;
         no-phantom = λ v m. phantom-is v .0 (any-false (phantomIn (σ .map) w) (workerOf σ w .versions) (d .0) v m) .1;
-        number-left = less-true (σ .counters .number) (σ .settings .lastNumber) (not-false (less (σ .counters .number) (σ .settings .lastNumber)) (f .0));
+        number-left = less-true (σ .counters .number) (limits .lastNumber) (not-false (less (σ .counters .number) (limits .lastNumber)) (f .0));
       }
 
   valid-granted : Valid σ w → refusal σ (validate w) ≡ none
@@ -211,7 +211,7 @@ module _ (σ : State) (w : ℕ) where
   validation-exact = (granted-valid, valid-granted)
 
   -- install in its stage is never refused
-  pub install-granted : w < σ .settings .workers → workerOf σ w .stage ≡ Checked → refusal σ (install w) ≡ none
+  pub install-granted : w < limits .workers → workerOf σ w .stage ≡ Checked → refusal σ (install w) ≡ none
   unfolding refusal causes isFree isChecked
   install-granted i s = stage-passes σ isChecked w [] i (ap isFree s) (ap isChecked s) no-causes
 

@@ -14,22 +14,22 @@ use Rattle.lists.specs.Tests.{pick, maybe, less}
 use Rattle.lists.specs.TestLaws.{cases, clash, less-yes}
 use Rattle.lists.specs.Rows.{Row, any}
 use Rattle.spec.specs.declared.Refusal.{Refusal}
-use Rattle.spec.specs.Records.{Settings, standard}
+use Rattle.spec.specs.Records.{limits, Tuning, standard, Made, standardMap}
 use Rattle.spec.specs.Slots.{Content, entries, search}
-use Rattle.spec.specs.GoodSettings.{GoodSettings}
+use Rattle.spec.specs.GoodTuning.{GoodTuning}
 use Rattle.spec.specs.Maps.{MapState, withSlots, lockAll, installAll, merging, mergeAll, mergeAt, oldest}
 use Rattle.spec.specs.Steps.{State, fresh, beginning, access, locking, validating, installing, aborting, Step, act, merge, mergeOldest, refused, refusal, granted, withWorker, withMap, withCounters, installCounted, merged, mergedAt, effect, answer, next, final, history, stepsOf}
 use Rattle.spec.specs.Examined.{isAbort, takesOutBy, takesOut}
 use Rattle.spec.specs.Computing.{model}
 use Rattle.spec.specs.Crowded.{homedAt, crowdedAddress, crowdedAddresses, crowdedFrom, crowded}
 use Rattle.laws.specs.DenseSlots.{Dense, fresh-dense, lock-dense, install-dense, examined-most}
-use Rattle.laws.specs.WorkerLaws.{standard-settings}
+use Rattle.laws.specs.WorkerLaws.{standard-tuning}
 use Rattle.limits.specs.Invariant.{fresh-kept}
-use Rattle.limits.specs.Keeping.{final-kept, final-settings}
+use Rattle.limits.specs.Keeping.{final-kept, final-made}
 use Rattle.limits.specs.Refusing.{next-granted, refused-same}
 
 -- a merge that takes nothing in changes nothing
-nothing-merged : (s : Settings) (v : ℕ) (m : MapState) (a : ℕ) (es : List (Row Content)) → less 0 (length es) ≡ false → mergeAll s v m a es .map ≡ m
+nothing-merged : (s : Tuning) (v : ℕ) (m : MapState) (a : ℕ) (es : List (Row Content)) → less 0 (length es) ≡ false → mergeAll s v m a es .map ≡ m
 unfolding mergeAll
 nothing-merged s v m a [] t = refl
 nothing-merged s v m a (e ∷ es) t = clash (less-yes (omega arith)) t
@@ -38,7 +38,7 @@ module _ (σ : State) (d : Dense (σ .map .slots)) where
   merged-dense : (a : ℕ) → less 0 (length (merging (σ .map) a)) ≡ false → Dense (mergedAt σ a .map .slots)
   unfolding merged withMap withCounters mergeAt
   merged-dense a t =
-      subst (λ (m : MapState). Dense (m .slots)) (sym (nothing-merged (σ .settings) (σ .counters .version) (σ .map) a (merging (σ .map) a) t)) d
+      subst (λ (m : MapState). Dense (m .slots)) (sym (nothing-merged (σ .made .tuning) (σ .counters .version) (σ .map) a (merging (σ .map) a) t)) d
 
   granted-dense : (s : Step) → takesOutBy s (granted σ s) ≡ false → Dense (effect σ s .map .slots)
   unfolding effect granted takesOutBy isAbort withWorker withMap withCounters installCounted lockAll installAll withSlots
@@ -73,21 +73,21 @@ final-dense σ d (s ∷ ss) t =
     (λ q. final-dense (next σ s) (next-dense σ d s q) ss (sym (ap (λ (b : Bool). pick b true (any takesOut (history (next σ s) ss))) q) ∙ t))
     (cases (takesOut (record { step = s; answer = answer σ s })))
 
-pub worst-look-up : (s : Settings) (g : Bool) → GoodSettings s → 0 < s .waitingLimit
-    → (ss : List Step) → any takesOut (history (fresh s g) ss) ≡ false
-    → (k : ℕ) → search (s .bytes) (final (fresh s g) ss .map .slots) k .examined ≤ s .waitingLimit
-worst-look-up s g c p ss t k =
-    let most : search (s .bytes) (final (fresh s g) ss .map .slots) k .examined ≤ max 1 (length (entries (final (fresh s g) ss .map .slots)))
-    = examined-most (final-dense (fresh s g) fresh-dense ss t) (s .bytes) k in
-    let few : length (entries (final (fresh s g) ss .map .slots)) ≤ s .waitingLimit
-    = subst (λ (x : Settings). length (entries (final (fresh s g) ss .map .slots)) ≤ x .waitingLimit) (final-settings (fresh s g) ss)
-    (final-kept (fresh-kept s g c) ss .map .waiting) in
+pub worst-look-up : (d : Made) → GoodTuning (d .tuning) → 0 < d .tuning .waitingLimit
+    → (ss : List Step) → any takesOut (history (fresh d) ss) ≡ false
+    → (k : ℕ) → search (limits .bytes) (final (fresh d) ss .map .slots) k .examined ≤ d .tuning .waitingLimit
+worst-look-up d c p ss t k =
+    let most : search (limits .bytes) (final (fresh d) ss .map .slots) k .examined ≤ max 1 (length (entries (final (fresh d) ss .map .slots)))
+    = examined-most (final-dense (fresh d) fresh-dense ss t) (limits .bytes) k in
+    let few : length (entries (final (fresh d) ss .map .slots)) ≤ d .tuning .waitingLimit
+    = subst (λ (x : Made). length (entries (final (fresh d) ss .map .slots)) ≤ x .tuning .waitingLimit) (final-made (fresh d) ss)
+    (final-kept (fresh-kept d c) ss .map .waiting) in
     omega arith
 
 -- ---- a map that reaches it
 
 -- its steps are answered so: the last address is found in the last of 192 slots
-pub crowded-run : history (fresh standard false) (stepsOf crowded) ≡ crowded
+pub crowded-run : history (fresh (standardMap false)) (stepsOf crowded) ≡ crowded
 unfolding model homedAt crowdedAddress crowdedAddresses crowdedFrom
 crowded-run = refl
 
@@ -96,6 +96,6 @@ unfolding any isAbort takesOutBy takesOut less crowdedAddresses crowdedFrom
 crowded-undisturbed = refl
 
 -- and no look-up there is worse
-pub crowded-worst : (k : ℕ) → search (standard .bytes) (final (fresh standard false) (stepsOf crowded) .map .slots) k .examined ≤ standard .waitingLimit
+pub crowded-worst : (k : ℕ) → search (limits .bytes) (final (fresh (standardMap false)) (stepsOf crowded) .map .slots) k .examined ≤ standard .waitingLimit
 crowded-worst k =
-    worst-look-up standard false standard-settings (omega arith) (stepsOf crowded) (ap (any takesOut) crowded-run ∙ crowded-undisturbed) k
+    worst-look-up (standardMap false) standard-tuning (omega arith) (stepsOf crowded) (ap (any takesOut) crowded-run ∙ crowded-undisturbed) k

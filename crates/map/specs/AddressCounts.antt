@@ -19,7 +19,7 @@ use Rattle.lists.specs.Counting.{has-here, has-there, has-append, Within, disti
 use Rattle.lists.specs.Memberships.{member-has, has-member, has-left, has-right, has-parts}
 use Rattle.lists.specs.Options.{options}
 use Rattle.lists.specs.Sums.{total}
-use Rattle.spec.specs.Records.{standard, Record}
+use Rattle.spec.specs.Records.{limits, standard, Record}
 use Rattle.spec.specs.Slots.{slotCount, Content, isIdle, Slot, entries, contentOf}
 use Rattle.spec.specs.Maps.{MapState, waitingWith, addressesWith}
 use Rattle.laws.specs.SlotCounts.{tally, count-cons, entries-some, entries-none, entries-most}
@@ -305,7 +305,7 @@ pub record WaitsBeyond (slots : SlotRows) (ws : WriteRows) (n : ℕ) (r : Bool) 
 pub record AddressedBeyond (rows : RecordRows) (slots : SlotRows) (ws : WriteRows) (z : Sizes) (n : ℕ) (r : Bool) : Type 0 where
   pub is :
       (m : MapState) → m .records ≡ recordsOf rows (z .records) → m .slots ≡ slotsOf slots
-      → r ≡ less (standard .mapLimit) (addressesWith m (keys (writesOf ws n)))
+      → r ≡ less (limits .mapLimit) (addressesWith m (keys (writesOf ws n)))
 
 -- the sizes count the records, the entries, and the entries outside of the index
 pub record Counted (rows : RecordRows) (slots : SlotRows) (z : Sizes) : Type 0 where
@@ -363,8 +363,8 @@ pub beyond-counted : {slots : SlotRows} {ws : WriteRows} {n r : ℕ} → Waits s
 beyond-counted h = record { is = λ m s. unfold less in ap (λ (x : ℕ). ltb (standard .waitingLimit) x) (h .is m s) }
 
 pub addressed-counted : {rows : RecordRows} {slots : SlotRows} {ws : WriteRows} {z : Sizes} {n r : ℕ} → Addressed rows slots ws z n r
-    → AddressedBeyond rows slots ws z n (ltb (standard .mapLimit) r)
-addressed-counted h = record { is = λ m e s. unfold less in ap (λ (x : ℕ). ltb (standard .mapLimit) x) (h .is m e s) }
+    → AddressedBeyond rows slots ws z n (ltb (limits .mapLimit) r)
+addressed-counted h = record { is = λ m e s. unfold less in ap (λ (x : ℕ). ltb (limits .mapLimit) x) (h .is m e s) }
 
 -- without one: all addresses of the write set could be new, and still there is room
 module _ (slots : SlotRows) (ws : WriteRows) (n : ℕ) (h : indexlet.SlotsHeld slots) where
@@ -436,12 +436,12 @@ module _ (rows : RecordRows) (slots : SlotRows) (ws : WriteRows) (z : Sizes) (n 
           let c = all in
           omega arith
 
-  pub addressed-few : Rising (writesOf ws n) → z .records + z .outside + n ≤ standard .mapLimit → AddressedBeyond rows slots ws z n false
+  pub addressed-few : Rising (writesOf ws n) → z .records + z .outside + n ≤ limits .mapLimit → AddressedBeyond rows slots ws z n false
   addressed-few rising few =
       let v = z .records + z .outside + length (filter (unknown rows (z .records) slots) (keys (writesOf ws n))) in
       let a : length (filter (unknown rows (z .records) slots) (keys (writesOf ws n))) ≤ n = some-keys (unknown rows (z .records) slots) ws n in
       record {
         is =
-            λ m e s. sym (less-no {m = standard .mapLimit} {n = v} (omega arith))
-            ∙ ap (less (standard .mapLimit)) (addressed v rising refl .is m e s);
+            λ m e s. sym (less-no {m = limits .mapLimit} {n = v} (omega arith))
+            ∙ ap (less (limits .mapLimit)) (addressed v rising refl .is m e s);
       }

@@ -11,7 +11,7 @@ use Rattle.lists.specs.Rows.{Row, Rising}
 use Rattle.lists.specs.RowLaws.{rising-nil}
 use Rattle.lists.specs.Ascending.{Ascends}
 use Rattle.lists.specs.Sums.{total}
-use Rattle.spec.specs.Records.{Record, standard}
+use Rattle.spec.specs.Records.{standard, Record}
 use Rattle.spec.specs.Leaves.{Leaf, firstLeaf}
 use Rattle.spec.specs.Slots.{Content, Slot, emptySlot, entries}
 use Rattle.spec.specs.Maps.{freshMap}

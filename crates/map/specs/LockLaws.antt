@@ -15,7 +15,7 @@ use Rattle.lists.specs.RowLaws.{look-here}
 use Rattle.spec.specs.Widths.{addressSize}
 use Rattle.spec.specs.Payloads.{payloadIn}
 use Rattle.spec.specs.declared.PayloadWords.{PayloadWords}
-use Rattle.spec.specs.Records.{standard, Write, written, deleted, isPut}
+use Rattle.spec.specs.Records.{limits, standard, Write, written, deleted, isPut}
 use Rattle.spec.specs.Slots.{slotCount, Pending, Content, isIdle, Slot, entries, contentOf, enter}
 use Rattle.spec.specs.Maps.{MapState, heldByOther, waitingWith, addressesWith, lockedFor, lockRow, withoutLock, unlockKey, waitingSince, installRow, each, withSlots, lockAll, unlockAll, installAll}
 use Rattle.laws.specs.SlotCounts.{Good}
@@ -247,7 +247,7 @@ module _ (p : ℕ → Bool) (ws : WriteRows) (i n : ℕ) where
 -- the tests of refusals 10 and 11 are passed, and each address stands once
 pub record Lockable (m : MapState) (ws : List (Row Write)) : Type 0 where
   pub waiting : waitingWith m (keys ws) ≤ standard .waitingLimit
-  pub addresses : addressesWith m (keys ws) ≤ standard .mapLimit
+  pub addresses : addressesWith m (keys ws) ≤ limits .mapLimit
   pub once : Different (keys ws)
 
 -- what is left to lock, to unlock and to install
@@ -265,7 +265,7 @@ few-slots = omega arith
 
 module _ (w : ℕ) (ws : WriteRows) (n v : ℕ) where
   pub lock-start : (l : Lent) (z : Sizes) → MapHeld l z v → Lockable (mapOf l z) (writesOf ws n)
-      → Locking w l z v ws 0 n (lockAll standard w (mapOf l z) (writesOf ws n))
+      → Locking w l z v ws 0 n (lockAll w (mapOf l z) (writesOf ws n))
   unfolding lockAll
   lock-start l z h t =
       record {
@@ -282,13 +282,13 @@ module _ (w : ℕ) (ws : WriteRows) (n v : ℕ) where
   lock-on i h q s = going-on (locking addressSize w) (writeAt ws i) (rest ws i n) (rest ws (i + 1) n) (rest-cons ws i n h) q s
 
   pub lock-end : {l l' : Lent} {z r : Sizes} (i : ℕ) → n ≤ i → MapHeld l z v → Lockable (mapOf l z) (writesOf ws n)
-      → Locking w l' r v ws i n (lockAll standard w (mapOf l z) (writesOf ws n))
-      → MapBecomes l' r v (lockAll standard w (mapOf l z) (writesOf ws n))
+      → Locking w l' r v ws i n (lockAll w (mapOf l z) (writesOf ws n))
+      → MapBecomes l' r v (lockAll w (mapOf l z) (writesOf ws n))
   lock-end i e h t q =
       becomes (q .tables) (going-end (rest-none ws i n e) q)
       (lock-bounded (h .bounded) few-slots w (writesOf ws n) (t .once) (t .waiting) (t .addresses))
 
-  pub unlock-start : (l : Lent) (z : Sizes) → MapHeld l z v → Unlocking w l z v ws 0 n (unlockAll standard w (mapOf l z) (keys (writesOf ws n)))
+  pub unlock-start : (l : Lent) (z : Sizes) → MapHeld l z v → Unlocking w l z v ws 0 n (unlockAll w (mapOf l z) (keys (writesOf ws n)))
   unfolding unlockAll
   unlock-start l z h =
       record {
@@ -301,14 +301,14 @@ module _ (w : ℕ) (ws : WriteRows) (n v : ℕ) where
       → ContentSet l l' z r v (unlockKey addressSize w (slotsOf (l .slots)) (writeAt ws i .key)) → Unlocking w l' r v ws (i + 1) n goal
   unlock-on i h q s = going-on (unlocking addressSize w) (writeAt ws i .key) (restKeys ws i n) (restKeys ws (i + 1) n) (keys-cons ws i n h) q s
 
-  pub unlock-end : {l l' : Lent} {z r : Sizes} (i : ℕ) → n ≤ i → MapHeld l z v → Unlocking w l' r v ws i n (unlockAll standard w (mapOf l z) (keys (writesOf ws n)))
-      → MapBecomes l' r v (unlockAll standard w (mapOf l z) (keys (writesOf ws n)))
+  pub unlock-end : {l l' : Lent} {z r : Sizes} (i : ℕ) → n ≤ i → MapHeld l z v → Unlocking w l' r v ws i n (unlockAll w (mapOf l z) (keys (writesOf ws n)))
+      → MapBecomes l' r v (unlockAll w (mapOf l z) (keys (writesOf ws n)))
   unlock-end i e h q = becomes (q .tables) (going-end (keys-none ws i n e) q) (unlock-bounded (h .bounded) w (keys (writesOf ws n)))
 
 module _ (w t : ℕ) (ws : WriteRows) (n v : ℕ) where
   -- w is the commit number, t the install
   pub install-start : (l : Lent) (z : Sizes) → MapHeld l z v → Installable (slotsOf (l .slots)) (writesOf ws n)
-      → Installing w t l z v ws 0 n (installAll standard w t (mapOf l z) (writesOf ws n))
+      → Installing w t l z v ws 0 n (installAll w t (mapOf l z) (writesOf ws n))
   unfolding installAll
   install-start l z h f =
       record {
@@ -329,6 +329,6 @@ module _ (w t : ℕ) (ws : WriteRows) (n v : ℕ) where
   install-on i h q s = going-on (installing addressSize w t) (writeAt ws i) (rest ws i n) (rest ws (i + 1) n) (rest-cons ws i n h) q s
 
   pub install-end : {l l' : Lent} {z r : Sizes} (i : ℕ) → n ≤ i → MapHeld l z v → Installable (slotsOf (l .slots)) (writesOf ws n)
-      → Installing w t l' r v ws i n (installAll standard w t (mapOf l z) (writesOf ws n))
-      → MapBecomes l' r v (installAll standard w t (mapOf l z) (writesOf ws n))
+      → Installing w t l' r v ws i n (installAll w t (mapOf l z) (writesOf ws n))
+      → MapBecomes l' r v (installAll w t (mapOf l z) (writesOf ws n))
   install-end i e h f q = becomes (q .tables) (going-end (rest-none ws i n e) q) (install-bounded (h .bounded) w t (writesOf ws n) f)

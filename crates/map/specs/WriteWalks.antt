@@ -7,7 +7,7 @@ use mathlib.Core.List.{List, [], _∷_}
 use lib.ListN.{length, getD, drop, drop-of-length-le}
 use lib.Seq.{drop-cons}
 use Rattle.lists.specs.Rows.{Row, keys}
-use Rattle.spec.specs.Records.{standard, Write}
+use Rattle.spec.specs.Records.{limits, Write}
 use Rattle.sets.specs.declared.writes.Entry.{Entry}
 use Rattle.sets.specs.Writes.{WriteRows, entryIn, noWrite, writeIn, writesOf, WriteSetHeld, GivesWrite}
 use Rattle.sets.specs.SetLaws.{length-rows, row-at}
@@ -15,7 +15,7 @@ use Rattle.sets.specs.SetLaws.{length-rows, row-at}
 -- n writes in the rows of a worker
 pub record Writing (ws : WriteRows) (n : ℕ) : Type 0 where
   pub held : WriteSetHeld ws
-  pub few : n ≤ standard .writeLimit
+  pub few : n ≤ limits .writeLimit
 
 -- write i
 abbrev pub writeAt : WriteRows → ℕ → Row Write

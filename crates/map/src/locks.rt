@@ -22,7 +22,6 @@ ghost use lib.ListN.{length};
 ghost use Rattle.lists.specs.Tests.{pick};
 ghost use Rattle.lists.specs.Rows.{any, keys, Rising};
 ghost use Rattle.spec.specs.Widths.{addressSize};
-ghost use Rattle.spec.specs.Records.{standard};
 ghost use Rattle.spec.specs.Slots.{slotCount, isIdle, entries, contentOf};
 ghost use Rattle.spec.specs.Slots as model;
 ghost use Rattle.spec.specs.Maps.{heldByOther, lockRow, unlockKey, waitingSince, installRow, lockAll, unlockAll, installAll};
@@ -239,7 +238,7 @@ pub fn lock_all(
     requires { ⌜ Writing (now ws) n ⌝ }
     requires { ⌜ w + 1 < 2 ^ 64 ⌝ }
     requires { ⌜ Lockable (mapOf (lent (now rows) (now leaves) (now slots)) z) (writesOf (now ws) n) ⌝ }
-    ensures { λ r. ⌜ MapBecomes (lent (now (rows .entry)) (now (leaves .exit)) (now (slots .exit))) r (k .version) (lockAll standard w (mapOf (lent (now (rows .entry)) (now (leaves .entry)) (now (slots .entry))) z) (writesOf (now (ws .entry)) n)) ⌝ }
+    ensures { λ r. ⌜ MapBecomes (lent (now (rows .entry)) (now (leaves .exit)) (now (slots .exit))) r (k .version) (lockAll w (mapOf (lent (now (rows .entry)) (now (leaves .entry)) (now (slots .entry))) z) (writesOf (now (ws .entry)) n)) ⌝ }
 {
     let mut sizes = z;
     let mut near = 0;
@@ -267,7 +266,7 @@ pub fn unlock_all(
 ) -> Sizes
     requires { ⌜ MapHeld (lent (now rows) (now leaves) (now slots)) z (k .version) ⌝ }
     requires { ⌜ Writing (now ws) n ⌝ }
-    ensures { λ r. ⌜ MapBecomes (lent (now (rows .entry)) (now (leaves .exit)) (now (slots .exit))) r (k .version) (unlockAll standard w (mapOf (lent (now (rows .entry)) (now (leaves .entry)) (now (slots .entry))) z) (keys (writesOf (now (ws .entry)) n))) ⌝ }
+    ensures { λ r. ⌜ MapBecomes (lent (now (rows .entry)) (now (leaves .exit)) (now (slots .exit))) r (k .version) (unlockAll w (mapOf (lent (now (rows .entry)) (now (leaves .entry)) (now (slots .entry))) z) (keys (writesOf (now (ws .entry)) n))) ⌝ }
 {
     let mut sizes = z;
     let mut near = 0;
@@ -297,7 +296,7 @@ pub fn install_all(
     requires { ⌜ MapHeld (lent (now rows) (now leaves) (now slots)) z (k .version) ⌝ }
     requires { ⌜ Writing (now ws) n ⌝ }
     requires { ⌜ Installable (slotsOf (now slots)) (writesOf (now ws) n) ⌝ }
-    ensures { λ r. ⌜ MapBecomes (lent (now (rows .entry)) (now (leaves .exit)) (now (slots .exit))) r (k .version) (installAll standard number t (mapOf (lent (now (rows .entry)) (now (leaves .entry)) (now (slots .entry))) z) (writesOf (now (ws .entry)) n)) ⌝ }
+    ensures { λ r. ⌜ MapBecomes (lent (now (rows .entry)) (now (leaves .exit)) (now (slots .exit))) r (k .version) (installAll number t (mapOf (lent (now (rows .entry)) (now (leaves .entry)) (now (slots .entry))) z) (writesOf (now (ws .entry)) n)) ⌝ }
 {
     let mut sizes = z;
     let mut near = 0;

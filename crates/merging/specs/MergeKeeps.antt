@@ -10,7 +10,7 @@ use lib.ListN.{length, drop, getD, length-append, List·getD-append}
 use lib.Seq.{getD-append-add, getD-take, getD-drop, length-take-le}
 use Rattle.lists.specs.Tests.{same}
 use Rattle.lists.specs.TestLaws.{cases, clash, same-no}
-use Rattle.spec.specs.Records.{Settings}
+use Rattle.spec.specs.Records.{Tuning}
 use Rattle.spec.specs.Leaves.{Leaf, firstLeaf, versionAt, live, newLows, freshLeaves, around, widened, settled, settle, versionsTaken}
 use Rattle.laws.specs.LeafCuts.{taken-some, lows-taken}
 use Rattle.laws.specs.LeafVersions.{GoodLeaves, live-version}
@@ -39,7 +39,7 @@ widened-early v l [] j h = absurd (not-suc-le-zero h)
 widened-early v l (m ∷ ms) zero h = refl
 widened-early v l (m ∷ ms) (suc j) h = widened-early v m ms j (le-of-suc-le-suc h)
 
-settled-long : (s : Settings) (v : ℕ) (before : List Leaf) (own : Leaf) (ks : List ℕ) → (length before ≤ length (settled s v before own ks)) × (1 ≤ length (settled s v before own ks))
+settled-long : (s : Tuning) (v : ℕ) (before : List Leaf) (own : Leaf) (ks : List ℕ) → (length before ≤ length (settled s v before own ks)) × (1 ≤ length (settled s v before own ks))
 unfolding settled
 settled-long s v [] own ks =
     let a : length (freshLeaves v (newLows s (own .low) ks)) ≡ versionsTaken s ks = length-fresh v (newLows s (own .low) ks) ∙ lows-taken s (own .low) ks in
@@ -50,21 +50,21 @@ settled-long s v (l ∷ ls) own (k ∷ ks) =
     let a : length ((l ∷ ls) ++ freshLeaves v (newLows s (own .low) (k ∷ ks))) ≡ length (l ∷ ls) + length (freshLeaves v (newLows s (own .low) (k ∷ ks))) = length-append (l ∷ ls) (freshLeaves v (newLows s (own .low) (k ∷ ks))) in
     (omega arith, omega arith)
 
-settled-early : (s : Settings) (v : ℕ) (before : List Leaf) (own : Leaf) (ks : List ℕ) (j : ℕ) → j + 1 < length before → getD (settled s v before own ks) j firstLeaf ≡ getD before j firstLeaf
+settled-early : (s : Tuning) (v : ℕ) (before : List Leaf) (own : Leaf) (ks : List ℕ) (j : ℕ) → j + 1 < length before → getD (settled s v before own ks) j firstLeaf ≡ getD before j firstLeaf
 unfolding settled
 settled-early s v [] own ks j h = absurd (not-suc-le-zero h)
 settled-early s v (l ∷ ls) own [] j h = widened-early v l ls j (omega arith)
 settled-early s v (l ∷ ls) own (k ∷ ks) j h = List·getD-append (l ∷ ls) (freshLeaves v (newLows s (own .low) (k ∷ ks))) firstLeaf j (omega arith)
 
 -- a leaf that was not joined to the one before leaves that one as it was
-settled-unjoined : (s : Settings) (v : ℕ) (before : List Leaf) (own : Leaf) (ks : List ℕ) → length before < length (settled s v before own ks)
+settled-unjoined : (s : Tuning) (v : ℕ) (before : List Leaf) (own : Leaf) (ks : List ℕ) → length before < length (settled s v before own ks)
     → (j : ℕ) → j < length before → getD (settled s v before own ks) j firstLeaf ≡ getD before j firstLeaf
 unfolding settled
 settled-unjoined s v [] own ks l j h = absurd (not-suc-le-zero h)
 settled-unjoined s v (x ∷ xs) own [] l j h = absurd (let e : length (widened v x xs) ≡ suc (length xs) = widened-length v x xs in let q : ⊥ = omega arith in q)
 settled-unjoined s v (x ∷ xs) own (k ∷ ks) l j h = List·getD-append (x ∷ xs) (freshLeaves v (newLows s (own .low) (k ∷ ks))) firstLeaf j h
 
-pub settle-shape : (s : Settings) (v : ℕ) (ls : List Leaf) (a i : ℕ) (ks : List ℕ) → Parted a ls i → i < length ls → Shape ls (settle s v ls a ks) i
+pub settle-shape : (s : Tuning) (v : ℕ) (ls : List Leaf) (a i : ℕ) (ks : List ℕ) → Parted a ls i → i < length ls → Shape ls (settle s v ls a ks) i
 unfolding settle
 settle-shape s v ls a i ks p h =
     let e : length (around a ls .before) ≡ i = ap length (p .before) ∙ length-take-le i ls (omega arith) in

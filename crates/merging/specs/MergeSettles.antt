@@ -14,7 +14,7 @@ use Rattle.lists.specs.Rows.{Row, keys, has, filter}
 use Rattle.lists.specs.Ascending.{Ascends, mem-getD, mem-filter, mem-keys, keys-mem}
 use Rattle.lists.specs.Memberships.{member-has}
 use Rattle.spec.specs.Widths.{addresses}
-use Rattle.spec.specs.Records.{Settings, Record, standard}
+use Rattle.spec.specs.Records.{Tuning, standard, Record}
 use Rattle.spec.specs.Leaves.{Leaf, firstLeaf, cuts, starts, newLows, freshLeaves, Around, around, widened, settled, settle, versionsTaken}
 use Rattle.laws.specs.LeafParts.{LowsFrom, Covers}
 use Rattle.laws.specs.LeafCuts.{taken-none, lows-taken}
@@ -84,7 +84,7 @@ length-fresh v [] = refl
 length-fresh v (l ∷ ls) = ap suc (length-fresh (suc v) ls)
 
 -- a leaf that is not joined becomes as many as versions are taken
-length-settled : (s : Settings) (v : ℕ) (before : List Leaf) (own : Leaf) (ks : List ℕ) → (length ks ≡ 0) ⊎ (length (settled s v before own ks) ≡ length before + versionsTaken s ks)
+length-settled : (s : Tuning) (v : ℕ) (before : List Leaf) (own : Leaf) (ks : List ℕ) → (length ks ≡ 0) ⊎ (length (settled s v before own ks) ≡ length before + versionsTaken s ks)
 unfolding settled
 length-settled s v [] own ks =
     let e : length (freshLeaves v (newLows s (own .low) ks)) ≡ versionsTaken s ks = length-fresh v (newLows s (own .low) ks) ∙ lows-taken s (own .low) ks in
@@ -140,7 +140,7 @@ narrow-starts v [] ks h = tt
 narrow-starts v (n ∷ []) ks h = tt
 narrow-starts v (n ∷ m ∷ ns) ks h = (h n, narrow-starts (suc v) (m ∷ ns) (drop n ks) (λ i. subst (λ (x : ℕ). x < addresses) (sym (lib.Seq.getD-drop n ks i 0)) (h (n + i))))
 
-narrow-fresh : (s : Settings) (v low : ℕ) (ks : List ℕ) → low < addresses → ((i : ℕ) → getD ks i 0 < addresses) → Narrow (freshLeaves v (newLows s low ks))
+narrow-fresh : (s : Tuning) (v low : ℕ) (ks : List ℕ) → low < addresses → ((i : ℕ) → getD ks i 0 < addresses) → Narrow (freshLeaves v (newLows s low ks))
 unfolding Narrow newLows freshLeaves
 narrow-fresh s v low ks l h = (l, narrow-starts (suc v) (cuts s (length ks)) ks h)
 
@@ -149,13 +149,13 @@ unfolding Narrow widened
 narrow-widened v l [] n = (n .0, tt)
 narrow-widened v l (m ∷ ms) n = (n .0, narrow-widened v m ms (n .1))
 
-narrow-settled : (s : Settings) (v : ℕ) (before : List Leaf) (own : Leaf) (ks : List ℕ) → Narrow before → own .low < addresses → ((i : ℕ) → getD ks i 0 < addresses) → Narrow (settled s v before own ks)
+narrow-settled : (s : Tuning) (v : ℕ) (before : List Leaf) (own : Leaf) (ks : List ℕ) → Narrow before → own .low < addresses → ((i : ℕ) → getD ks i 0 < addresses) → Narrow (settled s v before own ks)
 unfolding settled
 narrow-settled s v [] own ks b o h = narrow-fresh s v (own .low) ks o h
 narrow-settled s v (l ∷ ls) own [] b o h = narrow-widened v l ls b
 narrow-settled s v (l ∷ ls) own (k ∷ ks) b o h = narrow-join (l ∷ ls) (freshLeaves v (newLows s (own .low) (k ∷ ks))) b (narrow-fresh s v (own .low) (k ∷ ks) o h)
 
-pub settle-narrow : (s : Settings) (v : ℕ) (ls : List Leaf) (a : ℕ) (ks : List ℕ) → Covers ls → Narrow ls → ((i : ℕ) → getD ks i 0 < addresses) → Narrow (settle s v ls a ks)
+pub settle-narrow : (s : Tuning) (v : ℕ) (ls : List Leaf) (a : ℕ) (ks : List ℕ) → Covers ls → Narrow ls → ((i : ℕ) → getD ks i 0 < addresses) → Narrow (settle s v ls a ks)
 unfolding settle Narrow
 settle-narrow s v ls a ks c n h =
     let p : Around = around a ls in

@@ -16,7 +16,7 @@ use Rattle.lists.specs.RowLaws.{length-keys}
 use Rattle.lists.specs.Ascending.{Ascends}
 use Rattle.lists.specs.Memberships.{has-parts}
 use Rattle.spec.specs.Widths.{addressSize, addresses}
-use Rattle.spec.specs.Records.{Settings, Record, standard}
+use Rattle.spec.specs.Records.{limits, Tuning, standard, Record}
 use Rattle.spec.specs.Leaves.{Leaf, firstLeaf, versionAt, settle, versionsTaken}
 use Rattle.spec.specs.Slots.{slotCount, Content, Slot, entries}
 use Rattle.spec.specs.Maps.{MapState, current, each, mergesAt, merging, mergeEntry, recordsIn, settleMap, mergeAll, mergeAt}
@@ -76,17 +76,17 @@ filter-short p (x ∷ xs) =
 
 -- ---- the model's merge, with and without pending writes
 
-merge-none : (s : Settings) (v : ℕ) (m : MapState) (a : ℕ) → merging m a ≡ [] → mergeAt s v m a ≡ record { map = m; version = v }
+merge-none : (s : Tuning) (v : ℕ) (m : MapState) (a : ℕ) → merging m a ≡ [] → mergeAt s v m a ≡ record { map = m; version = v }
 unfolding mergeAt mergeAll
 merge-none s v m a e = ap (mergeAll s v m a) e
 
-all-some : (s : Settings) (v : ℕ) (m : MapState) (a : ℕ) (es : List (Row Content)) → 1 ≤ length es
-    → mergeAll s v m a es ≡ settleMap s v (each (mergeEntry (s .bytes)) m es) a
+all-some : (s : Tuning) (v : ℕ) (m : MapState) (a : ℕ) (es : List (Row Content)) → 1 ≤ length es
+    → mergeAll s v m a es ≡ settleMap s v (each (mergeEntry (limits .bytes)) m es) a
 unfolding mergeAll
 all-some s v m a [] h = absurd (not-suc-le-zero h)
 all-some s v m a (e ∷ es) h = refl
 
-merge-some : (s : Settings) (v : ℕ) (m : MapState) (a : ℕ) → 1 ≤ length (merging m a) → mergeAt s v m a ≡ settleMap s v (each (mergeEntry (s .bytes)) m (merging m a)) a
+merge-some : (s : Tuning) (v : ℕ) (m : MapState) (a : ℕ) → 1 ≤ length (merging m a) → mergeAt s v m a ≡ settleMap s v (each (mergeEntry (limits .bytes)) m (merging m a)) a
 unfolding mergeAt
 merge-some s v m a h = all-some s v m a (merging m a) h
 

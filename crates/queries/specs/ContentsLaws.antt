@@ -15,7 +15,7 @@ use Rattle.lists.specs.RowLaws.{has-keys, length-keys, rising-different}
 use Rattle.lists.specs.Counting.{has-append, different-within}
 use Rattle.lists.specs.Options.{both-options, some-same}
 use Rattle.spec.specs.declared.PayloadWords.{PayloadWords}
-use Rattle.spec.specs.Records.{Settings, standard, Record}
+use Rattle.spec.specs.Records.{limits, Tuning, Record}
 use Rattle.spec.specs.Slots.{Content, entries}
 use Rattle.spec.specs.Maps.{MapState, outcomeOf, current, contents}
 use Rattle.laws.specs.SlotLaws.{content-none}
@@ -33,7 +33,7 @@ use Rattle.queries.specs.Contents.{firstFrom, allRecords}
 
 -- ---- how many records there can be
 
-module _ {s : Settings} {v : ℕ} {m : MapState} (b : Bounded s v m) where
+module _ {s : Tuning} {v : ℕ} {m : MapState} (b : Bounded s v m) where
   absent : (k : ℕ) → has k (keys (m .records)) ≡ false → has k (keys (entries (m .slots))) ≡ false → current m k ≡ none
   unfolding current
   absent k e f =
@@ -55,7 +55,7 @@ module _ {s : Settings} {v : ℕ} {m : MapState} (b : Bounded s v m) where
       (cases (has k (keys (entries (m .slots))))))
       (cases (has k (keys (m .records))))
 
-  contents-count : length (contents m) ≤ s .mapLimit
+  contents-count : length (contents m) ≤ limits .mapLimit
   contents-count =
       le-trans (le-of-eq (sym (length-keys (contents m))))
       (le-trans (different-within (keys (contents m)) (keys (m .records) ++ keys (entries (m .slots))) (rising-different (contents m) (rising-contents m (b .records))) listed) (b .addresses))
@@ -67,8 +67,8 @@ pub contents-of : {l : Lent} {z : Sizes} {v : ℕ} → MapHeld l z v → content
 unfolding contents
 contents-of h = refl
 
-pub records-fit : {l : Lent} {z : Sizes} {v : ℕ} → MapHeld l z v → length (allRecords (l .rows) (z .records) (l .slots)) ≤ standard .mapLimit
-records-fit h = subst (λ (rs : List (Row Record)). length rs ≤ standard .mapLimit) (contents-of h) (contents-count (h .bounded))
+pub records-fit : {l : Lent} {z : Sizes} {v : ℕ} → MapHeld l z v → length (allRecords (l .rows) (z .records) (l .slots)) ≤ limits .mapLimit
+records-fit h = subst (λ (rs : List (Row Record)). length rs ≤ limits .mapLimit) (contents-of h) (contents-count (h .bounded))
 
 -- ---- rows from a key on, one by one
 

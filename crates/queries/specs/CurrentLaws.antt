@@ -11,7 +11,7 @@ use Rattle.lists.specs.Tests.{maybe}
 use Rattle.lists.specs.Rows.{look}
 use Rattle.spec.specs.declared.PayloadWords.{PayloadWords}
 use Rattle.spec.specs.Payloads.{noPayload}
-use Rattle.spec.specs.Records.{standard, Record, outcome}
+use Rattle.spec.specs.Records.{limits, Record, outcome}
 use Rattle.spec.specs.Slots.{Pending, Content, contentOf, Searched, search}
 use Rattle.spec.specs.Maps.{outcomeOf, current}
 use Rattle.indexlet.specs.declared.Content.{Content as ContentWords}
@@ -73,6 +73,6 @@ module _ (rows : RecordRows) (n : ℕ) (slots : SlotRows) (a : ℕ) (c : Content
       }
 
 -- how many slots were examined
-pub examined-is : {slots : SlotRows} {a : ℕ} {r : Looked} → Looks slots a r → r .examined ≡ search (standard .bytes) (slotsIn slots) a .examined
+pub examined-is : {slots : SlotRows} {a : ℕ} {r : Looked} → Looks slots a r → r .examined ≡ search (limits .bytes) (slotsIn slots) a .examined
 unfolding lookedIn
 examined-is l = sym (ap (λ (q : Searched). q .examined) (l .searched))

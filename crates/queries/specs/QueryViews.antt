@@ -5,7 +5,7 @@ use mathlib.Core.List.{List, [], _∷_}
 use mathlib.Core.Option.{Option}
 use lib.ListN.{length, take, drop, getD}
 use Rattle.lists.specs.Rows.{Row, row, between}
-use Rattle.spec.specs.Records.{standard, Record}
+use Rattle.spec.specs.Records.{limits, Record}
 use Rattle.spec.specs.Slots.{contentOf, search}
 use Rattle.spec.specs.Leaves.{Leaf, firstLeaf, leafOf, meeting}
 use Rattle.spec.specs.Maps.{MapState, current, indexedBetween}
@@ -37,7 +37,7 @@ pub record SeesUnder (rows : RecordRows) (n a : ℕ) (c : ContentWords) (r : Cur
 -- and so many slots are examined to find it
 pub record Examines (rows : RecordRows) (n : ℕ) (slots : SlotRows) (a : ℕ) (r : Seen) : Type 0 where
   pub sees : Sees rows n slots a (r .current)
-  pub examined : r .examined ≡ search (standard .bytes) (slotsIn slots) a .examined
+  pub examined : r .examined ≡ search (limits .bytes) (slotsIn slots) a .examined
 
 -- ---- what a scan walks over
 

@@ -13,7 +13,7 @@ use Rattle.lists.specs.TestLaws.{same-refl, same-no}
 use Rattle.lists.specs.Rows.{Row, look, Rising}
 use Rattle.lists.specs.Places.{place, place-most, Absent, look-present, look-absent}
 use Rattle.lists.specs.Shifts.{drop-take}
-use Rattle.spec.specs.Records.{standard, Record, Write}
+use Rattle.spec.specs.Records.{limits, Record, Write}
 use Rattle.spec.specs.Guards.{Scan}
 use Rattle.spec.specs.Leaves.{Leaf}
 use Rattle.sets.specs.declared.writes.Entry.{Entry}
@@ -101,7 +101,7 @@ module _ (rs : ReadRows) (n : ℕ) (rows : RecordRows) (k : ℕ) (slots : SlotRo
   rows-start held = record { held = held; count = refl; view = refl }
 
   module _ (us : ReadRows) (i r : ℕ) (h : LoggingRows rs n at p us i r) where
-    pub rows-room : i < p .to → n + span p ≤ standard .readLimit → r < standard .readLimit
+    pub rows-room : i < p .to → n + span p ≤ limits .readLimit → r < limits .readLimit
     rows-room l b = let q : r + (p .to - i) ≡ n + span p = h .count in omega arith
 
     pub rows-on : (s : Observed) (us' : ReadRows) (r' : ℕ) → i < p .to → SeenAt rows k slots i s → LogsRead us r (s .address) (s .current) us' r'
@@ -145,7 +145,7 @@ module _ (rs : LeafSetRows) (n : ℕ) (lows versions : List ℕ) (p : Range) (s 
   leaves-start held = record { held = held; count = refl; versions-are = λ m b d. refl; lows-are = λ m b d. refl; notes-are = refl }
 
   module _ (us : LeafSetRows) (i r : ℕ) (h : LoggingLeaves rs n lows versions p s us i r) where
-    pub leaves-room : i < p .to → n + span p ≤ standard .leafSetLimit → r < standard .leafSetLimit
+    pub leaves-room : i < p .to → n + span p ≤ limits .leafSetLimit → r < limits .leafSetLimit
     leaves-room l b = let q : r + (p .to - i) ≡ n + span p = h .count in omega arith
 
     pub leaves-on : (x : LoggedLeaf) (us' : LeafSetRows) (r' : ℕ) → i < p .to → LoggedAt lows versions i x → LogsLeaf us r x (eqb i (p .from)) s us' r'

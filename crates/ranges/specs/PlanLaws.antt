@@ -9,7 +9,7 @@ use lib.ListN.{length}
 use Rattle.lists.specs.Tests.{less}
 use Rattle.lists.specs.TestLaws.{less-true, less-false}
 use Rattle.lists.specs.Rows.{Row, Rising}
-use Rattle.spec.specs.Records.{standard, Payload, Write}
+use Rattle.spec.specs.Records.{limits, Payload, Write}
 use Rattle.spec.specs.Steps.{Places, places, shortest}
 use Rattle.workers.specs.declared.Worker.{Worker}
 use Rattle.sets.specs.Reads.{ReadRows}
@@ -48,12 +48,12 @@ module _ {rows : RecordRows} {lows : List ℕ} {slots : SlotRows} {ws : WriteRow
   pub sees : (to : ℕ) → to ≤ z .records → Sees rows slots (z .records) to
   sees to h = record { rows-held = given .rows-held; slots-held = given .slots-held; within = h }
 
-  pub reads-room : (p : Range) → p .from ≤ p .to → p .to ≤ z .records → x .reads + span p ≤ standard .readLimit
+  pub reads-room : (p : Range) → p .from ≤ p .to → p .to ≤ z .records → x .reads + span p ≤ limits .readLimit
       → ReadsRoom rows slots (z .records) (x .reads) p
   reads-room p o h r =
       record { rows-held = given .rows-held; slots-held = given .slots-held; ordered = o; within = h; room = r }
 
-  pub leaves-room : (p : Range) → p .from ≤ p .to → p .to ≤ z .leaves → x .leaves + span p ≤ standard .leafSetLimit → LeavesRoom lows (x .leaves) p
+  pub leaves-room : (p : Range) → p .from ≤ p .to → p .to ≤ z .leaves → x .leaves + span p ≤ limits .leafSetLimit → LeavesRoom lows (x .leaves) p
   leaves-room p o h r =
       record { listed = λ i l. leaf-listed (given .listed) i (le-trans l h); ordered = o; within = le-trans h (given .listed .listed .room); room = r }
 

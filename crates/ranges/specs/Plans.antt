@@ -5,7 +5,7 @@ use mathlib.Core.Logic.{_⊎_}
 use mathlib.Core.List.{List}
 use lib.ListN.{length}
 use Rattle.lists.specs.Rows.{Row}
-use Rattle.spec.specs.Records.{standard, Payload}
+use Rattle.spec.specs.Records.{limits, Payload}
 use Rattle.spec.specs.Steps.{Places, shortest}
 use Rattle.spec.specs.declared.Refusal.{Refusal}
 use Rattle.spec.specs.declared.Refusal.the-variants.{Backward, LogFull, ShortBuffer}
@@ -33,8 +33,8 @@ pub record Planning (rows : RecordRows) (lows : List ℕ) (slots : SlotRows) (ws
   pub slots-held : SlotsHeld slots
   pub listed : LeavesListed lows (z .leaves)
   pub set : WriteSetOrdered ws (x .writes)
-  pub reads : x .reads ≤ standard .readLimit
-  pub leaves : x .leaves ≤ standard .leafSetLimit
+  pub reads : x .reads ≤ limits .readLimit
+  pub leaves : x .leaves ≤ limits .leafSetLimit
 
 -- what the scan walks over
 abbrev pub field : RecordRows → SlotRows → WriteRows → Sizes → Task → Ground
@@ -51,14 +51,14 @@ pub record Measured (rows : RecordRows) (lows : List ℕ) (slots : SlotRows) (ws
   pub index : Spans rows (z .records) lo hi (t .index)
   pub met : Meets lows (z .leaves) lo hi (t .met)
   pub own : OwnSpans ws (x .writes) lo hi (t .own)
-  pub reads-fit : x .reads + span (t .index) ≤ standard .readLimit
-  pub leaves-fit : x .leaves + span (t .met) ≤ standard .leafSetLimit
+  pub reads-fit : x .reads + span (t .index) ≤ limits .readLimit
+  pub leaves-fit : x .leaves + span (t .met) ≤ limits .leafSetLimit
 
 -- the tests refuse
 pub data Declined (rows : RecordRows) (lows : List ℕ) (slots : SlotRows) (ws : WriteRows) (z : Sizes) (x : Worker) (lo hi : ℕ) (b : Places) (r : Refusal) : Type 0 where
   backward : r ≡ Backward → hi < lo → Declined rows lows slots ws z x lo hi b r
   full : r ≡ LogFull → (a d : Range) → lo ≤ hi → Spans rows (z .records) lo hi a → Meets lows (z .leaves) lo hi d
-      → (standard .readLimit < x .reads + span a) ⊎ (standard .leafSetLimit < x .leaves + span d) → Declined rows lows slots ws z x lo hi b r
+      → (limits .readLimit < x .reads + span a) ⊎ (limits .leafSetLimit < x .leaves + span d) → Declined rows lows slots ws z x lo hi b r
   short : r ≡ ShortBuffer → (t : Task) → Measured rows lows slots ws z x lo hi t → shortest b < length (shownOf rows slots ws z t)
       → Declined rows lows slots ws z x lo hi b r
 
@@ -79,8 +79,8 @@ pub record Planned (rows : RecordRows) (lows : List ℕ) (slots : SlotRows) (ws 
   pub met-within : t .met .to ≤ z .leaves
   pub own-ordered : t .own .from ≤ t .own .to
   pub own-within : t .own .to ≤ x .writes
-  pub reads-fit : x .reads + span (t .index) ≤ standard .readLimit
-  pub leaves-fit : x .leaves + span (t .met) ≤ standard .leafSetLimit
+  pub reads-fit : x .reads + span (t .index) ≤ limits .readLimit
+  pub leaves-fit : x .leaves + span (t .met) ≤ limits .leafSetLimit
   pub fits : length (shownOf rows slots ws z t) ≤ shortest b
 
 -- the scan from lo to hi, as the transaction remembers it

@@ -6,7 +6,7 @@ use mathlib.Core.Option.{Option}
 use lib.ListN.{drop, getD}
 use Rattle.lists.specs.Tests.{same}
 use Rattle.lists.specs.Rows.{Row, between}
-use Rattle.spec.specs.Records.{standard, Record}
+use Rattle.spec.specs.Records.{limits, Record}
 use Rattle.spec.specs.Guards.{Scan}
 use Rattle.spec.specs.Leaves.{Leaf, firstLeaf}
 use Rattle.sets.specs.Reads.{ReadRows, readsOf, ReadSetHeld}
@@ -45,7 +45,7 @@ pub record ReadsRoom (rows : RecordRows) (slots : SlotRows) (n m : ℕ) (p : Ran
   pub slots-held : SlotsHeld slots
   pub ordered : p .from ≤ p .to
   pub within : p .to ≤ n
-  pub room : m + span p ≤ standard .readLimit
+  pub room : m + span p ≤ limits .readLimit
 
 -- the read set after f of these places was appended to its first n rows, and how many there are now
 pub record LogsRows (rs : ReadRows) (n : ℕ) (f : ℕ → Row (Option Record)) (p : Range) (us : ReadRows) (r : ℕ) : Type 0 where
@@ -70,7 +70,7 @@ pub record LeavesRoom (lows : List ℕ) (m : ℕ) (p : Range) : Type 0 where
   pub listed : (i : ℕ) → i < p .to → LeafListed lows i
   pub ordered : p .from ≤ p .to
   pub within : p .to ≤ perLeaf
-  pub room : m + span p ≤ standard .leafSetLimit
+  pub room : m + span p ≤ limits .leafSetLimit
 
 -- the row for the leaf at place i remembers the scan if it is the first
 unfoldable pub noted : ℕ → Scanned → ℕ → List Scan

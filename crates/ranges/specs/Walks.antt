@@ -10,7 +10,7 @@ use lib.Dec.{eqb}
 use Rattle.lists.specs.Tests.{pick}
 use Rattle.lists.specs.Rows.{Row, row, mapItems, Rising}
 use Rattle.spec.specs.Payloads.{payloadIn}
-use Rattle.spec.specs.Records.{standard, Payload, Record, Write, ownView, payloadOf}
+use Rattle.spec.specs.Records.{limits, Payload, Record, Write, ownView, payloadOf}
 use Rattle.sets.specs.declared.writes.Entry.{Entry}
 use Rattle.sets.specs.declared.reads.Observed.{Observed}
 use Rattle.sets.specs.Reads.{ReadRows, readIn, observedIn, ReadSetHeld}
@@ -68,7 +68,7 @@ pub record Sees (rows : RecordRows) (slots : SlotRows) (n to : ℕ) : Type 0 whe
 -- the rows from `first` on of a read set can be read
 pub record Keeps (rs : ReadRows) (first to : ℕ) : Type 0 where
   pub held : ReadSetHeld rs
-  pub room : first + to ≤ standard .readLimit
+  pub room : first + to ≤ limits .readLimit
 
 -- places of the walk
 pub record Inside (b : Bounds) (i j : ℕ) : Type 0 where

@@ -3,20 +3,23 @@ use Prim.Native.Nat.{ℕ, _+_, _≤_}
 use native.Mathlib.Omega.{arith}
 use native.Mathlib.Nat.{le-refl}
 use mathlib.Core.Path.{_≡_, refl, sym, ap, _∙_, subst}
-use mathlib.Core.Bool.{Bool, false}
+use mathlib.Core.Bool.{false}
 use mathlib.Core.List.{List, [], _∷_, _++_}
 use lib.ListN.{length, take, drop}
 use lib.Seq.{sets, sets-eq, take-all, take-append-le}
 use Rattle.lists.specs.TestLaws.{clash}
 use Rattle.lists.specs.Rows.{any}
 use Rattle.spec.specs.Exports.{unstamped, ExportStep, file, declined, opened, given, filed, closed, exportOf, Exchange, jobTold, exportTold}
+use Rattle.spec.specs.GoodTuning.{GoodTuning}
+use Rattle.spec.specs.Records.{Made}
+use Rattle.calls.specs.CallLaws.{reached-good}
 use Rattle.map.specs.Views.{Lent}
 use Rattle.exports.specs.Exporting.{ExportedRows, exportIn, Space}
 use Rattle.transactions.specs.Views.{Logs}
 use Rattle.replay.specs.Replays.{ReplayEnd, runOf, bytesOf, filedBy, FilesFit, leftIn, Replays}
 use Rattle.replay.specs.LoopLaws.{left-length, left-append}
 use Rattle.replay.specs.ToldExports.{listedAfter, tellsFile, OpenAfter, PortionsTold, OpenedTold, FilesTold}
-use Rattle.replay.specs.ToldLaws.{neither, portions-told, opened-told, held-listed, files-told}
+use Rattle.replay.specs.ToldLaws.{neither, portions-told, opened-told, held-listed, files-told, tells-state}
 
 -- ---- the lent bytes
 
@@ -58,17 +61,20 @@ last-filed es fs s bs ks h c =
 
 -- ---- of a replay
 
-module _ {x : Bool} {words : List ℕ} {s : Space} {out : List ℕ} {l : Lent} {g : Logs} {xs : ExportedRows} {s' : Space} {out' : List ℕ} {r : ReplayEnd}
+module _ {x : Made} {words : List ℕ} {s : Space} {out : List ℕ} {l : Lent} {g : Logs} {xs : ExportedRows} {s' : Space} {out' : List ℕ} {r : ReplayEnd}
     (h : Replays x words s out l g xs s' out' r) where
+  good : GoodTuning (x .tuning)
+  good = reached-good l g (r .core) x _ (tells-state (h .tells)) (h .ready .engine)
+
   pub replay-portions : PortionsTold x (runOf x words s out .told)
   replay-portions = portions-told x (h .tells)
 
   pub replay-opened : OpenedTold x (runOf x words s out .told)
-  replay-opened = opened-told x (h .tells)
+  replay-opened = opened-told x (h .tells) good
 
   -- an export that is left open is still in its rows
   pub replay-held : (o : OpenAfter (runOf x words s out .told)) → exportOf (exportIn xs (r .export)) .records ≡ unstamped (listedAfter (o .before))
-  replay-held o = held-listed x o (h .tells)
+  replay-held o = held-listed x good o (h .tells)
 
   pub replay-files : FilesTold x (runOf x words s out .told)
   replay-files = files-told x (h .tells)

@@ -2,7 +2,6 @@
 use Prim.Native.Nat.{ℕ, _+_, _-_, _*_, _/_, _%_, _<_, _≤_, zero-le}
 use native.Mathlib.Omega.{arith}
 use mathlib.Core.Path.{_≡_, refl, sym, ap, _∙_, subst}
-use mathlib.Core.Bool.{Bool}
 use mathlib.Core.List.{List, [], _∷_, _++_, append-nil, append-assoc}
 use mathlib.Core.Option.{none}
 use lib.ListN.{length, drop, length-append, length-drop}
@@ -10,25 +9,25 @@ use lib.Seq.{length-sets}
 use Rattle.lists.specs.Tests.{pick, same}
 use Rattle.lists.specs.Texts.{Wrote}
 use Rattle.lists.specs.TextLaws.{wrote-join, wrote-length}
-use Rattle.spec.specs.Records.{standard}
+use Rattle.spec.specs.Records.{Made}
 use Rattle.spec.specs.Maps.{MapState, contents}
 use Rattle.spec.specs.Steps.{Places, State, fresh}
 use Rattle.spec.specs.Claim.{SerialRun}
 use Rattle.spec.specs.Exports.{Exporting, Exchange, startingAt, jobEvents}
-use Rattle.calls.specs.CallLaws.{map-in}
+use Rattle.calls.specs.CallLaws.{map-in, reached-good}
 use Rattle.map.specs.Views.{Lent, mapOf}
 use Rattle.buffers.specs.Buffers.{placesOf}
 use Rattle.exports.specs.declared.Export.{Export}
 use Rattle.exports.specs.Exporting.{ExportedRows, exportIn, ExportHeld, Space}
 use Rattle.transactions.specs.Cores.{Core}
-use Rattle.transactions.specs.Views.{Logs, guardedIn, stateOf}
+use Rattle.transactions.specs.Views.{Logs, madeOf, stateOf}
 use Rattle.transactions.specs.Starts.{Fresh}
 use Rattle.codes.specs.declared.Code.{Code}
 use Rattle.replay.specs.declared.stops.Stop.{Stop}
 use Rattle.replay.specs.declared.stops.Stop.the-variants as stop
 use Rattle.replay.specs.Replays.{ReplayEnd, Ran, ended, stepWords, toldWords, ran, allWords, leftIn, addressesBy, valuesBy, ownersBy, filedBy, FilesFit, SpaceBecomes, Whole, whole, exportingIn, WholeReady, runOf, Replays}
 use Rattle.replay.specs.ToldExports.{Tells, nothing-told}
-use Rattle.replay.specs.ToldLaws.{tells-join, tells-serial}
+use Rattle.replay.specs.ToldLaws.{tells-join, tells-serial, tells-state}
 use Rattle.replay.specs.RunLaws.{codeAt, wordsFrom, drop-code, ranWith, allFollowedBy, chained, tally, TakesCode}
 
 -- ---- the words that make no whole code
@@ -95,9 +94,9 @@ words-append (e ∷ es) fs =
 
 -- ---- the promise, once the run is known
 
-ends : {x : Bool} {words : List ℕ} {s₀ : Space} {out₀ : List ℕ} {h : Whole} {s : Space} {out : List ℕ} {at i : ℕ} {y : Stop} {es : List Exchange} → WholeReady h
+ends : {x : Made} {words : List ℕ} {s₀ : Space} {out₀ : List ℕ} {h : Whole} {s : Space} {out : List ℕ} {at i : ℕ} {y : Stop} {es : List Exchange} → WholeReady h
     → runOf x words s₀ out₀ ≡ record { told = es; stop = y; after = exportingIn h } → i ≡ length es → Wrote out₀ 0 (allWords es) out at → SpaceBecomes es s₀ s
-    → Tells (startingAt (fresh standard x)) es (exportingIn h)
+    → Tells (startingAt (fresh x)) es (exportingIn h)
     → Replays x words s₀ out₀ (h .map) (h .logs) (h .exported) s out (record { core = h .core; export = h .export; taken = i; written = at; stop = y })
 ends {x} {words} {s₀} {out₀} {h} {s} {out} {at} {i} {y} {es} r e n w a k =
     let f : runOf x words s₀ out₀ .told ≡ es = ap (λ (z : Ran). z .told) e in
@@ -108,10 +107,10 @@ ends {x} {words} {s₀} {out₀} {h} {s} {out} {at} {i} {y} {es} r e n w a k =
       taken = n ∙ ap length (sym f);
       answers = subst (λ (fs : List Exchange). Wrote out₀ 0 (allWords fs) out at) (sym f) w;
       space = subst (λ (fs : List Exchange). SpaceBecomes fs s₀ s) (sym f) a;
-      tells = subst (λ (fs : List Exchange). Tells (startingAt (fresh standard x)) fs (exportingIn h)) (sym f) k;
+      tells = subst (λ (fs : List Exchange). Tells (startingAt (fresh x)) fs (exportingIn h)) (sym f) k;
       serial =
           subst (λ (fs : List Exchange). SerialRun (jobEvents fs) (contents (mapOf (h .map) (h .core .sizes)))) (sym f)
-          (subst (λ (m : MapState). SerialRun (jobEvents es) (contents m)) (map-in (h .map) (h .logs) (h .core)) (tells-serial x k));
+          (subst (λ (m : MapState). SerialRun (jobEvents es) (contents m)) (map-in (h .map) (h .logs) (h .core)) (tells-serial x (reached-good (h .map) (h .logs) (h .core) x _ (tells-state k) (r .engine)) k));
     }
 
 no-steps : (es : List Exchange) → length es ≡ 0 → es ≡ []
@@ -120,7 +119,7 @@ no-steps (y ∷ ys) q = absurd (let b : ⊥ = omega arith in b)
 
 -- ---- after i codes
 
-pub record Replaying (x : Bool) (words : List ℕ) (s₀ : Space) (out₀ : List ℕ) (h : Whole) (s : Space) (out : List ℕ) (at i : ℕ) : Type 0 where
+pub record Replaying (x : Made) (words : List ℕ) (s₀ : Space) (out₀ : List ℕ) (h : Whole) (s : Space) (out : List ℕ) (at i : ℕ) : Type 0 where
   pub told : List Exchange
   pub ready : WholeReady h
   pub wrote : Wrote out₀ 0 (allWords told) out at
@@ -128,14 +127,14 @@ pub record Replaying (x : Bool) (words : List ℕ) (s₀ : Space) (out₀ : List
   pub count : i ≡ length told
   pub inside : i ≤ length words / stepWords
   pub space : SpaceBecomes told s₀ s
-  pub tells : Tells (startingAt (fresh standard x)) told (exportingIn h)
+  pub tells : Tells (startingAt (fresh x)) told (exportingIn h)
 
 -- a fresh map, and no export open
-fresh-whole : {l : Lent} {g : Logs} {x : Bool} {c : Core} (xs : ExportedRows) (e : Export) → Fresh l g x c → exportIn xs e ≡ none
-    → startingAt (fresh standard x) ≡ exportingIn (whole l g c xs e)
+fresh-whole : {l : Lent} {g : Logs} {x : Made} {c : Core} (xs : ExportedRows) (e : Export) → Fresh l g x c → exportIn xs e ≡ none
+    → startingAt (fresh x) ≡ exportingIn (whole l g c xs e)
 fresh-whole xs e f o = λ i. record { state = sym (f .state) i; export = sym o i }
 
-pub replaying-start : {l : Lent} {g : Logs} {c : Core} {xs : ExportedRows} {e : Export} (x : Bool) (words : List ℕ) (s : Space) (out : List ℕ) → Fresh l g x c
+pub replaying-start : {l : Lent} {g : Logs} {c : Core} {xs : ExportedRows} {e : Export} (x : Made) (words : List ℕ) (s : Space) (out : List ℕ) → Fresh l g x c
     → (exportIn xs e ≡ none) × ExportHeld e → Replaying x words s out (whole l g c xs e) s out 0 0
 unfolding allWords leftIn FilesFit
 replaying-start {l} {g} {c} {xs} {e} x words s out f o =
@@ -149,24 +148,24 @@ replaying-start {l} {g} {c} {xs} {e} x words s out f o =
       count = refl;
       inside = zero-le;
       space = record { addresses = refl; values = refl; owners = refl; bytes = refl; fits = tt };
-      tells = subst (Tells (startingAt (fresh standard x)) []) (fresh-whole xs e f (o .0)) nothing-told;
+      tells = subst (Tells (startingAt (fresh x)) []) (fresh-whole xs e f (o .0)) nothing-told;
     }
 
--- a fresh start tells whether the map is guarded
-core-guarded : {l : Lent} {g : Logs} {b : Bool} {c : Core} → Fresh l g b c → guardedIn (c .guarded) ≡ b
+-- a fresh start tells what the map is made with
+core-made : {l : Lent} {g : Logs} {x : Made} {c : Core} → Fresh l g x c → madeOf c ≡ x
 unfolding stateOf
-core-guarded f = ap (λ (σ : State). σ .guarded) (f .state)
+core-made f = ap (λ (σ : State). σ .made) (f .state)
 
-pub fresh-as : {l : Lent} {g : Logs} {b : Bool} {c : Core} → Fresh l g b c → Fresh l g (guardedIn (c .guarded)) c
-fresh-as {l} {g} {c = c} f = subst (λ (x : Bool). Fresh l g x c) (sym (core-guarded f)) f
+pub fresh-as : {l : Lent} {g : Logs} {x : Made} {c : Core} → Fresh l g x c → Fresh l g (madeOf c) c
+fresh-as {l} {g} {c = c} f = subst (λ (y : Made). Fresh l g y c) (sym (core-made f)) f
 
-pub replays-as : {l l' : Lent} {g g' : Logs} {xs : ExportedRows} {x : Bool} {c : Core} {words : List ℕ} {s s' : Space} {out out' : List ℕ} {r : ReplayEnd} → Fresh l g x c
-    → Replays (guardedIn (c .guarded)) words s out l' g' xs s' out' r → Replays x words s out l' g' xs s' out' r
+pub replays-as : {l l' : Lent} {g g' : Logs} {xs : ExportedRows} {x : Made} {c : Core} {words : List ℕ} {s s' : Space} {out out' : List ℕ} {r : ReplayEnd} → Fresh l g x c
+    → Replays (madeOf c) words s out l' g' xs s' out' r → Replays x words s out l' g' xs s' out' r
 replays-as {l' = l'} {g' = g'} {xs = xs} {words = words} {s} {s'} {out} {out'} {r} f =
-    subst (λ (y : Bool). Replays y words s out l' g' xs s' out' r) (core-guarded f)
+    subst (λ (y : Made). Replays y words s out l' g' xs s' out' r) (core-made f)
 
 -- the buffers keep their lengths, and the place is in the answer buffer
-module _ {x : Bool} {words : List ℕ} {s₀ : Space} {out₀ : List ℕ} {h : Whole} {s : Space} {out : List ℕ} {at i : ℕ} (p : Replaying x words s₀ out₀ h s out at i) where
+module _ {x : Made} {words : List ℕ} {s₀ : Space} {out₀ : List ℕ} {h : Whole} {s : Space} {out : List ℕ} {at i : ℕ} (p : Replaying x words s₀ out₀ h s out at i) where
   pub replaying-places : placesOf (s .portion) ≡ placesOf (s₀ .portion)
   replaying-places = left-places (p .space)
 
@@ -196,7 +195,7 @@ module _ {h h' : Whole} {k : Code} {s s' : Space} {out out' : List ℕ} {at next
   pub takes-as : {j : Code} → k ≡ j → TakesCode h j s out at h' s' out' next t
   takes-as e = subst (λ (x : Code). TakesCode h x s out at h' s' out' next t) e u
 
-module _ {x : Bool} {words : List ℕ} {s₀ : Space} {out₀ : List ℕ} {h h' : Whole} {s s' : Space} {out out' : List ℕ} {at next i : ℕ} {t : Stop}
+module _ {x : Made} {words : List ℕ} {s₀ : Space} {out₀ : List ℕ} {h h' : Whole} {s s' : Space} {out out' : List ℕ} {at next i : ℕ} {t : Stop}
     (p : Replaying x words s₀ out₀ h s out at i) (u : TakesCode h (codeAt words i) s out at h' s' out' next t)
     (inside : stepWords * i + stepWords ≤ length words)
   where
@@ -258,10 +257,10 @@ module _ {x : Bool} {words : List ℕ} {s₀ : Space} {out₀ : List ℕ} {h h' 
         (p .count)
         (subst (λ (es : List Exchange). Wrote out₀ 0 (allWords es) out' next) all all-wrote)
         (subst (λ (es : List Exchange). SpaceBecomes es s₀ s') all (left-on (p .space) (u .space)))
-        (subst (λ (es : List Exchange). Tells (startingAt (fresh standard x)) es (exportingIn h')) all (tells-join (p .tells) (u .tells)))
+        (subst (λ (es : List Exchange). Tells (startingAt (fresh x)) es (exportingIn h')) all (tells-join (p .tells) (u .tells)))
 
 -- no code is left
-pub replays-end : {x : Bool} {words : List ℕ} {s₀ : Space} {out₀ : List ℕ} {h : Whole} {s : Space} {out : List ℕ} {at : ℕ} {y : Stop} (i : ℕ)
+pub replays-end : {x : Made} {words : List ℕ} {s₀ : Space} {out₀ : List ℕ} {h : Whole} {s : Space} {out : List ℕ} {at : ℕ} {y : Stop} (i : ℕ)
     → Replaying x words s₀ out₀ h s out at i → length words / stepWords ≤ i → y ≡ restStop (length words % stepWords)
     → Replays x words s₀ out₀ (h .map) (h .logs) (h .exported) s out (record { core = h .core; export = h .export; taken = i; written = at; stop = y })
 replays-end {x} {words} {s₀} {out₀} {h} {at = at} {y = y} i p z e =

@@ -2,7 +2,6 @@
 -- promises, demand 3 included.
 use Prim.Native.Nat.{ℕ, _+_, _-_, _*_, _≤_}
 use mathlib.Core.Path.{_≡_}
-use mathlib.Core.Bool.{Bool}
 use mathlib.Core.List.{List, [], _∷_, _++_, map}
 use mathlib.Core.Option.{Option, none, some}
 use lib.ListN.{length}
@@ -10,7 +9,7 @@ use lib.Seq.{sets}
 use Rattle.lists.specs.Tests.{pick, maybe, less}
 use Rattle.lists.specs.Rows.{Row}
 use Rattle.lists.specs.Texts.{Wrote}
-use Rattle.spec.specs.Records.{standard, Payload}
+use Rattle.spec.specs.Records.{Made, Payload}
 use Rattle.spec.specs.Maps.{contents}
 use Rattle.spec.specs.Steps.{Places, places, shortest, fresh, Answer, refused, done, found, listed, numbered, counted}
 use Rattle.spec.specs.Claim.{SerialRun}
@@ -184,9 +183,9 @@ pub record WholeReady (h : Whole) : Type 0 where
   pub engine : Ready (h .map) (h .logs) (h .core)
   pub export : ExportHeld (h .export)
 
--- The run of these words, with these buffers and bytes, from a fresh map, guarded or not.
-abbrev pub runOf : Bool → List ℕ → Space → List ℕ → Ran
-runOf guarded words s out = ran (placesOf (s .portion)) (length (s .bytes)) (startingAt (fresh standard guarded)) (length out) words
+-- The run of these words, with these buffers and bytes, from a fresh map.
+abbrev pub runOf : Made → List ℕ → Space → List ℕ → Ran
+runOf made words s out = ran (placesOf (s .portion)) (length (s .bytes)) (startingAt (fresh made)) (length out) words
 
 -- The core and the export's numbers after the steps, how many were taken, how many words were written, and why no more.
 pub record ReplayEnd : Type 0 where
@@ -204,18 +203,18 @@ replayEndOf ws r =
 abbrev pub leftBy : Lent → Logs → ExportedRows → ReplayEnd → Whole
 leftBy l g xs r = whole l g (r .core) xs (r .export)
 
--- Whether the map is guarded, the words of the steps, the lent space and the answer buffer before, the arrays, the space, the
+-- What the map is made with, the words of the steps, the lent space and the answer buffer before, the arrays, the space, the
 -- answer buffer and the outcome after.
-pub record Replays (guarded : Bool) (words : List ℕ) (s : Space) (out : List ℕ) (l : Lent) (g : Logs) (xs : ExportedRows) (s' : Space) (out' : List ℕ) (r : ReplayEnd) : Type 0 where
+pub record Replays (made : Made) (words : List ℕ) (s : Space) (out : List ℕ) (l : Lent) (g : Logs) (xs : ExportedRows) (s' : Space) (out' : List ℕ) (r : ReplayEnd) : Type 0 where
   pub ready : WholeReady (leftBy l g xs r)
   -- the steps that the run takes are taken, and why no more
-  pub after : exportingIn (leftBy l g xs r) ≡ runOf guarded words s out .after
-  pub stop : r .stop ≡ runOf guarded words s out .stop
-  pub taken : r .taken ≡ length (runOf guarded words s out .told)
+  pub after : exportingIn (leftBy l g xs r) ≡ runOf made words s out .after
+  pub stop : r .stop ≡ runOf made words s out .stop
+  pub taken : r .taken ≡ length (runOf made words s out .told)
   -- their answers are written, and nothing past them
-  pub answers : Wrote out 0 (allWords (runOf guarded words s out .told)) out' (r .written)
-  pub space : SpaceBecomes (runOf guarded words s out .told) s s'
+  pub answers : Wrote out 0 (allWords (runOf made words s out .told)) out' (r .written)
+  pub space : SpaceBecomes (runOf made words s out .told) s s'
   -- they are the model's, one after the other up to what is left, and each file among them is read back
-  pub tells : Tells (startingAt (fresh standard guarded)) (runOf guarded words s out .told) (exportingIn (leftBy l g xs r))
+  pub tells : Tells (startingAt (fresh made)) (runOf made words s out .told) (exportingIn (leftBy l g xs r))
   -- demand 3, of the jobs' steps among these, their answers and the contents after them
-  pub serial : SerialRun (jobEvents (runOf guarded words s out .told)) (contents (mapOf l (r .core .sizes)))
+  pub serial : SerialRun (jobEvents (runOf made words s out .told)) (contents (mapOf l (r .core .sizes)))

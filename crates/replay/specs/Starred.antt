@@ -7,7 +7,7 @@ use lib.ListN.{length}
 use Rattle.lists.specs.Rows.{Row, row}
 use Rattle.lists.specs.Texts.{Wrote}
 use Rattle.spec.specs.declared.Refusal.the-variants.{ShortBuffer, ExportOpen, NoExport}
-use Rattle.spec.specs.Records.{standard, Record}
+use Rattle.spec.specs.Records.{limits, standard, standardMap, Record}
 use Rattle.spec.specs.Leaves.{cuts}
 use Rattle.spec.specs.Slots.{homeSlot}
 use Rattle.spec.specs.Maps.{contents}
@@ -74,12 +74,12 @@ bytes = 64
 abbrev pub AllShow : Bool → List Exchange → List (Row Record) → Type 0
 AllShow b x rs =
     (s : Space) (out : List ℕ) (l : Lent) (g : Logs) (xs : ExportedRows) (s' : Space) (out' : List ℕ) (r : ReplayEnd)
-    → placesOf (s .portion) ≡ wide → length (s .bytes) ≡ bytes → length out ≡ room → Replays b (codesFor (requestsOf x)) s out l g xs s' out' r
+    → placesOf (s .portion) ≡ wide → length (s .bytes) ≡ bytes → length out ≡ room → Replays (standardMap b) (codesFor (requestsOf x)) s out l g xs s' out' r
     → Shows x rs out l out' r
 
 -- what a row says of the engine
 abbrev pub HoldsOf : Run → Type 0
-HoldsOf (home a h) = homeSlot (standard .bytes) a ≡ h
+HoldsOf (home a h) = homeSlot (limits .bytes) a ≡ h
 HoldsOf (leaves n ns) = cuts standard n ≡ ns
 HoldsOf (script b h rs) = AllShow b (map jobTold h) rs
 
@@ -89,19 +89,19 @@ AllHoldOf (r ∷ rs) = HoldsOf r × AllHoldOf rs
 
 -- the run of a row's steps in coded form
 abbrev runFor : Bool → List Exchange → Ran
-runFor b x = ran wide bytes (startingAt (fresh standard b)) room (codesFor (requestsOf x))
+runFor b x = ran wide bytes (startingAt (fresh (standardMap b))) room (codesFor (requestsOf x))
 
 -- its steps are all taken, and answered as the row says
 abbrev Runs : Bool → List Exchange → Type 0
 Runs b x = (runFor b x .told ≡ x) × (runFor b x .stop ≡ stop.Complete)
 
-shows : (b : Bool) (x : List Exchange) (rs : List (Row Record)) → Runs b x → contents (final (fresh standard b) (jobSteps (requestsOf x)) .map) ≡ rs → AllShow b x rs
+shows : (b : Bool) (x : List Exchange) (rs : List (Row Record)) → Runs b x → contents (final (fresh (standardMap b)) (jobSteps (requestsOf x)) .map) ≡ rs → AllShow b x rs
 shows b x rs e k s out l g xs s' out' r m n o p =
-    let same : ran (placesOf (s .portion)) (length (s .bytes)) (startingAt (fresh standard b)) (length out) (codesFor (requestsOf x)) ≡ runFor b x
-    = λ i. ran (m i) (n i) (startingAt (fresh standard b)) (o i) (codesFor (requestsOf x)) in
-    let state : stateOf l g (r .core) ≡ final (fresh standard b) (jobSteps (requestsOf x))
+    let same : ran (placesOf (s .portion)) (length (s .bytes)) (startingAt (fresh (standardMap b))) (length out) (codesFor (requestsOf x)) ≡ runFor b x
+    = λ i. ran (m i) (n i) (startingAt (fresh (standardMap b))) (o i) (codesFor (requestsOf x)) in
+    let state : stateOf l g (r .core) ≡ final (fresh (standardMap b)) (jobSteps (requestsOf x))
     = tells-state (p .tells)
-    ∙ ap (λ (es : List Exchange). final (fresh standard b) (jobSteps (requestsOf es))) (ap (λ (y : Ran). y .told) same ∙ e .0) in
+    ∙ ap (λ (es : List Exchange). final (fresh (standardMap b)) (jobSteps (requestsOf es))) (ap (λ (y : Ran). y .told) same ∙ e .0) in
     record {
       complete = p .stop ∙ ap (λ (y : Ran). y .stop) same ∙ e .1;
       answers = subst (λ (es : List Exchange). Wrote out 0 (allWords es) out' (r .written)) (ap (λ (y : Ran). y .told) same ∙ e .0) (p .answers);

@@ -6,7 +6,7 @@ use mathlib.Core.List.{List, [], _∷_, _++_}
 use mathlib.Core.Option.{some}
 use lib.ListN.{length}
 use Rattle.lists.specs.Rows.{Row, any}
-use Rattle.spec.specs.Records.{standard, Record}
+use Rattle.spec.specs.Records.{Made, Record}
 use Rattle.spec.specs.Steps.{fresh}
 use Rattle.spec.specs.Claim.{reading, listAfter}
 use Rattle.spec.specs.Files.{parsed}
@@ -47,8 +47,8 @@ remainsTold n (jobTold e ∷ es) = remainsTold n es
 remainsTold n (exportTold s a ∷ es) = remainsTold (remainsBy n a) es
 
 -- the present contents after these exchanges, from a fresh map
-abbrev pub presentAfter : Bool → List Exchange → List (Row Record)
-presentAfter guarded es = contentsNow (finalOf (startingAt (fresh standard guarded)) (requestsOf es))
+abbrev pub presentAfter : Made → List Exchange → List (Row Record)
+presentAfter made es = contentsNow (finalOf (startingAt (fresh made)) (requestsOf es))
 
 -- the plain list after all jobs that these exchanges installed, by serial number
 abbrev pub listedAfter : List Exchange → List (Row Record)
@@ -72,25 +72,25 @@ tellsFile (exportTold s (given rs n)) = false
 tellsFile (exportTold s (filed bs)) = true
 tellsFile (exportTold s closed) = false
 
--- ---- what is claimed, of a history from a fresh map, guarded or not
+-- ---- what is claimed, of a history from a fresh map
 
 -- Portions taken until nothing remains are together the present contents at opening, without stamps: wherever the export was
 -- opened, and whatever was asked for between.
-pub record PortionsTold (guarded : Bool) (es : List Exchange) : Type 0 where
+pub record PortionsTold (made : Made) (es : List Exchange) : Type 0 where
   pub whole :
       (upto rest : List Exchange) → es ≡ upto ++ rest → (x : OpenAfter upto) → remainsTold (x .count) (x .since) ≡ 0
-      → portionsGiven (x .since) ≡ unstamped (presentAfter guarded (x .before))
+      → portionsGiven (x .since) ≡ unstamped (presentAfter made (x .before))
 
 -- That equals a run of the jobs installed by then; and opening told how many records that are.
-pub record OpenedTold (guarded : Bool) (es : List Exchange) : Type 0 where
-  pub listed : (upto rest : List Exchange) → es ≡ upto ++ rest → (x : OpenAfter upto) → presentAfter guarded (x .before) ≡ listedAfter (x .before)
+pub record OpenedTold (made : Made) (es : List Exchange) : Type 0 where
+  pub listed : (upto rest : List Exchange) → es ≡ upto ++ rest → (x : OpenAfter upto) → presentAfter made (x .before) ≡ listedAfter (x .before)
   pub counted : (upto rest : List Exchange) → es ≡ upto ++ rest → (x : OpenAfter upto) → x .count ≡ length (listedAfter (x .before))
 
 -- A file that was told after these exchanges: an export was open, and the bytes are read back as what it was opened with.
-pub record FileTold (guarded : Bool) (es : List Exchange) (bs : List ℕ) : Type 0 where
+pub record FileTold (made : Made) (es : List Exchange) (bs : List ℕ) : Type 0 where
   pub opening : OpenAfter es
-  pub records : parsed bs ≡ some (unstamped (presentAfter guarded (opening .before)))
+  pub records : parsed bs ≡ some (unstamped (presentAfter made (opening .before)))
 
 -- Every file.
-pub record FilesTold (guarded : Bool) (es : List Exchange) : Type 0 where
-  pub each : (upto rest : List Exchange) (n : ℕ) (bs : List ℕ) → es ≡ upto ++ (exportTold (file n) (filed bs) ∷ rest) → FileTold guarded upto bs
+pub record FilesTold (made : Made) (es : List Exchange) : Type 0 where
+  pub each : (upto rest : List Exchange) (n : ℕ) (bs : List ℕ) → es ≡ upto ++ (exportTold (file n) (filed bs) ∷ rest) → FileTold made upto bs

@@ -12,11 +12,12 @@ use Rattle.lists.specs.Rows.{Row, any, mapItems}
 use Rattle.lists.specs.Options.{both-options, some-same}
 use Rattle.spec.specs.declared.Refusal.{Refusal}
 use Rattle.spec.specs.declared.Refusal.the-variants.{ShortBuffer}
-use Rattle.spec.specs.Records.{standard, Payload, Record}
+use Rattle.spec.specs.Records.{Made, Payload, Record}
 use Rattle.spec.specs.Steps.{Step, fresh, final, firstCause}
 use Rattle.spec.specs.Claim.{SerialRun}
 use Rattle.spec.specs.Files.{fileOf, fileSize, parsed}
 use Rattle.spec.specs.Exports.{Export, unstamped, remaining, ExportStep, openExport, portion, file, closeExport, ExportAnswer, declined, opened, given, filed, closed, exportOf, exportCauses, exportRefusal, exportGranted, exportEffect, exportAnswer, exportNext, Exporting, Request, job, exporting, Exchange, jobTold, exportTold, contentsNow, exchange, nextOf, finalOf, exchanges, startingAt, jobSteps, jobEvents, recordsGiven, portionsGiven, isClose, remainingOf}
+use Rattle.spec.specs.GoodTuning.{GoodTuning}
 use Rattle.laws.specs.ExportLaws.{jobs-final}
 use Rattle.serial.specs.ExportRuns.{exports-serial, portions-whole}
 use Rattle.replay.specs.ToldExports.{requestOf, requestsOf, Tells, nothing-told, told-next, remainsBy, remainsTold, presentAfter, listedAfter, OpenAfter, PortionsTold, OpenedTold, FilesTold}
@@ -42,11 +43,11 @@ pub tells-state : {ξ ζ : Exporting} {es : List Exchange} → Tells ξ es ζ �
 tells-state {ξ} {es = es} t = ap (λ (η : Exporting). η .state) (sym (tells-final t)) ∙ jobs-final ξ (requestsOf es)
 
 -- demand 3 of them
-pub tells-serial : {ζ : Exporting} {es : List Exchange} (g : Bool) → Tells (startingAt (fresh standard g)) es ζ → SerialRun (jobEvents es) (contentsNow ζ)
-tells-serial {ζ} {es} g t =
+pub tells-serial : {ζ : Exporting} {es : List Exchange} (d : Made) → GoodTuning (d .tuning) → Tells (startingAt (fresh d)) es ζ → SerialRun (jobEvents es) (contentsNow ζ)
+tells-serial {ζ} {es} d k t =
     subst (λ (η : Exporting). SerialRun (jobEvents es) (contentsNow η)) (tells-final t)
-    (subst (λ (l : List Exchange). SerialRun (jobEvents l) (contentsNow (finalOf (startingAt (fresh standard g)) (requestsOf es)))) (tells-answers t)
-    (exports-serial g (requestsOf es)))
+    (subst (λ (l : List Exchange). SerialRun (jobEvents l) (contentsNow (finalOf (startingAt (fresh d)) (requestsOf es)))) (tells-answers t)
+    (exports-serial d k (requestsOf es)))
 
 -- an exchange is of its request
 request-of : (ξ : Exporting) (q : Request) → requestOf (exchange ξ q) ≡ q
@@ -287,16 +288,16 @@ opening-on seen (told-next {ξ = ξ} {e = e} {es = es} a r t) h p =
 
 -- ---- what is claimed
 
-module _ (g : Bool) where
+module _ (d : Made) where
   abbrev start : Exporting
-  start = startingAt (fresh standard g)
+  start = startingAt (fresh d)
 
-  present-is : {ζ : Exporting} {es : List Exchange} → Tells start es ζ → presentAfter g es ≡ contentsNow ζ
+  present-is : {ζ : Exporting} {es : List Exchange} → Tells start es ζ → presentAfter d es ≡ contentsNow ζ
   present-is t = ap contentsNow (tells-final t)
 
   -- the plain list is what is present
-  listed-is : {ζ : Exporting} {es : List Exchange} → Tells start es ζ → presentAfter g es ≡ listedAfter es
-  listed-is {es = es} t = sym (exports-serial g (requestsOf es) .same-contents) ∙ ap listedAfter (tells-answers t)
+  listed-is : GoodTuning (d .tuning) → {ζ : Exporting} {es : List Exchange} → Tells start es ζ → presentAfter d es ≡ listedAfter es
+  listed-is k {es = es} t = sym (exports-serial d k (requestsOf es) .same-contents) ∙ ap listedAfter (tells-answers t)
 
   -- What an open export was opened with.
   record OpenedWith (es : List Exchange) (ζ : Exporting) (x : OpenAfter es) : Type 0 where
@@ -321,13 +322,13 @@ module _ (g : Bool) where
       stays t (opens-some (contentsNow η) (η .export)) c .records ∙ opens-with (contentsNow η) (η .export) e
 
   -- what it holds until it is closed
-  held-told : {es : List Exchange} {ζ : Exporting} (x : OpenAfter es) → Tells start es ζ → exportOf (ζ .export) .records ≡ unstamped (presentAfter g (x .before))
+  held-told : {es : List Exchange} {ζ : Exporting} (x : OpenAfter es) → Tells start es ζ → exportOf (ζ .export) .records ≡ unstamped (presentAfter d (x .before))
   held-told x t =
       let w = opened-with x t in
       held-from (w .opening) (w .openable-is .none-open) (x .unclosed) ∙ ap unstamped (sym (present-is (w .before)))
 
-  pub held-listed : {es : List Exchange} {ζ : Exporting} (x : OpenAfter es) → Tells start es ζ → exportOf (ζ .export) .records ≡ unstamped (listedAfter (x .before))
-  held-listed x t = held-told x t ∙ ap unstamped (listed-is (opened-with x t .before))
+  pub held-listed : GoodTuning (d .tuning) → {es : List Exchange} {ζ : Exporting} (x : OpenAfter es) → Tells start es ζ → exportOf (ζ .export) .records ≡ unstamped (listedAfter (x .before))
+  held-listed k x t = held-told x t ∙ ap unstamped (listed-is k (opened-with x t .before))
 
   none-left : (l : List (Row Payload)) → length l ≡ 0 → l ≡ []
   none-left [] e = refl
@@ -350,7 +351,7 @@ module _ (g : Bool) where
     upto-told : (upto rest : List Exchange) → es ≡ upto ++ rest → Cut start upto rest ζ
     upto-told upto rest e = tells-cut upto rest (subst (λ (l : List Exchange). Tells start l ζ) e t)
 
-    pub portions-told : PortionsTold g es
+    pub portions-told : PortionsTold d es
     portions-told =
         record {
           whole = λ upto rest e x z.
@@ -358,16 +359,16 @@ module _ (g : Bool) where
               portions-from (w .opening) (w .openable-is .none-open) (x .unclosed) z ∙ ap unstamped (sym (present-is (w .before)));
         }
 
-    pub opened-told : OpenedTold g es
-    opened-told =
+    pub opened-told : GoodTuning (d .tuning) → OpenedTold d es
+    opened-told k =
         record {
-          listed = λ upto rest e x. listed-is (opened-with x (upto-told upto rest e .first) .before);
+          listed = λ upto rest e x. listed-is k (opened-with x (upto-told upto rest e .first) .before);
           counted = λ upto rest e x.
               let w = opened-with x (upto-told upto rest e .first) in
-              w .openable-is .count-is ∙ ap length (sym (present-is (w .before)) ∙ listed-is (w .before));
+              w .openable-is .count-is ∙ ap length (sym (present-is (w .before)) ∙ listed-is k (w .before));
         }
 
-    pub files-told : FilesTold g es
+    pub files-told : FilesTold d es
     files-told =
         record {
           each = λ upto rest n bs e.

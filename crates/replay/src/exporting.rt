@@ -14,7 +14,7 @@ use spec::Address;
 ghost use mathlib.Core.Path.{_≡_};
 ghost use Prim.Native.Nat.{_≤_};
 ghost use lib.ListN.{length};
-ghost use Rattle.spec.specs.Records.{standard};
+ghost use Rattle.spec.specs.Records.{limits};
 ghost use Rattle.spec.specs.Maps.{contents};
 ghost use Rattle.map.specs.Views.{Lent, mapOf};
 ghost use Rattle.map.specs.Parts.{RecordsHeld, SlotsHeld};
@@ -51,7 +51,7 @@ pub fn take_export(
 ) -> AfterExport
     requires { ⌜ RecordsHeld (now rows) count ⌝ }
     requires { ⌜ SlotsHeld (now slots) ⌝ }
-    requires { ⌜ (length (allRecords (now rows) count (now slots)) ≤ standard .mapLimit) × ExportHeld x ⌝ }
+    requires { ⌜ (length (allRecords (now rows) count (now slots)) ≤ limits .mapLimit) × ExportHeld x ⌝ }
     requires { ⌜ (at ≤ length (now out)) × (11 ≤ k .kind) ⌝ }
     ensures { λ r. ⌜ ((l : Lent) (g : Logs) (c : Core) → Ready l g c
         → contents (mapOf l (c .sizes)) ≡ allRecords (now (rows .entry)) count (now (slots .entry)) → TakesCode

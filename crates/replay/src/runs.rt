@@ -21,8 +21,9 @@ ghost use mathlib.Core.Path.{_≡_};
 ghost use mathlib.Core.Option.{none};
 ghost use Prim.Native.Nat.{_+_, _*_, _%_, _^_, _<_, _≤_};
 ghost use lib.ListN.{length};
+ghost use Rattle.spec.specs.Records.{standardMap};
 ghost use Rattle.map.specs.Views.{lent};
-ghost use Rattle.transactions.specs.Views.{logs, coreOf, guardedIn};
+ghost use Rattle.transactions.specs.Views.{logs, coreOf, madeOf};
 ghost use Rattle.transactions.specs.Ready.{Ready};
 ghost use Rattle.transactions.specs.Starts.{Fresh};
 ghost use Rattle.buffers.specs.Buffers.{buffers};
@@ -175,9 +176,9 @@ fn take_all(
     start: Globals,
     first: Export,
 ) -> Replayed
-    requires { ⌜ Fresh (lent (now rows) (now leaves) (now slots)) (logs (now reads) (now leafsets) (now writes)) (guardedIn (start .guarded)) (coreOf (now workers) start) ⌝ }
+    requires { ⌜ Fresh (lent (now rows) (now leaves) (now slots)) (logs (now reads) (now leafsets) (now writes)) (madeOf (coreOf (now workers) start)) (coreOf (now workers) start) ⌝ }
     requires { ⌜ (exportIn (now exported) first ≡ none) × ExportHeld first ⌝ }
-    ensures { λ r. ⌜ Replays (guardedIn (start .guarded)) (now (steps .entry))
+    ensures { λ r. ⌜ Replays (madeOf (coreOf (now (workers .entry)) start)) (now (steps .entry))
         (space (buffers (now (addresses .entry)) (now (values .entry)) (now (owners .entry))) (now (bytes .entry))) (now (out .entry))
         (lent (now (rows .exit)) (now (leaves .exit)) (now (slots .exit))) (logs (now (reads .exit)) (now (leafsets .exit)) (now (writes .exit))) (now (exported .exit))
         (space (buffers (now (addresses .exit)) (now (values .exit)) (now (owners .exit))) (now (bytes .exit))) (now (out .exit)) (replayEndOf (now (workers .exit)) r) ⌝ }
@@ -267,7 +268,7 @@ pub fn replay(
     steps: &[u64],
     guarded: bool,
 ) -> Replayed
-    ensures { λ r. ⌜ Replays guarded (now (steps .entry))
+    ensures { λ r. ⌜ Replays (standardMap guarded) (now (steps .entry))
         (space (buffers (now (addresses .entry)) (now (values .entry)) (now (owners .entry))) (now (bytes .entry))) (now (out .entry))
         (lent (now (rows .exit)) (now (leaves .exit)) (now (slots .exit))) (logs (now (reads .exit)) (now (leafsets .exit)) (now (writes .exit))) (now (exported .exit))
         (space (buffers (now (addresses .exit)) (now (values .exit)) (now (owners .exit))) (now (bytes .exit))) (now (out .exit)) (replayEndOf (now (workers .exit)) r) ⌝ }

@@ -7,7 +7,7 @@ use mathlib.Core.Option.{none}
 use lib.ListN.{getD}
 use Rattle.lists.specs.Tests.{maybe, present}
 use Rattle.lists.specs.Rows.{Row}
-use Rattle.spec.specs.Records.{Record}
+use Rattle.spec.specs.Records.{Made, Record}
 use Rattle.spec.specs.Maps.{contents}
 use Rattle.spec.specs.Exports as model
 use Rattle.map.specs.Views.{Lent, mapOf}
@@ -62,11 +62,11 @@ replayedIn workers globals export counts stop =
     record { core = savedCore workers globals; export = savedExport export; taken = getD counts 0 0; written = getD counts 1 0; stop = stop }
 
 -- A list of steps: the promise of a replay, the number that tells why no more were taken, and the words of the export.
-pub record ReplayEntry (guarded : Bool) (words : List ℕ) (s : Space) (out : List ℕ) (l : Lent) (g : Logs) (xs : ExportedRows) (s' : Space) (out' : List ℕ)
+pub record ReplayEntry (made : Made) (words : List ℕ) (s : Space) (out : List ℕ) (l : Lent) (g : Logs) (xs : ExportedRows) (s' : Space) (out' : List ℕ)
     (workers globals export counts : List ℕ) (n : ℕ) : Type 0 where
-  pub replays : Replays guarded words s out l g xs s' out' (replayedIn workers globals export counts (runOf guarded words s out .stop))
-  pub number : n ≡ stopNumber (runOf guarded words s out .stop)
-  pub numbers : export ≡ exportNumbers (runOf guarded words s out .after .export)
+  pub replays : Replays made words s out l g xs s' out' (replayedIn workers globals export counts (runOf made words s out .stop))
+  pub number : n ≡ stopNumber (runOf made words s out .stop)
+  pub numbers : export ≡ exportNumbers (runOf made words s out .after .export)
 
 -- ---- the contents, one after the other
 

@@ -1,14 +1,14 @@
 -- From what the Rattle functions promise to what the entries promise.
 use Prim.Native.Nat.{ℕ, _%_}
 use mathlib.Core.Path.{_≡_, refl, sym, ap, _∙_, subst}
-use mathlib.Core.Bool.{Bool, true, false}
+use mathlib.Core.Bool.{true, false}
 use mathlib.Core.List.{List, [], _∷_}
 use mathlib.Core.Option.{Option, none, some}
 use Rattle.lists.specs.Tests.{maybe, present}
 use Rattle.lists.specs.Rows.{Row, row}
 use Rattle.spec.specs.declared.PayloadWords.{PayloadWords}
 use Rattle.spec.specs.Payloads.{owners}
-use Rattle.spec.specs.Records.{Record}
+use Rattle.spec.specs.Records.{Made, Record}
 use Rattle.spec.specs.Steps.{places}
 use Rattle.spec.specs.Leaves.{Leaf}
 use Rattle.spec.specs.Maps.{contents}
@@ -42,9 +42,9 @@ use Rattle.sections.specs.Entries.{codedIn, steppedIn, StepEntry, stopNu
 
 -- ---- the core in the words
 
-pub fresh-saved : {l : Lent} {g : Logs} {b : Bool} {c : Globals} (workers globals : List ℕ) → Fresh l g b (coreOf workers c) → savedGlobals globals ≡ c
-    → Fresh l g b (savedCore workers globals)
-fresh-saved {l} {g} {b} workers globals h e = subst (λ (x : Globals). Fresh l g b (coreOf workers x)) (sym e) h
+pub fresh-saved : {l : Lent} {g : Logs} {d : Made} {c : Globals} (workers globals : List ℕ) → Fresh l g d (coreOf workers c) → savedGlobals globals ≡ c
+    → Fresh l g d (savedCore workers globals)
+fresh-saved {l} {g} {d} workers globals h e = subst (λ (x : Globals). Fresh l g d (coreOf workers x)) (sym e) h
 
 pub ready-loaded : {l : Lent} {g : Logs} {c : Globals} (workers globals : List ℕ) → c ≡ savedGlobals globals → Ready l g (savedCore workers globals)
     → Ready l g (coreOf workers c)
@@ -81,14 +81,14 @@ step-entry {l} {l'} {g} {g'} {c} {j} {k} {b} {b'} workers globals workers' globa
 export-saved : {x : Export} (words : List ℕ) → words ≡ exportSaved x → savedExport words ≡ x
 export-saved {x} words e = ap savedExport e ∙ export-put x
 
-pub replayed : {guarded : Bool} {words : List ℕ} {s s' : Space} {out out' : List ℕ} {l : Lent} {g : Logs} {xs : ExportedRows} (workers globals export counts : List ℕ) (n : ℕ) (r : Replayed)
-    → Replays guarded words s out l g xs s' out' (replayEndOf workers r) → savedGlobals globals ≡ r .globals → export ≡ exportSaved (r .export)
+pub replayed : {made : Made} {words : List ℕ} {s s' : Space} {out out' : List ℕ} {l : Lent} {g : Logs} {xs : ExportedRows} (workers globals export counts : List ℕ) (n : ℕ) (r : Replayed)
+    → Replays made words s out l g xs s' out' (replayEndOf workers r) → savedGlobals globals ≡ r .globals → export ≡ exportSaved (r .export)
     → CountsAre counts (r .taken) (r .written) → n ≡ stopNumber (r .stop)
-    → ReplayEntry guarded words s out l g xs s' out' workers globals export counts n
-replayed {guarded} {words} {s} {s'} {out} {out'} {l} {g} {xs} workers globals export counts n r h e x f q =
+    → ReplayEntry made words s out l g xs s' out' workers globals export counts n
+replayed {made} {words} {s} {s'} {out} {out'} {l} {g} {xs} workers globals export counts n r h e x f q =
     record {
       replays =
-          subst (Replays guarded words s out l g xs s' out')
+          subst (Replays made words s out l g xs s' out')
           (λ i. record {
             core = coreOf workers (sym e i);
             export = sym (export-saved {x = r .export} export x) i;

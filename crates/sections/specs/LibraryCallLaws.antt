@@ -1,11 +1,11 @@
 -- Any calls of the library from a fresh map: they are a serial run, and what requests 101, 102, 103 and 107 say holds of them.
 use Prim.Native.Nat.{ℕ, _≤_}
 use mathlib.Core.Path.{_≡_, refl, sym, ap, _∙_, subst}
-use mathlib.Core.Bool.{Bool, true, false}
+use mathlib.Core.Bool.{true, false}
 use mathlib.Core.List.{List, [], _∷_, _++_}
 use mathlib.Core.Option.{some}
 use Rattle.lists.specs.Rows.{Row, any}
-use Rattle.spec.specs.Records.{standard, Record}
+use Rattle.spec.specs.Records.{limits, Made, Record}
 use Rattle.spec.specs.Maps.{MapState, contents}
 use Rattle.spec.specs.Steps.{Places, Step, Answer, fresh, final}
 use Rattle.spec.specs.Slots.{search}
@@ -14,14 +14,16 @@ use Rattle.spec.specs.Waiting.{waitsSince, oldestMerges, TakenWithin}
 use Rattle.spec.specs.Examined.{takesOut}
 use Rattle.spec.specs.Claim.{SerialRun}
 use Rattle.spec.specs.Exports.{unstamped, ExportStep, exportOf, exportAnswer, exportNext, Exporting, job, exporting, Exchange, jobTold, exportTold, contentsNow, exchange, nextOf, startingAt, jobSteps, jobEvents}
+use Rattle.spec.specs.GoodTuning.{GoodTuning}
 use Rattle.map.specs.Views.{Lent, mapOf}
 use Rattle.buffers.specs.Buffers.{Buffers, placesOf}
 use Rattle.exports.specs.Exporting.{ExportedRows, exportIn, Space, exportAnswerIn}
 use Rattle.exports.specs.ReadBacks.{told-read-back}
 use Rattle.transactions.specs.Views.{Logs, stateOf}
-use Rattle.calls.specs.CallLaws.{map-in}
+use Rattle.calls.specs.CallLaws.{map-in, reached-good}
 use Rattle.calls.specs.WaitingCalls.{reached-waiting}
 use Rattle.calls.specs.GuardedCalls.{reached-apart}
+use Rattle.calls.specs.ExaminedCalls.{reached-some}
 use Rattle.engine.specs.declared.steps.Op.{Op}
 use Rattle.engine.specs.Performs.{stepIn}
 use Rattle.codes.specs.declared.Code.{Code}
@@ -114,62 +116,67 @@ calls-reach {a} r (export-call step s s' e rest) =
     let k = calls-reach (export-ready a step s s' e r) rest in
     record { tells = export-tells a step s s' e r (k .tells); ready = k .ready }
 
-begun-reach : {g : Bool} {es : List Exchange} {a : Library} → Begun g es a → Reached (startingAt (fresh standard g)) es a
-begun-reach {g} (fresh-begun {a = a} f n) =
-    let q : startingAt (fresh standard g) ≡ readOf a = λ i. record { state = sym (f .state) i; export = sym (n .none-open (a .exported)) i } in
-    record { tells = subst (Tells (startingAt (fresh standard g)) []) q nothing-told; ready = record { engine = f .ready; export = n .held } }
+begun-reach : {d : Made} {es : List Exchange} {a : Library} → Begun d es a → Reached (startingAt (fresh d)) es a
+begun-reach {d} (fresh-begun {a = a} f n) =
+    let q : startingAt (fresh d) ≡ readOf a = λ i. record { state = sym (f .state) i; export = sym (n .none-open (a .exported)) i } in
+    record { tells = subst (Tells (startingAt (fresh d)) []) q nothing-told; ready = record { engine = f .ready; export = n .held } }
 begun-reach (replay-begun p) = record { tells = p .replays .tells; ready = p .replays .ready }
 
-module _ {guarded : Bool} {es h : List Exchange} {a z : Library} (f : Begun guarded es a) (q : LibraryCalls a h z) where
-  all-told : Reached (startingAt (fresh standard guarded)) (es ++ h) z
+module _ {d : Made} {es h : List Exchange} {a z : Library} (f : Begun d es a) (q : LibraryCalls a h z) where
+  all-told : Reached (startingAt (fresh d)) (es ++ h) z
   all-told =
       let b = begun-reach f in
       let c = calls-reach (b .ready) q in
       record { tells = tells-join (b .tells) (c .tells); ready = c .ready }
 
+  -- the engine's part of what is left
+  state-left : stateOf (z .map) (z .logs) (savedCore (z .workers) (z .globals)) ≡ final (fresh d) (jobSteps (requestsOf (es ++ h)))
+  state-left = tells-state (all-told .tells)
+
+  good : GoodTuning (d .tuning)
+  good = reached-good (z .map) (z .logs) (savedCore (z .workers) (z .globals)) d (jobSteps (requestsOf (es ++ h))) state-left (all-told .ready .engine)
+
   -- Demand 3 of any calls, and demands 1 and 2.
-  pub library-serial : SerialLibrary guarded (es ++ h) z
+  pub library-serial : SerialLibrary d (es ++ h) z
   library-serial =
       let t = all-told .tells in
       record {
         serial =
             subst (λ (m : MapState). SerialRun (jobEvents (es ++ h)) (contents m)) (map-in (z .map) (z .logs) (savedCore (z .workers) (z .globals)))
-            (tells-serial guarded t);
+            (tells-serial d good t);
         answers = sym (tells-answers t);
         state = sym (tells-final t);
         ready = all-told .ready;
       }
 
   -- Request 107.
-  pub library-portions : PortionsTold guarded (es ++ h)
-  library-portions = portions-told guarded (all-told .tells)
+  pub library-portions : PortionsTold d (es ++ h)
+  library-portions = portions-told d (all-told .tells)
 
-  pub library-opened : OpenedTold guarded (es ++ h)
-  library-opened = opened-told guarded (all-told .tells)
+  pub library-opened : OpenedTold d (es ++ h)
+  library-opened = opened-told d (all-told .tells) good
 
   -- an export that is left open is still in its rows
   pub library-held : (x : OpenAfter (es ++ h)) → exportOf (exportIn (z .exported) (savedExport (z .export))) .records ≡ unstamped (listedAfter (x .before))
-  library-held x = held-listed guarded x (all-told .tells)
+  library-held x = held-listed d good x (all-told .tells)
 
-  pub library-files : FilesTold guarded (es ++ h)
-  library-files = files-told guarded (all-told .tells)
-
-  -- the engine's part of what is left
-  state-left : stateOf (z .map) (z .logs) (savedCore (z .workers) (z .globals)) ≡ final (fresh standard guarded) (jobSteps (requestsOf (es ++ h)))
-  state-left = tells-state (all-told .tells)
+  pub library-files : FilesTold d (es ++ h)
+  library-files = files-told d (all-told .tells)
 
   -- Request 101.
-  pub library-waiting : (k t : ℕ) → waitsSince (mapOf (z .map) (savedGlobals (z .globals) .sizes)) k ≡ some t → (ts : List Step) → standard .waitingLimit ≤ oldestMerges ts
-      → TakenWithin (stateOf (z .map) (z .logs) (savedCore (z .workers) (z .globals))) k (standard .waitingLimit) ts
-  library-waiting = reached-waiting (z .map) (z .logs) (savedCore (z .workers) (z .globals)) guarded (jobSteps (requestsOf (es ++ h))) state-left
+  pub library-waiting : (k t : ℕ) → waitsSince (mapOf (z .map) (savedGlobals (z .globals) .sizes)) k ≡ some t → (ts : List Step) → d .tuning .waitingLimit ≤ oldestMerges ts
+      → TakenWithin (stateOf (z .map) (z .logs) (savedCore (z .workers) (z .globals))) k (d .tuning .waitingLimit) ts
+  library-waiting = reached-waiting (z .map) (z .logs) (savedCore (z .workers) (z .globals)) d (jobSteps (requestsOf (es ++ h))) state-left (all-told .ready .engine)
 
   -- Request 103.
   pub library-examined : any takesOut (jobEvents (es ++ h)) ≡ false
-      → (k : ℕ) → search (standard .bytes) (mapOf (z .map) (savedGlobals (z .globals) .sizes) .slots) k .examined ≤ standard .waitingLimit
+      → (k : ℕ) → search (limits .bytes) (mapOf (z .map) (savedGlobals (z .globals) .sizes) .slots) k .examined ≤ d .tuning .waitingLimit
   library-examined e k =
-      subst (λ (m : MapState). search (standard .bytes) (m .slots) k .examined ≤ standard .waitingLimit)
-      (map-in (z .map) (z .logs) (savedCore (z .workers) (z .globals))) (told-examined guarded (all-told .tells) e k)
+      subst (λ (m : MapState). search (limits .bytes) (m .slots) k .examined ≤ d .tuning .waitingLimit)
+      (map-in (z .map) (z .logs) (savedCore (z .workers) (z .globals)))
+      (told-examined d good (reached-some (z .map) (z .logs) (savedCore (z .workers) (z .globals)) d (jobSteps (requestsOf (es ++ h))) state-left) (all-told .tells) e k)
 
 -- Request 102.
-pub library-apart : {es h : List Exchange} {a z : Library} → Begun true es a → LibraryCalls a h z → NoOverlap standard (contentsIn (z .map) (z .globals))
-library-apart {es} {h} {z = z} f q = reached-apart (z .map) (z .logs) (savedCore (z .workers) (z .globals)) (jobSteps (requestsOf (es ++ h))) (state-left f q)
+pub library-apart : {d : Made} {es h : List Exchange} {a z : Library} → d .guarded ≡ true → Begun d es a → LibraryCalls a h z → NoOverlap (contentsIn (z .map) (z .globals))
+library-apart {d} {es} {h} {z = z} t f q =
+    reached-apart (z .map) (z .logs) (savedCore (z .workers) (z .globals)) d (jobSteps (requestsOf (es ++ h))) (state-left f q) (all-told f q .ready .engine) t

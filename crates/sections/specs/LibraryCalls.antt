@@ -3,9 +3,8 @@
 -- contents. What was called and what was answered is their history; it has no call of a step with no meaning.
 use Prim.Native.Nat.{ℕ}
 use mathlib.Core.Path.{_≡_}
-use mathlib.Core.Bool.{Bool}
 use mathlib.Core.List.{List, [], _∷_}
-use Rattle.spec.specs.Records.{standard}
+use Rattle.spec.specs.Records.{Made}
 use Rattle.spec.specs.Steps.{Places, fresh}
 use Rattle.spec.specs.Claim.{SerialRun}
 use Rattle.spec.specs.Exports.{ExportStep, Exchange, jobTold, exportTold, finalOf, exchanges, startingAt, jobEvents}
@@ -46,11 +45,11 @@ wholeOf a = whole (a .map) (a .logs) (savedCore (a .workers) (a .globals)) (a .e
 -- ---- how calls begin
 
 -- what was told before: nothing by a fresh start, its steps by a list of them
-pub data Begun : Bool → List Exchange → Library → Type 0 where
-  fresh-begun : {guarded : Bool} {a : Library} → Fresh (a .map) (a .logs) guarded (savedCore (a .workers) (a .globals)) → NoneIn (a .export) → Begun guarded [] a
-  replay-begun : {guarded : Bool} {words : List ℕ} {s s' : Space} {out out' : List ℕ} {l : Lent} {g : Logs} {rows : ExportedRows} {workers globals export counts : List ℕ} {n : ℕ}
-      → ReplayEntry guarded words s out l g rows s' out' workers globals export counts n
-      → Begun guarded (runOf guarded words s out .told) (library l g workers globals rows export)
+pub data Begun : Made → List Exchange → Library → Type 0 where
+  fresh-begun : {made : Made} {a : Library} → Fresh (a .map) (a .logs) made (savedCore (a .workers) (a .globals)) → NoneIn (a .export) → Begun made [] a
+  replay-begun : {made : Made} {words : List ℕ} {s s' : Space} {out out' : List ℕ} {l : Lent} {g : Logs} {rows : ExportedRows} {workers globals export counts : List ℕ} {n : ℕ}
+      → ReplayEntry made words s out l g rows s' out' workers globals export counts n
+      → Begun made (runOf made words s out .told) (library l g workers globals rows export)
 
 -- ---- calls
 
@@ -78,12 +77,12 @@ pub data LibraryCalls : Library → List Exchange → Library → Type 0 where
 
 -- ---- what is claimed
 
--- What holds of a history from a fresh map, guarded or not, and of what is kept after it.
-pub record SerialLibrary (guarded : Bool) (h : List Exchange) (z : Library) : Type 0 where
+-- What holds of a history from a fresh map and of what is kept after it.
+pub record SerialLibrary (made : Made) (h : List Exchange) (z : Library) : Type 0 where
   -- demand 3, of the jobs' steps, their answers and the contents left
   pub serial : SerialRun (jobEvents h) (contentsIn (z .map) (z .globals))
   -- every answer is the model's, and so is what is left
-  pub answers : h ≡ exchanges (startingAt (fresh standard guarded)) (requestsOf h)
-  pub state : exportingIn (wholeOf z) ≡ finalOf (startingAt (fresh standard guarded)) (requestsOf h)
+  pub answers : h ≡ exchanges (startingAt (fresh made)) (requestsOf h)
+  pub state : exportingIn (wholeOf z) ≡ finalOf (startingAt (fresh made)) (requestsOf h)
   -- and more calls may follow
   pub ready : WholeReady (wholeOf z)

@@ -30,7 +30,7 @@ ghost use mathlib.Core.List.{List};
 ghost use Prim.Native.Nat.{ℕ};
 ghost use lib.ListN.{length};
 ghost use Rattle.lists.specs.Rows.{Row};
-ghost use Rattle.spec.specs.Records.{Record};
+ghost use Rattle.spec.specs.Records.{standardMap, Record};
 ghost use Rattle.spec.specs.Exports as model;
 ghost use Rattle.map.specs.Views.{lent};
 ghost use Rattle.transactions.specs.Views.{logs};
@@ -70,7 +70,7 @@ pub extern "C" fn sections_fresh(
     workers: &mut Workers,
     guarded: bool,
 )
-    ensures { λ _. ⌜ Fresh (lent (now (rows .exit)) (now (leaves .exit)) (now (slots .exit))) (logs (now (reads .exit)) (now (leafsets .exit)) (now (writes .exit))) guarded (savedCore (now (workers .exit)) (now (globals .exit))) ⌝ }
+    ensures { λ _. ⌜ Fresh (lent (now (rows .exit)) (now (leaves .exit)) (now (slots .exit))) (logs (now (reads .exit)) (now (leafsets .exit)) (now (writes .exit))) (standardMap guarded) (savedCore (now (workers .exit)) (now (globals .exit))) ⌝ }
     ensures { λ _. ⌜ NoneIn (now (export .exit)) ⌝ }
 {
     let c = starts::fresh_state(
@@ -196,7 +196,7 @@ pub extern "C" fn sections_replay(
     steps: &[u64],
     guarded: bool,
 ) -> u64
-    ensures { λ r. ⌜ ReplayEntry guarded (now (steps .entry))
+    ensures { λ r. ⌜ ReplayEntry (standardMap guarded) (now (steps .entry))
         (space (buffers (now (addresses .entry)) (now (values .entry)) (now (owners .entry))) (now (bytes .entry))) (now (out .entry))
         (lent (now (rows .exit)) (now (leaves .exit)) (now (slots .exit))) (logs (now (reads .exit)) (now (leafsets .exit)) (now (writes .exit))) (now (exported .exit))
         (space (buffers (now (addresses .exit)) (now (values .exit)) (now (owners .exit))) (now (bytes .exit))) (now (out .exit))

@@ -12,7 +12,7 @@ use Rattle.lists.specs.Rows.{Row, look, any, filter, has}
 use Rattle.spec.specs.declared.Refusal.{Refusal}
 use Rattle.spec.specs.declared.Refusal.the-variants.{Phantom}
 use Rattle.spec.specs.Refusals.{numberOf}
-use Rattle.spec.specs.Records.{standard, Payload}
+use Rattle.spec.specs.Records.{standardMap, Payload}
 use Rattle.spec.specs.Leaves.{live}
 use Rattle.spec.specs.Slots.{Content, entries}
 use Rattle.spec.specs.Maps.{contents, hiddenIn}
@@ -68,7 +68,7 @@ editedHistory rule x (s ∷ ss) =
 -- the claim of the run by the rule
 pub SerialUnder : Rule → List Step → Type 0
 SerialUnder rule ss =
-    let x : Edit = record { state = fresh standard false; flagged = [] } in
+    let x : Edit = record { state = fresh (standardMap false); flagged = [] } in
     SerialRun (editedHistory rule x ss) (contents (editedFinal rule x ss .state .map))
 
 -- ---- the tests dropped

@@ -2,28 +2,29 @@
 -- is that was opened after some steps.
 use Prim.Native.Nat.{ℕ}
 use mathlib.Core.Path.{_≡_, refl, sym, ap, _∙_, subst}
-use mathlib.Core.Bool.{Bool, false}
+use mathlib.Core.Bool.{false}
 use mathlib.Core.List.{List, [], _∷_, _++_, append-nil}
 use mathlib.Core.Option.{Option, none, some}
 use lib.ListN.{length}
 use Rattle.lists.specs.Tests.{maybe}
 use Rattle.lists.specs.Rows.{Row, any}
-use Rattle.spec.specs.Records.{standard, Payload, Record}
+use Rattle.spec.specs.Records.{Made, Payload, Record}
 use Rattle.spec.specs.Maps.{contents}
 use Rattle.spec.specs.Steps.{State, fresh, final, history, Event, firstCause}
 use Rattle.spec.specs.Claim.{SerialRun}
 use Rattle.spec.specs.Exports.{Export, unstamped, remaining, openExport, ExportAnswer, opened, exportOf, exportCauses, exportRefusal, exportGranted, exportEffect, exportAnswer, exportNext, Exporting, Request, exporting, Exchange, exportTold, contentsNow, exchange, nextOf, finalOf, exchanges, startingAt, jobSteps, jobEvents, recordsGiven, portionsGiven, isClose, remainingOf, listedThen, PortionsWhole, OpenedSerial}
+use Rattle.spec.specs.GoodTuning.{GoodTuning}
 use Rattle.laws.specs.ExportLaws.{jobs-alone, jobs-final, Portioned, portioned}
-use Rattle.serial.specs.Theorem.{theorem}
+use Rattle.serial.specs.Theorem.{every-run-is-serial}
 
 -- The claim of demand 3, whatever export steps stand between: of the jobs' steps with their answers, and the contents.
-pub exports-serial : (g : Bool) (rs : List Request)
-    → SerialRun (jobEvents (exchanges (startingAt (fresh standard g)) rs)) (contentsNow (finalOf (startingAt (fresh standard g)) rs))
-exports-serial g rs =
-    let ξ = startingAt (fresh standard g) in
+pub exports-serial : (d : Made) → GoodTuning (d .tuning) → (rs : List Request)
+    → SerialRun (jobEvents (exchanges (startingAt (fresh d)) rs)) (contentsNow (finalOf (startingAt (fresh d)) rs))
+exports-serial d k rs =
+    let ξ = startingAt (fresh d) in
     subst (λ (es : List Event). SerialRun es (contentsNow (finalOf ξ rs))) (sym (jobs-alone ξ rs))
-    (subst (λ (σ : State). SerialRun (history (fresh standard g) (jobSteps rs)) (contents (σ .map))) (sym (jobs-final ξ rs))
-    (theorem g (jobSteps rs)))
+    (subst (λ (σ : State). SerialRun (history (fresh d) (jobSteps rs)) (contents (σ .map))) (sym (jobs-final ξ rs))
+    (every-run-is-serial d k (jobSteps rs)))
 
 -- ---- opening
 
@@ -39,12 +40,12 @@ unfolding nextOf exportNext exportRefusal exportCauses firstCause exportEffect
 next-open ξ e = λ i. record { state = ξ .state; export = exportNext (contentsNow ξ) (e i) openExport }
 
 -- What the request says of an export's beginning.
-pub opened-serial : (g : Bool) (rs : List Request) → finalOf (startingAt (fresh standard g)) rs .export ≡ none → OpenedSerial (startingAt (fresh standard g)) rs
+pub opened-serial : (d : Made) → GoodTuning (d .tuning) → (rs : List Request) → finalOf (startingAt (fresh d)) rs .export ≡ none → OpenedSerial (startingAt (fresh d)) rs
 unfolding exchange exportOf
-opened-serial g rs e =
-    let ξ = startingAt (fresh standard g) in
+opened-serial d k rs e =
+    let ξ = startingAt (fresh d) in
     let ζ = finalOf ξ rs in
-    let q : contentsNow ζ ≡ listedThen ξ rs = sym (exports-serial g rs .same-contents) in
+    let q : contentsNow ζ ≡ listedThen ξ rs = sym (exports-serial d k rs .same-contents) in
     record {
       answered =
           ap (exportTold openExport) (answered-open (contentsNow ζ) (ζ .export) e)

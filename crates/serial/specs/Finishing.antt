@@ -247,7 +247,7 @@ module _ {σ : State} {ρ : Reading} {w : ℕ} (h : Sound σ ρ) (p : Validatabl
   unfolding withCounters workerOf
   fine-counted =
       let f : Fine σ = h .fine in
-      record { settings = f .settings; slots = f .slots; records = f .records; leaves = f .leaves; crew = f .crew; writes = f .writes }
+      record { tuning = f .tuning; slots = f .slots; records = f .records; leaves = f .leaves; crew = f .crew; writes = f .writes }
 
   pub validate-sound : Sound
       (withWorker (withCounters σ (suc (σ .counters .number)) (σ .counters .version)) w (checkedAs (suc (σ .counters .number)) (workerOf σ w)))
@@ -280,7 +280,7 @@ module _ {σ : State} {ρ : Reading} (h : Sound σ ρ) (w : ℕ) (s : isChecked 
 
   says-installed : (k : ℕ) → contentOf (m-installed .slots) k ≡ writtenBy (workerOf σ w .number) (suc (σ .counters .installs)) (look (workerOf σ w .writes) k) (contentOf (σ .map .slots) k)
   unfolding m-installed
-  says-installed k = install-says (σ .settings) (workerOf σ w .number) (suc (σ .counters .installs)) (σ .map) (workerOf σ w .writes) (h .fine .slots) installable k
+  says-installed k = install-says (workerOf σ w .number) (suc (σ .counters .installs)) (σ .map) (workerOf σ w .writes) (h .fine .slots) installable k
 
   records-installed : m-installed .records ≡ σ .map .records
   unfolding m-installed installAll withSlots
@@ -363,8 +363,8 @@ module _ {σ : State} {ρ : Reading} (h : Sound σ ρ) (w : ℕ) (s : isChecked 
   fine-installed =
       let f : Fine σ = h .fine in
       record {
-        settings = f .settings;
-        slots = install-good (σ .settings) (workerOf σ w .number) (suc (σ .counters .installs)) (σ .map) (workerOf σ w .writes) (f .slots) installable;
+        tuning = f .tuning;
+        slots = install-good (workerOf σ w .number) (suc (σ .counters .installs)) (σ .map) (workerOf σ w .writes) (f .slots) installable;
         records = subst Rising (sym records-installed) (f .records);
         leaves = subst (GoodLeaves (σ .counters .version)) (sym leaves-installed) (f .leaves);
         crew = f .crew;
@@ -375,7 +375,7 @@ module _ {σ : State} {ρ : Reading} (h : Sound σ ρ) (w : ℕ) (s : isChecked 
   unfolding installCounted workerOf
   install-fine f =
       record {
-        settings = f .settings;
+        tuning = f .tuning;
         slots = f .slots;
         records = f .records;
         leaves = f .leaves;
@@ -399,11 +399,11 @@ module _ {σ : State} {ρ : Reading} (h : Sound σ ρ) (w : ℕ) (s : isChecked 
 
 module _ {σ : State} {ρ : Reading} (h : Sound σ ρ) (a : ℕ) where
   r-merged : Merged
-  r-merged = mergeAt (σ .settings) (σ .counters .version) (σ .map) a
+  r-merged = mergeAt (σ .made .tuning) (σ .counters .version) (σ .map) a
 
-  does : Merges (σ .settings) (σ .counters .version) (σ .map) r-merged
+  does : Merges (σ .counters .version) (σ .map) r-merged
   unfolding r-merged
-  does = merges a (h .fine .settings .cut) (h .fine .slots) (h .fine .records) (h .fine .leaves)
+  does = merges a (h .fine .tuning .cut) (h .fine .slots) (h .fine .records) (h .fine .leaves)
 
   σ-merged : State
   σ-merged = merged σ r-merged
@@ -427,9 +427,9 @@ module _ {σ : State} {ρ : Reading} (h : Sound σ ρ) (a : ℕ) where
   unfolding σ-merged merged withCounters withMap workerOf
   fine-merged =
       let f : Fine σ = h .fine in
-      record { settings = f .settings; slots = does .good; records = does .rising; leaves = does .leaves; crew = f .crew; writes = f .writes }
+      record { tuning = f .tuning; slots = does .good; records = does .rising; leaves = does .leaves; crew = f .crew; writes = f .writes }
 
-  pub merge-sound : Sound (merged σ (mergeAt (σ .settings) (σ .counters .version) (σ .map) a)) (passed ρ)
+  pub merge-sound : Sound (merged σ (mergeAt (σ .made .tuning) (σ .counters .version) (σ .map) a)) (passed ρ)
   unfolding σ-merged r-merged
   merge-sound = record { fine = fine-merged; invariant = merge-step rearranged (read-passed ρ) (unfold passed in refl) (h .invariant) }
 

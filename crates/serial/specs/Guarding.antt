@@ -14,7 +14,7 @@ use Rattle.lists.specs.Options.{both-options, some-same}
 use Rattle.lists.specs.Rows.{Row, row, look, mapItems, any, filter}
 use Rattle.lists.specs.RowLaws.{any-false}
 use Rattle.lists.specs.Ascending.{filter-mem}
-use Rattle.spec.specs.Records.{Settings, Payload, Record, Write, written, ownView, payloadOf}
+use Rattle.spec.specs.Records.{limits, Payload, Record, Write, written, ownView, payloadOf}
 use Rattle.spec.specs.Guards.{Scan, stretch, lastByte, share, unfit, covers, latest, deciding, uncovered, standing, untouched, laidOver, overlaps, overlapped, ofPut, anyPut}
 use Rattle.laws.specs.RecordLaws.{both-left, both-right}
 use Rattle.serial.specs.Feeding.{look-member}
@@ -146,26 +146,26 @@ unfolding overlaps
 not-overlapping k n j q d e =
     sym (ap (λ (b : Bool). both (not b) (share j (q .value) k n)) (same-no {m = j} {n = k} d)) ∙ e
 
-module _ (s : Settings) (reads : List (Row (Option Record))) (cs : List Scan) (ws : List (Row Write)) (os : List Observation)
+module _ (reads : List (Row (Option Record))) (cs : List Scan) (ws : List (Row Write)) (os : List Observation)
     (saw : (c : Scan) → List·Memᴰ c cs → Saw reads os c) where
-  by-scan : (k : ℕ) (p : Payload) (c : Scan) → deciding s cs k (p .value) ≡ some c → unfit s k (p .value) ≡ false
-      → overlapped s reads cs ws k (p .value) ≡ false → RoomFor s os ws k p
+  by-scan : (k : ℕ) (p : Payload) (c : Scan) → deciding cs k (p .value) ≡ some c → unfit k (p .value) ≡ false
+      → overlapped reads cs ws k (p .value) ≡ false → RoomFor os ws k p
   unfolding deciding covers overlapped
   by-scan k p c d fits clear =
       record {
         fits = fits;
         o = h .o;
         member = h .member;
-        below = le-trans (le-of-eq (h .lo)) (atMost-true (c .lo) (k - (s .longest - 1)) (both-left (atMost (c .lo) (k - (s .longest - 1))) _ (m .1)));
-        above = le-trans (atMost-true (lastByte k (p .value)) (c .hi) (both-right (atMost (c .lo) (k - (s .longest - 1))) _ (m .1))) (le-of-eq (sym (h .hi)));
+        below = le-trans (le-of-eq (h .lo)) (atMost-true (c .lo) (k - (limits .longest - 1)) (both-left (atMost (c .lo) (k - (limits .longest - 1))) _ (m .1)));
+        above = le-trans (atMost-true (lastByte k (p .value)) (c .hi) (both-right (atMost (c .lo) (k - (limits .longest - 1))) _ (m .1))) (le-of-eq (sym (h .hi)));
         own = λ j q e w. apart j q e (put-laid ws (stretch reads c) j q w);
         others =
             λ j q e w l u t.
             apart j q e (logged-laid ws (stretch reads c) j q w (ap payloadOf (h .seen j l u) ∙ t));
       }
     where
-      m : List·Memᴰ c cs × (covers s k (p .value) c ≡ true)
-      m = latest-member (covers s k (p .value)) cs c d
+      m : List·Memᴰ c cs × (covers k (p .value) c ≡ true)
+      m = latest-member (covers k (p .value)) cs c d
 
       h : Saw reads os c
       h = saw c (m .0)
@@ -178,12 +178,12 @@ module _ (s : Settings) (reads : List (Row (Option Record))) (cs : List Scan) (w
           not-overlapping k (p .value) j q e (any-false (overlaps k (p .value)) (laidOver ws (stretch reads c)) none-over (row j q) t)
 
   -- what passes the three tests has room
-  pub lock-room-for : anyPut (unfit s) ws ≡ false → anyPut (uncovered s cs) ws ≡ false → anyPut (overlapped s reads cs ws) ws ≡ false
-      → (k : ℕ) (p : Payload) → look ws k ≡ some (written p) → RoomFor s os ws k p
+  pub lock-room-for : anyPut unfit ws ≡ false → anyPut (uncovered cs) ws ≡ false → anyPut (overlapped reads cs ws) ws ≡ false
+      → (k : ℕ) (p : Payload) → look ws k ≡ some (written p) → RoomFor os ws k p
   unfolding uncovered
   lock-room-for a b c k p e =
-      go (deciding s cs k (p .value)) refl (put-tested (uncovered s cs) ws b k p e)
+      go (deciding cs k (p .value)) refl (put-tested (uncovered cs) ws b k p e)
     where
-      go : (o : Option Scan) → deciding s cs k (p .value) ≡ o → not (present o) ≡ false → RoomFor s os ws k p
+      go : (o : Option Scan) → deciding cs k (p .value) ≡ o → not (present o) ≡ false → RoomFor os ws k p
       go none d t = clash refl t
-      go (some x) d t = by-scan k p x d (put-tested (unfit s) ws a k p e) (put-tested (overlapped s reads cs ws) ws c k p e)
+      go (some x) d t = by-scan k p x d (put-tested unfit ws a k p e) (put-tested (overlapped reads cs ws) ws c k p e)

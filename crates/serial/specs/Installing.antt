@@ -128,9 +128,9 @@ module _ {F F' : Facts} {ρ ρ' : Reading} {w : ℕ} (h : Installs F F' ρ ρ' w
         valid = valid-installed (c .m) (g .os) (c .valid);
         past = λ q mem l. ⊎-elim (λ e. absurd (never q e l)) (λ m. earlier q m l) (List·Memᴰ·cases-cons mem);
         room =
-            λ l q.
-            subst (λ (ws : List (Row Write)). (k : ℕ) (p : Payload) → look ws k ≡ some (written p) → RoomFor l (g .os) ws k p) (sym writes)
-            (g .room (checked-not-open (F .worker w .stage) (h .was-checked)) l (sym (h .guard) ∙ q));
+            λ q.
+            subst (λ (ws : List (Row Write)). (k : ℕ) (p : Payload) → look ws k ≡ some (written p) → RoomFor (g .os) ws k p) (sym writes)
+            (g .room (checked-not-open (F .worker w .stage) (h .was-checked)) (sym (h .guard) ∙ q));
       }
     where
       never : (q : Row Transaction) → q ≡ row n (h .now) → q .item .ended < h .now .begun → ⊥
@@ -154,7 +154,7 @@ module _ {F F' : Facts} {ρ ρ' : Reading} {w : ℕ} (h : Installs F F' ρ ρ' w
         explains = d .explains;
         valid = valid-installed (d .m) (d .os) (d .valid);
         past = λ q mem l. ⊎-elim (λ e. absurd (never q e l)) (λ m. d .past q m l) (List·Memᴰ·cases-cons mem);
-        room = λ l q. d .room l (sym (h .guard) ∙ q);
+        room = λ q. d .room (sym (h .guard) ∙ q);
       }
     where
       never : (q : Row Transaction) → q ≡ row n (h .now) → q .item .ended < r .item .begun → ⊥

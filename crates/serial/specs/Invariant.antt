@@ -16,7 +16,7 @@ use mathlib.Core.Option.{Option, none, some, Option·getD}
 use lib.ListN.{length}
 use Rattle.lists.specs.Tests.{maybe, present}
 use Rattle.lists.specs.Rows.{Row, row, look, Rising, keys, Different}
-use Rattle.spec.specs.Records.{Settings, Payload, Record, Write, written, deleted, isPut, payloadOf}
+use Rattle.spec.specs.Records.{limits, Payload, Record, Write, written, deleted, isPut, payloadOf}
 use Rattle.spec.specs.Guards.{Scan, stretch, lastByte, share, unfit}
 use Rattle.spec.specs.Steps.{Worker, isFree, isOpen, isChecked, Event}
 use Rattle.spec.specs.Sequential.{AllAgree}
@@ -33,7 +33,7 @@ pub record Facts : Type 0 where
   pub forPut : ℕ → Bool  -- that lock is for a put
   pub version : ℕ → ℕ  -- the version of the key's leaf
   pub worker : ℕ → Worker
-  pub guard : Option Settings  -- the limits that a guarded map goes by
+  pub guard : Bool  -- the map is guarded
 
 -- What a transaction saw of the keys from lo to hi.
 pub record Observation : Type 0 where
@@ -73,11 +73,11 @@ AllSaw x os = (c : Scan) → List·Memᴰ c (x .scans) → Saw (x .reads) os c
 
 -- The put of p at k fits, and shares no byte with the other puts, nor with what one observation saw from where a section
 -- could reach into it to its last byte.
-pub record RoomFor (s : Settings) (os : List Observation) (ws : List (Row Write)) (k : ℕ) (p : Payload) : Type 0 where
-  pub fits : unfit s k (p .value) ≡ false
+pub record RoomFor (os : List Observation) (ws : List (Row Write)) (k : ℕ) (p : Payload) : Type 0 where
+  pub fits : unfit k (p .value) ≡ false
   pub o : Observation
   pub member : List·Memᴰ o os
-  pub below : o .lo ≤ k - (s .longest - 1)
+  pub below : o .lo ≤ k - (limits .longest - 1)
   pub above : lastByte k (p .value) ≤ o .hi
   pub own : (j : ℕ) (q : Payload) → (j ≡ k → ⊥) → look ws j ≡ some (written q) → share j (q .value) k (p .value) ≡ false
   pub others :
@@ -85,8 +85,8 @@ pub record RoomFor (s : Settings) (os : List Observation) (ws : List (Row Write)
       → share j (q .value) k (p .value) ≡ false
 
 -- in a guarded map, each put of the write set has room
-abbrev pub Roomy : Option Settings → List Observation → List (Row Write) → Type 0
-Roomy g os ws = (s : Settings) → g ≡ some s → (k : ℕ) (p : Payload) → look ws k ≡ some (written p) → RoomFor s os ws k p
+abbrev pub Roomy : Bool → List Observation → List (Row Write) → Type 0
+Roomy g os ws = g ≡ true → (k : ℕ) (p : Payload) → look ws k ≡ some (written p) → RoomFor os ws k p
 
 -- The write set would not change r at k.
 pub data Harmless (ws : List (Row Write)) (k : ℕ) (r : Option Record) : Type 0 where

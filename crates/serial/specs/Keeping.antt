@@ -45,7 +45,7 @@ done-kept F F' ts r g e h d =
       explains = d .explains;
       valid = valid-kept F F' ts (d .m) (d .os) (h (d .m) (d .given)) (d .valid);
       past = d .past;
-      room = λ s q. d .room s (sym e ∙ q);
+      room = λ q. d .room (sym e ∙ q);
     }
 
 pub checked-kept : (F F' : Facts) (ts : List (Row Transaction)) (x : Worker)
@@ -93,7 +93,7 @@ working-kept {F} {F'} {ρ} {ρ'} {w} {x} h g =
       locked = λ s k p. h .locks k (putAt (x .writes) k) (g .locked s k p);
       checked = λ s. h .checked (g .t) (g .os) (g .since) s (g .checked s);
       saw = g .saw;
-      room = λ s l q. g .room s l (sym (h .guard) ∙ q);
+      room = λ l q. g .room l (sym (h .guard) ∙ q);
     }
   where
     early : (r : Row Transaction) → r .item .ended < g .t .begun → ρ .place ≤ r .item .ended → ⊥

@@ -9,11 +9,10 @@ use mathlib.Core.Option.{Option, none, some}
 use lib.ListN.{length}
 use Rattle.lists.specs.Tests.{pick, both, maybe, present, same}
 use Rattle.lists.specs.TestLaws.{cases, clash}
-use Rattle.lists.specs.Options.{both-options, some-same}
 use Rattle.lists.specs.Rows.{Row, look, has, Rising}
 use Rattle.lists.specs.RowLaws.{has-keys, rising-nil}
 use Rattle.spec.specs.declared.Stage.the-variants.{Open, Locked}
-use Rattle.spec.specs.Records.{Settings, Payload, Record, Write, written, isPut}
+use Rattle.spec.specs.Records.{limits, Record, Write, isPut}
 use Rattle.spec.specs.Slots.{Pending, Content, contentOf}
 use Rattle.spec.specs.Guards.{anyPut}
 use Rattle.spec.specs.Maps.{MapState, outcomeOf, current, heldByOther, withSlots, lockAll, unlockAll}
@@ -24,7 +23,7 @@ use Rattle.laws.specs.MapLaws.{LockRoom, lockedBy, locked-pending, lock-good, l
 use Rattle.serial.specs.Stages.{open-open, open-not-checked, free-free}
 use Rattle.serial.specs.Feeding.{writesOf-nil, wrote}
 use Rattle.serial.specs.Guarding.{lock-room-for}
-use Rattle.serial.specs.Invariant.{Throughout, Backed, by-read, by-leaf, AllSaw, RoomFor, Roomy, HasLock, putAt, Working, Invariant}
+use Rattle.serial.specs.Invariant.{Throughout, Backed, by-read, by-leaf, AllSaw, Roomy, HasLock, putAt, Working, Invariant}
 use Rattle.serial.specs.Observing.{explain-quiet}
 use Rattle.serial.specs.Model.{facts, Fine, worker-same, worker-free, fine-worker, read-passed, read-running, running-same, running-other}
 use Rattle.serial.specs.Continuing.{Sound, OwnLocks, own-map, own-worker, goes-on, read-goesOn, running-goesOn, IsOpen, g, g-backed, g-saw}
@@ -79,11 +78,11 @@ current-by m m' r k e =
 
 -- the fine state with other slots
 fine-slots : (σ : State) (m' : MapState) → m' .records ≡ σ .map .records → m' .leaves ≡ σ .map .leaves
-    → Rattle.laws.specs.SlotCounts.Good (σ .settings .bytes) (m' .slots) → Fine σ → Fine (withMap σ m')
+    → Rattle.laws.specs.SlotCounts.Good (limits .bytes) (m' .slots) → Fine σ → Fine (withMap σ m')
 unfolding withMap workerOf
 fine-slots σ m' r l s f =
     record {
-      settings = f .settings;
+      tuning = f .tuning;
       slots = s;
       records = subst Rising (sym r) (f .records);
       leaves = subst (Rattle.laws.specs.LeafVersions.GoodLeaves (σ .counters .version)) (sym l) (f .leaves);
@@ -101,11 +100,6 @@ pub record Lockable (σ : State) (w : ℕ) : Type 0 where
   pub covered : uncoveredPut σ w ≡ false
   pub clear : overlappedPut σ w ≡ false
 
--- the limits that a guarded map goes by are its settings
-guarded-settings : (b : Bool) (s t : Settings) → pick b (some s) none ≡ some t → (b ≡ true) × (s ≡ t)
-guarded-settings true s t e = (refl, some-same e)
-guarded-settings false s t e = both-options e refl
-
 pub other-holds : (w : ℕ) (c : Content) (v : ℕ) → (v ≡ w → ⊥) → c .holder ≡ some v → heldByOther w c ≡ true
 unfolding heldByOther
 other-holds w c v d e =
@@ -113,11 +107,11 @@ other-holds w c v d e =
 
 module _ {σ : State} {ρ : Reading} {w : ℕ} (h : Sound σ ρ) (o : IsOpen σ w) (l : Lockable σ w) where
   m' : MapState
-  m' = lockAll (σ .settings) w (σ .map) (workerOf σ w .writes)
+  m' = lockAll w (σ .map) (workerOf σ w .writes)
 
   says : (k : ℕ) → contentOf (m' .slots) k ≡ lockedBy w (look (workerOf σ w .writes) k) (contentOf (σ .map .slots) k)
   unfolding m'
-  says k = lock-says (σ .settings) w (σ .map) (workerOf σ w .writes) (h .fine .slots) (l .room) k
+  says k = lock-says w (σ .map) (workerOf σ w .writes) (h .fine .slots) (l .room) k
 
   same-records : m' .records ≡ σ .map .records
   unfolding m' lockAll withSlots
@@ -176,12 +170,12 @@ module _ {σ : State} {ρ : Reading} {w : ℕ} (h : Sound σ ρ) (o : IsOpen σ 
   e : Event
   e = record { step = lock w; answer = done }
 
-  pub lock-sound : Sound (withWorker (withMap σ (lockAll (σ .settings) w (σ .map) (workerOf σ w .writes))) w (atStage Locked (workerOf σ w)))
+  pub lock-sound : Sound (withWorker (withMap σ (lockAll w (σ .map) (workerOf σ w .writes))) w (atStage Locked (workerOf σ w)))
       (goesOn ρ w (record { step = lock w; answer = done }))
   unfolding σ' x' m' e
   lock-sound =
       record {
-        fine = fine-worker (withMap σ m') w x' (unfold atStage in h .fine .writes w) (fine-slots σ m' same-records same-leaves (lock-good (σ .settings) w (σ .map) (workerOf σ w .writes) (h .fine .slots) (l .room)) (h .fine));
+        fine = fine-worker (withMap σ m') w x' (unfold atStage in h .fine .writes w) (fine-slots σ m' same-records same-leaves (lock-good w (σ .map) (workerOf σ w .writes) (h .fine .slots) (l .room)) (h .fine));
         invariant =
             own-map σ m' w x' ρ (goesOn ρ w e) own-locks (worker-same (withMap σ m') w x' (unfold withMap in o .inside)) unchecked
             (read-goesOn (facts σ) ρ w (workerOf σ w) e (w-working)) (running-goesOn (facts σ) ρ w (workerOf σ w) e w-working)
@@ -210,19 +204,12 @@ module _ {σ : State} {ρ : Reading} {w : ℕ} (h : Sound σ ρ) (o : IsOpen σ 
 
       -- in a guarded map each put passed the three tests
       roomy : Roomy (facts σ .guard) (w-working .os) (workerOf σ w .writes)
-      roomy s q = by-settings (guarded-settings (σ .guarded) (σ .settings) s q)
+      roomy q =
+          lock-room-for (workerOf σ w .reads) (workerOf σ w .scans) (workerOf σ w .writes) (w-working .os) w-saw
+          (unguarded _ q (unfold unfitPut in l .fit)) (unguarded _ q (unfold uncoveredPut in l .covered)) (unguarded _ q (unfold overlappedPut in l .clear))
         where
-          unguarded : (f : ℕ → ℕ → Bool) → σ .guarded ≡ true → guard σ w f ≡ false → anyPut f (workerOf σ w .writes) ≡ false
+          unguarded : (f : ℕ → ℕ → Bool) → σ .made .guarded ≡ true → guard σ w f ≡ false → anyPut f (workerOf σ w .writes) ≡ false
           unguarded f t c = unfold guard in sym (ap (λ (b : Bool). both b (anyPut f (workerOf σ w .writes))) t) ∙ (unfold guard in c)
-
-          by-settings : (σ .guarded ≡ true) × (σ .settings ≡ s) → (k : ℕ) (p : Payload) → look (workerOf σ w .writes) k ≡ some (written p)
-              → RoomFor s (w-working .os) (workerOf σ w .writes) k p
-          by-settings t =
-              subst
-              (λ (r : Settings). (k : ℕ) (p : Payload) → look (workerOf σ w .writes) k ≡ some (written p) → RoomFor r (w-working .os) (workerOf σ w .writes) k p)
-              (t .1)
-              (lock-room-for (σ .settings) (workerOf σ w .reads) (workerOf σ w .scans) (workerOf σ w .writes) (w-working .os) w-saw
-              (unguarded _ (t .0) (unfold unfitPut in l .fit)) (unguarded _ (t .0) (unfold uncoveredPut in l .covered)) (unguarded _ (t .0) (unfold overlappedPut in l .clear)))
 
       same-given : facts σ' .given ≡ facts σ .given
       same-given = unfold withWorker withMap in refl
@@ -234,11 +221,11 @@ module _ {σ : State} {ρ : Reading} {w : ℕ} (h : Sound σ ρ) (o : IsOpen σ 
 
 module _ {σ : State} {ρ : Reading} (w : ℕ) (h : Sound σ ρ) where
   free' : MapState
-  free' = unlockAll (σ .settings) w (σ .map) (writeKeys σ w)
+  free' = unlockAll w (σ .map) (writeKeys σ w)
 
   free-says : (k : ℕ) → contentOf (free' .slots) k ≡ pick (has k (writeKeys σ w)) (unlocked w (contentOf (σ .map .slots) k)) (contentOf (σ .map .slots) k)
   unfolding free'
-  free-says k = unlock-says (σ .settings) w (σ .map) (writeKeys σ w) (h .fine .slots) k
+  free-says k = unlock-says w (σ .map) (writeKeys σ w) (h .fine .slots) k
 
   free-records : free' .records ≡ σ .map .records
   unfolding free' unlockAll withSlots
@@ -264,7 +251,7 @@ module _ {σ : State} {ρ : Reading} (w : ℕ) (h : Sound σ ρ) where
       record {
         fine =
             fine-worker (withMap σ free') w freeWorker (rising-nil Write)
-            (fine-slots σ free' free-records free-leaves (unlock-good (σ .settings) w (σ .map) (writeKeys σ w) (h .fine .slots)) (h .fine));
+            (fine-slots σ free' free-records free-leaves (unlock-good w (σ .map) (writeKeys σ w) (h .fine .slots)) (h .fine));
         invariant =
             own-map σ free' w freeWorker ρ (passed ρ)
             (record {

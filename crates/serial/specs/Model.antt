@@ -13,7 +13,7 @@ use Rattle.lists.specs.Tests.{pick, maybe, present, same, less}
 use Rattle.lists.specs.TestLaws.{cases, same-true, same-false, less-true, less-false}
 use Rattle.lists.specs.Rows.{look, Rising}
 use Rattle.lists.specs.RowLaws.{look-insert, some-not-none, rising-nil}
-use Rattle.spec.specs.Records.{Settings, Record, Write}
+use Rattle.spec.specs.Records.{limits, Made, Record, Write}
 use Rattle.spec.specs.Leaves.{versionAt}
 use Rattle.spec.specs.Slots.{contentOf}
 use Rattle.spec.specs.Maps.{current}
@@ -22,7 +22,7 @@ use Rattle.spec.specs.Claim.{Transaction, Reading, runningNow, passed, extended
 use Rattle.laws.specs.SlotCounts.{Good}
 use Rattle.laws.specs.SlotLaws.{fresh-good}
 use Rattle.laws.specs.LeafLaws.{GoodLeaves, fresh-leaves}
-use Rattle.spec.specs.GoodSettings.{GoodSettings}
+use Rattle.spec.specs.GoodTuning.{GoodTuning}
 use Rattle.serial.specs.Invariant.{Facts}
 use Rattle.serial.specs.Keeping.{ReadOn}
 
@@ -37,15 +37,15 @@ facts σ =
       forPut = λ (k : ℕ). contentOf (σ .map .slots) k .forPut;
       version = versionAt (σ .map .leaves);
       worker = workerOf σ;
-      guard = pick (σ .guarded) (some (σ .settings)) none;
+      guard = σ .made .guarded;
     }
 
 pub record Fine (σ : State) : Type 0 where
-  pub settings : GoodSettings (σ .settings)
-  pub slots : Good (σ .settings .bytes) (σ .map .slots)
+  pub tuning : GoodTuning (σ .made .tuning)
+  pub slots : Good (limits .bytes) (σ .map .slots)
   pub records : Rising (σ .map .records)
   pub leaves : GoodLeaves (σ .counters .version) (σ .map .leaves)
-  pub crew : length (σ .workers) ≡ σ .settings .workers
+  pub crew : length (σ .workers) ≡ limits .workers
   pub writes : (w : ℕ) → Rising (workerOf σ w .writes)
 
 -- ---- workers
@@ -71,24 +71,24 @@ worker-free σ w =
     (λ e. worker-out σ w freeWorker (less-false w (length (σ .workers)) e))
     (cases (less w (length (σ .workers))))
 
-pub worker-fresh : (s : Settings) (g : Bool) (w : ℕ) → workerOf (fresh s g) w ≡ freeWorker
+pub worker-fresh : (d : Made) (w : ℕ) → workerOf (fresh d) w ≡ freeWorker
 unfolding workerOf
-worker-fresh s g w = go (s .workers) w
+worker-fresh d w = go (limits .workers) w
   where
     go : (n w : ℕ) → getD (replicate n freeWorker) w freeWorker ≡ freeWorker
     go zero w = refl
     go (suc n) zero = refl
     go (suc n) (suc w) = go n w
 
-pub fine-fresh : (s : Settings) (g : Bool) → GoodSettings s → Fine (fresh s g)
-fine-fresh s g h =
+pub fine-fresh : (d : Made) → GoodTuning (d .tuning) → Fine (fresh d)
+fine-fresh d h =
     record {
-      settings = h;
-      slots = fresh-good (s .bytes);
+      tuning = h;
+      slots = fresh-good (limits .bytes);
       records = rising-nil Record;
       leaves = fresh-leaves;
-      crew = length-replicate (s .workers) freeWorker;
-      writes = λ w. subst (λ (x : Worker). Rising (x .writes)) (sym (worker-fresh s g w)) (rising-nil Write);
+      crew = length-replicate (limits .workers) freeWorker;
+      writes = λ w. subst (λ (x : Worker). Rising (x .writes)) (sym (worker-fresh d w)) (rising-nil Write);
     }
 
 -- another worker, and nothing else
@@ -96,7 +96,7 @@ pub fine-worker : (σ : State) (w : ℕ) (x : Worker) → Rising (x .writes) →
 fine-worker σ w x r f =
     unfold withWorker in
     record {
-      settings = f .settings;
+      tuning = f .tuning;
       slots = f .slots;
       records = f .records;
       leaves = f .leaves;

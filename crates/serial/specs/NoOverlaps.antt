@@ -16,14 +16,14 @@ use Rattle.lists.specs.Rows.{Row, row, look, From, Rising}
 use Rattle.lists.specs.RowLaws.{look-nil, look-here, look-there}
 use Rattle.spec.specs.declared.Refusal.{Refusal}
 use Rattle.spec.specs.Refusals.{ends}
-use Rattle.spec.specs.Records.{Settings, standard, Payload, Record, Write, written, deleted, outcome, payloadOf}
+use Rattle.spec.specs.Records.{limits, Made, standardMap, Payload, Record, Write, written, deleted, outcome, payloadOf}
 use Rattle.spec.specs.Guards.{lastByte, share, unfit, NoOverlap}
 use Rattle.spec.specs.Maps.{contents}
 use Rattle.spec.specs.Steps.{State, fresh, Step, merge, mergeOldest, stepWorker, refusal, withWorker, withMap, withCounters, installCounted, dropped, merged, effect, afterRefusal, next, final, history, act, beginning, access, locking, validating, installing, aborting}
 use Rattle.spec.specs.Sequential.{afterSteps}
 use Rattle.spec.specs.Claim.{Transaction, Reading, nothingRead, readOn, reading, listAfter}
-use Rattle.spec.specs.GoodSettings.{GoodSettings}
-use Rattle.laws.specs.WorkerLaws.{standard-settings}
+use Rattle.spec.specs.GoodTuning.{GoodTuning}
+use Rattle.laws.specs.WorkerLaws.{standard-tuning}
 use Rattle.serial.specs.Feeding.{eventWrites, laid, look-afterAll, look-member, listAfter-none, rising-listAfter}
 use Rattle.serial.specs.Invariant.{Facts, Observation, Matches, RoomFor, Done, Invariant}
 use Rattle.serial.specs.Observing.{within-low}
@@ -34,8 +34,8 @@ use Rattle.serial.specs.Theorem.{run-sound, fresh-sound, every-run-is-se
 -- ---- sections by address
 
 -- The sections of a list fit, and no two share a byte.
-record Spaced (s : Settings) (l : List (Row Record)) : Type 0 where
-  pub fit : (k : ℕ) (r : Record) → look l k ≡ some r → unfit s k (r .payload .value) ≡ false
+record Spaced (l : List (Row Record)) : Type 0 where
+  pub fit : (k : ℕ) (r : Record) → look l k ≡ some r → unfit k (r .payload .value) ≡ false
   pub apart :
       (j k : ℕ) (q r : Record) → (j ≡ k → ⊥) → look l j ≡ some q → look l k ≡ some r
       → share j (q .payload .value) k (r .payload .value) ≡ false
@@ -51,9 +51,9 @@ share-swap j m k n = go (atMost j (lastByte k n)) (atMost k (lastByte j m))
     go false false = refl
 
 -- a section that fits has a length from 1 to the longest
-fit-length : (s : Settings) (k n : ℕ) → unfit s k n ≡ false → (1 ≤ n) × (n ≤ s .longest)
+fit-length : (k n : ℕ) → unfit k n ≡ false → (1 ≤ n) × (n ≤ limits .longest)
 unfolding unfit
-fit-length s k n e = within-low 1 (s .longest) n (not-false (within 1 (s .longest) n) (either-left (not (within 1 (s .longest) n)) _ e))
+fit-length k n e = within-low 1 (limits .longest) n (not-false (within 1 (limits .longest) n) (either-left (not (within 1 (limits .longest) n)) _ e))
 
 -- one that starts behind the last byte of the other shares none
 share-behind : (j m k n : ℕ) → lastByte k n < j → share j m k n ≡ false
@@ -61,11 +61,11 @@ unfolding share
 share-behind j m k n h = rw (atMost-no h)
 
 -- one that starts too far below to reach the other shares none
-share-before : (s : Settings) (j m k n lo : ℕ) → unfit s j m ≡ false → j < lo → lo ≤ k - (s .longest - 1) → share j m k n ≡ false
-share-before s j m k n lo f h l = share-swap j m k n ∙ share-behind k n j m (short (fit-length s j m f))
+share-before : (j m k n lo : ℕ) → unfit j m ≡ false → j < lo → lo ≤ k - (limits .longest - 1) → share j m k n ≡ false
+share-before j m k n lo f h l = share-swap j m k n ∙ share-behind k n j m (short (fit-length j m f))
   where
-    short : (1 ≤ m) × (m ≤ s .longest) → lastByte j m < k
-    short b = let x : 1 ≤ m = b .0 in let y : m ≤ s .longest = b .1 in unfold lastByte in omega arith
+    short : (1 ≤ m) × (m ≤ limits .longest) → lastByte j m < k
+    short b = let x : 1 ≤ m = b .0 in let y : m ≤ limits .longest = b .1 in unfold lastByte in omega arith
 
 -- ---- one transaction more
 
@@ -77,10 +77,10 @@ left-by n none o r e = inr (refl, e)
 left-by n (some (written p)) o r e = inl (ap (λ (y : Record). some (written (y .payload))) (some-same e))
 left-by n (some deleted) o r e = both-options e refl
 
-module _ (s : Settings) (n : ℕ) (ws : List (Row Write)) (os : List Observation) (l l' : List (Row Record))
+module _ (n : ℕ) (ws : List (Row Write)) (os : List Observation) (l l' : List (Row Record))
     (over : (k : ℕ) → look l' k ≡ laid n ws k (look l k))
-    (room : (k : ℕ) (p : Payload) → look ws k ≡ some (written p) → RoomFor s os ws k p)
-    (seen : Matches os l) (h : Spaced s l) where
+    (room : (k : ℕ) (p : Payload) → look ws k ≡ some (written p) → RoomFor os ws k p)
+    (seen : Matches os l) (h : Spaced l) where
   -- a put and what stood elsewhere: it was seen, or lies too far away
   put-apart : (j k : ℕ) (q : Record) (p : Payload) → (j ≡ k → ⊥) → look ws j ≡ none → look l j ≡ some q → look ws k ≡ some (written p)
       → share j (q .payload .value) k (p .value) ≡ false
@@ -90,10 +90,10 @@ module _ (s : Settings) (n : ℕ) (ws : List (Row Write)) (os : List Observation
       (λ b. inside (atMost-true (g .o .lo) j a) (atMost-true j (g .o .hi) b))
       (λ b. share-behind j (q .payload .value) k (p .value) (behind (atMost-false j (g .o .hi) b) (g .above)))
       (cases (atMost j (g .o .hi))))
-      (λ a. share-before s j (q .payload .value) k (p .value) (g .o .lo) (h .fit j q t) (atMost-false (g .o .lo) j a) (g .below))
+      (λ a. share-before j (q .payload .value) k (p .value) (g .o .lo) (h .fit j q t) (atMost-false (g .o .lo) j a) (g .below))
       (cases (atMost (g .o .lo) j))
     where
-      g : RoomFor s os ws k p
+      g : RoomFor os ws k p
       g = room k p w
 
       behind : g .o .hi < j → lastByte k (p .value) ≤ g .o .hi → lastByte k (p .value) < j
@@ -105,7 +105,7 @@ module _ (s : Settings) (n : ℕ) (ws : List (Row Write)) (os : List Observation
   left : (k : ℕ) (r : Record) → look l' k ≡ some r → (look ws k ≡ some (written (r .payload))) ⊎ ((look ws k ≡ none) × (look l k ≡ some r))
   left k r e = left-by n (look ws k) (look l k) r (sym (over k) ∙ e)
 
-  spaced-laid : Spaced s l'
+  spaced-laid : Spaced l'
   spaced-laid =
       record {
         fit = λ k r e. ⊎-elim (λ w. room k (r .payload) w .fits) (λ w. h .fit k r (w .1)) (left k r e);
@@ -125,17 +125,17 @@ module _ (s : Settings) (n : ℕ) (ws : List (Row Write)) (os : List Observation
 
 -- ---- all transactions
 
-module _ {F : Facts} {ρ : Reading} (i : Invariant F ρ) (s : Settings) (g : F .guard ≡ some s) where
-  spaced-after : (m : ℕ) → Spaced s (listAfter (ρ .installed) m)
+module _ {F : Facts} {ρ : Reading} (i : Invariant F ρ) (g : F .guard ≡ true) where
+  spaced-after : (m : ℕ) → Spaced (listAfter (ρ .installed) m)
   spaced-after zero =
       unfold listAfter in
       record { fit = λ k r e. both-options e (look-nil k); apart = λ j k q r d e f. both-options e (look-nil j) }
   spaced-after (suc m) = go (look (ρ .installed) (suc m)) refl (spaced-after m)
     where
-      go : (o : Option Transaction) → look (ρ .installed) (suc m) ≡ o → Spaced s (listAfter (ρ .installed) m)
-          → Spaced s (listAfter (ρ .installed) (suc m))
-      go none e h = subst (Spaced s) (sym (listAfter-none (ρ .installed) m e)) h
-      go (some t) e h = spaced-laid s (suc m) (eventWrites (t .events)) (d .os) (listAfter (ρ .installed) m) (listAfter (ρ .installed) (suc m)) over (d .room s g) seen h
+      go : (o : Option Transaction) → look (ρ .installed) (suc m) ≡ o → Spaced (listAfter (ρ .installed) m)
+          → Spaced (listAfter (ρ .installed) (suc m))
+      go none e h = subst Spaced (sym (listAfter-none (ρ .installed) m e)) h
+      go (some t) e h = spaced-laid (suc m) (eventWrites (t .events)) (d .os) (listAfter (ρ .installed) m) (listAfter (ρ .installed) (suc m)) over (d .room g) seen h
         where
           d : Done F (ρ .installed) (row (suc m) t)
           d = i .done (row (suc m) t) (look-member (ρ .installed) (suc m) t e)
@@ -167,15 +167,15 @@ member-look lo (x ∷ rs) r f (List·Memᴰ·tail m) =
     let c : lo ≤ x .key = f .0 in
     (omega arith, look-there x rs (r .key) (λ q. omega arith) ∙ a .1)
 
-spaced-rows : (s : Settings) (l : List (Row Record)) → Rising l → Spaced s l → NoOverlap s l
+spaced-rows : (l : List (Row Record)) → Rising l → Spaced l → NoOverlap l
 unfolding Rising
-spaced-rows s l f h =
+spaced-rows l f h =
     record {
       fit = λ r m. h .fit (r .key) (r .item) (member-look 0 l r f m .1);
       apart = λ r q m n d. h .apart (r .key) (q .key) (r .item) (q .item) d (member-look 0 l r f m .1) (member-look 0 l q f n .1);
     }
 
--- ---- a map stays guarded, by the same limits
+-- ---- a map stays guarded
 
 granted-guard : (σ : State) (s : Step) → facts (effect σ s) .guard ≡ facts σ .guard
 unfolding effect withWorker withMap withCounters installCounted dropped merged
@@ -209,14 +209,14 @@ final-guard σ (s ∷ ss) = final-guard (next σ s) ss ∙ go (refusal σ s)
 -- ---- the statement
 
 -- no list of steps makes two sections of a guarded map overlap
-pub no-overlap : (s : Settings) → GoodSettings s → (ss : List Step) → NoOverlap s (contents (final (fresh s true) ss .map))
+pub no-overlap : (d : Made) → d .guarded ≡ true → GoodTuning (d .tuning) → (ss : List Step) → NoOverlap (contents (final (fresh d) ss .map))
 unfolding reading
-no-overlap s c ss =
-    let ρ : Reading = readOn nothingRead (history (fresh s true) ss) in
-    subst (NoOverlap s) (every-run-is-serial s true c ss .same-contents)
-    (spaced-rows s (listAfter (ρ .installed) (ρ .given)) (rising-listAfter (ρ .installed) (ρ .given))
-    (spaced-after (run-sound (fresh s true) nothingRead ss (fresh-sound s true c) .invariant) s (final-guard (fresh s true) ss) (ρ .given)))
+no-overlap d g c ss =
+    let ρ : Reading = readOn nothingRead (history (fresh d) ss) in
+    subst NoOverlap (every-run-is-serial d c ss .same-contents)
+    (spaced-rows (listAfter (ρ .installed) (ρ .given)) (rising-listAfter (ρ .installed) (ρ .given))
+    (spaced-after (run-sound (fresh d) nothingRead ss (fresh-sound d c) .invariant) (final-guard (fresh d) ss ∙ g) (ρ .given)))
 
 -- ... under document 01's limits
-pub no-overlap-standard : (ss : List Step) → NoOverlap standard (contents (final (fresh standard true) ss .map))
-no-overlap-standard ss = no-overlap standard standard-settings ss
+pub no-overlap-standard : (ss : List Step) → NoOverlap (contents (final (fresh (standardMap true)) ss .map))
+no-overlap-standard ss = no-overlap (standardMap true) refl standard-tuning ss

@@ -13,15 +13,15 @@ use Rattle.lists.specs.Rows.{Row, look, keys, Different}
 use Rattle.lists.specs.RowLaws.{has-any, look-nil, rising-different}
 use Rattle.spec.specs.declared.Refusal.{Refusal}
 use Rattle.spec.specs.Refusals.{ends}
-use Rattle.spec.specs.Records.{Settings, standard}
+use Rattle.spec.specs.Records.{limits, Made, standardMap}
 use Rattle.spec.specs.Slots.{slotCount, Content, idle, emptySlot, entries, contentOf}
 use Rattle.spec.specs.Maps.{freshMap, outcomeOf, current, contents, oldest}
 use Rattle.spec.specs.Steps.{Worker, State, fresh, workerOf, Step, lock, validate, install, merge, mergeOldest, stepWorker, refused, isFree, isOpen, isLocked, isChecked, writeKeys, Cause, noWorker, workerFree, wrongStage, causes, firstCause, refusal, granted, effect, afterRefusal, answer, next, final, history, Access, act, beginning, access, locking, validating, installing, aborting, begin, accessAnswer}
 use Rattle.spec.specs.Claim.{Reading, nothingRead, isGranted, passed, goesOn, readGranted, advance, readOn, reading, listAfter, SerialRun}
 use Rattle.laws.specs.ContentLaws.{look-contents, rising-contents}
 use Rattle.laws.specs.MapBounds.{lock-room}
-use Rattle.spec.specs.GoodSettings.{GoodSettings}
-use Rattle.laws.specs.WorkerLaws.{standard-settings}
+use Rattle.spec.specs.GoodTuning.{GoodTuning}
+use Rattle.laws.specs.WorkerLaws.{standard-tuning}
 use Rattle.serial.specs.Stages.{free-free, checked-busy}
 use Rattle.serial.specs.Concluding.{serial}
 use Rattle.serial.specs.Model.{Fine, fine-fresh, worker-fresh, cause-passed, not-false}
@@ -34,7 +34,7 @@ use Rattle.serial.specs.Finishing.{Validatable, validate-sound, install-
 worker-there : (σ : State) (w : ℕ) → Fine σ → noWorker σ w .holds ≡ false → w < length (σ .workers)
 unfolding noWorker
 worker-there σ w f e =
-    le-trans (less-true w (σ .settings .workers) (not-false (less w (σ .settings .workers)) e)) (le-of-eq (sym (f .crew)))
+    le-trans (less-true w (limits .workers) (not-false (less w (limits .workers)) e)) (le-of-eq (sym (f .crew)))
 
 module _ {σ : State} {ρ : Reading} (h : Sound σ ρ) where
   -- the causes that all steps of an open worker share
@@ -62,8 +62,8 @@ module _ {σ : State} {ρ : Reading} (h : Sound σ ρ) where
         record {
           unheld = λ k q. has-any _ _ (b .0) k q;
           room =
-              lock-room (σ .settings) (σ .map) (workerOf σ w .writes) (h .fine .settings .roomy)
-              (rising-different (workerOf σ w .writes) (h .fine .writes w)) (less-false (σ .settings .waitingLimit) _ (c .0));
+              lock-room (σ .made .tuning) (σ .map) (workerOf σ w .writes) (h .fine .tuning .roomy)
+              (rising-different (workerOf σ w .writes) (h .fine .writes w)) (less-false (σ .made .tuning .waitingLimit) _ (c .0));
           fit = fit .0;
           covered = covered .0;
           clear = clear .0;
@@ -160,10 +160,10 @@ current-fresh k =
     ∙ ap (λ (o : Option Content). maybe (Option·getD o idle .pending) (look (freshMap .records) k) outcomeOf) (look-nil k)
     ∙ look-nil k
 
-pub fresh-sound : (s : Settings) (g : Bool) → GoodSettings s → Sound (fresh s g) nothingRead
-fresh-sound s g h =
+pub fresh-sound : (d : Made) → GoodTuning (d .tuning) → Sound (fresh d) nothingRead
+fresh-sound d h =
     record {
-      fine = fine-fresh s g h;
+      fine = fine-fresh d h;
       invariant =
           record {
             numbers = refl;
@@ -172,23 +172,23 @@ fresh-sound s g h =
             done = λ r m. absurd (List·Memᴰ·not-nil m);
             begun = λ r m. absurd (List·Memᴰ·not-nil m);
             working = λ w e. clash (free w) e;
-            apart = λ w v c d e. clash (free w) (checked-busy (workerOf (fresh s g) w .stage) c);
+            apart = λ w v c u e. clash (free w) (checked-busy (workerOf (fresh d) w .stage) c);
           };
     }
   where
-    free : (w : ℕ) → isFree (workerOf (fresh s g) w .stage) ≡ true
-    free w = ap (λ (x : Worker). isFree (x .stage)) (worker-fresh s g w) ∙ free-free
+    free : (w : ℕ) → isFree (workerOf (fresh d) w .stage) ≡ true
+    free w = ap (λ (x : Worker). isFree (x .stage)) (worker-fresh d w) ∙ free-free
 
 -- Demand 3: for every list of steps, the claim holds of the history and the contents at the end.
-pub every-run-is-serial : (s : Settings) (g : Bool) → GoodSettings s → (ss : List Step)
-    → SerialRun (history (fresh s g) ss) (contents (final (fresh s g) ss .map))
+pub every-run-is-serial : (d : Made) → GoodTuning (d .tuning) → (ss : List Step)
+    → SerialRun (history (fresh d) ss) (contents (final (fresh d) ss .map))
 unfolding reading
-every-run-is-serial s g k ss =
-    let h = run-sound (fresh s g) nothingRead ss (fresh-sound s g k) in
-    serial (h .invariant) (contents (final (fresh s g) ss .map))
-    (rising-contents (final (fresh s g) ss .map) (h .fine .records))
-    (look-contents (final (fresh s g) ss .map) (h .fine .slots))
+every-run-is-serial d k ss =
+    let h = run-sound (fresh d) nothingRead ss (fresh-sound d k) in
+    serial (h .invariant) (contents (final (fresh d) ss .map))
+    (rising-contents (final (fresh d) ss .map) (h .fine .records))
+    (look-contents (final (fresh d) ss .map) (h .fine .slots))
 
 -- ... under document 01's limits
-pub theorem : (g : Bool) (ss : List Step) → SerialRun (history (fresh standard g) ss) (contents (final (fresh standard g) ss .map))
-theorem g ss = every-run-is-serial standard g standard-settings ss
+pub theorem : (g : Bool) (ss : List Step) → SerialRun (history (fresh (standardMap g)) ss) (contents (final (fresh (standardMap g)) ss .map))
+theorem g ss = every-run-is-serial (standardMap g) standard-tuning ss

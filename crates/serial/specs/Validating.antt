@@ -175,9 +175,9 @@ module _ {F F' : Facts} {ρ ρ' : Reading} {w : ℕ} (h : Checks F F' ρ ρ' w) 
             });
         saw = λ s. clash s (checked-not-open (F' .worker w .stage) (h .is-checked));
         room =
-            λ s l q.
-            subst (λ (ws : List (Row Write)). (k : ℕ) (p : Payload) → look ws k ≡ some (written p) → RoomFor l (g .os) ws k p) (sym (h .writes))
-            (g .room (h .was-locked) l (sym (h .guard) ∙ q));
+            λ s q.
+            subst (λ (ws : List (Row Write)). (k : ℕ) (p : Payload) → look ws k ≡ some (written p) → RoomFor (g .os) ws k p) (sym (h .writes))
+            (g .room (h .was-locked) (sym (h .guard) ∙ q));
       }
 
   kept : (v : ℕ) → (v ≡ w → ⊥) → (x : Worker) → Kept F F' ρ ρ' v x

@@ -7,7 +7,7 @@ use mathlib.Core.List.{List, [], _∷_, _++_, append-assoc, append-nil}
 use lib.ListN.{length, getD, set, replicate}
 use mir.Val.{boolByte}
 use Rattle.spec.specs.Widths.{addresses}
-use Rattle.spec.specs.Records.{standard}
+use Rattle.spec.specs.Records.{limits}
 use Rattle.spec.specs.Guards.{Scan}
 use Rattle.sets.specs.declared.leaves.LoggedLeaf.{LoggedLeaf}
 use Rattle.sets.specs.declared.leaves.Scanned.{Scanned}
@@ -20,10 +20,10 @@ use Rattle.sets.specs.SetLaws.{each-set, each-alike, row-at, rows-snoc, 
 abbrev words : LoggedLeaf → Bool → Scanned → List ℕ
 words leaf first s = leaf .version ∷ leaf .low ∷ boolByte first ∷ s .lo ∷ s .hi ∷ s .from ∷ s .count ∷ []
 
-pub leaf-appended : (rs : LeafSetRows) (n : ℕ) (leaf : LoggedLeaf) (first : Bool) (s : Scanned) → LeafSetHeld rs → n < standard .leafSetLimit → leaf .low < addresses
+pub leaf-appended : (rs : LeafSetRows) (n : ℕ) (leaf : LoggedLeaf) (first : Bool) (s : Scanned) → LeafSetHeld rs → n < limits .leafSetLimit → leaf .low < addresses
     → LogsLeaf rs n leaf first s (set rs n (words leaf first s)) (n + 1)
 leaf-appended rs n leaf first s held h l =
-    let z : length rs ≡ standard .leafSetLimit = held .size in
+    let z : length rs ≡ limits .leafSetLimit = held .size in
     record {
       held = each-set n _ held l;
       count = refl;
@@ -38,8 +38,8 @@ pub leaf-given : (rs : LeafSetRows) (i : ℕ) (r : LoggedLeaf) → r .version �
 leaf-given rs i r e f =
     record { version = λ n l. e ∙ sym (row-at versionIn rs n i 0 l); low = λ n l. f ∙ sym (row-at lowIn rs n i 0 l) }
 
-pub leaves-zero : LeavesHeld (replicate (standard .workers) (replicate (standard .leafSetLimit) (replicate leafSetWords 0)))
-leaves-zero = each-alike (standard .workers) _ (each-alike (standard .leafSetLimit) _ (omega arith))
+pub leaves-zero : LeavesHeld (replicate (limits .workers) (replicate (limits .leafSetLimit) (replicate leafSetWords 0)))
+leaves-zero = each-alike (limits .workers) _ (each-alike (limits .leafSetLimit) _ (omega arith))
 
 pub note-given : (rs : LeafSetRows) (i : ℕ) (r : ScanNote) → noteIn r ≡ scansAt (getD rs i []) → GivesNote rs i r
 note-given rs i r e = record { mark = λ n l. e ∙ sym (row-at scansAt rs n i [] l) }

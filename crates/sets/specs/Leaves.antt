@@ -7,7 +7,7 @@ use mathlib.Core.List.{List, [], _∷_, _++_}
 use lib.ListN.{getD}
 use lib.Dec.{eqb}
 use Rattle.lists.specs.Tests.{pick}
-use Rattle.spec.specs.Records.{standard}
+use Rattle.spec.specs.Records.{limits}
 use Rattle.spec.specs.Guards.{Scan}
 use Rattle.sets.specs.declared.leaves.LoggedLeaf.{LoggedLeaf}
 use Rattle.sets.specs.declared.leaves.Scanned.{Scanned}
@@ -80,11 +80,11 @@ scansIn gs w n = scansOf (getD gs w []) n
 
 -- the rows of one worker: stored lows are addresses
 abbrev pub LeafSetHeld : LeafSetRows → Type 0
-LeafSetHeld rs = Each (AddressAt 1) (standard .leafSetLimit) rs
+LeafSetHeld rs = Each (AddressAt 1) (limits .leafSetLimit) rs
 
 -- those of all workers
 abbrev pub LeavesHeld : List LeafSetRows → Type 0
-LeavesHeld gs = Each LeafSetHeld (standard .workers) gs
+LeavesHeld gs = Each LeafSetHeld (limits .workers) gs
 
 -- ---- promises
 

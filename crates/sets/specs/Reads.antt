@@ -8,7 +8,7 @@ use lib.Dec.{eqb}
 use lib.ListN.{getD}
 use Rattle.lists.specs.Tests.{pick}
 use Rattle.lists.specs.Rows.{Row, row}
-use Rattle.spec.specs.Records.{standard, Record}
+use Rattle.spec.specs.Records.{limits, Record}
 use Rattle.spec.specs.Payloads.{payloadIn}
 use Rattle.spec.specs.declared.PayloadWords.{PayloadWords}
 use Rattle.spec.specs.declared.Current.{Current}
@@ -55,11 +55,11 @@ readsIn gs w n = readsOf (getD gs w []) n
 
 -- the rows of one worker: stored addresses are addresses
 abbrev pub ReadSetHeld : ReadRows → Type 0
-ReadSetHeld rs = Each (AddressAt 0) (standard .readLimit) rs
+ReadSetHeld rs = Each (AddressAt 0) (limits .readLimit) rs
 
 -- those of all workers
 abbrev pub ReadsHeld : List ReadRows → Type 0
-ReadsHeld gs = Each ReadSetHeld (standard .workers) gs
+ReadsHeld gs = Each ReadSetHeld (limits .workers) gs
 
 -- ---- promises
 

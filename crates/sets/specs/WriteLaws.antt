@@ -16,7 +16,7 @@ use Rattle.lists.specs.RowLaws.{rising-assign}
 use Rattle.lists.specs.Shifts.{moved, Raising, raising-start, raising-on, raising-end}
 use Rattle.lists.specs.Places.{place, place-most, place-below, place-above, Present, Absent, look-present, look-absent, insert-present, insert-absent}
 use Rattle.spec.specs.Widths.{addresses}
-use Rattle.spec.specs.Records.{standard, Write, written, deleted}
+use Rattle.spec.specs.Records.{limits, Write, written, deleted}
 use Rattle.sets.specs.declared.writes.WriteRow.{WriteRow}
 use Rattle.sets.specs.declared.writes.Entry.{Entry}
 use Rattle.spec.specs.Payloads.{payloadIn}
@@ -45,7 +45,7 @@ pub record Lifting (rs us : WriteRows) (n p i : ℕ) : Type 0 where
 pub lifting-start : (rs : WriteRows) (n p : ℕ) → WriteSetHeld rs → Lifting rs rs n p (n - p)
 lifting-start rs n p held = record { held = held; rows = raising-start rs p (p + 1) (n - p) }
 
-pub lifting-on : {rs us : WriteRows} {n p i : ℕ} → length rs ≡ standard .writeLimit → p ≤ n → n < standard .writeLimit → 0 < i → Lifting rs us n p i
+pub lifting-on : {rs us : WriteRows} {n p i : ℕ} → length rs ≡ limits .writeLimit → p ≤ n → n < limits .writeLimit → 0 < i → Lifting rs us n p i
     → Lifting rs (set us (p + 1 + (i - 1)) (getD us (p + (i - 1)) [])) n p (i - 1)
 lifting-on {rs} {us} {n} {p} {i} z h l o f =
     record {
@@ -137,10 +137,10 @@ module _ {rs : WriteRows} {n a p : ℕ} (given : WriteSetOrdered rs n) (at : Pla
 
   -- ---- what a put leaves
 
-  pub put-room : Absent a (writesOf rs n) noWrite → (n < standard .writeLimit) ⊎ (present (look (writesOf rs n) a) ≡ true) → n < standard .writeLimit
+  pub put-room : Absent a (writesOf rs n) noWrite → (n < limits .writeLimit) ⊎ (present (look (writesOf rs n) a) ≡ true) → n < limits .writeLimit
   put-room s h = ⊎-elim (λ l. l) (λ e. clash e (ap present (sym (found-none s)))) h
 
-  puts : {us : WriteRows} (kind : ℕ) (v : PayloadWords) (m : ℕ) → m ≤ standard .writeLimit → WriteSetHeld us
+  puts : {us : WriteRows} (kind : ℕ) (v : PayloadWords) (m : ℕ) → m ≤ limits .writeLimit → WriteSetHeld us
       → writesOf us m ≡ insert a (writeOf kind v) (writesOf rs n) → PutsWrite rs n a kind v us m
   unfolding assign
   puts {us} kind v m h held e =
@@ -158,18 +158,18 @@ module _ {rs : WriteRows} {n a p : ℕ} (given : WriteSetOrdered rs n) (at : Pla
   pub put-over : {us : WriteRows} (kind : ℕ) (v : PayloadWords) → Present a (writesOf rs n) noWrite → a < addresses → us ≡ set rs p (a ∷ kind ∷ v .value ∷ v .owner ∷ [])
       → PutsWrite rs n a kind v us n
   put-over {us} kind v s h e =
-      let z : length rs ≡ standard .writeLimit = given .held .size in
-      let m : n ≤ standard .writeLimit = given .room in
+      let z : length rs ≡ limits .writeLimit = given .held .size in
+      let m : n ≤ limits .writeLimit = given .room in
       puts kind v n m (subst WriteSetHeld (sym e) (each-set p (a ∷ kind ∷ v .value ∷ v .owner ∷ []) (given .held) h))
       (ap (λ (l : WriteRows). writesOf l n) e
       ∙ row-replaced writeIn rs n p (a ∷ kind ∷ v .value ∷ v .owner ∷ []) (inside s) (omega arith)
       ∙ ap (λ (i : ℕ). set (writesOf rs n) i (row a (writeOf kind v))) (at .is)
       ∙ sym (insert-present a (writeOf kind v) (writesOf rs n) noWrite s))
 
-  pub put-new : {us : WriteRows} (kind : ℕ) (v : PayloadWords) → Absent a (writesOf rs n) noWrite → n < standard .writeLimit
+  pub put-new : {us : WriteRows} (kind : ℕ) (v : PayloadWords) → Absent a (writesOf rs n) noWrite → n < limits .writeLimit
       → WritesBecome (set (moved rs p (p + 1) (n - p)) p (a ∷ kind ∷ v .value ∷ v .owner ∷ [])) us → PutsWrite rs n a kind v us (n + 1)
   put-new {us} kind v s h b =
-      let z : length rs ≡ standard .writeLimit = given .held .size in
+      let z : length rs ≡ limits .writeLimit = given .held .size in
       puts kind v (n + 1) (omega arith) (b .held)
       (ap (λ (l : WriteRows). writesOf l (n + 1)) (b .rows)
       ∙ row-put writeIn rs n p (a ∷ kind ∷ v .value ∷ v .owner ∷ []) (at .within) (omega arith)
@@ -186,16 +186,16 @@ write-given {rs} {i} r g e p q k =
 -- ---- laws for callers
 
 -- where a step is not refused for a full write set, a put has room
-pub room-found : (rs : WriteRows) (n a : ℕ) → both (not (present (look (writesOf rs n) a))) (not (less n (standard .writeLimit))) ≡ false
-    → (n < standard .writeLimit) ⊎ (present (look (writesOf rs n) a) ≡ true)
+pub room-found : (rs : WriteRows) (n a : ℕ) → both (not (present (look (writesOf rs n) a))) (not (less n (limits .writeLimit))) ≡ false
+    → (n < limits .writeLimit) ⊎ (present (look (writesOf rs n) a) ≡ true)
 room-found rs n a e =
-    ⊎-elim (λ t. inl (less-true n (standard .writeLimit) t))
+    ⊎-elim (λ t. inl (less-true n (limits .writeLimit) t))
     (λ f. ⊎-elim (λ t. inr t)
-    (λ g. clash {b = both (not (present (look (writesOf rs n) a))) (not (less n (standard .writeLimit)))} (rw g (rw f)) e)
+    (λ g. clash {b = both (not (present (look (writesOf rs n) a))) (not (less n (limits .writeLimit)))} (rw g (rw f)) e)
     (cases (present (look (writesOf rs n) a))))
-    (cases (less n (standard .writeLimit)))
+    (cases (less n (limits .writeLimit)))
 
 -- ---- the start
 
-pub writes-zero : WritesHeld (replicate (standard .workers) (replicate (standard .writeLimit) (replicate writeWords 0)))
-writes-zero = each-alike (standard .workers) _ (each-alike (standard .writeLimit) _ (omega arith))
+pub writes-zero : WritesHeld (replicate (limits .workers) (replicate (limits .writeLimit) (replicate writeWords 0)))
+writes-zero = each-alike (limits .workers) _ (each-alike (limits .writeLimit) _ (omega arith))

@@ -7,7 +7,7 @@ use mathlib.Core.Option.{Option, none, some}
 use lib.ListN.{length, getD}
 use Rattle.lists.specs.Tests.{pick, same}
 use Rattle.lists.specs.Rows.{Row, row, insert, Rising}
-use Rattle.spec.specs.Records.{standard, Write, written, deleted}
+use Rattle.spec.specs.Records.{limits, Write, written, deleted}
 use Rattle.spec.specs.Payloads.{payloadIn}
 use Rattle.spec.specs.declared.PayloadWords.{PayloadWords}
 use Rattle.sets.specs.declared.writes.Entry.{Entry}
@@ -72,16 +72,16 @@ writesIn gs w n = writesOf (getD gs w []) n
 
 -- the rows of one worker: stored addresses are addresses
 abbrev pub WriteSetHeld : WriteRows → Type 0
-WriteSetHeld rs = Each (AddressAt 0) (standard .writeLimit) rs
+WriteSetHeld rs = Each (AddressAt 0) (limits .writeLimit) rs
 
 -- those of all workers
 abbrev pub WritesHeld : List WriteRows → Type 0
-WritesHeld gs = Each WriteSetHeld (standard .workers) gs
+WritesHeld gs = Each WriteSetHeld (limits .workers) gs
 
 -- The first n rows are a write set: their addresses rise.
 pub record WriteSetOrdered (rs : WriteRows) (n : ℕ) : Type 0 where
   pub held : WriteSetHeld rs
-  pub room : n ≤ standard .writeLimit
+  pub room : n ≤ limits .writeLimit
   pub rising : Rising (writesOf rs n)
 
 -- ---- promises

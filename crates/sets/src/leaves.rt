@@ -3,7 +3,7 @@
 use crate::LeafSet;
 use spec::Address;
 ghost use Prim.Native.Nat.{_<_};
-ghost use Rattle.spec.specs.Records.{standard};
+ghost use Rattle.spec.specs.Records.{limits};
 ghost use Rattle.sets.specs.Leaves.{LeafSetHeld, LogsLeaf, GivesLeaf, GivesNote};
 
 // A row of a leaf set.
@@ -29,7 +29,7 @@ pub struct ScanNote {
 // Appends a row of a scan to the first n. Answers how many there are now.
 pub fn log_leaf(leaves: &mut LeafSet, n: usize, leaf: LoggedLeaf, first: bool, s: Scanned) -> usize
     requires { ⌜ LeafSetHeld (now leaves) ⌝ }
-    requires { ⌜ n < standard .leafSetLimit ⌝ }
+    requires { ⌜ n < limits .leafSetLimit ⌝ }
     ensures { λ r. ⌜ LogsLeaf (now (leaves .entry)) n leaf first s (now (leaves .exit)) r ⌝ }
 {
     let row = [
@@ -48,7 +48,7 @@ pub fn log_leaf(leaves: &mut LeafSet, n: usize, leaf: LoggedLeaf, first: bool, s
 // Row i.
 pub fn logged_leaf_at(leaves: &LeafSet, i: usize) -> LoggedLeaf
     requires { ⌜ LeafSetHeld (now leaves) ⌝ }
-    requires { ⌜ i < standard .leafSetLimit ⌝ }
+    requires { ⌜ i < limits .leafSetLimit ⌝ }
     ensures { λ r. ⌜ GivesLeaf (now (leaves .entry)) i r ⌝ }
 {
     let row = leaves[i];
@@ -61,7 +61,7 @@ pub fn logged_leaf_at(leaves: &LeafSet, i: usize) -> LoggedLeaf
 // What row i remembers.
 pub fn note_at(leaves: &LeafSet, i: usize) -> ScanNote
     requires { ⌜ LeafSetHeld (now leaves) ⌝ }
-    requires { ⌜ i < standard .leafSetLimit ⌝ }
+    requires { ⌜ i < limits .leafSetLimit ⌝ }
     ensures { λ r. ⌜ GivesNote (now (leaves .entry)) i r ⌝ }
 {
     let row = leaves[i];

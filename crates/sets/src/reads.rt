@@ -5,7 +5,7 @@ use spec::Address;
 use spec::Current;
 use spec::PayloadWords;
 ghost use Prim.Native.Nat.{_<_};
-ghost use Rattle.spec.specs.Records.{standard};
+ghost use Rattle.spec.specs.Records.{limits};
 ghost use Rattle.sets.specs.Reads.{ReadSetHeld, LogsRead, GivesRead};
 
 // A row of a read set: an address, with the record that a read or a scan found there.
@@ -17,7 +17,7 @@ pub struct Observed {
 // Appends a row to the first n. Answers how many there are now.
 pub fn log_read(reads: &mut ReadSet, n: usize, a: Address, seen: Current) -> usize
     requires { ⌜ ReadSetHeld (now reads) ⌝ }
-    requires { ⌜ n < standard .readLimit ⌝ }
+    requires { ⌜ n < limits .readLimit ⌝ }
     ensures { λ r. ⌜ LogsRead (now (reads .entry)) n a seen (now (reads .exit)) r ⌝ }
 {
     let v = seen.payload;
@@ -29,7 +29,7 @@ pub fn log_read(reads: &mut ReadSet, n: usize, a: Address, seen: Current) -> usi
 // Row i.
 pub fn read_at(reads: &ReadSet, i: usize) -> Observed
     requires { ⌜ ReadSetHeld (now reads) ⌝ }
-    requires { ⌜ i < standard .readLimit ⌝ }
+    requires { ⌜ i < limits .readLimit ⌝ }
     ensures { λ r. ⌜ GivesRead (now (reads .entry)) i r ⌝ }
 {
     let row = reads[i];

@@ -12,7 +12,7 @@ ghost use Rattle.lists.specs.Tests.{present};
 ghost use Rattle.lists.specs.Rows.{look};
 ghost use Rattle.lists.specs.Shifts.{moved};
 ghost use Rattle.spec.specs.Widths.{addresses};
-ghost use Rattle.spec.specs.Records.{standard};
+ghost use Rattle.spec.specs.Records.{limits};
 ghost use Rattle.sets.specs.Writes.{lineAt, wordsOf, writesOf, foundIn, WriteSetHeld, WriteSetOrdered, WritesBecome, PutsWrite, GivesWrite};
 ghost use Rattle.sets.specs.WritePlaces.{PlaceOf, WritesHave};
 
@@ -39,7 +39,7 @@ pub enum FoundWrite {
 
 // Row i. Only this function and the next touch words.
 fn get(writes: &WriteSet, i: usize) -> WriteRow
-    requires { ⌜ i < standard .writeLimit ⌝ }
+    requires { ⌜ i < limits .writeLimit ⌝ }
     ensures { λ r. ⌜ r ≡ lineAt (now (writes .entry)) i ⌝ }
 {
     let row = writes[i];
@@ -56,7 +56,7 @@ fn get(writes: &WriteSet, i: usize) -> WriteRow
 
 // Another row at place i.
 fn store(writes: &mut WriteSet, i: usize, r: WriteRow)
-    requires { ⌜ i < standard .writeLimit ⌝ }
+    requires { ⌜ i < limits .writeLimit ⌝ }
     ensures { λ _. ⌜ now (writes .exit) ≡ set (now (writes .entry)) i (wordsOf r) ⌝ }
 {
     let v = r.payload;
@@ -67,7 +67,7 @@ fn store(writes: &mut WriteSet, i: usize, r: WriteRow)
 // Moves the rows from place p on up by one: the last one first, so that none is overwritten before it is copied.
 fn raise(writes: &mut WriteSet, n: usize, p: usize)
     requires { ⌜ WriteSetHeld (now writes) ⌝ }
-    requires { ⌜ (p ≤ n) × (n < standard .writeLimit) ⌝ }
+    requires { ⌜ (p ≤ n) × (n < limits .writeLimit) ⌝ }
     ensures { λ _. ⌜ WritesBecome (moved (now (writes .entry)) p (p + 1) (n - p)) (now (writes .exit)) ⌝ }
 {
     let mut i = n - p;
@@ -81,7 +81,7 @@ fn raise(writes: &mut WriteSet, n: usize, p: usize)
 // Puts a row in at place p, before the rows that stand there and after it.
 fn insert(writes: &mut WriteSet, n: usize, p: usize, r: WriteRow)
     requires { ⌜ WriteSetHeld (now writes) ⌝ }
-    requires { ⌜ (p ≤ n) × (n < standard .writeLimit) × (r .address < addresses) ⌝ }
+    requires { ⌜ (p ≤ n) × (n < limits .writeLimit) × (r .address < addresses) ⌝ }
     ensures { λ _. ⌜ WritesBecome (set (moved (now (writes .entry)) p (p + 1) (n - p)) p (wordsOf r)) (now (writes .exit)) ⌝ }
 {
     raise(writes, n, p);
@@ -144,7 +144,7 @@ pub fn put_write(
     payload: PayloadWords,
 ) -> usize
     requires { ⌜ WriteSetOrdered (now writes) n ⌝ }
-    requires { ⌜ (n < standard .writeLimit) ⊎ (present (look (writesOf (now writes) n) a) ≡ true) ⌝ }
+    requires { ⌜ (n < limits .writeLimit) ⊎ (present (look (writesOf (now writes) n) a) ≡ true) ⌝ }
     ensures { λ r. ⌜ PutsWrite (now (writes .entry)) n a kind payload (now (writes .exit)) r ⌝ }
 {
     let p = writes_below(writes, n, a);
@@ -164,7 +164,7 @@ pub fn put_write(
 // Write i, by rising address.
 pub fn write_at(writes: &WriteSet, i: usize) -> Entry
     requires { ⌜ WriteSetHeld (now writes) ⌝ }
-    requires { ⌜ i < standard .writeLimit ⌝ }
+    requires { ⌜ i < limits .writeLimit ⌝ }
     ensures { λ r. ⌜ GivesWrite (now (writes .entry)) i r ⌝ }
 {
     let r = get(writes, i);

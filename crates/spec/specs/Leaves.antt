@@ -9,7 +9,7 @@ use mathlib.Core.List.{List, [], _∷_, _++_, map}
 use lib.ListN.{length, drop, getD}
 use Rattle.lists.specs.Tests.{pick, both, same, less, atMost}
 use Rattle.lists.specs.Rows.{any, filter}
-use Rattle.spec.specs.Records.{Settings}
+use Rattle.spec.specs.Records.{Tuning}
 
 pub record Leaf : Type 0 where
   pub low : ℕ
@@ -52,7 +52,7 @@ runs limit run zero n = n ∷ []
 runs limit run (suc fuel) n = pick (less n limit) (n ∷ []) (run ∷ runs limit run fuel (n - run))
 
 -- the records of each leaf that n records of a leaf make: up to the limit it stays whole
-unfoldable pub cuts : Settings → ℕ → List ℕ
+unfoldable pub cuts : Tuning → ℕ → List ℕ
 cuts s n = pick (atMost n (s .leafLimit)) (n ∷ []) (runs (s .leafLimit) (s .run) n n)
 
 -- the first address of each run but the first, of the addresses `ks`
@@ -62,7 +62,7 @@ starts (n ∷ []) ks = []
 starts (n ∷ m ∷ ns) ks = getD ks n 0 ∷ starts (m ∷ ns) (drop n ks)
 
 -- the low addresses of the leaves that replace a leaf with that low and the addresses `ks`
-unfoldable pub newLows : Settings → ℕ → List ℕ → List ℕ
+unfoldable pub newLows : Tuning → ℕ → List ℕ → List ℕ
 newLows s low ks = low ∷ starts (cuts s (length ks)) ks
 
 -- leaves with these lows and fresh versions, the next numbers after v, left to right
@@ -96,15 +96,15 @@ widened v l (m ∷ ms) = l ∷ widened v m ms
 
 -- the leaves before a leaf that is left with the addresses `ks`, and what that leaf becomes. Left with none, it joins
 -- its left neighbour; the first leaf stays.
-unfoldable pub settled : Settings → ℕ → List Leaf → Leaf → List ℕ → List Leaf
+unfoldable pub settled : Tuning → ℕ → List Leaf → Leaf → List ℕ → List Leaf
 settled s v [] own ks = freshLeaves v (newLows s (own .low) ks)
 settled s v (l ∷ ls) own [] = widened v l ls
 settled s v (l ∷ ls) own (k ∷ ks) = l ∷ ls ++ freshLeaves v (newLows s (own .low) (k ∷ ks))
 
 -- the leaves after a merge at an address whose leaf is left with the addresses `ks`, and v the last version given
-unfoldable pub settle : Settings → ℕ → List Leaf → ℕ → List ℕ → List Leaf
+unfoldable pub settle : Tuning → ℕ → List Leaf → ℕ → List ℕ → List Leaf
 settle s v ls a ks = let p : Around = around a ls in settled s v (p .before) (p .own) ks ++ p .after
 
 -- how many versions that takes
-unfoldable pub versionsTaken : Settings → List ℕ → ℕ
+unfoldable pub versionsTaken : Tuning → List ℕ → ℕ
 versionsTaken s ks = length (cuts s (length ks))

@@ -4,7 +4,7 @@ pub mod Records
 pub mod Payloads
 pub mod Leaves
 pub mod Slots
-pub mod GoodSettings
+pub mod GoodTuning
 pub mod Maps
 pub mod Guards
 pub mod Steps

@@ -6,7 +6,7 @@ use mathlib.Core.List.{List, [], _∷_, _++_, map}
 use mathlib.Core.Option.{Option, none, some}
 use Rattle.lists.specs.Tests.{pick, both, either, maybe, present, same, less}
 use Rattle.lists.specs.Rows.{Row, row, look, assign, lay, between, keys, any, filter, distinct}
-use Rattle.spec.specs.Records.{Settings, Record, Write, isPut, outcome}
+use Rattle.spec.specs.Records.{limits, Tuning, Record, Write, isPut, outcome}
 use Rattle.spec.specs.Leaves.{Leaf, firstLeaf, versionAt, settle, versionsTaken, live}
 use Rattle.spec.specs.Slots.{Slot, Pending, Content, emptySlots, entries, contentOf, enter}
 
@@ -124,14 +124,14 @@ unfoldable pub withSlots : MapState → List Slot → MapState
 withSlots m ss = record { records = m .records; leaves = m .leaves; slots = ss }
 
 -- locks by rising address, as the rows of a write set are
-unfoldable pub lockAll : Settings → ℕ → MapState → List (Row Write) → MapState
-lockAll s w m ws = withSlots m (each (lockRow (s .bytes) w) (m .slots) ws)
+unfoldable pub lockAll : ℕ → MapState → List (Row Write) → MapState
+lockAll w m ws = withSlots m (each (lockRow (limits .bytes) w) (m .slots) ws)
 
-unfoldable pub unlockAll : Settings → ℕ → MapState → List ℕ → MapState
-unlockAll s w m ks = withSlots m (each (unlockKey (s .bytes) w) (m .slots) ks)
+unfoldable pub unlockAll : ℕ → MapState → List ℕ → MapState
+unlockAll w m ks = withSlots m (each (unlockKey (limits .bytes) w) (m .slots) ks)
 
-unfoldable pub installAll : Settings → ℕ → ℕ → MapState → List (Row Write) → MapState
-installAll s n t m ws = withSlots m (each (installRow (s .bytes) n t) (m .slots) ws)
+unfoldable pub installAll : ℕ → ℕ → MapState → List (Row Write) → MapState
+installAll n t m ws = withSlots m (each (installRow (limits .bytes) n t) (m .slots) ws)
 
 -- ---- merge (document 01: fold)
 
@@ -166,7 +166,7 @@ pub record Merged : Type 0 where
   pub version : ℕ
 
 -- the leaves settle around the records that the leaf of a has now
-unfoldable pub settleMap : Settings → ℕ → MapState → ℕ → Merged
+unfoldable pub settleMap : Tuning → ℕ → MapState → ℕ → Merged
 settleMap s v m a =
     let ks : List ℕ = keys (recordsIn m a) in
     record {
@@ -174,12 +174,12 @@ settleMap s v m a =
       version = v + versionsTaken s ks;
     }
 
-unfoldable pub mergeAll : Settings → ℕ → MapState → ℕ → List (Row Content) → Merged
+unfoldable pub mergeAll : Tuning → ℕ → MapState → ℕ → List (Row Content) → Merged
 mergeAll s v m a [] = record { map = m; version = v }
-mergeAll s v m a (e ∷ es) = settleMap s v (each (mergeEntry (s .bytes)) m (e ∷ es)) a
+mergeAll s v m a (e ∷ es) = settleMap s v (each (mergeEntry (limits .bytes)) m (e ∷ es)) a
 
 -- A merge at address a, v the last version given. With nothing pending in the leaf, nothing changes.
-unfoldable pub mergeAt : Settings → ℕ → MapState → ℕ → Merged
+unfoldable pub mergeAt : Tuning → ℕ → MapState → ℕ → Merged
 mergeAt s v m a = mergeAll s v m a (merging m a)
 
 -- ---- the write that has waited longest (request 101)

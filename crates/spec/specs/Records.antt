@@ -8,37 +8,49 @@ use mathlib.Core.Option.{Option, none, some}
 use Rattle.lists.specs.Tests.{both, same}
 use Rattle.spec.specs.Widths.{addressSize, addresses}
 
--- The limits of a map, as document 01 and the requests give them.
-pub record Settings : Type 0 where
+-- The numbers that arrays are sized by or that all maps share, as document 01 and the requests give them.
+pub record Limits : Type 0 where
   pub workers : ℕ  -- seats
   pub readLimit : ℕ  -- record entries of a log
   pub leafSetLimit : ℕ  -- marks of a log
   pub writeLimit : ℕ  -- edited addresses of a job
-  pub waitingLimit : ℕ  -- waiting and locked addresses
   pub mapLimit : ℕ  -- index, waiting and locked addresses
-  pub leafLimit : ℕ  -- records of a leaf that stays whole
-  pub run : ℕ  -- records of a run cut off a larger leaf
   pub lastNumber : ℕ  -- serial numbers end here
   pub bytes : ℕ  -- bytes of an address, for the home slot
   pub highest : ℕ  -- the highest address
   pub longest : ℕ  -- bytes of the longest section of a guarded map
 
-abbrev pub standard : Settings
-standard =
+abbrev pub limits : Limits
+limits =
     record {
       workers = 8;
       readLimit = 64;
       leafSetLimit = 32;
       writeLimit = 16;
-      waitingLimit = 192;
       mapLimit = 1024;
-      leafLimit = 16;
-      run = 8;
       lastNumber = 1000000;
       bytes = addressSize;
       highest = addresses - 1;
       longest = 65536;
     }
+
+-- What a map may have of its own: how many addresses may wait, and when a leaf is cut.
+pub record Tuning : Type 0 where
+  pub waitingLimit : ℕ  -- waiting and locked addresses
+  pub leafLimit : ℕ  -- records of a leaf that stays whole
+  pub run : ℕ  -- records of a run cut off a larger leaf
+
+abbrev pub standard : Tuning
+standard = record { waitingLimit = 192; leafLimit = 16; run = 8 }
+
+-- What a map is made with.
+pub record Made : Type 0 where
+  pub tuning : Tuning
+  pub guarded : Bool  -- from its start on (request 102)
+
+-- a map as document 01 has it, guarded or not
+abbrev pub standardMap : Bool → Made
+standardMap g = record { tuning = standard; guarded = g }
 
 -- What a put gives a record: document 01's value, and whose section it is (request 106: owner).
 pub record Payload : Type 0 where

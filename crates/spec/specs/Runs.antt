@@ -6,7 +6,7 @@ use mathlib.Core.List.{List, [], _∷_, _++_, map}
 use mathlib.Core.Option.{none, some}
 use Rattle.lists.specs.Rows.{Row, row}
 use Rattle.spec.specs.declared.Refusal.the-variants.{NoWorker, WorkerFree, Backward, ShortBuffer, Held, Changed, UnderLock, Phantom, Unfit, Uncovered, Overlap}
-use Rattle.spec.specs.Records.{standard, Payload, Record}
+use Rattle.spec.specs.Records.{limits, standard, standardMap, Payload, Record}
 use Rattle.spec.specs.Leaves.{cuts}
 use Rattle.spec.specs.Slots.{homeSlot}
 use Rattle.spec.specs.Maps.{contents}
@@ -30,10 +30,10 @@ pub data Run : Type 0 where
 
 -- what the row says of the model
 abbrev pub Holds : Run → Type 0
-Holds (home a h) = homeSlot (standard .bytes) a ≡ h
+Holds (home a h) = homeSlot (limits .bytes) a ≡ h
 Holds (leaves n ns) = cuts standard n ≡ ns
 Holds (script g h rs) =
-    (history (fresh standard g) (stepsOf h) ≡ h) × (contents (final (fresh standard g) (stepsOf h) .map) ≡ rs)
+    (history (fresh (standardMap g)) (stepsOf h) ≡ h) × (contents (final (fresh (standardMap g)) (stepsOf h) .map) ≡ rs)
 
 abbrev pub AllHold : List Run → Type 0
 AllHold [] = Unit {0}

@@ -13,7 +13,7 @@ use Rattle.spec.specs.declared.Refusal.the-variants.{NoWorker, WorkerFre
 use Rattle.spec.specs.declared.Stage.{Stage}
 use Rattle.spec.specs.declared.Stage.the-variants.{Free, Open, Locked, Checked}
 use Rattle.spec.specs.Refusals.{ends}
-use Rattle.spec.specs.Records.{Settings, Payload, Record, Write, written, deleted, ownView, payloadOf, sameRecord}
+use Rattle.spec.specs.Records.{limits, Made, Payload, Record, Write, written, deleted, ownView, payloadOf, sameRecord}
 use Rattle.spec.specs.Leaves.{meeting}
 use Rattle.spec.specs.Slots.{contentOf, search}
 use Rattle.spec.specs.Guards.{Scan, unfit, uncovered, overlapped, anyPut}
@@ -41,21 +41,19 @@ pub record Counters : Type 0 where
   pub installs : ℕ
 
 pub record State : Type 0 where
-  pub settings : Settings
-  pub guarded : Bool  -- from its start on (request 102)
+  pub made : Made
   pub counters : Counters
   pub map : MapState
   pub workers : List Worker
 
--- a fresh map, guarded or not: empty, nothing waiting or locked, no number given, every worker free
-abbrev pub fresh : Settings → Bool → State
-fresh s g =
+-- a fresh map: empty, nothing waiting or locked, no number given, every worker free
+abbrev pub fresh : Made → State
+fresh d =
     record {
-      settings = s;
-      guarded = g;
+      made = d;
       counters = record { number = 0; version = 0; installs = 0 };
       map = freshMap;
-      workers = replicate (s .workers) freeWorker;
+      workers = replicate (limits .workers) freeWorker;
     }
 
 unfoldable pub workerOf : State → ℕ → Worker
@@ -184,7 +182,7 @@ ownWrite σ w k = look (workerOf σ w .writes) k
 -- how many slots the look-up of a read examines (request 103): none, where the worker's own write answers it
 unfoldable pub slotsExamined : State → ℕ → ℕ → ℕ
 slotsExamined σ w k =
-    maybe (ownWrite σ w k) (search (σ .settings .bytes) (σ .map .slots) k .examined) (λ (e : Write). 0)
+    maybe (ownWrite σ w k) (search (limits .bytes) (σ .map .slots) k .examined) (λ (e : Write). 0)
 
 -- the records a scan shows: index addresses with their present records, and the worker's own writes laid over
 unfoldable pub scanned : State → ℕ → ℕ → ℕ → List (Row Payload)
@@ -214,7 +212,7 @@ abbrev pub cause : Bool → Refusal → Cause
 cause b r = record { holds = b; refusal = r }
 
 unfoldable pub noWorker : State → ℕ → Cause
-noWorker σ w = cause (not (less w (σ .settings .workers))) NoWorker
+noWorker σ w = cause (not (less w (limits .workers))) NoWorker
 
 unfoldable pub workerFree : State → ℕ → Cause
 workerFree σ w = cause (isFree (workerOf σ w .stage)) WorkerFree
@@ -224,17 +222,17 @@ wrongStage right σ w = cause (not (right (workerOf σ w .stage))) WrongStage
 
 unfoldable pub readLogFull : State → ℕ → ℕ → Bool
 readLogFull σ w k =
-    both (not (present (ownWrite σ w k))) (not (less (length (workerOf σ w .reads)) (σ .settings .readLimit)))
+    both (not (present (ownWrite σ w k))) (not (less (length (workerOf σ w .reads)) (limits .readLimit)))
 
 unfoldable pub scanLogFull : State → ℕ → ℕ → ℕ → Bool
 scanLogFull σ w lo hi =
     either
-    (less (σ .settings .readLimit) (length (workerOf σ w .reads) + length (scanReads σ lo hi)))
-    (less (σ .settings .leafSetLimit) (length (workerOf σ w .versions) + length (scanVersions σ lo hi)))
+    (less (limits .readLimit) (length (workerOf σ w .reads) + length (scanReads σ lo hi)))
+    (less (limits .leafSetLimit) (length (workerOf σ w .versions) + length (scanVersions σ lo hi)))
 
 unfoldable pub writesFull : State → ℕ → ℕ → Bool
 writesFull σ w k =
-    both (not (present (ownWrite σ w k))) (not (less (length (workerOf σ w .writes)) (σ .settings .writeLimit)))
+    both (not (present (ownWrite σ w k))) (not (less (length (workerOf σ w .writes)) (limits .writeLimit)))
 
 -- another worker has the lock of k
 unfoldable pub lockedByOther : State → ℕ → ℕ → Bool
@@ -249,17 +247,17 @@ changedSince σ r = not (sameRecord (current (σ .map) (r .key)) (r .item))
 
 -- in a guarded map, some put of the worker's write set meets the test
 unfoldable pub guard : State → ℕ → (ℕ → ℕ → Bool) → Bool
-guard σ w f = both (σ .guarded) (anyPut f (workerOf σ w .writes))
+guard σ w f = both (σ .made .guarded) (anyPut f (workerOf σ w .writes))
 
 unfoldable pub unfitPut : State → ℕ → Bool
-unfitPut σ w = guard σ w (unfit (σ .settings))
+unfitPut σ w = guard σ w unfit
 
 unfoldable pub uncoveredPut : State → ℕ → Bool
-uncoveredPut σ w = guard σ w (uncovered (σ .settings) (workerOf σ w .scans))
+uncoveredPut σ w = guard σ w (uncovered (workerOf σ w .scans))
 
 unfoldable pub overlappedPut : State → ℕ → Bool
 overlappedPut σ w =
-    guard σ w (overlapped (σ .settings) (workerOf σ w .reads) (workerOf σ w .scans) (workerOf σ w .writes))
+    guard σ w (overlapped (workerOf σ w .reads) (workerOf σ w .scans) (workerOf σ w .writes))
 
 -- the causes that a step has as one of an open transaction's
 unfoldable pub accessCauses : State → ℕ → Access → List Cause
@@ -285,8 +283,8 @@ causes σ (act w locking) =
     ∷ cause (uncoveredPut σ w) Uncovered
     ∷ cause (overlappedPut σ w) Overlap
     ∷ cause (any (lockedByOther σ w) (writeKeys σ w)) Held
-    ∷ cause (less (σ .settings .waitingLimit) (waitingWith (σ .map) (writeKeys σ w))) IndexletFull
-    ∷ cause (less (σ .settings .mapLimit) (addressesWith (σ .map) (writeKeys σ w))) MapFull
+    ∷ cause (less (σ .made .tuning .waitingLimit) (waitingWith (σ .map) (writeKeys σ w))) IndexletFull
+    ∷ cause (less (limits .mapLimit) (addressesWith (σ .map) (writeKeys σ w))) MapFull
     ∷ []
 causes σ (act w validating) =
     noWorker σ w
@@ -295,7 +293,7 @@ causes σ (act w validating) =
     ∷ cause (any (changedSince σ) (workerOf σ w .reads)) Changed
     ∷ cause (any (lockedByOther σ w) (keys (workerOf σ w .reads))) UnderLock
     ∷ cause (any (phantomIn (σ .map) w) (workerOf σ w .versions)) Phantom
-    ∷ cause (not (less (σ .counters .number) (σ .settings .lastNumber))) Spent
+    ∷ cause (not (less (σ .counters .number) (limits .lastNumber))) Spent
     ∷ []
 causes σ (act w installing) = noWorker σ w ∷ workerFree σ w ∷ wrongStage isChecked σ w ∷ []
 causes σ (act w aborting) = noWorker σ w ∷ workerFree σ w ∷ []
@@ -335,16 +333,15 @@ granted σ mergeOldest = mergeCount σ (oldest (σ .map))
 
 unfoldable pub withWorker : State → ℕ → Worker → State
 withWorker σ w x =
-    record { settings = σ .settings; guarded = σ .guarded; counters = σ .counters; map = σ .map; workers = set (σ .workers) w x }
+    record { made = σ .made; counters = σ .counters; map = σ .map; workers = set (σ .workers) w x }
 
 unfoldable pub withMap : State → MapState → State
-withMap σ m = record { settings = σ .settings; guarded = σ .guarded; counters = σ .counters; map = m; workers = σ .workers }
+withMap σ m = record { made = σ .made; counters = σ .counters; map = m; workers = σ .workers }
 
 unfoldable pub withCounters : State → ℕ → ℕ → State
 withCounters σ n v =
     record {
-      settings = σ .settings;
-      guarded = σ .guarded;
+      made = σ .made;
       counters = record { number = n; version = v; installs = σ .counters .installs };
       map = σ .map;
       workers = σ .workers;
@@ -354,8 +351,7 @@ withCounters σ n v =
 unfoldable pub installCounted : State → State
 installCounted σ =
     record {
-      settings = σ .settings;
-      guarded = σ .guarded;
+      made = σ .made;
       counters =
           record {
             number = σ .counters .number;
@@ -403,19 +399,19 @@ readRows σ w k = maybe (ownWrite σ w k) (row k (current (σ .map) k) ∷ []) (
 
 -- the transaction of w is over: its locks go, and the worker is free
 unfoldable pub dropped : State → ℕ → State
-dropped σ w = withWorker (withMap σ (unlockAll (σ .settings) w (σ .map) (writeKeys σ w))) w freeWorker
+dropped σ w = withWorker (withMap σ (unlockAll w (σ .map) (writeKeys σ w))) w freeWorker
 
 unfoldable pub merged : State → Merged → State
 merged σ r = withCounters (withMap σ (r .map)) (σ .counters .number) (r .version)
 
 -- the state after a merge at address a
 abbrev pub mergedAt : State → ℕ → State
-mergedAt σ a = merged σ (mergeAt (σ .settings) (σ .counters .version) (σ .map) a)
+mergedAt σ a = merged σ (mergeAt (σ .made .tuning) (σ .counters .version) (σ .map) a)
 
 -- the map once the transaction of w is installed
 abbrev pub installedMap : State → ℕ → MapState
 installedMap σ w =
-    installAll (σ .settings) (workerOf σ w .number) (suc (σ .counters .installs)) (σ .map) (workerOf σ w .writes)
+    installAll (workerOf σ w .number) (suc (σ .counters .installs)) (σ .map) (workerOf σ w .writes)
 
 -- the worker after a step of its open transaction, which changes nothing else
 unfoldable pub accessed : State → ℕ → Access → Worker
@@ -430,7 +426,7 @@ unfoldable pub effect : State → Step → State
 effect σ (act w beginning) = withWorker σ w (atStage Open freeWorker)
 effect σ (act w (access a)) = withWorker σ w (accessed σ w a)
 effect σ (act w locking) =
-    withWorker (withMap σ (lockAll (σ .settings) w (σ .map) (workerOf σ w .writes))) w (atStage Locked (workerOf σ w))
+    withWorker (withMap σ (lockAll w (σ .map) (workerOf σ w .writes))) w (atStage Locked (workerOf σ w))
 effect σ (act w validating) =
     withWorker (withCounters σ (suc (σ .counters .number)) (σ .counters .version)) w
     (checkedAs (suc (σ .counters .number)) (workerOf σ w))

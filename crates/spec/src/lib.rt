@@ -14,9 +14,8 @@ pub const ADDRESSES: u64 = 0x1_0000_0000;
 // How many numbers name a worker (document 01: a seat), 32 bits wide: one from here on has no meaning.
 pub const WORKER_NAMES: u64 = 0x1_0000_0000;
 
-// The limits of document 01, as `standard` has them: seats; record entries and marks of a log; edited addresses of a job;
-// waiting and locked addresses; index, waiting and locked addresses; records of a leaf that stays whole, and of a run that is
-// cut; the last serial number.
+// The limits of document 01, as `limits` has them: seats; record entries and marks of a log; edited addresses of a job;
+// index, waiting and locked addresses; the last serial number.
 pub const WORKERS: usize = 8;
 
 pub const READ_LIMIT: usize = 64;
@@ -25,18 +24,20 @@ pub const LEAF_SET_LIMIT: usize = 32;
 
 pub const WRITE_LIMIT: usize = 16;
 
-pub const WAITING_LIMIT: usize = 192;
-
 pub const MAP_LIMIT: usize = 1024;
-
-pub const LEAF_LIMIT: usize = 16;
-
-pub const RUN: usize = 8;
 
 pub const LAST_NUMBER: u64 = 1000000;
 
 // The longest section of a guarded map, in bytes.
 pub const LONGEST: u64 = 65536;
+
+// What a map may have of its own, as `standard` has it: waiting and locked addresses; records of a leaf that stays whole, and
+// of a run that is cut.
+pub const WAITING_LIMIT: usize = 192;
+
+pub const LEAF_LIMIT: usize = 16;
+
+pub const RUN: usize = 8;
 
 // How many owners there are.
 pub const OWNERS: u64 = 65536;

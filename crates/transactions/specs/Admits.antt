@@ -11,7 +11,7 @@ use Rattle.spec.specs.declared.Stage.{Stage}
 use Rattle.spec.specs.declared.Stage.the-variants.{Free, Open, Locked, Checked}
 use Rattle.spec.specs.declared.Refusal.{Refusal}
 use Rattle.spec.specs.declared.Refusal.the-variants.{NoWorker, WorkerFree, WorkerTaken, WrongStage}
-use Rattle.spec.specs.Records.{standard}
+use Rattle.spec.specs.Records.{limits}
 use Rattle.spec.specs.Refusals.{ends}
 use Rattle.spec.specs.Steps.{workerOf, isFree, isOpen, isLocked, isChecked, begin, cause, noWorker, causes, firstCause, refusal}
 use Rattle.workers.specs.declared.Worker.{Worker}
@@ -41,7 +41,7 @@ pub record Turned (right : Stage → Bool) (workers : List Worker) (w : ℕ) (r 
 
 -- They pass, and x is the worker.
 pub record Entered (right : Stage → Bool) (workers : List Worker) (w : ℕ) (x : Worker) : Type 0 where
-  pub inside : w < standard .workers
+  pub inside : w < limits .workers
   pub is : x ≡ getD workers w freed
   pub stage : right (x .stage) ≡ true
   pub front-is : (l : Lent) (g : Logs) (c : Core) → c .workers ≡ workers → front right (stateOf l g c) w ≡ none
@@ -57,7 +57,7 @@ pub record Barred (workers : List Worker) (w : ℕ) (r : Refusal) : Type 0 where
 
 -- They pass, and x is the free worker.
 pub record Vacant (workers : List Worker) (w : ℕ) (x : Worker) : Type 0 where
-  pub inside : w < standard .workers
+  pub inside : w < limits .workers
   pub is : x ≡ getD workers w freed
   pub passes : (l : Lent) (g : Logs) (c : Core) → c .workers ≡ workers → refusal (stateOf l g c) (begin w) ≡ none
 
@@ -99,19 +99,12 @@ stage-is l g c workers w e h =
     ap (λ (x : Rattle.spec.specs.Steps.Worker). x .stage) (worker-at l g c w (subst (λ (xs : List Worker). w < length xs) (sym e) h))
     ∙ ap (λ (xs : List Worker). getD xs w freed .stage) e
 
-settings-workers : (l : Lent) (g : Logs) (c : Core) → stateOf l g c .settings .workers ≡ standard .workers
-unfolding stateOf
-settings-workers l g c = refl
-
-inside-workers : (l : Lent) (g : Logs) (c : Core) (w : ℕ) → w < standard .workers → w < stateOf l g c .settings .workers
-inside-workers l g c w h = subst (λ (n : ℕ). w < n) (sym (settings-workers l g c)) h
-
-pub turned-none : (right : Stage → Bool) (workers : List Worker) (w : ℕ) → standard .workers ≤ w → Turned right workers w NoWorker
+pub turned-none : (right : Stage → Bool) (workers : List Worker) (w : ℕ) → limits .workers ≤ w → Turned right workers w NoWorker
 turned-none right workers w h =
-    record { front-is = λ l g c e. front-none right (stateOf l g c) w (subst (λ (n : ℕ). n ≤ w) (sym (settings-workers l g c)) h) }
+    record { front-is = λ l g c e. front-none right (stateOf l g c) w h }
 
 -- worker x at its place, whose stage has rank n
-module _ {workers : List Worker} {w n : ℕ} (x : Worker) (all : length workers ≡ standard .workers) (h : w < standard .workers) (is : x ≡ getD workers w freed)
+module _ {workers : List Worker} {w n : ℕ} (x : Worker) (all : length workers ≡ limits .workers) (h : w < limits .workers) (is : x ≡ getD workers w freed)
     (ranked : n ≡ rankOf (x .stage)) where
   here : (l : Lent) (g : Logs) (c : Core) → c .workers ≡ workers → workerOf (stateOf l g c) w .stage ≡ x .stage
   here l g c e =
@@ -120,13 +113,13 @@ module _ {workers : List Worker} {w n : ℕ} (x : Worker) (all : length workers 
   module _ (right : Stage → Bool) where
     pub turned-free : n ≡ 0 → Turned right workers w WorkerFree
     turned-free z =
-        record { front-is = λ l g c e. front-free right (stateOf l g c) w (inside-workers l g c w h) (ap isFree (here l g c e) ∙ rank-is (x .stage) Free ranked refl z) }
+        record { front-is = λ l g c e. front-free right (stateOf l g c) w h (ap isFree (here l g c e) ∙ rank-is (x .stage) Free ranked refl z) }
 
     pub turned-wrong : (n ≡ 0 → ⊥) → right (x .stage) ≡ false → Turned right workers w WrongStage
     turned-wrong f r =
         record {
           front-is =
-              λ l g c e. front-wrong right (stateOf l g c) w (inside-workers l g c w h)
+              λ l g c e. front-wrong right (stateOf l g c) w h
               (ap isFree (here l g c e) ∙ rank-not (x .stage) Free ranked refl f) (ap right (here l g c e) ∙ r);
         }
 
@@ -137,25 +130,25 @@ module _ {workers : List Worker} {w n : ℕ} (x : Worker) (all : length workers 
           is = is;
           stage = r;
           front-is =
-              λ l g c e. front-passed right (stateOf l g c) w (inside-workers l g c w h)
+              λ l g c e. front-passed right (stateOf l g c) w h
               (ap isFree (here l g c e) ∙ rank-not (x .stage) Free ranked refl f) (ap right (here l g c e) ∙ r);
         }
 
 -- ---- begin
 
-begin-first : (l : Lent) (g : Logs) (c : Core) (w : ℕ) → standard .workers ≤ w → refusal (stateOf l g c) (begin w) ≡ some NoWorker
+begin-first : (l : Lent) (g : Logs) (c : Core) (w : ℕ) → limits .workers ≤ w → refusal (stateOf l g c) (begin w) ≡ some NoWorker
 unfolding refusal causes noWorker stateOf
-begin-first l g c w h = cause-holds (not (less w (standard .workers))) NoWorker _ (ap not (less-no {m = w} {n = standard .workers} h))
+begin-first l g c w h = cause-holds (not (less w (limits .workers))) NoWorker _ (ap not (less-no {m = w} {n = limits .workers} h))
 
-pub barred-none : (workers : List Worker) (w : ℕ) → standard .workers ≤ w → Barred workers w NoWorker
+pub barred-none : (workers : List Worker) (w : ℕ) → limits .workers ≤ w → Barred workers w NoWorker
 barred-none workers w h = record { refuses = λ l g c e. begin-first l g c w h; mild = refl }
 
-begin-then : (l : Lent) (g : Logs) (c : Core) (w : ℕ) → w < standard .workers
+begin-then : (l : Lent) (g : Logs) (c : Core) (w : ℕ) → w < limits .workers
     → refusal (stateOf l g c) (begin w) ≡ firstCause (cause (not (isFree (workerOf (stateOf l g c) w .stage))) WorkerTaken ∷ [])
 unfolding refusal causes noWorker stateOf
-begin-then l g c w h = cause-fails (not (less w (standard .workers))) NoWorker _ (ap not (less-yes {m = w} {n = standard .workers} h))
+begin-then l g c w h = cause-fails (not (less w (limits .workers))) NoWorker _ (ap not (less-yes {m = w} {n = limits .workers} h))
 
-module _ {workers : List Worker} {w n : ℕ} (x : Worker) (all : length workers ≡ standard .workers) (h : w < standard .workers) (is : x ≡ getD workers w freed)
+module _ {workers : List Worker} {w n : ℕ} (x : Worker) (all : length workers ≡ limits .workers) (h : w < limits .workers) (is : x ≡ getD workers w freed)
     (ranked : n ≡ rankOf (x .stage)) where
   pub barred-taken : (n ≡ 0 → ⊥) → Barred workers w WorkerTaken
   barred-taken f =

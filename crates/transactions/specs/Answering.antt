@@ -11,6 +11,7 @@ use Rattle.spec.specs.declared.Refusal.the-variants.{NoWorker, WorkerFree, Wron
 use Rattle.spec.specs.declared.Stage.{Stage}
 use Rattle.spec.specs.Refusals.{ends}
 use Rattle.spec.specs.Steps.{State, workerOf, Step, Answer, refused, isFree, Cause, cause, noWorker, workerFree, wrongStage, firstCause, refusal, granted, effect, answer, next}
+use Rattle.spec.specs.Records.{limits}
 use Rattle.limits.specs.Refusing.{next-granted, refused-same}
 
 -- What a step comes to: its answer, and the state after it.
@@ -66,30 +67,30 @@ front-first right σ w cs =
     (pick (workerFree σ w .holds) (some (workerFree σ w .refusal)) (pick (wrongStage right σ w .holds) (some (wrongStage right σ w .refusal)) none)) (firstCause cs)
 
 -- no worker
-pub front-none : (right : Stage → Bool) (σ : State) (w : ℕ) → σ .settings .workers ≤ w → front right σ w ≡ some NoWorker
+pub front-none : (right : Stage → Bool) (σ : State) (w : ℕ) → limits .workers ≤ w → front right σ w ≡ some NoWorker
 unfolding front noWorker
-front-none right σ w h = cause-holds (not (less w (σ .settings .workers))) NoWorker _ (ap not (less-no {m = w} {n = σ .settings .workers} h))
+front-none right σ w h = cause-holds (not (less w (limits .workers))) NoWorker _ (ap not (less-no {m = w} {n = limits .workers} h))
 
-past-none : (right : Stage → Bool) (σ : State) (w : ℕ) → w < σ .settings .workers
+past-none : (right : Stage → Bool) (σ : State) (w : ℕ) → w < limits .workers
     → front right σ w ≡ firstCause (workerFree σ w ∷ wrongStage right σ w ∷ [])
 unfolding front noWorker
-past-none right σ w h = cause-fails (not (less w (σ .settings .workers))) NoWorker _ (ap not (less-yes {m = w} {n = σ .settings .workers} h))
+past-none right σ w h = cause-fails (not (less w (limits .workers))) NoWorker _ (ap not (less-yes {m = w} {n = limits .workers} h))
 
-pub front-free : (right : Stage → Bool) (σ : State) (w : ℕ) → w < σ .settings .workers → isFree (workerOf σ w .stage) ≡ true → front right σ w ≡ some WorkerFree
+pub front-free : (right : Stage → Bool) (σ : State) (w : ℕ) → w < limits .workers → isFree (workerOf σ w .stage) ≡ true → front right σ w ≡ some WorkerFree
 unfolding workerFree
 front-free right σ w h e = past-none right σ w h ∙ cause-holds (isFree (workerOf σ w .stage)) WorkerFree _ e
 
-past-free : (right : Stage → Bool) (σ : State) (w : ℕ) → w < σ .settings .workers → isFree (workerOf σ w .stage) ≡ false
+past-free : (right : Stage → Bool) (σ : State) (w : ℕ) → w < limits .workers → isFree (workerOf σ w .stage) ≡ false
     → front right σ w ≡ firstCause (wrongStage right σ w ∷ [])
 unfolding workerFree
 past-free right σ w h e = past-none right σ w h ∙ cause-fails (isFree (workerOf σ w .stage)) WorkerFree _ e
 
-pub front-wrong : (right : Stage → Bool) (σ : State) (w : ℕ) → w < σ .settings .workers → isFree (workerOf σ w .stage) ≡ false
+pub front-wrong : (right : Stage → Bool) (σ : State) (w : ℕ) → w < limits .workers → isFree (workerOf σ w .stage) ≡ false
     → right (workerOf σ w .stage) ≡ false → front right σ w ≡ some WrongStage
 unfolding wrongStage
 front-wrong right σ w h e q = past-free right σ w h e ∙ cause-holds (not (right (workerOf σ w .stage))) WrongStage [] (ap not q)
 
-pub front-passed : (right : Stage → Bool) (σ : State) (w : ℕ) → w < σ .settings .workers → isFree (workerOf σ w .stage) ≡ false
+pub front-passed : (right : Stage → Bool) (σ : State) (w : ℕ) → w < limits .workers → isFree (workerOf σ w .stage) ≡ false
     → right (workerOf σ w .stage) ≡ true → front right σ w ≡ none
 unfolding wrongStage firstCause
 front-passed right σ w h e q = past-free right σ w h e ∙ cause-fails (not (right (workerOf σ w .stage))) WrongStage [] (ap not q)

@@ -4,7 +4,7 @@ use mathlib.Core.Path.{_≡_, refl, sym, ap, _∙_, subst}
 use mathlib.Core.Logic.{inr}
 use Rattle.spec.specs.declared.Refusal.{Refusal}
 use Rattle.spec.specs.declared.Stage.the-variants.{Open}
-use Rattle.spec.specs.Records.{standard}
+use Rattle.spec.specs.Records.{limits}
 use Rattle.spec.specs.Steps.{begin, granted, effect, withWorker, atStage, freeWorker}
 use Rattle.workers.specs.declared.Worker.{Worker}
 use Rattle.workers.specs.Workers.{begun}
@@ -35,7 +35,7 @@ begun-in g w = begin-in (g .reads) (g .leaves) (g .writes) w
 begun-within : Within begun
 begun-within = record { reads = zero-le; leaves = zero-le; writes = zero-le }
 
-stored-begun : (l : Lent) (g : Logs) (c : Core) (w : ℕ) → w < standard .workers → Stored l g c → Stored l g (coreWith c w begun)
+stored-begun : (l : Lent) (g : Logs) (c : Core) (w : ℕ) → w < limits .workers → Stored l g c → Stored l g (coreWith c w begun)
 stored-begun l g c w h t =
     stored-put l g w begun (c .sizes) h t (t .map) refl (t .reads) (t .leaves) (t .writes) (λ v d. refl) begun-within (lows-kept w begun h t (inr refl))
 

@@ -12,7 +12,7 @@ use Rattle.lists.specs.TestLaws.{cases, same-true, same-false}
 use Rattle.lists.specs.Rows.{Rising}
 use Rattle.spec.specs.declared.Stage.{Stage}
 use Rattle.spec.specs.Leaves.{Leaf}
-use Rattle.spec.specs.Records.{standard}
+use Rattle.spec.specs.Records.{limits}
 use Rattle.spec.specs.Steps as model
 use Rattle.spec.specs.Steps.{workerOf}
 use Rattle.workers.specs.declared.Worker.{Worker}
@@ -31,7 +31,7 @@ use Rattle.transactions.specs.Ready.{workerAt, Within, LowsStay, Stored,
 
 -- The rows of every worker are write sets.
 pub record Writable (ws : List WriteRows) (workers : List Worker) : Type 0 where
-  pub set : (w : ℕ) → w < standard .workers → WriteSetOrdered (getD ws w []) (getD workers w freed .writes)
+  pub set : (w : ℕ) → w < limits .workers → WriteSetOrdered (getD ws w []) (getD workers w freed .writes)
 
 pub ready-writable : {l : Lent} {g : Logs} {c : Core} → Ready l g c → Writable (g .writes) (c .workers)
 unfolding workerIn
@@ -65,7 +65,7 @@ worker-writable {right} {ws} {workers} {w} {x} h t = subst (λ (y : Worker). Wri
 -- ---- the seat put back
 
 -- worker w has become x: in a map with the same leaves, and with other sets of its own
-module _ {l : Lent} {g : Logs} {c : Core} (l' : Lent) (g' : Logs) (w : ℕ) (x : Worker) (z : Sizes) (h : w < standard .workers) (t : Stored l g c) where
+module _ {l : Lent} {g : Logs} {c : Core} (l' : Lent) (g' : Logs) (w : ℕ) (x : Worker) (z : Sizes) (h : w < limits .workers) (t : Stored l g c) where
   mine : (v : ℕ) → v ≡ w → workerAt (withBoth c w x z) v ≡ x
   mine v e =
       ap (λ (u : ℕ). getD (set (c .workers) w x) u freed) e
@@ -104,7 +104,7 @@ module _ {l : Lent} {g : Logs} {c : Core} (l' : Lent) (g' : Logs) (w : ℕ) (x :
 abbrev pub LeavesKept : Core → ℕ → Worker → Type 0
 LeavesKept c w x = (x .leaves ≡ workerAt c w .leaves) ⊎ (x .leaves ≡ 0)
 
-pub lows-kept : {l : Lent} {g : Logs} {c : Core} (w : ℕ) (x : Worker) → w < standard .workers → Stored l g c → LeavesKept c w x
+pub lows-kept : {l : Lent} {g : Logs} {c : Core} (w : ℕ) (x : Worker) → w < limits .workers → Stored l g c → LeavesKept c w x
     → LowsStay (mapOf l (c .sizes) .leaves) (getD (g .leaves) w []) (x .leaves)
 lows-kept {l} {g} {c} w x h t k =
     ⊎-elim
@@ -113,7 +113,7 @@ lows-kept {l} {g} {c} w x h t k =
     k
 
 -- with other rows of reads and writes and the same leaf set
-module _ (l : Lent) (rs : List ReadRows) (ls : List LeafSetRows) (ws : List WriteRows) (us : List ReadRows) (vs : List WriteRows) (c : Core) (w : ℕ) (x : Worker) (h : w < standard .workers) (t : Stored l (logs rs ls ws) c) where
+module _ (l : Lent) (rs : List ReadRows) (ls : List LeafSetRows) (ws : List WriteRows) (us : List ReadRows) (vs : List WriteRows) (c : Core) (w : ℕ) (x : Worker) (h : w < limits .workers) (t : Stored l (logs rs ls ws) c) where
   pub stored-worker : ReadsHeld us → WritesHeld vs → Within x → x .leaves ≡ workerAt c w .leaves → Stored l (logs us ls vs) (coreWith c w x)
   stored-worker r s q n =
       stored-put l (logs us ls vs) w x (c .sizes) h t (t .map) refl r (t .leaves) s (λ v d. refl) q (lows-kept w x h t (inl n))

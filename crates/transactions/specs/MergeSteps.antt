@@ -9,7 +9,7 @@ use mathlib.Core.List.{[], List·Memᴰ}
 use mathlib.Core.Option.{none}
 use lib.ListN.{getD}
 use Rattle.lists.specs.TestLaws.{cases}
-use Rattle.spec.specs.Records.{standard}
+use Rattle.spec.specs.Records.{limits, standard}
 use Rattle.spec.specs.Leaves.{versionAt, live}
 use Rattle.spec.specs.Maps.{MapState, mergeAt, oldest}
 use Rattle.spec.specs.Steps as model
@@ -27,7 +27,7 @@ use Rattle.merging.specs.declared.merge.Merged.{Merged}
 use Rattle.merging.specs.Merges.{Merges}
 use Rattle.transactions.specs.Cores.{Core}
 use Rattle.transactions.specs.Answering.{yields-granted}
-use Rattle.transactions.specs.Views.{Logs, guardedIn, stateOf}
+use Rattle.transactions.specs.Views.{Logs, madeOf, stateOf}
 use Rattle.transactions.specs.ViewLaws.{worker-at}
 use Rattle.transactions.specs.Ready.{workerAt, Stored, Ready, Refines}
 use Rattle.transactions.specs.ReadyLaws.{refines}
@@ -39,17 +39,17 @@ mergedCore c r = record { workers = c .workers; sizes = r .sizes; counters = r .
 -- the version counter is far from its end
 pub version-room : {l : Lent} {g : Logs} {c : Core} → Ready l g c → c .counters .version + versionsPerMerge standard < 2 ^ 64
 version-room {l} {g} {c} h =
-    let e : c .counters .version ≤ versionsPerMerge standard * standard .writeLimit * standard .lastNumber = small in
+    let e : c .counters .version ≤ versionsPerMerge standard * limits .writeLimit * limits .lastNumber = small in
     let p : versionsPerMerge standard ≡ 129 = standard-per in
     omega arith
   where
-    small : c .counters .version ≤ versionsPerMerge standard * standard .writeLimit * standard .lastNumber
+    small : c .counters .version ≤ versionsPerMerge standard * limits .writeLimit * limits .lastNumber
     small = unfold stateOf in standard-version (h .kept) refl
 
 -- ---- a logged low stays in its leaf
 
 -- a version that is live after the merge, and not above the last one of before, was not renewed
-kept-low : {v : ℕ} {m : MapState} {r : Rattle.spec.specs.Maps.Merged} → laws.Merges standard v m r → GoodLeaves v (m .leaves)
+kept-low : {v : ℕ} {m : MapState} {r : Rattle.spec.specs.Maps.Merged} → laws.Merges v m r → GoodLeaves v (m .leaves)
     → (u low : ℕ) → u ≤ v → (live (m .leaves) u ≡ true → versionAt (m .leaves) low ≡ u)
     → live (r .map .leaves) u ≡ true → versionAt (r .map .leaves) low ≡ u
 kept-low {v} {m} {r} k g u low b h e = ⊎-elim renewed stayed (cases (k .gone (versionAt (m .leaves) (j .0))))
@@ -81,8 +81,7 @@ module _ {l l' : Lent} {g : Logs} {c : Core} {a : ℕ} {r : Merged} (h : Ready l
   unfolding stateOf effect merged withCounters withMap
   merged-state =
       λ i. record {
-        settings = standard;
-        guarded = guardedIn (c .guarded);
+        made = madeOf c;
         counters = record { number = m .number i; version = m .version i; installs = m .installs i };
         map = m .map i;
         workers = Rattle.transactions.specs.Views.workersFrom g (c .workers) 0;
@@ -91,11 +90,11 @@ module _ {l l' : Lent} {g : Logs} {c : Core} {a : ℕ} {r : Merged} (h : Ready l
   good : GoodLeaves (c .counters .version) (mapOf l (c .sizes) .leaves)
   good = h .stored .map .bounded .leaves
 
-  does : laws.Merges standard (c .counters .version) (mapOf l (c .sizes)) (mergeAt standard (c .counters .version) (mapOf l (c .sizes)) a)
+  does : laws.Merges (c .counters .version) (mapOf l (c .sizes)) (mergeAt standard (c .counters .version) (mapOf l (c .sizes)) a)
   does =
       laws.merges a standard-cut (h .stored .map .bounded .slots) (h .stored .map .bounded .records) good
 
-  merged-stored : ((w : ℕ) → w < standard .workers → (i : ℕ) → i < workerAt c w .leaves → getD (versionsIn (g .leaves) w (workerAt c w .leaves)) i 0 ≤ c .counters .version)
+  merged-stored : ((w : ℕ) → w < limits .workers → (i : ℕ) → i < workerAt c w .leaves → getD (versionsIn (g .leaves) w (workerAt c w .leaves)) i 0 ≤ c .counters .version)
       → Stored l' g (mergedCore c r)
   merged-stored old =
       record {
@@ -111,7 +110,7 @@ module _ {l l' : Lent} {g : Logs} {c : Core} {a : ℕ} {r : Merged} (h : Ready l
             (subst (λ (x : MapState). live (x .leaves) (getD (versionsIn (g .leaves) w (workerAt c w .leaves)) i 0) ≡ true) (m .map) e));
       }
 
-  versions-at : (w : ℕ) → w < standard .workers → model.workerOf (stateOf l g c) w .versions ≡ versionsIn (g .leaves) w (workerAt c w .leaves)
+  versions-at : (w : ℕ) → w < limits .workers → model.workerOf (stateOf l g c) w .versions ≡ versionsIn (g .leaves) w (workerAt c w .leaves)
   unfolding Rattle.workers.specs.Workers.workerIn
   versions-at w b =
       ap (λ (x : model.Worker). x .versions) (worker-at l g c w (subst (λ (n : ℕ). w < n) (sym (h .stored .workers)) b))
@@ -121,7 +120,7 @@ module _ {l l' : Lent} {g : Logs} {c : Core} {a : ℕ} {r : Merged} (h : Ready l
   version-given w u q = h .logged .old w u q
 
   -- a logged version is one of those that the model has logged
-  logged-old : (w : ℕ) → w < standard .workers → (i : ℕ) → i < workerAt c w .leaves → getD (versionsIn (g .leaves) w (workerAt c w .leaves)) i 0 ≤ c .counters .version
+  logged-old : (w : ℕ) → w < limits .workers → (i : ℕ) → i < workerAt c w .leaves → getD (versionsIn (g .leaves) w (workerAt c w .leaves)) i 0 ≤ c .counters .version
   logged-old w b i j =
       version-given w (getD (versionsIn (g .leaves) w (workerAt c w .leaves)) i 0)
       (subst (List·Memᴰ (getD (versionsIn (g .leaves) w (workerAt c w .leaves)) i 0)) (sym (versions-at w b))

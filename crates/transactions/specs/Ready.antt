@@ -5,7 +5,7 @@ use mathlib.Core.Path.{_≡_}
 use mathlib.Core.Bool.{true}
 use mathlib.Core.List.{List, []}
 use lib.ListN.{length, getD}
-use Rattle.spec.specs.Records.{standard}
+use Rattle.spec.specs.Records.{limits}
 use Rattle.spec.specs.Leaves.{Leaf, versionAt, live}
 use Rattle.spec.specs.Steps.{Step, Answer, answer, next}
 use Rattle.limits.specs.Invariant.{Kept}
@@ -25,9 +25,9 @@ workerAt c w = getD (c .workers) w freed
 
 -- A worker's counts stay within its rows.
 pub record Within (x : Worker) : Type 0 where
-  pub reads : x .reads ≤ standard .readLimit
-  pub leaves : x .leaves ≤ standard .leafSetLimit
-  pub writes : x .writes ≤ standard .writeLimit
+  pub reads : x .reads ≤ limits .readLimit
+  pub leaves : x .leaves ≤ limits .leafSetLimit
+  pub writes : x .writes ≤ limits .writeLimit
 
 -- Each low address of a leaf set of n rows lies in the leaf with the version logged beside it, as long as there is one.
 abbrev pub LowsStay : List Leaf → LeafSetRows → ℕ → Type 0
@@ -40,9 +40,9 @@ pub record Stored (l : Lent) (g : Logs) (c : Core) : Type 0 where
   pub reads : ReadsHeld (g .reads)
   pub leaves : LeavesHeld (g .leaves)
   pub writes : WritesHeld (g .writes)
-  pub workers : length (c .workers) ≡ standard .workers
-  pub counts : (w : ℕ) → w < standard .workers → Within (workerAt c w)
-  pub lows : (w : ℕ) → w < standard .workers → LowsStay (mapOf l (c .sizes) .leaves) (getD (g .leaves) w []) (workerAt c w .leaves)
+  pub workers : length (c .workers) ≡ limits .workers
+  pub counts : (w : ℕ) → w < limits .workers → Within (workerAt c w)
+  pub lows : (w : ℕ) → w < limits .workers → LowsStay (mapOf l (c .sizes) .leaves) (getD (g .leaves) w []) (workerAt c w .leaves)
 
 pub record Ready (l : Lent) (g : Logs) (c : Core) : Type 0 where
   pub stored : Stored l g c

@@ -5,10 +5,10 @@ use mathlib.Core.Path.{_≡_, refl, sym, ap, subst}
 use mathlib.Core.Bool.{Bool, true, false}
 use mathlib.Core.List.{_∷_}
 use lib.ListN.{getD, replicate, length-replicate}
-use Rattle.spec.specs.Records.{standard}
+use Rattle.spec.specs.Records.{limits, standardMap}
 use Rattle.spec.specs.Maps.{freshMap}
 use Rattle.spec.specs.Steps.{State, fresh, freeWorker}
-use Rattle.laws.specs.WorkerLaws.{standard-settings}
+use Rattle.laws.specs.WorkerLaws.{standard-tuning}
 use Rattle.limits.specs.Invariant.{Kept, fresh-kept}
 use Rattle.limits.specs.LoggedVersions.{LoggedOld, fresh-logged}
 use Rattle.workers.specs.declared.Worker.{Worker}
@@ -41,19 +41,18 @@ getD-free (suc n) zero = refl
 getD-free (suc n) (suc w) = getD-free n w
 
 module _ (l : Lent) (z : Sizes) (guarded : Bool) (b : MapBecomes l z 0 freshMap) where
-  fresh-state : stateOf l noLogs (startCore z guarded) ≡ fresh standard guarded
+  fresh-state : stateOf l noLogs (startCore z guarded) ≡ fresh (standardMap guarded)
   unfolding stateOf
   fresh-state =
       λ i. record {
-        settings = standard;
-        guarded = flag-back guarded i;
+        made = standardMap (flag-back guarded i);
         counters = record { number = 0; version = 0; installs = 0 };
         map = b .map i;
-        workers = free-workers noLogs (standard .workers) 0 i;
+        workers = free-workers noLogs (limits .workers) 0 i;
       }
 
   no-leaf : (w i : ℕ) → i < workerAt (startCore z guarded) w .leaves → {A : Type 0} → A
-  no-leaf w i h = absurd (not-suc-le-zero (subst (λ (x : Worker). i < x .leaves) (getD-free (standard .workers) w) h))
+  no-leaf w i h = absurd (not-suc-le-zero (subst (λ (x : Worker). i < x .leaves) (getD-free (limits .workers) w) h))
 
   fresh-stored : Stored l noLogs (startCore z guarded)
   fresh-stored =
@@ -62,31 +61,31 @@ module _ (l : Lent) (z : Sizes) (guarded : Bool) (b : MapBecomes l z 0 freshMap)
         reads = reads-zero;
         leaves = leaves-zero;
         writes = writes-zero;
-        workers = length-replicate (standard .workers) freed;
-        counts = λ w h. subst Within (sym (getD-free (standard .workers) w)) (record { reads = zero-le; leaves = zero-le; writes = zero-le });
+        workers = length-replicate (limits .workers) freed;
+        counts = λ w h. subst Within (sym (getD-free (limits .workers) w)) (record { reads = zero-le; leaves = zero-le; writes = zero-le });
         lows = λ w h i j. no-leaf w i j;
       }
 
-  fresh-core : Fresh l noLogs guarded (startCore z guarded)
+  fresh-core : Fresh l noLogs (standardMap guarded) (startCore z guarded)
   fresh-core =
       record {
         ready =
             record {
               stored = fresh-stored;
-              kept = subst Kept (sym fresh-state) (fresh-kept standard guarded standard-settings);
-              logged = subst LoggedOld (sym fresh-state) (fresh-logged standard guarded);
+              kept = subst Kept (sym fresh-state) (fresh-kept (standardMap guarded) standard-tuning);
+              logged = subst LoggedOld (sym fresh-state) (fresh-logged (standardMap guarded));
             };
         state = fresh-state;
       }
 
-  pub fresh-start : Fresh l noLogs guarded (coreOf (replicate (standard .workers) 0) (startGlobals z guarded))
-  fresh-start = subst (Fresh l noLogs guarded) (sym (core-put _ (startGlobals z guarded) (workers-free (standard .workers)))) fresh-core
+  pub fresh-start : Fresh l noLogs (standardMap guarded) (coreOf (replicate (limits .workers) 0) (startGlobals z guarded))
+  fresh-start = subst (Fresh l noLogs (standardMap guarded)) (sym (core-put _ (startGlobals z guarded) (workers-free (limits .workers)))) fresh-core
 
 -- ---- the map is guarded from here on
 
 -- a fresh map becomes a fresh guarded one
-pub guarded-fresh : {l : Lent} {g : Logs} {c : Core} → Ready l g c → stateOf l g c ≡ fresh standard false
-    → Ready l g (guardedCore c) × (stateOf l g (guardedCore c) ≡ fresh standard true)
+pub guarded-fresh : {l : Lent} {g : Logs} {c : Core} → Ready l g c → stateOf l g c ≡ fresh (standardMap false)
+    → Ready l g (guardedCore c) × (stateOf l g (guardedCore c) ≡ fresh (standardMap true))
 guarded-fresh {l} {g} {c} r e = (
   record {
     stored =
@@ -99,14 +98,14 @@ guarded-fresh {l} {g} {c} r e = (
           counts = r .stored .counts;
           lows = r .stored .lows;
         };
-    kept = subst Kept (sym now) (fresh-kept standard true standard-settings);
-    logged = subst LoggedOld (sym now) (fresh-logged standard true);
+    kept = subst Kept (sym now) (fresh-kept (standardMap true) standard-tuning);
+    logged = subst LoggedOld (sym now) (fresh-logged (standardMap true));
   },
   now,
 )
   where
     withGuard : State → State
-    withGuard σ = record { settings = σ .settings; guarded = true; counters = σ .counters; map = σ .map; workers = σ .workers }
+    withGuard σ = record { made = record { tuning = σ .made .tuning; guarded = true }; counters = σ .counters; map = σ .map; workers = σ .workers }
 
-    now : stateOf l g (guardedCore c) ≡ fresh standard true
+    now : stateOf l g (guardedCore c) ≡ fresh (standardMap true)
     now = unfold stateOf in ap withGuard e

@@ -5,7 +5,6 @@ use native.Mathlib.Omega.{arith}
 use mathlib.Core.Path.{_≡_, refl, sym, ap, _∙_, subst}
 use mathlib.Core.List.{List, [], _∷_}
 use lib.ListN.{length, getD, set}
-use Rattle.spec.specs.Records.{standard}
 use Rattle.spec.specs.Steps as model
 use Rattle.spec.specs.Steps.{workerOf, freeWorker, withWorker}
 use Rattle.workers.specs.declared.Worker.{Worker}
@@ -13,7 +12,7 @@ use Rattle.workers.specs.Workers.{workerIn, freed, workersOf}
 use Rattle.map.specs.Views.{Lent, mapOf}
 use Rattle.transactions.specs.Cores.{Core}
 use Rattle.transactions.specs.declared.Globals.{Globals}
-use Rattle.transactions.specs.Views.{Logs, OthersSame, coreOn, coreOf, coreWith, modelWorker, guardedIn, stateOf, workersFrom}
+use Rattle.transactions.specs.Views.{Logs, OthersSame, coreOn, coreOf, coreWith, modelWorker, madeOf, stateOf, workersFrom}
 
 -- ---- workers
 
@@ -80,8 +79,7 @@ state-with l g g' c w x o =
     ap
     (λ (ws : List model.Worker).
     record {
-      settings = standard;
-      guarded = guardedIn (c .guarded);
+      made = madeOf c;
       counters = record { number = c .counters .number; version = c .counters .version; installs = c .counters .installs };
       map = mapOf l (c .sizes);
       workers = ws;

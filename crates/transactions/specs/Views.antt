@@ -5,7 +5,7 @@ use mathlib.Core.Bool.{Bool}
 use mathlib.Core.List.{List, [], _∷_}
 use lib.Dec.{eqb}
 use lib.ListN.{set}
-use Rattle.spec.specs.Records.{standard}
+use Rattle.spec.specs.Records.{Made, standardMap}
 use Rattle.spec.specs.Steps as model
 use Rattle.spec.specs.Steps.{State}
 use Rattle.workers.specs.declared.Worker.{Worker}
@@ -40,12 +40,15 @@ workersFrom g (x ∷ xs) w = modelWorker g x w ∷ workersFrom g xs (suc w)
 abbrev pub guardedIn : ℕ → Bool
 guardedIn n = eqb n 1
 
+-- what the map is made with
+abbrev pub madeOf : Core → Made
+madeOf c = standardMap (guardedIn (c .guarded))
+
 -- the model's state
 unfoldable pub stateOf : Lent → Logs → Core → State
 stateOf l g c =
     record {
-      settings = standard;
-      guarded = guardedIn (c .guarded);
+      made = madeOf c;
       counters = record { number = c .counters .number; version = c .counters .version; installs = c .counters .installs };
       map = mapOf l (c .sizes);
       workers = workersFrom g (c .workers) 0;

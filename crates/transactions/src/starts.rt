@@ -16,6 +16,7 @@ use spec::READ_LIMIT;
 use spec::WORKERS;
 use spec::WRITE_LIMIT;
 use workers::Workers;
+ghost use Rattle.spec.specs.Records.{standardMap};
 ghost use Rattle.map.specs.Views.{lent};
 ghost use Rattle.transactions.specs.Views.{logs, coreOf};
 ghost use Rattle.transactions.specs.Starts.{Fresh};
@@ -31,7 +32,7 @@ pub fn fresh_state(
     workers: &mut Workers,
     guarded: bool,
 ) -> Globals
-    ensures { λ r. ⌜ Fresh (lent (now (rows .exit)) (now (leaves .exit)) (now (slots .exit))) (logs (now (reads .exit)) (now (leafsets .exit)) (now (writes .exit))) guarded (coreOf (now (workers .exit)) r) ⌝ }
+    ensures { λ r. ⌜ Fresh (lent (now (rows .exit)) (now (leaves .exit)) (now (slots .exit))) (logs (now (reads .exit)) (now (leafsets .exit)) (now (writes .exit))) (standardMap guarded) (coreOf (now (workers .exit)) r) ⌝ }
 {
     let sizes = entries::fresh_map(rows, leaves, slots);
     let no_read = [0u64; READ_WORDS];

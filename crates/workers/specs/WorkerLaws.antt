@@ -7,7 +7,7 @@ use lib.ListN.{getD, set}
 use Rattle.lists.specs.Rows.{Row, row}
 use Rattle.spec.specs.declared.Current.{Current}
 use Rattle.spec.specs.declared.Stage.the-variants.{Open, Locked}
-use Rattle.spec.specs.Records.{standard, Record, Write}
+use Rattle.spec.specs.Records.{limits, Record, Write}
 use Rattle.spec.specs.Guards.{Scan}
 use Rattle.spec.specs.Steps as model
 use Rattle.spec.specs.Steps.{freeWorker, atStage, logged, writing, checkedAs}
@@ -52,13 +52,13 @@ module _ (rs : List ReadRows) (ls : List LeafSetRows) (ws : List WriteRows) (w :
 
   -- ---- the sets
 
-  pub read-in : (x : Worker) (us : ReadRows) (r a : ℕ) (s : Current) → ReadsHeld rs → w < standard .workers → LogsRead (getD rs w []) (x .reads) a s us r
+  pub read-in : (x : Worker) (us : ReadRows) (r a : ℕ) (s : Current) → ReadsHeld rs → w < limits .workers → LogsRead (getD rs w []) (x .reads) a s us r
       → workerIn (withReads x r) (set rs w us) ls ws w ≡ logged (row a (recordIn s) ∷ []) [] [] (workerIn x rs ls ws w)
   unfolding workerIn logged made
   read-in x us r a s held h l =
       λ i. made x ((own-set (λ (g : ReadRows). readsOf g r) rs w us held h ∙ l .view) i) (sym (append-nil (versionsIn ls w (x .leaves))) i) (sym (append-nil (scansIn ls w (x .leaves))) i) (writesIn ws w (x .writes))
 
-  pub write-in : (x : Worker) (us : WriteRows) (r a kind : ℕ) (v : PayloadWords) → WritesHeld ws → w < standard .workers
+  pub write-in : (x : Worker) (us : WriteRows) (r a kind : ℕ) (v : PayloadWords) → WritesHeld ws → w < limits .workers
       → PutsWrite (getD ws w []) (x .writes) a kind v us r
       → workerIn (withWrites x r) rs ls (set ws w us) w ≡ writing a (writeOf kind v) (workerIn x rs ls ws w)
   unfolding workerIn writing made

@@ -5,7 +5,7 @@ use spec::WORKERS;
 ghost use mathlib.Core.Path.{_≡_};
 ghost use Prim.Native.Nat.{_<_};
 ghost use lib.ListN.{length, getD, set};
-ghost use Rattle.spec.specs.Records.{standard};
+ghost use Rattle.spec.specs.Records.{limits};
 ghost use Rattle.workers.specs.Workers.{begun, atLock, atCheck, freed, rankOf, stageAt, packed, unpacked, workersOf};
 
 // All workers, a word each.
@@ -148,16 +148,16 @@ fn size_of(words: &[u64]) -> usize
 
 // All eight workers are there. Only as a slice the lent words tell their number.
 fn eight(workers: &Workers)
-    ensures { λ _. ⌜ length (workersOf (now (workers .entry))) ≡ standard .workers ⌝ }
+    ensures { λ _. ⌜ length (workersOf (now (workers .entry))) ≡ limits .workers ⌝ }
 {
     size_of(workers);
 }
 
 // Worker w.
 pub fn worker_at(workers: &Workers, w: usize) -> Worker
-    requires { ⌜ w < standard .workers ⌝ }
+    requires { ⌜ w < limits .workers ⌝ }
     ensures { λ r. ⌜ r ≡ getD (workersOf (now (workers .entry))) w freed ⌝ }
-    ensures { λ _. ⌜ length (workersOf (now (workers .entry))) ≡ standard .workers ⌝ }
+    ensures { λ _. ⌜ length (workersOf (now (workers .entry))) ≡ limits .workers ⌝ }
 {
     eight(workers);
     unpack(workers[w])
@@ -165,7 +165,7 @@ pub fn worker_at(workers: &Workers, w: usize) -> Worker
 
 // Worker w becomes x.
 pub fn put_worker(workers: &mut Workers, w: usize, x: Worker)
-    requires { ⌜ w < standard .workers ⌝ }
+    requires { ⌜ w < limits .workers ⌝ }
     ensures { λ _. ⌜ workersOf (now (workers .exit)) ≡ set (workersOf (now (workers .entry))) w x ⌝ }
 {
     workers[w] = pack(x);

@@ -1,7 +1,6 @@
 -- `lengths::unfit_put` meets its contract: the first unfit put, or none is.
 use Prim.Native.Nat.{_-_}
 use native.Mathlib.Omega.{arith}
-use Rattle.spec.specs.Records.{standard}
 use Rattle.spec.specs.Guards.{unfit}
 use Rattle.guards.specs.PutLaws.{Testing, test-start, test-on, test-hit, test-end}
 use borrow.Author.Needs.{needs}
@@ -9,7 +8,7 @@ use Rattle.guards.proofs.lengths.unfit_put.Statement.{statement}
 use Rattle.guards.proofs.lengths.unfit_put.Tie as tie
 
 abbrev Inv-loop : tie.InvT-loop
-Inv-loop writes n i₀ i = Testing (unfit standard) writes n i
+Inv-loop writes n i₀ i = Testing unfit writes n i
 
 abbrev μ-loop : tie.MeasureT-loop
 μ-loop writes n i₀ i = n - i

@@ -1,7 +1,6 @@
 -- `overlaps::overlapped_put` meets its contract: the first put that something overlaps, or none is.
 use Prim.Native.Nat.{_-_}
 use native.Mathlib.Omega.{arith}
-use Rattle.spec.specs.Records.{standard}
 use Rattle.spec.specs.Guards.{unfit, overlapped}
 use Rattle.sets.specs.Reads.{readsOf}
 use Rattle.sets.specs.Leaves.{scansOf}
@@ -12,7 +11,7 @@ use Rattle.guards.proofs.overlaps.overlapped_put.Statement.{statement}
 use Rattle.guards.proofs.overlaps.overlapped_put.Tie as tie
 
 abbrev Inv-loop : tie.InvT-loop
-Inv-loop reads k leafset m writes n i₀ i = Testing (overlapped standard (readsOf reads k) (scansOf leafset m) (writesOf writes n)) writes n i
+Inv-loop reads k leafset m writes n i₀ i = Testing (overlapped (readsOf reads k) (scansOf leafset m) (writesOf writes n)) writes n i
 
 abbrev μ-loop : tie.MeasureT-loop
 μ-loop reads k leafset m writes n i₀ i = n - i
@@ -27,7 +26,7 @@ overlapped-write-requires : tie.Need-overlapped-write-requires Inv-loop μ-loop
 overlapped-write-requires c κs =
     let l = c .before in
     let p = l .before .before .pre in
-    (p .0, no-put (unfit standard) (p .1) (l .loop-test .taken) (c .write-at .ensures))
+    (p .0, no-put unfit (p .1) (l .loop-test .taken) (c .write-at .ensures))
 
 returns : tie.Need-returns Inv-loop μ-loop
 returns c =

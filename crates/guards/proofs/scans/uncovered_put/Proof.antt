@@ -1,7 +1,6 @@
 -- `scans::uncovered_put` meets its contract: the first put that no scan covers, or all are covered.
 use Prim.Native.Nat.{_-_}
 use native.Mathlib.Omega.{arith}
-use Rattle.spec.specs.Records.{standard}
 use Rattle.spec.specs.Guards.{unfit, uncovered}
 use Rattle.sets.specs.Leaves.{scansOf}
 use Rattle.guards.specs.PutLaws.{Testing, test-start, test-on, test-hit, test-end, no-put}
@@ -10,7 +9,7 @@ use Rattle.guards.proofs.scans.uncovered_put.Statement.{statement}
 use Rattle.guards.proofs.scans.uncovered_put.Tie as tie
 
 abbrev Inv-loop : tie.InvT-loop
-Inv-loop leafset m writes n i₀ i = Testing (uncovered standard (scansOf leafset m)) writes n i
+Inv-loop leafset m writes n i₀ i = Testing (uncovered (scansOf leafset m)) writes n i
 
 abbrev μ-loop : tie.MeasureT-loop
 μ-loop leafset m writes n i₀ i = n - i
@@ -25,7 +24,7 @@ uncovered-write-requires : tie.Need-uncovered-write-requires Inv-loop μ-loop
 uncovered-write-requires c κs =
     let l = c .before in
     let p = l .before .before .pre in
-    (p .0, (p .1 .0, no-put (unfit standard) (p .1 .1 .1) (l .loop-test .taken) (c .write-at .ensures)))
+    (p .0, (p .1 .0, no-put unfit (p .1 .1 .1) (l .loop-test .taken) (c .write-at .ensures)))
 
 returns : tie.Need-returns Inv-loop μ-loop
 returns c =

@@ -1,7 +1,6 @@
 -- `map::locks::install_all` meets its contract: the map with the rows that are left installed stays the same.
 use Prim.Native.Nat.{_-_, _≤_, zero-le}
 use native.Mathlib.Omega.{arith}
-use Rattle.spec.specs.Records.{standard}
 use Rattle.spec.specs.Maps.{installAll}
 use Rattle.map.specs.Views.{lent, mapOf}
 use Rattle.sets.specs.Writes.{writesOf}
@@ -11,7 +10,7 @@ use Rattle.map.proofs.locks.install_all.Tie as tie
 
 abbrev Inv-loop : tie.InvT-loop
 Inv-loop leaves₀ slots₀ rows ws k n number t sizes₀ near₀ i₀ leaves slots sizes near i =
-    (i ≤ n) × Installing number t (lent rows leaves slots) sizes (k .version) ws i n (installAll standard number t (mapOf (lent rows leaves₀ slots₀) sizes₀) (writesOf ws n))
+    (i ≤ n) × Installing number t (lent rows leaves slots) sizes (k .version) ws i n (installAll number t (mapOf (lent rows leaves₀ slots₀) sizes₀) (writesOf ws n))
 
 abbrev μ-loop : tie.MeasureT-loop
 μ-loop leaves₀ slots₀ rows ws k n number t sizes₀ near₀ i₀ leaves slots sizes near i =

@@ -1,7 +1,6 @@
 -- `map::locks::lock_all` meets its contract: the map with the rows that are left locked stays the same.
 use Prim.Native.Nat.{_-_, _≤_, zero-le}
 use native.Mathlib.Omega.{arith}
-use Rattle.spec.specs.Records.{standard}
 use Rattle.spec.specs.Maps.{lockAll}
 use Rattle.map.specs.Views.{lent, mapOf}
 use Rattle.sets.specs.Writes.{writesOf}
@@ -11,7 +10,7 @@ use Rattle.map.proofs.locks.lock_all.Tie as tie
 
 abbrev Inv-loop : tie.InvT-loop
 Inv-loop leaves₀ slots₀ rows ws k n w sizes₀ near₀ i₀ leaves slots sizes near i =
-    (i ≤ n) × Locking w (lent rows leaves slots) sizes (k .version) ws i n (lockAll standard w (mapOf (lent rows leaves₀ slots₀) sizes₀) (writesOf ws n))
+    (i ≤ n) × Locking w (lent rows leaves slots) sizes (k .version) ws i n (lockAll w (mapOf (lent rows leaves₀ slots₀) sizes₀) (writesOf ws n))
 
 abbrev μ-loop : tie.MeasureT-loop
 μ-loop leaves₀ slots₀ rows ws k n w sizes₀ near₀ i₀ leaves slots sizes near i =

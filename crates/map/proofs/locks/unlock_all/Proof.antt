@@ -2,7 +2,6 @@
 use Prim.Native.Nat.{_-_, _≤_, zero-le}
 use native.Mathlib.Omega.{arith}
 use Rattle.lists.specs.Rows.{keys}
-use Rattle.spec.specs.Records.{standard}
 use Rattle.spec.specs.Maps.{unlockAll}
 use Rattle.map.specs.Views.{lent, mapOf}
 use Rattle.sets.specs.Writes.{writesOf}
@@ -12,7 +11,7 @@ use Rattle.map.proofs.locks.unlock_all.Tie as tie
 
 abbrev Inv-loop : tie.InvT-loop
 Inv-loop leaves₀ slots₀ rows ws k n w sizes₀ near₀ i₀ leaves slots sizes near i =
-    (i ≤ n) × Unlocking w (lent rows leaves slots) sizes (k .version) ws i n (unlockAll standard w (mapOf (lent rows leaves₀ slots₀) sizes₀) (keys (writesOf ws n)))
+    (i ≤ n) × Unlocking w (lent rows leaves slots) sizes (k .version) ws i n (unlockAll w (mapOf (lent rows leaves₀ slots₀) sizes₀) (keys (writesOf ws n)))
 
 abbrev μ-loop : tie.MeasureT-loop
 μ-loop leaves₀ slots₀ rows ws k n w sizes₀ near₀ i₀ leaves slots sizes near i =

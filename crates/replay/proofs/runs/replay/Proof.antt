@@ -1,4 +1,4 @@
--- `runs::replay` meets its contract: the fresh start tells whether the map is guarded.
+-- `runs::replay` meets its contract: the fresh start tells what the map is made with.
 use Rattle.replay.specs.LoopLaws.{fresh-as, replays-as}
 use borrow.Author.Needs.{needs}
 use Rattle.replay.proofs.runs.replay.Statement.{statement}

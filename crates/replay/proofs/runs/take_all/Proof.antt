@@ -7,7 +7,7 @@ use Rattle.spec.specs.Steps.{Places}
 use Rattle.map.specs.Views.{lent}
 use Rattle.buffers.specs.Buffers.{buffers}
 use Rattle.exports.specs.Exporting.{space}
-use Rattle.transactions.specs.Views.{logs, coreOf, guardedIn}
+use Rattle.transactions.specs.Views.{logs, coreOf, madeOf}
 use Rattle.replay.specs.declared.stops.Stop.the-variants as stop
 use Rattle.replay.specs.Replays.{whole}
 use Rattle.replay.specs.LoopLaws.{Replaying, replaying-start, replaying-on, replaying-at, replaying-out, replaying-places, replaying-bytes, code-out, code-places, code-bytes, takes-as, replays-stop, replays-end}
@@ -16,7 +16,7 @@ use Rattle.replay.proofs.runs.take_all.Tie as tie
 
 abbrev Inv-loop : tie.InvT-loop
 Inv-loop out₀ addresses₀ values₀ owners₀ bytes₀ rows₀ leaves₀ slots₀ reads₀ leafsets₀ writes₀ workers₀ exported₀ steps count globals₀ export₀ at₀ i₀ out addresses values owners bytes rows leaves slots reads leafsets writes workers exported globals export at i =
-    Replaying (guardedIn (globals₀ .guarded)) steps (space (buffers addresses₀ values₀ owners₀) bytes₀) out₀ (whole (lent rows leaves slots) (logs reads leafsets writes) (coreOf workers globals) exported export) (space (buffers addresses values owners) bytes) out at i
+    Replaying (madeOf (coreOf workers₀ globals₀)) steps (space (buffers addresses₀ values₀ owners₀) bytes₀) out₀ (whole (lent rows leaves slots) (logs reads leafsets writes) (coreOf workers globals) exported export) (space (buffers addresses values owners) bytes) out at i
 
 abbrev μ-loop : tie.MeasureT-loop
 μ-loop out₀ addresses₀ values₀ owners₀ bytes₀ rows₀ leaves₀ slots₀ reads₀ leafsets₀ writes₀ workers₀ exported₀ steps count globals₀ export₀ at₀ i₀ out addresses values owners bytes rows leaves slots reads leafsets writes workers exported globals export at i =

@@ -12,8 +12,7 @@ use Rattle.spec.specs.Leaves.{Leaf}
 use Rattle.spec.specs.Slots.{Content, entries}
 use Rattle.spec.specs.Maps.{current, contents}
 use Rattle.laws.specs.SlotCounts.{entryAt}
-use Rattle.indexlet.specs.declared.Slot.{Slot as SlotWords}
-use Rattle.indexlet.specs.Words.{slotIn, slotsOf}
+use Rattle.indexlet.specs.Words.{slotsOf}
 use Rattle.index.specs.Views.{recordFrom, recordsOf}
 use Rattle.queries.specs.declared.Next.{Next}
 use Rattle.queries.specs.declared.Next.the-variants.{At, Done}
@@ -54,16 +53,20 @@ pub record SlotFrom (slots : SlotRows) (from r : ℕ) : Type 0 where
   pub low : from ≤ r
   pub clear : (k : ℕ) → from ≤ k → k < r → look (entries (slotsOf slots)) k ≡ none
 
--- the same of the entry of one slot
-pub record Nearer (s : SlotWords) (from best r : ℕ) : Type 0 where
+-- r is the nearer of a key and the nearest so far, of those from `from` on
+pub record Nearer (key from best r : ℕ) : Type 0 where
   pub most : r ≤ best
   pub low : from ≤ best → from ≤ r
-  pub clear : (e : Row Content) → slotIn s .entry ≡ some e → from ≤ e .key → r ≤ e .key
+  pub clear : from ≤ key → r ≤ key
 
--- and of the entries of the first i slots
+-- slot j has no entry from `from` up to, not including, best
+abbrev pub NoNearer : SlotRows → ℕ → ℕ → ℕ → Type 0
+NoNearer slots from best j = (e : Row Content) → entryAt (slotsOf slots) j ≡ some e → from ≤ e .key → best ≤ e .key
+
+-- and none of the first i slots has one
 pub record Walked (slots : SlotRows) (from i best : ℕ) : Type 0 where
   pub low : from ≤ best
-  pub clear : (j : ℕ) (e : Row Content) → j < i → entryAt (slotsOf slots) j ≡ some e → from ≤ e .key → best ≤ e .key
+  pub clear : (j : ℕ) → j < i → NoNearer slots from best j
 
 -- no record stands from `from` up to, not including, k
 pub record Passed (rows : RecordRows) (n : ℕ) (slots : SlotRows) (from k : ℕ) : Type 0 where

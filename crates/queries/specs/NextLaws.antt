@@ -1,4 +1,4 @@
--- The contents one after the other: what no candidate holds, what the first candidate holds, and how a count goes on.
+-- The contents one after the other: what no candidate holds, and what the first candidate holds.
 use Prim.Native.Nat.{ℕ, suc, _+_, _^_, _<_, _≤_, zero-le, suc-le-suc, min}
 use native.Mathlib.Nat.{le-refl, le-trans, not-suc-le-zero}
 use native.Mathlib.Omega.{arith}
@@ -16,12 +16,11 @@ use Rattle.lists.specs.RowLaws.{look-here, look-there, look-low, look-nil}
 use Rattle.lists.specs.Options.{both-options, some-same}
 use Rattle.lists.specs.Places.{place}
 use Rattle.spec.specs.Widths.{addressSize}
-use Rattle.spec.specs.declared.PayloadWords.{PayloadWords}
 use Rattle.spec.specs.Records.{Record}
 use Rattle.spec.specs.Leaves.{Leaf}
 use Rattle.spec.specs.Slots.{slotCount, Content, isIdle, Slot, emptySlot, vacant, entries, kept}
 use Rattle.spec.specs.Maps.{outcomeOf, current, contents}
-use Rattle.laws.specs.SlotCounts.{entryAt, Place, lookup}
+use Rattle.laws.specs.SlotCounts.{Place, lookup}
 use Rattle.laws.specs.SlotLaws.{content-none, kept-entry}
 use Rattle.laws.specs.ContentLaws.{look-contents, rising-contents}
 use Rattle.indexlet.specs.declared.Slot.{Slot as SlotWords}
@@ -37,12 +36,11 @@ use Rattle.index.specs.Views.{recordFrom, rowOf, noRow, rowAt, recordsOf, Recor
 use Rattle.index.specs.RecordPlaces.{AtPlace}
 use Rattle.index.specs.ViewLaws.{length-records, record-at}
 use Rattle.spec.specs.declared.Current.{Current}
-use Rattle.queries.specs.declared.Next.{Next}
 use Rattle.queries.specs.declared.Next.the-variants.{At, Done}
 use Rattle.queries.specs.QueryViews.{mapWith, Sees}
-use Rattle.queries.specs.NextViews.{end, rowsFrom, nextIn, Follows, Numbers, IndexFrom, SlotFrom, Nearer, NoNearer, Walked, Passed, Counted}
+use Rattle.queries.specs.NextViews.{end, Follows, IndexFrom, SlotFrom, Nearer, NoNearer, Walked, Passed}
 use Rattle.queries.specs.Contents.{firstFrom}
-use Rattle.queries.specs.ContentsLaws.{below, here, all-from, next-row, no-row}
+use Rattle.queries.specs.ContentsLaws.{below, here}
 use Rattle.map.specs.Views.{SlotRows, RecordRows}
 use Rattle.map.specs.Parts.{RecordsHeld}
 
@@ -306,53 +304,3 @@ module _ (rows : RecordRows) (n : ℕ) (slots : SlotRows) where
               (look-all ls c ∙ sym (s .record-is ls) ∙ ap (λ (b : Bool). pick b (some (recordFrom (r .payload) (r .commit))) none) e)
               (λ i g h. look-all ls i ∙ p .clear i g h ls));
         }
-
-    -- ---- how many there are
-
-    pub counted-start : Counted rows n slots 0 0
-    counted-start =
-        record {
-          small = le-refl 0;
-          rest = λ ls.
-              (let z : 0 + length (rowsFrom 0 (contents (mapWith rows n slots ls))) ≡ length (rowsFrom 0 (contents (mapWith rows n slots ls))) = omega arith in z)
-              ∙ ap (λ (rs : List (Row Record)). length rs) (all-from 0 0 (contents (mapWith rows n slots ls)) (rising-all ls) (le-refl 0));
-        }
-
-    -- the next record, and how many there are after it
-    step : (k : ℕ) (r : Next) (a : ℕ) (v : PayloadWords) (u : ℕ) → Follows rows n slots k r → r ≡ At a v u → (ls : List Leaf)
-        → (length (rowsFrom k (contents (mapWith rows n slots ls))) ≡ suc (length (rowsFrom (suc a) (contents (mapWith rows n slots ls))))) × (k ≤ a)
-    step k r a v u f e ls =
-        let p = next-row k 0 (contents (mapWith rows n slots ls)) (row a (recordFrom v u)) (rising-all ls) (sym (f .next-is ls) ∙ ap nextIn e) in
-        (ap (λ (rs : List (Row Record)). length rs) (p .0), p .1)
-
-    pub next-above : (k : ℕ) (r : Next) (a : ℕ) (v : PayloadWords) (u : ℕ) → Follows rows n slots k r → r ≡ At a v u → k ≤ a
-    next-above k r a v u f e = step k r a v u f e [] .1
-
-    pub counted-on : (k count : ℕ) (r : Next) (a : ℕ) (v : PayloadWords) (u : ℕ) → Counted rows n slots k count → Follows rows n slots k r → r ≡ At a v u → Counted rows n slots (a + 1) (count + 1)
-    counted-on k count r a v u c f e =
-        record { small = (let q : k ≤ a = next-above k r a v u f e in let s : count ≤ k = c .small in omega arith); rest = λ ls. on ls }
-      where
-        on : (ls : List Leaf) → count + 1 + length (rowsFrom (a + 1) (contents (mapWith rows n slots ls))) ≡ length (contents (mapWith rows n slots ls))
-        on ls =
-            let x : count + length (rowsFrom k (contents (mapWith rows n slots ls))) ≡ length (contents (mapWith rows n slots ls)) = c .rest ls in
-            let y : length (rowsFrom k (contents (mapWith rows n slots ls))) ≡ suc (length (rowsFrom (suc a) (contents (mapWith rows n slots ls)))) = step k r a v u f e ls .0 in
-            let z : length (rowsFrom (a + 1) (contents (mapWith rows n slots ls))) ≡ length (rowsFrom (suc a) (contents (mapWith rows n slots ls)))
-            = ap (λ (i : ℕ). length (rowsFrom i (contents (mapWith rows n slots ls)))) (let w : a + 1 ≡ suc a = omega arith in w) in
-            omega arith
-
-    numbered : (k count : ℕ) → Counted rows n slots k count → ((ls : List Leaf) → firstFrom k (contents (mapWith rows n slots ls)) ≡ none) → Numbers rows n slots count
-    numbered k count c f =
-        record {
-          number-is = λ ls.
-              let x : count + length (rowsFrom k (contents (mapWith rows n slots ls))) ≡ length (contents (mapWith rows n slots ls)) = c .rest ls in
-              let y : length (rowsFrom k (contents (mapWith rows n slots ls))) ≡ 0 = ap (λ (rs : List (Row Record)). length rs) (no-row k (contents (mapWith rows n slots ls)) (f ls)) in
-              omega arith;
-        }
-
-    pub counted-done : (k count : ℕ) (r : Next) → Counted rows n slots k count → Follows rows n slots k r → r ≡ Done → Numbers rows n slots count
-    counted-done k count r c f e = numbered k count c (λ ls. sym (f .next-is ls) ∙ ap nextIn e)
-
-    pub counted-end : (k count : ℕ) → Counted rows n slots k count → end ≤ k → Numbers rows n slots count
-    counted-end k count c h =
-        numbered k count c
-        (λ ls. first-none k 0 (contents (mapWith rows n slots ls)) (rising-all ls) (λ j g. look-all ls j ∙ beyond j (le-trans h g) ls))

@@ -1,9 +1,8 @@
--- The contents one after the other: the first record from an address on, and how many there are.
-use Prim.Native.Nat.{ℕ, _+_, _<_, _≤_}
+-- The contents one after the other: the first record from an address on.
+use Prim.Native.Nat.{ℕ, _<_, _≤_}
 use mathlib.Core.Path.{_≡_}
 use mathlib.Core.List.{List, [], _∷_}
 use mathlib.Core.Option.{Option, none, some}
-use lib.ListN.{length}
 use Rattle.lists.specs.Tests.{pick, less}
 use Rattle.lists.specs.Rows.{Row, row, look}
 use Rattle.spec.specs.Widths.{addresses}
@@ -37,10 +36,6 @@ nextIn Done = none
 pub record Follows (rows : RecordRows) (n : ℕ) (slots : SlotRows) (from : ℕ) (r : Next) : Type 0 where
   pub next-is : (ls : List Leaf) → nextIn r ≡ firstFrom from (contents (mapWith rows n slots ls))
 
--- r is how many records the contents have
-pub record Numbers (rows : RecordRows) (n : ℕ) (slots : SlotRows) (r : ℕ) : Type 0 where
-  pub number-is : (ls : List Leaf) → r ≡ length (contents (mapWith rows n slots ls))
-
 -- ---- candidates
 
 -- the index has no address from `from` up to, not including, r
@@ -72,9 +67,3 @@ pub record Walked (slots : SlotRows) (from i best : ℕ) : Type 0 where
 pub record Passed (rows : RecordRows) (n : ℕ) (slots : SlotRows) (from k : ℕ) : Type 0 where
   pub low : from ≤ k
   pub clear : (j : ℕ) → from ≤ j → j < k → (ls : List Leaf) → current (mapWith rows n slots ls) j ≡ none
-
--- `count` records stand below the address k
-pub record Counted (rows : RecordRows) (n : ℕ) (slots : SlotRows) (k count : ℕ) : Type 0 where
-  pub small : count ≤ k
-  pub rest : (ls : List Leaf)
-      → count + length (rowsFrom k (contents (mapWith rows n slots ls))) ≡ length (contents (mapWith rows n slots ls))

@@ -32,7 +32,7 @@ ghost use Rattle.map.specs.Parts.{RecordsHeld, SlotsHeld, LeavesListed, LeafLis
 ghost use Rattle.sets.specs.Writes.{entryIn};
 ghost use Rattle.map.specs.WriteWalks.{Writing};
 ghost use Rattle.queries.specs.QueryViews.{Sees, SeesUnder, Examines, Spans, SeenAt, Meets, LeafAt, LoggedAt};
-ghost use Rattle.queries.specs.NextViews.{IndexFrom, Nearer, Walked, SlotFrom, Follows, Numbers};
+ghost use Rattle.queries.specs.NextViews.{IndexFrom, Nearer, Walked, SlotFrom, Follows};
 ghost use Rattle.queries.specs.PhantomViews.{Holding, Owns, Logged, ownPut, lockOnlyCount};
 
 // Places from one up to, not including, another.
@@ -321,8 +321,8 @@ fn nearer(key: u64, from: u64, best: u64) -> u64
     key
 }
 
-// The nearest key of the slots whose bits these are, from slot `next` on up to the end of its word, if one lies below that of
-// the slots before, `best`.
+// The nearest key from `from` on: `best` is that of the slots before `next`, and from there on to the end of the word the slots
+// whose bits these are have an entry.
 fn nearest_in(slots: &Slots, from: u64, best: u64, next: usize, bits: u64) -> u64
     requires { ⌜ indexlet.SlotsHeld (now slots) ⌝ }
     requires { ⌜ (next < slotCount) × (BitsFrom false (now slots) next bits) × (Walked (now slots) from next best) ⌝ }
@@ -393,31 +393,4 @@ pub fn next_record(rows: &Records, slots: &Slots, n: usize, from: u64) -> Next
         at = c + 1;
     }
     Next::Done
-}
-
-// How many records the contents have.
-pub fn count_records(rows: &Records, slots: &Slots, n: usize) -> usize
-    requires { ⌜ RecordsHeld (now rows) n ⌝ }
-    requires { ⌜ SlotsHeld (now slots) ⌝ }
-    ensures { λ r. ⌜ Numbers (now (rows .entry)) n (now (slots .entry)) r ⌝ }
-{
-    let mut at: u64 = 0;
-    let mut count = 0;
-    while at < ADDRESSES {
-        let next = next_record(rows, slots, n, at);
-        match next {
-            Next::At {
-                address,
-                payload: _,
-                commit: _,
-            } => {
-                count += 1;
-                at = address as u64 + 1;
-            }
-            Next::Done => {
-                return count;
-            }
-        }
-    }
-    count
 }

@@ -88,7 +88,7 @@ module _ (l : Lent) (g : Logs) (c : Core) (w : ℕ) (inside : w < length (c .wor
   unfolding workerIn
   writes-are = ap (λ (x : model.Worker). x .writes) (worker-at l g c w inside)
 
-  pub number-is : workerOf (stateOf l g c) w .number ≡ workerAt c w .number
+  number-is : workerOf (stateOf l g c) w .number ≡ workerAt c w .number
   unfolding workerIn
   number-is = ap (λ (x : model.Worker). x .number) (worker-at l g c w inside)
 

@@ -13,6 +13,7 @@ use Rattle.spec.specs.Records.{Record}
 use Rattle.spec.specs.Maps.{contents}
 use Rattle.map.specs.Views.{Lent}
 use Rattle.queries.specs.Contents.{allRecords}
+use Rattle.contents.specs.Copies.{CopyRows, copiedIn, Copied}
 use Rattle.transactions.specs.Views.{Logs, stateOf}
 use Rattle.script.specs.Parsing.{filled, After}
 use Rattle.answers.specs.Output.{field, endLine, malformedLine}
@@ -20,17 +21,20 @@ use Rattle.console.specs.Program.{writtenFrom, startsGuarded}
 use Rattle.console.specs.ProgramLaws.{starts-clear}
 use Rattle.console.specs.Sessions.{Standing, Started, dueFor, due}
 use Rattle.console.specs.DueLaws.{due-unguarded}
-use Rattle.console.specs.Closings.{triplesFor, TriplesPut}
+use Rattle.console.specs.Closings.{triplesFor, TriplesPut, triples-unstamped}
 use Rattle.console.specs.Finishes.{Finishes}
 
 -- ---- laws
 
 -- `E`, the count, the triples and a line feed
-pub end-wrote : {rs : List (Row Record)} {old a b new : List ℕ} {at i j k n : ℕ} → n ≡ length rs → Wrote old at (69 ∷ field n) a i → TriplesPut rs a i b j
+pub end-wrote : {rs : List (Row Record)} {rows : CopyRows} {old a b new : List ℕ} {at i j k n : ℕ} → Copied rs rows n → Wrote old at (69 ∷ field n) a i → TriplesPut rows n a i b j
     → Wrote b j (10 ∷ []) new k → Wrote old at (endLine rs) new k
 unfolding endLine
-end-wrote {rs} {old} {a} {b} {new} {at} {i} {j} {k} {n} e x y z =
-    subst (λ (m : ℕ). Wrote old at ((69 ∷ field m) ++ triplesFor rs ++ (10 ∷ [])) new k) e (wrote-join (wrote-join x (y .wrote)) z)
+end-wrote {rs} {rows} {old} {a} {b} {new} {at} {i} {j} {k} {n} c x y z =
+    subst (λ (t : List ℕ). Wrote old at t new k)
+    (ap (λ (m : ℕ). (69 ∷ field m) ++ triplesFor (copiedIn rows n) ++ (10 ∷ [])) (c .count-is)
+    ∙ ap (λ (t : List ℕ). (69 ∷ field (length rs)) ++ t ++ (10 ∷ [])) (ap triplesFor (c .rows-are) ∙ triples-unstamped rs))
+    (wrote-join (wrote-join x (y .wrote)) z)
 
 module _ (l : Lent) (g : Logs) (x : Standing) (old : List ℕ) where
   pub finish-stopped : x .stopped ≡ true → x .at ≤ length old → Finishes l g x old old (x .at)

@@ -1,14 +1,15 @@
 // The end of the input: all records, or, after a line without its line feed, that it is malformed.
 use crate::session::Session;
+use contents::COPY_WORDS;
+use contents::CopyRows;
+use contents::rows;
 use map::Leaves;
 use map::Records;
 use map::Slots;
-use queries::Next;
 use sets::LeafSets;
 use sets::ReadSets;
 use sets::WriteSets;
-use spec::ADDRESSES;
-use spec::OWNERS;
+use spec::MAP_LIMIT;
 use workers::Workers;
 ghost use Prim.Native.Nat.{_+_, _*_, _≤_};
 ghost use lib.ListN.{length};
@@ -24,43 +25,32 @@ ghost use Rattle.console.specs.Closings.{TriplesPut};
 ghost use Rattle.console.specs.Sessions.{sessionOf, Started};
 ghost use Rattle.console.specs.Finishes.{longestEnd, Finishes};
 
-// The triples of all records, by rising address.
-fn put_records(out: &mut [u8], at: usize, rows: &Records, slots: &Slots, n: usize) -> usize
-    requires { ⌜ RecordsHeld (now rows) n ⌝ }
-    requires { ⌜ SlotsHeld (now slots) ⌝ }
-    requires { ⌜ at + 63 * length (allRecords (now rows) n (now slots)) ≤ length (now out) ⌝ }
-    ensures { λ r. ⌜ TriplesPut (allRecords (now (rows .entry)) n (now (slots .entry))) (now (out .entry)) at (now (out .exit)) r ⌝ }
+// The triples of the first `count` rows of a copy.
+fn put_records(out: &mut [u8], at: usize, copied: &CopyRows, count: usize) -> usize
+    requires { ⌜ (count ≤ standard .mapLimit) × (at + 63 * count ≤ length (now out)) ⌝ }
+    ensures { λ r. ⌜ TriplesPut (now (copied .entry)) count (now (out .entry)) at (now (out .exit)) r ⌝ }
 {
     let mut place = at;
-    let mut from: u64 = 0;
-    while from < ADDRESSES {
-        let next = queries::next_record(rows, slots, n, from);
-        match next {
-            Next::At {
-                address,
-                payload,
-                commit: _,
-            } => {
-                let owner = (payload.owner % OWNERS) as u16;
-                place = answers::put_triple(out, place, address as u64, payload.value, owner);
-                from = address as u64 + 1;
-            }
-            Next::Done => return place,
-        }
+    let mut i = 0;
+    while i < count {
+        let r = rows::get(copied, i);
+        place = answers::put_triple(out, place, r.address as u64, r.value, r.owner);
+        i += 1;
     }
     place
 }
 
-// `E`, how many records there are, and their triples.
+// `E`, how many records there are, and their triples. One walk copies the records; what is written is read off the copy.
 fn put_contents(out: &mut [u8], at: usize, rows: &Records, slots: &Slots, n: usize) -> usize
     requires { ⌜ RecordsHeld (now rows) n ⌝ }
     requires { ⌜ SlotsHeld (now slots) ⌝ }
     requires { ⌜ (length (allRecords (now rows) n (now slots)) ≤ limits .mapLimit) × (at + longestEnd ≤ length (now out)) ⌝ }
     ensures { λ r. ⌜ Wrote (now (out .entry)) at (endLine (allRecords (now (rows .entry)) n (now (slots .entry)))) (now (out .exit)) r ⌝ }
 {
-    let count = queries::count_records(rows, slots, n);
+    let mut copied = [[0u64; COPY_WORDS]; MAP_LIMIT];
+    let count = contents::copy_contents(&mut copied, rows, slots, n);
     let next = answers::put_answer(out, at, b'E', count as u64);
-    let last = put_records(out, next, rows, slots, n);
+    let last = put_records(out, next, &copied, count);
     answers::put_byte(out, last, b'\n')
 }
 

@@ -1,18 +1,16 @@
 -- Request 107: how a lent array and three values are read as the export beside the map, and what each step of one promises.
-use Prim.Native.Nat.{ℕ, _%_, _^_, _≤_}
+use Prim.Native.Nat.{ℕ, _≤_}
 use mathlib.Core.Path.{_≡_}
 use mathlib.Core.Bool.{false}
 use mathlib.Core.List.{List}
 use mathlib.Core.Option.{Option, none, some}
-use lib.ListN.{length, take, getD}
+use lib.ListN.{length, take}
 use Rattle.lists.specs.Tests.{pick}
-use Rattle.lists.specs.Rows.{Row, row}
-use Rattle.spec.specs.Widths.{addresses}
-use Rattle.spec.specs.Payloads.{owners}
-use Rattle.spec.specs.Records.{limits, Payload, Record}
+use Rattle.lists.specs.Rows.{Row}
+use Rattle.spec.specs.Records.{limits, Record}
 use Rattle.spec.specs.Steps.{Places, shortest}
 use Rattle.spec.specs.Exports as model
-use Rattle.sets.specs.Sets.{firstRows}
+use Rattle.contents.specs.Copies.{CopyRows, copiedIn}
 use Rattle.buffers.specs.Buffers.{Buffers, placesOf, rowsIn, Unmoved, Beyond, Lends}
 use Rattle.exports.specs.declared.Export.{Export}
 use Rattle.exports.specs.declared.ExportAnswer.{ExportAnswer}
@@ -25,19 +23,11 @@ use Rattle.exports.specs.declared.ops.ExportOp.the-variants.{Open, Porti
 
 -- the lent rows of an export, as lists of words
 abbrev pub ExportedRows : Type 0
-ExportedRows = List (List ℕ)
-
--- A row is an address, a value and an owner; of each word as many bits count as that has, so that every word has a meaning.
-abbrev pub exportRow : List ℕ → Row Payload
-exportRow ws = row (getD ws 0 0 % addresses) (record { value = getD ws 1 0 % 2 ^ 64; owner = getD ws 2 0 % owners })
-
--- the first so many records
-abbrev pub exportedIn : ExportedRows → ℕ → List (Row Payload)
-exportedIn rows n = firstRows exportRow rows n
+ExportedRows = CopyRows
 
 -- the export if it is open, else none
 unfoldable pub exportIn : ExportedRows → Export → Option model.Export
-exportIn rows x = pick (x .open) (some (record { records = exportedIn rows (x .count); taken = x .taken })) none
+exportIn rows x = pick (x .open) (some (record { records = copiedIn rows (x .count); taken = x .taken })) none
 
 -- There is room for its records, no more are taken than there are, and one that is not open has none.
 pub record ExportHeld (x : Export) : Type 0 where

@@ -15,9 +15,10 @@ use Rattle.spec.specs.Files.{littleEndian, addressBytes, entrySize, entryBytes,
 use Rattle.laws.specs.FileLaws.{length-number}
 use Rattle.sets.specs.SetLaws.{length-rows, rows-none, rows-snoc}
 use Rattle.buffers.specs.Buffers.{Unmoved}
-use Rattle.exports.specs.declared.rows.ExportRecord.{ExportRecord}
-use Rattle.exports.specs.Exporting.{ExportedRows, exportRow, exportedIn}
-use Rattle.exports.specs.RowLaws.{rowOf}
+use Rattle.contents.specs.declared.rows.CopiedRecord.{CopiedRecord}
+use Rattle.contents.specs.Copies.{copyRow, copiedIn}
+use Rattle.contents.specs.RowLaws.{rowOf}
+use Rattle.exports.specs.Exporting.{ExportedRows}
 
 -- ---- numbers
 
@@ -90,7 +91,7 @@ entries-each = record { none = (unfold entryBytes in refl); more = entries-more;
 
 -- those of the first i records are put, so many bytes each
 pub record Putting (bytes : List (Row Payload) → List ℕ) (width : ℕ) (rows : ExportedRows) (old : List ℕ) (at i : ℕ) (new : List ℕ) (place : ℕ) : Type 0 where
-  pub wrote : Wrote old at (bytes (exportedIn rows i)) new place
+  pub wrote : Wrote old at (bytes (copiedIn rows i)) new place
   pub place-is : place ≡ at + width * i
 
 module _ {bytes : List (Row Payload) → List ℕ} {one : Row Payload → List ℕ} {width : ℕ} (h : EachPut bytes one width) (rows : ExportedRows) where
@@ -98,12 +99,12 @@ module _ {bytes : List (Row Payload) → List ℕ} {one : Row Payload → List �
   putting-none old at l =
       record {
         wrote =
-            wrote-as (sym (ap bytes (rows-none exportRow rows) ∙ h .none)) (record { written = refl; within = omega arith; place = omega arith });
+            wrote-as (sym (ap bytes (rows-none copyRow rows) ∙ h .none)) (record { written = refl; within = omega arith; place = omega arith });
         place-is = omega arith;
       }
 
-  pub putting-on : {old mid new : List ℕ} {at i place next : ℕ} {r : ExportRecord} → Putting bytes width rows old at i mid place
-      → rowOf r ≡ exportRow (getD rows i []) → Wrote mid place (one (rowOf r)) new next → Putting bytes width rows old at (i + 1) new next
+  pub putting-on : {old mid new : List ℕ} {at i place next : ℕ} {r : CopiedRecord} → Putting bytes width rows old at i mid place
+      → rowOf r ≡ copyRow (getD rows i []) → Wrote mid place (one (rowOf r)) new next → Putting bytes width rows old at (i + 1) new next
   putting-on {old} {mid} {new} {at} {i} {place} {next} {r} p e w =
       let s : i + 1 ≡ suc i = omega arith in
       let q : place ≡ at + width * i = p .place-is in
@@ -112,10 +113,10 @@ module _ {bytes : List (Row Payload) → List ℕ} {one : Row Payload → List �
       record {
         wrote =
             wrote-as
-            (sym (h .more (exportedIn rows i) (rowOf r))
-            ∙ ap (λ (x : Row Payload). bytes (exportedIn rows i ++ (x ∷ []))) e
-            ∙ ap bytes (sym (rows-snoc exportRow rows i))
-            ∙ ap (λ (k : ℕ). bytes (exportedIn rows k)) (sym s))
+            (sym (h .more (copiedIn rows i) (rowOf r))
+            ∙ ap (λ (x : Row Payload). bytes (copiedIn rows i ++ (x ∷ []))) e
+            ∙ ap bytes (sym (rows-snoc copyRow rows i))
+            ∙ ap (λ (k : ℕ). bytes (copiedIn rows k)) (sym s))
             (wrote-join (p .wrote) w);
         place-is = z ∙ (λ j. q j + l j) ∙ (let t : at + width * i + width ≡ at + width * (i + 1) = omega arith in t);
       }
@@ -129,16 +130,16 @@ putting-end {bytes} {width} {rows} {old} {new} {at} {i} {n} {place} p l g =
 
 -- the file, of its four parts
 pub file-put : (rows : ExportedRows) (n : ℕ) {a b c d e : List ℕ} {i j k l : ℕ} → Wrote a 0 (littleEndian 4 n) b i → Wrote b i (littleEndian 4 entrySize) c j
-    → Putting addressBytes addressSize rows c j n d k → Putting entryBytes entrySize rows d k n e l → Wrote a 0 (fileOf (exportedIn rows n)) e l
+    → Putting addressBytes addressSize rows c j n d k → Putting entryBytes entrySize rows d k n e l → Wrote a 0 (fileOf (copiedIn rows n)) e l
 unfolding fileOf littleEndian addressBytes entryBytes
 file-put rows n {a} {b} {c} {d} {e} {i} {j} {k} {l} p q r s =
-    let rs = exportedIn rows n in
+    let rs = copiedIn rows n in
     let x = littleEndian 4 n in
     let y = littleEndian 4 entrySize in
     wrote-as
     (append-assoc (x ++ y) (addressBytes rs) (entryBytes rs)
     ∙ append-assoc x y (addressBytes rs ++ entryBytes rs)
-    ∙ ap (λ (m : ℕ). littleEndian 4 m ++ y ++ addressBytes rs ++ entryBytes rs) (sym (length-rows exportRow rows n)))
+    ∙ ap (λ (m : ℕ). littleEndian 4 m ++ y ++ addressBytes rs ++ entryBytes rs) (sym (length-rows copyRow rows n)))
     (wrote-join (wrote-join (wrote-join p q) (r .wrote)) (s .wrote))
 
 -- a text that is written from the first byte on: the first bytes are it, and all others stay

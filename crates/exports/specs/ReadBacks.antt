@@ -20,24 +20,25 @@ use Rattle.spec.specs.Exports as model
 use Rattle.laws.specs.FileLaws.{FileFits, AllFit, none-fit, more-fit, file-parsed}
 use Rattle.sets.specs.Sets.{firstRows}
 use Rattle.sets.specs.SetLaws.{length-rows}
+use Rattle.contents.specs.Copies.{copyRow, copiedIn}
 use Rattle.buffers.specs.Buffers.{Buffers}
 use Rattle.exports.specs.declared.Export.{Export}
 use Rattle.exports.specs.declared.ExportAnswer.{ExportAnswer}
 use Rattle.exports.specs.declared.ExportAnswer.the-variants.{Filed}
 use Rattle.exports.specs.declared.ExportDone.{ExportDone}
-use Rattle.exports.specs.Exporting.{ExportedRows, exportRow, exportedIn, exportIn, ExportHeld, space, exportAnswerIn, ExportStepped}
+use Rattle.exports.specs.Exporting.{ExportedRows, exportIn, ExportHeld, space, exportAnswerIn, ExportStepped}
 
 -- ---- the records of an export fit a file
 
-row-fits : (ws : List ℕ) → FileFits (exportRow ws)
+row-fits : (ws : List ℕ) → FileFits (copyRow ws)
 row-fits ws = record { address = omega arith; value = omega arith; owner = omega arith }
 
-fit-from : (rows : ExportedRows) (i n : ℕ) → AllFit (tabFrom (λ (i : ℕ). exportRow (getD rows i [])) i n)
+fit-from : (rows : ExportedRows) (i n : ℕ) → AllFit (tabFrom (λ (i : ℕ). copyRow (getD rows i [])) i n)
 unfolding tabFrom
 fit-from rows i zero = none-fit
 fit-from rows i (suc n) = more-fit (row-fits (getD rows i [])) (fit-from rows (suc i) n)
 
-exported-fit : (rows : ExportedRows) (n : ℕ) → AllFit (exportedIn rows n)
+exported-fit : (rows : ExportedRows) (n : ℕ) → AllFit (copiedIn rows n)
 unfolding firstRows tab
 exported-fit rows n = fit-from rows 0 n
 
@@ -50,9 +51,9 @@ fileable : (rows : ExportedRows) (x : Export) → ExportHeld x → Fileable (mod
 unfolding exportIn model.exportOf
 fileable rows x h = by-cases (x .open)
   where
-    by-cases : (b : Bool) → Fileable (model.exportOf (pick b (some (record { records = exportedIn rows (x .count); taken = x .taken })) none) .records)
+    by-cases : (b : Bool) → Fileable (model.exportOf (pick b (some (record { records = copiedIn rows (x .count); taken = x .taken })) none) .records)
     by-cases true =
-        let l : length (exportedIn rows (x .count)) ≡ x .count = length-rows exportRow rows (x .count) in
+        let l : length (copiedIn rows (x .count)) ≡ x .count = length-rows copyRow rows (x .count) in
         let r : x .count ≤ limits .mapLimit = h .room in
         record { fit = exported-fit rows (x .count); few = omega arith }
     by-cases false = record { fit = none-fit; few = omega arith }

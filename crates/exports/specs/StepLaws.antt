@@ -20,21 +20,22 @@ use Rattle.spec.specs.Steps.{Places, shortest, firstCause}
 use Rattle.spec.specs.Files.{entrySize, fileOf, fileSize}
 use Rattle.spec.specs.Exports as model
 use Rattle.sets.specs.SetLaws.{length-rows}
+use Rattle.contents.specs.Copies.{copyRow, copiedIn, Copied}
 use Rattle.buffers.specs.Buffers.{Buffers, rowsIn, Unmoved, Beyond, placesOf}
 use Rattle.buffers.specs.BufferLaws.{length-rows as places-count, unmoved-refl, beyond-refl}
 use Rattle.exports.specs.declared.Export.{Export}
 use Rattle.exports.specs.declared.ExportAnswer.the-variants.{Opened, Given, Filed, Closed, Refused}
 use Rattle.exports.specs.declared.ExportDone.{ExportDone}
-use Rattle.exports.specs.Exporting.{ExportedRows, exportRow, exportedIn, exportIn, ExportHeld, Space, space, exportAnswerIn, placesWritten, bytesWritten, placesWanted, bytesWanted, ExportStepped}
+use Rattle.exports.specs.Exporting.{ExportedRows, exportIn, ExportHeld, Space, space, exportAnswerIn, placesWritten, bytesWritten, placesWanted, bytesWanted, ExportStepped}
 use Rattle.exports.specs.RowLaws.{part-rows}
-use Rattle.exports.specs.CopyLaws.{Copied, GiveRoom, Gives}
+use Rattle.exports.specs.CopyLaws.{GiveRoom, Gives}
 use Rattle.exports.specs.FilePuts.{first-bytes, bytes-stay}
 
 -- ---- open or not
 
 -- the export, if it is open
 abbrev openIn : ExportedRows → Export → model.Export
-openIn rows x = record { records = exportedIn rows (x .count); taken = x .taken }
+openIn rows x = record { records = copiedIn rows (x .count); taken = x .taken }
 
 none-in : (rows : ExportedRows) (x : Export) → x .open ≡ false → exportIn rows x ≡ none
 unfolding exportIn
@@ -130,14 +131,14 @@ module _ (contents : List (Row Record)) (rows : ExportedRows) (x : Export) where
     pub no-close : x .open ≡ false → ExportStepped contents model.closeExport rows x s rows (record { export = x; answer = Refused NoExport }) s
     no-close e = declines contents model.closeExport rows x none (none-in rows x e) NoExport s h close-refused
 
-  size-of : fileSize (exportedIn rows (x .count)) ≡ 8 + (addressSize + entrySize) * x .count
+  size-of : fileSize (copiedIn rows (x .count)) ≡ 8 + (addressSize + entrySize) * x .count
   unfolding fileSize
-  size-of = ap (λ (n : ℕ). 8 + (addressSize + entrySize) * n) (length-rows exportRow rows (x .count))
+  size-of = ap (λ (n : ℕ). 8 + (addressSize + entrySize) * n) (length-rows copyRow rows (x .count))
 
   pub file-short : (s : Space) (n : ℕ) → ExportHeld x → x .open ≡ true → n < 8 + (addressSize + entrySize) * x .count
       → ExportStepped contents (model.file n) rows x s rows (record { export = x; answer = Refused ShortBuffer }) s
   file-short s n h e l =
-      let z : fileSize (exportedIn rows (x .count)) ≡ 8 + (addressSize + entrySize) * x .count = size-of in
+      let z : fileSize (copiedIn rows (x .count)) ≡ 8 + (addressSize + entrySize) * x .count = size-of in
       declines contents (model.file n) rows x (some (openIn rows x)) (open-in rows x e) ShortBuffer s h
       (file-tested (openIn rows x) n true (less-yes (omega arith)))
 
@@ -173,11 +174,11 @@ module _ (contents : List (Row Record)) (rows : ExportedRows) (x : Export) where
       zero-le
       zero-le
 
-  pub files : {bs bs' : List ℕ} {n : ℕ} (b : Buffers) → ExportHeld x → x .open ≡ true → 8 + (addressSize + entrySize) * x .count ≤ length bs → Wrote bs 0 (fileOf (exportedIn rows (x .count))) bs' n
+  pub files : {bs bs' : List ℕ} {n : ℕ} (b : Buffers) → ExportHeld x → x .open ≡ true → 8 + (addressSize + entrySize) * x .count ≤ length bs → Wrote bs 0 (fileOf (copiedIn rows (x .count))) bs' n
       → ExportStepped contents (model.file (length bs)) rows x (space b bs) rows (record { export = x; answer = Filed n }) (space b bs')
   unfolding exportAnswerIn placesWritten bytesWritten bytesWanted model.exportGranted model.exportEffect model.exportOf
   files {bs} {bs'} {n} b h e l w =
-      let z : fileSize (exportedIn rows (x .count)) ≡ 8 + (addressSize + entrySize) * x .count = size-of in
+      let z : fileSize (copiedIn rows (x .count)) ≡ 8 + (addressSize + entrySize) * x .count = size-of in
       grants contents (model.file (length bs)) rows x (some (openIn rows x)) (open-in rows x e) {s = space b bs} {s' = space b bs'} {rows' = rows}
       (file-tested (openIn rows x) (length bs) false (less-no (omega arith)))
       h
@@ -186,8 +187,8 @@ module _ (contents : List (Row Record)) (rows : ExportedRows) (x : Export) where
       (beyond-refl 0 b)
       (bytes-stay w)
       zero-le
-      (let p : n ≡ 0 + length (fileOf (exportedIn rows (x .count))) = w .place in
-      let i : 0 + length (fileOf (exportedIn rows (x .count))) ≤ length bs = w .within in
+      (let p : n ≡ 0 + length (fileOf (copiedIn rows (x .count))) = w .place in
+      let i : 0 + length (fileOf (copiedIn rows (x .count))) ≤ length bs = w .within in
       omega arith)
 
 -- ---- a portion
@@ -218,12 +219,12 @@ module _ (x : Export) (h : ExportHeld x) {b : Buffers} {n : ℕ} (m : n ≡ min 
     portion-is : rowsIn n c ≡ model.portionOf (openIn rows x) (placesOf b)
     portion-is =
         let w : x .taken ≤ x .count = h .within in
-        let l : length (exportedIn rows (x .count)) ≡ x .count = length-rows exportRow rows (x .count) in
-        let d : length (drop (x .taken) (exportedIn rows (x .count))) ≡ length (exportedIn rows (x .count)) - x .taken = length-drop (x .taken) (exportedIn rows (x .count)) in
+        let l : length (copiedIn rows (x .count)) ≡ x .count = length-rows copyRow rows (x .count) in
+        let d : length (drop (x .taken) (copiedIn rows (x .count))) ≡ length (copiedIn rows (x .count)) - x .taken = length-drop (x .taken) (copiedIn rows (x .count)) in
         let i : x .taken + n ≤ x .count = omega arith in
         g .rows-are
         ∙ part-rows rows (x .taken) n (x .count) i
-        ∙ sym (take-least (shortest (placesOf b)) n (drop (x .taken) (exportedIn rows (x .count))) (let q : n ≡ min (length (drop (x .taken) (exportedIn rows (x .count)))) (shortest (placesOf b)) = m ∙ ap (λ (k : ℕ). min k (shortest (placesOf b))) (sym (d ∙ ap (λ (k : ℕ). k - x .taken) l)) in q))
+        ∙ sym (take-least (shortest (placesOf b)) n (drop (x .taken) (copiedIn rows (x .count))) (let q : n ≡ min (length (drop (x .taken) (copiedIn rows (x .count)))) (shortest (placesOf b)) = m ∙ ap (λ (k : ℕ). min k (shortest (placesOf b))) (sym (d ∙ ap (λ (k : ℕ). k - x .taken) l)) in q))
 
     pub gives : ExportStepped contents (model.portion (placesOf b)) rows x (space b bs) rows
         (record { export = record { «open» = true; count = x .count; taken = x .taken + n }; answer = Given n (x .count - x .taken - n) }) (space c bs)
@@ -232,15 +233,15 @@ module _ (x : Export) (h : ExportHeld x) {b : Buffers} {n : ℕ} (m : n ≡ min 
         let w : x .taken ≤ x .count = h .within in
         let r : x .count ≤ limits .mapLimit = h .room in
         let k : length (model.portionOf (openIn rows x) (placesOf b)) ≡ n = sym (ap length portion-is) ∙ places-count n c in
-        let l : length (exportedIn rows (x .count)) ≡ x .count = length-rows exportRow rows (x .count) in
+        let l : length (copiedIn rows (x .count)) ≡ x .count = length-rows copyRow rows (x .count) in
         let left : x .count - x .taken - n ≡ length (model.remaining (model.afterPortion (openIn rows x) (placesOf b)))
         = (let q : x .count - x .taken - n ≡ x .count - (x .taken + n) = omega arith in q)
-        ∙ sym (length-drop (x .taken + length (model.portionOf (openIn rows x) (placesOf b))) (exportedIn rows (x .count)) ∙ (λ i. l i - (x .taken + k i))) in
+        ∙ sym (length-drop (x .taken + length (model.portionOf (openIn rows x) (placesOf b))) (copiedIn rows (x .count)) ∙ (λ i. l i - (x .taken + k i))) in
         grants contents (model.portion (placesOf b)) rows x (some (openIn rows x)) (open-in rows x e) {s = space b bs} {s' = space c bs} {rows' = rows}
         refl
         (record { room = r; within = omega arith; none-closed = λ o. clash refl o })
         (λ i. model.given (portion-is i) (left i))
-        (ap (λ (j : ℕ). some (record { records = exportedIn rows (x .count); taken = x .taken + j })) (sym k))
+        (ap (λ (j : ℕ). some (record { records = copiedIn rows (x .count); taken = x .taken + j })) (sym k))
         (g .beyond)
         (unmoved-refl 0 bs)
         (omega arith)

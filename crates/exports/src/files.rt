@@ -1,8 +1,8 @@
 // The file of an export, put into lent bytes: numbers with the lowest byte first. Each function answers the place after what
 // it put.
 use crate::Exported;
-use crate::rows;
-use crate::rows::ExportRecord;
+use contents::rows;
+use contents::rows::CopiedRecord;
 use spec::ADDRESS_BYTES;
 use spec::Address;
 ghost use mathlib.Core.List.{[], _∷_};
@@ -12,8 +12,8 @@ ghost use Rattle.lists.specs.Texts.{Wrote};
 ghost use Rattle.spec.specs.Widths.{addressSize};
 ghost use Rattle.spec.specs.Records.{limits};
 ghost use Rattle.spec.specs.Files.{littleEndian, addressBytes, entrySize, entryBytes, fileOf};
-ghost use Rattle.exports.specs.Exporting.{exportedIn};
-ghost use Rattle.exports.specs.RowLaws.{rowOf};
+ghost use Rattle.contents.specs.Copies.{copiedIn};
+ghost use Rattle.contents.specs.RowLaws.{rowOf};
 ghost use Rattle.exports.specs.FilePuts.{oneEntry, Putting};
 
 // How many bytes the two numbers before the arrays have, an entry, which is a value and an owner, and a record.
@@ -60,7 +60,7 @@ fn put_eight(out: &mut [u8], at: usize, n: u64) -> usize
 }
 
 // The entry of a record.
-fn put_entry(out: &mut [u8], at: usize, r: ExportRecord) -> usize
+fn put_entry(out: &mut [u8], at: usize, r: CopiedRecord) -> usize
     requires { ⌜ at + entrySize ≤ length (now out) ⌝ }
     ensures { λ next. ⌜ Wrote (now (out .entry)) at (oneEntry (rowOf r)) (now (out .exit)) next ⌝ }
 {
@@ -112,7 +112,7 @@ fn put_entries(out: &mut [u8], at: usize, exported: &Exported, n: usize) -> usiz
 pub fn put_file(out: &mut [u8], exported: &Exported, n: usize) -> usize
     requires { ⌜ 8 + (addressSize + entrySize) * n ≤ length (now out) ⌝ }
     requires { ⌜ n ≤ limits .mapLimit ⌝ }
-    ensures { λ r. ⌜ Wrote (now (out .entry)) 0 (fileOf (exportedIn (now (exported .entry)) n)) (now (out .exit)) r ⌝ }
+    ensures { λ r. ⌜ Wrote (now (out .entry)) 0 (fileOf (copiedIn (now (exported .entry)) n)) (now (out .exit)) r ⌝ }
 {
     let size = put_four(out, 0, n as u64);
     let addresses = put_four(out, size, ENTRY_BYTES as u64);

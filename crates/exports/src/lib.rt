@@ -1,12 +1,11 @@
 // Request 107: an export beside the map. It is the contents at its opening, copied to an array that the caller lends, with
 // two numbers by value: how many records it has, and how many of them portions have given. No job touches it.
 //
-// `rows` reads and writes its words, and nothing else touches them; `copies` fills the array, and the buffers of a portion;
-// `files` writes the file. `ops` takes any step as one operation.
+// Crate `contents` fills the array and reads it; `copies` fills the buffers of a portion; `files` writes the file. `ops` takes
+// any step as one operation.
 use map::Records;
 use map::Slots;
 use spec::Address;
-use spec::MAP_LIMIT;
 use spec::Refusal;
 ghost use mathlib.Core.Path.{_≡_};
 ghost use mathlib.Core.List.{List};
@@ -24,13 +23,9 @@ ghost use Rattle.exports.specs.Exporting.{ExportedRows, exportIn, Export
 mod copies;
 mod files;
 pub mod ops;
-mod rows;
-
-// How many words a record of an export has: its address, its value, its owner.
-pub const EXPORT_WORDS: usize = 3;
 
 // The records of an export, a row each.
-pub type Exported = [[u64; EXPORT_WORDS]; MAP_LIMIT];
+pub type Exported = contents::CopyRows;
 
 // Whether an export is open, how many records it has, and how many of them portions have given.
 pub struct Export {
@@ -86,7 +81,7 @@ pub fn open_export(
             answer: ExportAnswer::Refused(Refusal::ExportOpen),
         };
     }
-    let count = copies::copy_contents(exported, rows, slots, n);
+    let count = contents::copy_contents(exported, rows, slots, n);
     let export = Export {
         open: true,
         count,

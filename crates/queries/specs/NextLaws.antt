@@ -1,44 +1,46 @@
--- The contents one after the other: what no candidate holds, what the first candidate holds, and how a count goes on.
-use Prim.Native.Nat.{ℕ, suc, _+_, _<_, _≤_, zero-le, suc-le-suc, min}
+-- The contents one after the other: what no candidate holds, and what the first candidate holds.
+use Prim.Native.Nat.{ℕ, suc, _+_, _^_, _<_, _≤_, zero-le, suc-le-suc, min}
 use native.Mathlib.Nat.{le-refl, le-trans, not-suc-le-zero}
 use native.Mathlib.Omega.{arith}
 use mathlib.Core.Path.{_≡_, refl, sym, ap, _∙_, subst}
-use mathlib.Core.Logic.{⊎-elim}
-use mathlib.Core.Bool.{Bool, true, false}
+use mathlib.Core.Logic.{inl, inr, ⊎-elim}
+use mathlib.Core.Bool.{Bool, true, false, not}
 use mathlib.Core.List.{List, [], _∷_}
-use mathlib.Core.Option.{none, some}
+use mathlib.Core.Option.{Option, none, some}
 use lib.ListN.{length, getD}
-use Rattle.lists.specs.Tests.{pick, maybe, same, less}
+use lib.Count.{trailingZeros}
+use Rattle.lists.specs.Tests.{pick, maybe, present, same, less}
 use Rattle.lists.specs.TestLaws.{cases, clash, same-true, same-false, less-true, less-false}
 use Rattle.lists.specs.Rows.{Row, row, look, From, Rising}
 use Rattle.lists.specs.RowLaws.{look-here, look-there, look-low, look-nil}
 use Rattle.lists.specs.Options.{both-options, some-same}
 use Rattle.lists.specs.Places.{place}
 use Rattle.spec.specs.Widths.{addressSize}
-use Rattle.spec.specs.declared.PayloadWords.{PayloadWords}
 use Rattle.spec.specs.Records.{Record}
 use Rattle.spec.specs.Leaves.{Leaf}
-use Rattle.spec.specs.Slots.{slotCount, Content, isIdle, Slot, entries, kept}
+use Rattle.spec.specs.Slots.{slotCount, Content, isIdle, Slot, emptySlot, vacant, entries, kept}
 use Rattle.spec.specs.Maps.{outcomeOf, current, contents}
-use Rattle.laws.specs.SlotCounts.{entryAt, Place, lookup}
+use Rattle.laws.specs.SlotCounts.{Place, lookup}
 use Rattle.laws.specs.SlotLaws.{content-none, kept-entry}
 use Rattle.laws.specs.ContentLaws.{look-contents, rising-contents}
 use Rattle.indexlet.specs.declared.Slot.{Slot as SlotWords}
 use Rattle.indexlet.specs.Words.{contentIn, slotIn, slotsOf}
 use Rattle.indexlet.specs.Words as words
 use Rattle.indexlet.specs.WordLaws.{slots-at}
+use Rattle.indexlet.specs.Bits.{rest}
+use Rattle.indexlet.specs.Bitmaps.{wordEnd, BitsFrom, Unseen}
+use Rattle.indexlet.specs.BitmapLaws.{unseen-start, unseen-end, unseen-on}
 use Rattle.indexlet.specs.Promises as indexlet
 use Rattle.index.specs.declared.rows.RecordRow.{RecordRow}
 use Rattle.index.specs.Views.{recordFrom, rowOf, noRow, rowAt, recordsOf, RecordsSorted}
 use Rattle.index.specs.RecordPlaces.{AtPlace}
 use Rattle.index.specs.ViewLaws.{length-records, record-at}
 use Rattle.spec.specs.declared.Current.{Current}
-use Rattle.queries.specs.declared.Next.{Next}
 use Rattle.queries.specs.declared.Next.the-variants.{At, Done}
 use Rattle.queries.specs.QueryViews.{mapWith, Sees}
-use Rattle.queries.specs.NextViews.{end, rowsFrom, nextIn, Follows, Numbers, IndexFrom, SlotFrom, Nearer, Walked, Passed, Counted}
+use Rattle.queries.specs.NextViews.{end, Follows, IndexFrom, SlotFrom, Nearer, NoNearer, Walked, Passed}
 use Rattle.queries.specs.Contents.{firstFrom}
-use Rattle.queries.specs.ContentsLaws.{below, here, all-from, next-row, no-row}
+use Rattle.queries.specs.ContentsLaws.{below, here}
 use Rattle.map.specs.Views.{SlotRows, RecordRows}
 use Rattle.map.specs.Parts.{RecordsHeld}
 
@@ -140,44 +142,53 @@ slot-entry : (s : SlotWords) → slotIn s .entry ≡ kept (s .key) (contentIn (s
 unfolding slotIn
 slot-entry s = refl
 
-module _ (s : SlotWords) (from best : ℕ) where
-  -- an entry of the row has the row's key, and says something
-  of-row : (e : Row Content) → slotIn s .entry ≡ some e → (isIdle (contentIn (s .content)) ≡ false) × (s .key ≡ e .key)
-  of-row e q =
-      let r = kept-entry (s .key) (contentIn (s .content)) e (sym (slot-entry s) ∙ q) in
-      (r .0, ap (λ (x : Row Content). x .key) (r .1))
-
-  pub nearer-idle : isIdle (contentIn (s .content)) ≡ true → Nearer s from best best
-  nearer-idle t = record { most = le-refl best; low = λ h. h; clear = λ e q h. clash t (of-row e q .0) }
-
-  pub nearer-below : s .key < from → Nearer s from best best
-  nearer-below l =
-      record { most = le-refl best; low = λ h. h; clear = λ e q h. let k : s .key ≡ e .key = of-row e q .1 in absurd (omega arith) }
-
-  pub nearer-above : best ≤ s .key → Nearer s from best best
-  nearer-above l = record { most = le-refl best; low = λ h. h; clear = λ e q h. let k : s .key ≡ e .key = of-row e q .1 in omega arith }
-
-  pub nearer-here : from ≤ s .key → s .key < best → Nearer s from best (s .key)
-  nearer-here l g =
-      record { most = omega arith; low = λ h. l; clear = λ e q h. let k : s .key ≡ e .key = of-row e q .1 in omega arith }
+-- an entry of the row has the row's key, and says something
+of-row : (s : SlotWords) (e : Row Content) → slotIn s .entry ≡ some e → (isIdle (contentIn (s .content)) ≡ false) × (s .key ≡ e .key)
+of-row s e q =
+    let r = kept-entry (s .key) (contentIn (s .content)) e (sym (slot-entry s) ∙ q) in
+    (r .0, ap (λ (x : Row Content). x .key) (r .1))
 
 module _ (slots : SlotRows) (from : ℕ) where
   pub walked-start : from ≤ end → Walked slots from 0 end
-  walked-start h = record { low = h; clear = λ j e q. absurd (not-suc-le-zero q) }
+  walked-start h = record { low = h; clear = λ j q. absurd (not-suc-le-zero q) }
 
-  pub walked-on : (i best r : ℕ) (s : SlotWords) → Walked slots from i best → indexlet.IsSlot slots i s → Nearer s from best r → Walked slots from (i + 1) r
-  walked-on i best r s w d x =
+  -- an empty slot has no entry
+  empty-none : (best j : ℕ) → vacant (getD (slotsOf slots) j emptySlot) ≡ true → NoNearer slots from best j
+  unfolding vacant
+  empty-none best j t e q h = clash t (ap (λ (o : Option (Row Content)). not (present o)) q)
+
+  -- the slots of a word: those whose bits are left, and the others, which have no nearer entry
+  pub word-start : (best next w : ℕ) → BitsFrom false slots next w → next < slotCount → w < 2 ^ 64 → Unseen (NoNearer slots from best) next w
+  word-start best next w b h f = unseen-start w b h f (λ i l t. empty-none best i t)
+
+  module _ (next best r w : ℕ) (s : SlotWords) (k : Walked slots from next best) (u : Unseen (NoNearer slots from best) next w) (x : Nearer (s .key) from best r) where
+    -- what was nearer is nearer than the one before
+    on : (j : ℕ) → NoNearer slots from best j → NoNearer slots from r j
+    on j f e q h = le-trans (x .most) (f e q h)
+
+    nearer-left : Unseen (NoNearer slots from r) next w
+    nearer-left = record { left = λ i a b. ⊎-elim inl (λ p. inr (on i p)) (u .left i a b); inside = u .inside; fits = u .fits }
+
+    -- the slot of the lowest bit is passed
+    pub word-on : (v j : ℕ) → 0 < w → v ≡ rest w → j ≡ next + trailingZeros 64 w → indexlet.IsSlot slots j s
+        → (Walked slots from next r) × (Unseen (NoNearer slots from r) next v)
+    word-on v j o p q d = (
+      record { low = x .low (k .low); clear = λ i h. on i (k .clear i h) },
+      unseen-on w o nearer-left v j p q
+          (λ e g h. let a : s .key ≡ e .key = of-row s e (ap (λ (y : Slot). y .entry) (d .slot) ∙ g) .1 in
+          let b : from ≤ s .key → r ≤ s .key = x .clear in
+          omega (arith, b (omega arith))),
+    )
+
+  pub word-end : (next best w : ℕ) → w ≡ 0 → Walked slots from next best → Unseen (NoNearer slots from best) next w → Walked slots from (wordEnd next) best
+  word-end next best w e k u =
       record {
-        low = x .low (w .low);
-        clear = λ j e q g h.
-            ⊎-elim
-            (λ t. x .clear e (ap (λ (y : Slot). y .entry) (d .slot) ∙ ap (entryAt (slotsOf slots)) (sym (same-true j i t)) ∙ g) h)
-            (λ t. let n : j ≡ i → ⊥ = same-false j i t in
-            let a : best ≤ e .key = w .clear j e (omega arith) g h in
-            let b : r ≤ best = x .most in
-            omega arith)
-            (cases (same j i));
+        low = k .low;
+        clear = λ j q. ⊎-elim (λ t. k .clear j (less-true j next t)) (λ t. unseen-end w e u j (less-false j next t) q) (cases (less j next));
       }
+
+  pub walked-as : {i j best : ℕ} → j ≡ i → Walked slots from i best → Walked slots from j best
+  walked-as {i} {j} {best} e k = subst (λ (n : ℕ). Walked slots from n best) (sym e) k
 
   pub walked-end : (best i : ℕ) → indexlet.SlotsHeld slots → slotCount ≤ i → Walked slots from i best → SlotFrom slots from best
   walked-end best i held l w =
@@ -195,7 +206,7 @@ module _ (slots : SlotRows) (from : ℕ) where
           let z : length (slotsOf slots) ≡ slotCount = held .good .size in
           let a : p .at < length (slotsOf slots) = p .inside in
           let o : p .content .key ≡ k = p .own in
-          let b : best ≤ p .content .key = w .clear (p .at) (p .content) (omega arith) (p .here) (omega arith) in
+          let b : best ≤ p .content .key = w .clear (p .at) (omega arith) (p .content) (p .here) (omega arith) in
           omega arith
 
 -- ---- what the map has
@@ -227,7 +238,7 @@ module _ (rows : RecordRows) (n : ℕ) (slots : SlotRows) where
             let z : length (slotsOf slots) ≡ slotCount = sound .good .size in
             let a : p .at < length (slotsOf slots) = p .inside in
             let i : p .at < slotCount = omega arith in
-            let r = of-row (words.rowAt slots (p .at)) 0 0 (p .content) (sym (ap (λ (y : Slot). y .entry) (slots-at slots (p .at) i)) ∙ p .here) in
+            let r = of-row (words.rowAt slots (p .at)) (p .content) (sym (ap (λ (y : Slot). y .entry) (slots-at slots (p .at) i)) ∙ p .here) in
             let o : p .content .key ≡ k = p .own in
             let b : words.rowAt slots (p .at) .key < end = sound .sized .narrow (p .at) i (r .0) in
             let c : words.rowAt slots (p .at) .key ≡ p .content .key = r .1 in
@@ -293,53 +304,3 @@ module _ (rows : RecordRows) (n : ℕ) (slots : SlotRows) where
               (look-all ls c ∙ sym (s .record-is ls) ∙ ap (λ (b : Bool). pick b (some (recordFrom (r .payload) (r .commit))) none) e)
               (λ i g h. look-all ls i ∙ p .clear i g h ls));
         }
-
-    -- ---- how many there are
-
-    pub counted-start : Counted rows n slots 0 0
-    counted-start =
-        record {
-          small = le-refl 0;
-          rest = λ ls.
-              (let z : 0 + length (rowsFrom 0 (contents (mapWith rows n slots ls))) ≡ length (rowsFrom 0 (contents (mapWith rows n slots ls))) = omega arith in z)
-              ∙ ap (λ (rs : List (Row Record)). length rs) (all-from 0 0 (contents (mapWith rows n slots ls)) (rising-all ls) (le-refl 0));
-        }
-
-    -- the next record, and how many there are after it
-    step : (k : ℕ) (r : Next) (a : ℕ) (v : PayloadWords) (u : ℕ) → Follows rows n slots k r → r ≡ At a v u → (ls : List Leaf)
-        → (length (rowsFrom k (contents (mapWith rows n slots ls))) ≡ suc (length (rowsFrom (suc a) (contents (mapWith rows n slots ls))))) × (k ≤ a)
-    step k r a v u f e ls =
-        let p = next-row k 0 (contents (mapWith rows n slots ls)) (row a (recordFrom v u)) (rising-all ls) (sym (f .next-is ls) ∙ ap nextIn e) in
-        (ap (λ (rs : List (Row Record)). length rs) (p .0), p .1)
-
-    pub next-above : (k : ℕ) (r : Next) (a : ℕ) (v : PayloadWords) (u : ℕ) → Follows rows n slots k r → r ≡ At a v u → k ≤ a
-    next-above k r a v u f e = step k r a v u f e [] .1
-
-    pub counted-on : (k count : ℕ) (r : Next) (a : ℕ) (v : PayloadWords) (u : ℕ) → Counted rows n slots k count → Follows rows n slots k r → r ≡ At a v u → Counted rows n slots (a + 1) (count + 1)
-    counted-on k count r a v u c f e =
-        record { small = (let q : k ≤ a = next-above k r a v u f e in let s : count ≤ k = c .small in omega arith); rest = λ ls. on ls }
-      where
-        on : (ls : List Leaf) → count + 1 + length (rowsFrom (a + 1) (contents (mapWith rows n slots ls))) ≡ length (contents (mapWith rows n slots ls))
-        on ls =
-            let x : count + length (rowsFrom k (contents (mapWith rows n slots ls))) ≡ length (contents (mapWith rows n slots ls)) = c .rest ls in
-            let y : length (rowsFrom k (contents (mapWith rows n slots ls))) ≡ suc (length (rowsFrom (suc a) (contents (mapWith rows n slots ls)))) = step k r a v u f e ls .0 in
-            let z : length (rowsFrom (a + 1) (contents (mapWith rows n slots ls))) ≡ length (rowsFrom (suc a) (contents (mapWith rows n slots ls)))
-            = ap (λ (i : ℕ). length (rowsFrom i (contents (mapWith rows n slots ls)))) (let w : a + 1 ≡ suc a = omega arith in w) in
-            omega arith
-
-    numbered : (k count : ℕ) → Counted rows n slots k count → ((ls : List Leaf) → firstFrom k (contents (mapWith rows n slots ls)) ≡ none) → Numbers rows n slots count
-    numbered k count c f =
-        record {
-          number-is = λ ls.
-              let x : count + length (rowsFrom k (contents (mapWith rows n slots ls))) ≡ length (contents (mapWith rows n slots ls)) = c .rest ls in
-              let y : length (rowsFrom k (contents (mapWith rows n slots ls))) ≡ 0 = ap (λ (rs : List (Row Record)). length rs) (no-row k (contents (mapWith rows n slots ls)) (f ls)) in
-              omega arith;
-        }
-
-    pub counted-done : (k count : ℕ) (r : Next) → Counted rows n slots k count → Follows rows n slots k r → r ≡ Done → Numbers rows n slots count
-    counted-done k count r c f e = numbered k count c (λ ls. sym (f .next-is ls) ∙ ap nextIn e)
-
-    pub counted-end : (k count : ℕ) → Counted rows n slots k count → end ≤ k → Numbers rows n slots count
-    counted-end k count c h =
-        numbered k count c
-        (λ ls. first-none k 0 (contents (mapWith rows n slots ls)) (rising-all ls) (λ j g. look-all ls j ∙ beyond j (le-trans h g) ls))

@@ -1,9 +1,8 @@
--- The contents one after the other: the first record from an address on, and how many there are.
-use Prim.Native.Nat.{ℕ, _+_, _<_, _≤_}
+-- The contents one after the other: the first record from an address on.
+use Prim.Native.Nat.{ℕ, _<_, _≤_}
 use mathlib.Core.Path.{_≡_}
 use mathlib.Core.List.{List, [], _∷_}
 use mathlib.Core.Option.{Option, none, some}
-use lib.ListN.{length}
 use Rattle.lists.specs.Tests.{pick, less}
 use Rattle.lists.specs.Rows.{Row, row, look}
 use Rattle.spec.specs.Widths.{addresses}
@@ -12,8 +11,7 @@ use Rattle.spec.specs.Leaves.{Leaf}
 use Rattle.spec.specs.Slots.{Content, entries}
 use Rattle.spec.specs.Maps.{current, contents}
 use Rattle.laws.specs.SlotCounts.{entryAt}
-use Rattle.indexlet.specs.declared.Slot.{Slot as SlotWords}
-use Rattle.indexlet.specs.Words.{slotIn, slotsOf}
+use Rattle.indexlet.specs.Words.{slotsOf}
 use Rattle.index.specs.Views.{recordFrom, recordsOf}
 use Rattle.queries.specs.declared.Next.{Next}
 use Rattle.queries.specs.declared.Next.the-variants.{At, Done}
@@ -38,10 +36,6 @@ nextIn Done = none
 pub record Follows (rows : RecordRows) (n : ℕ) (slots : SlotRows) (from : ℕ) (r : Next) : Type 0 where
   pub next-is : (ls : List Leaf) → nextIn r ≡ firstFrom from (contents (mapWith rows n slots ls))
 
--- r is how many records the contents have
-pub record Numbers (rows : RecordRows) (n : ℕ) (slots : SlotRows) (r : ℕ) : Type 0 where
-  pub number-is : (ls : List Leaf) → r ≡ length (contents (mapWith rows n slots ls))
-
 -- ---- candidates
 
 -- the index has no address from `from` up to, not including, r
@@ -54,24 +48,22 @@ pub record SlotFrom (slots : SlotRows) (from r : ℕ) : Type 0 where
   pub low : from ≤ r
   pub clear : (k : ℕ) → from ≤ k → k < r → look (entries (slotsOf slots)) k ≡ none
 
--- the same of the entry of one slot
-pub record Nearer (s : SlotWords) (from best r : ℕ) : Type 0 where
+-- r is the nearer of a key and the nearest so far, of those from `from` on
+pub record Nearer (key from best r : ℕ) : Type 0 where
   pub most : r ≤ best
   pub low : from ≤ best → from ≤ r
-  pub clear : (e : Row Content) → slotIn s .entry ≡ some e → from ≤ e .key → r ≤ e .key
+  pub clear : from ≤ key → r ≤ key
 
--- and of the entries of the first i slots
+-- slot j has no entry from `from` up to, not including, best
+abbrev pub NoNearer : SlotRows → ℕ → ℕ → ℕ → Type 0
+NoNearer slots from best j = (e : Row Content) → entryAt (slotsOf slots) j ≡ some e → from ≤ e .key → best ≤ e .key
+
+-- and none of the first i slots has one
 pub record Walked (slots : SlotRows) (from i best : ℕ) : Type 0 where
   pub low : from ≤ best
-  pub clear : (j : ℕ) (e : Row Content) → j < i → entryAt (slotsOf slots) j ≡ some e → from ≤ e .key → best ≤ e .key
+  pub clear : (j : ℕ) → j < i → NoNearer slots from best j
 
 -- no record stands from `from` up to, not including, k
 pub record Passed (rows : RecordRows) (n : ℕ) (slots : SlotRows) (from k : ℕ) : Type 0 where
   pub low : from ≤ k
   pub clear : (j : ℕ) → from ≤ j → j < k → (ls : List Leaf) → current (mapWith rows n slots ls) j ≡ none
-
--- `count` records stand below the address k
-pub record Counted (rows : RecordRows) (n : ℕ) (slots : SlotRows) (k count : ℕ) : Type 0 where
-  pub small : count ≤ k
-  pub rest : (ls : List Leaf)
-      → count + length (rowsFrom k (contents (mapWith rows n slots ls))) ≡ length (contents (mapWith rows n slots ls))

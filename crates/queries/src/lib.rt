@@ -18,9 +18,12 @@ use spec::Address;
 use spec::Current;
 use spec::PayloadWords;
 ghost use mathlib.Core.Path.{_≡_};
+ghost use mathlib.Core.Bool.{false};
 ghost use Prim.Native.Nat.{ℕ, _<_, _≤_, min};
+ghost use Rattle.spec.specs.Slots.{slotCount};
 ghost use Rattle.spec.specs.Maps.{phantomIn};
 ghost use Rattle.lists.specs.Tests.{pick};
+ghost use Rattle.indexlet.specs.Bitmaps.{wordEnd, BitsFrom};
 ghost use Rattle.indexlet.specs.Promises as indexlet;
 ghost use Rattle.index.specs.Views as index;
 ghost use Rattle.index.specs.LeafPlaces.{Listed};
@@ -29,7 +32,7 @@ ghost use Rattle.map.specs.Parts.{RecordsHeld, SlotsHeld, LeavesListed, LeafLis
 ghost use Rattle.sets.specs.Writes.{entryIn};
 ghost use Rattle.map.specs.WriteWalks.{Writing};
 ghost use Rattle.queries.specs.QueryViews.{Sees, SeesUnder, Examines, Spans, SeenAt, Meets, LeafAt, LoggedAt};
-ghost use Rattle.queries.specs.NextViews.{IndexFrom, Nearer, SlotFrom, Follows, Numbers};
+ghost use Rattle.queries.specs.NextViews.{IndexFrom, Nearer, Walked, SlotFrom, Follows};
 ghost use Rattle.queries.specs.PhantomViews.{Holding, Owns, Logged, ownPut, lockOnlyCount};
 
 // Places from one up to, not including, another.
@@ -305,35 +308,49 @@ fn index_from(rows: &Records, n: usize, from: Address) -> u64
     r.address
 }
 
-// The key of a slot with an entry, if it lies from `from` on and below `best`; else `best`.
-fn nearer(s: indexlet::Slot, from: u64, best: u64) -> u64
-    ensures { λ r. ⌜ Nearer s from best r ⌝ }
+// The key, if it lies from `from` on and below `best`; else `best`.
+fn nearer(key: u64, from: u64, best: u64) -> u64
+    ensures { λ r. ⌜ Nearer key from best r ⌝ }
 {
-    let c = s.content;
-    if indexlet::idle(c) {
+    if key < from {
         return best;
     }
-    if s.key < from {
+    if best <= key {
         return best;
     }
-    if best <= s.key {
-        return best;
-    }
-    s.key
+    key
 }
 
-// The first address from an address on of which the indexlet says something, or past all addresses if there is none.
+// The nearest key from `from` on: `best` is that of the slots before `next`, and from there on to the end of the word the slots
+// whose bits these are have an entry.
+fn nearest_in(slots: &Slots, from: u64, best: u64, next: usize, bits: u64) -> u64
+    requires { ⌜ indexlet.SlotsHeld (now slots) ⌝ }
+    requires { ⌜ (next < slotCount) × (BitsFrom false (now slots) next bits) × (Walked (now slots) from next best) ⌝ }
+    ensures { λ r. ⌜ Walked (now (slots .entry)) from (wordEnd next) r ⌝ }
+{
+    let mut nearest = best;
+    let mut w = bits;
+    while w != 0 {
+        let s = indexlet::slot_at(slots, next + indexlet::lowest_bit(w));
+        nearest = nearer(s.key, from, nearest);
+        w = indexlet::other_bits(w);
+    }
+    nearest
+}
+
+// The first address from an address on of which the indexlet says something, or past all addresses if there is none. Slots
+// without an entry are not looked at.
 fn slot_from(slots: &Slots, from: Address) -> u64
     requires { ⌜ indexlet.SlotsHeld (now slots) ⌝ }
     ensures { λ r. ⌜ SlotFrom (now (slots .entry)) from r ⌝ }
 {
     let low = from as u64;
     let mut best = ADDRESSES;
-    let mut i = 0;
-    while i < SLOTS {
-        let s = indexlet::slot_at(slots, i);
-        best = nearer(s, low, best);
-        i += 1;
+    let mut next = 0;
+    while next < SLOTS {
+        let w = indexlet::bits_from(slots, next);
+        best = nearest_in(slots, low, best, next, w);
+        next = indexlet::word_end(next);
     }
     best
 }
@@ -376,31 +393,4 @@ pub fn next_record(rows: &Records, slots: &Slots, n: usize, from: u64) -> Next
         at = c + 1;
     }
     Next::Done
-}
-
-// How many records the contents have.
-pub fn count_records(rows: &Records, slots: &Slots, n: usize) -> usize
-    requires { ⌜ RecordsHeld (now rows) n ⌝ }
-    requires { ⌜ SlotsHeld (now slots) ⌝ }
-    ensures { λ r. ⌜ Numbers (now (rows .entry)) n (now (slots .entry)) r ⌝ }
-{
-    let mut at: u64 = 0;
-    let mut count = 0;
-    while at < ADDRESSES {
-        let next = next_record(rows, slots, n, at);
-        match next {
-            Next::At {
-                address,
-                payload: _,
-                commit: _,
-            } => {
-                count += 1;
-                at = address as u64 + 1;
-            }
-            Next::Done => {
-                return count;
-            }
-        }
-    }
-    count
 }

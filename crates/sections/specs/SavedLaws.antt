@@ -13,7 +13,8 @@ use Rattle.spec.specs.Exports as model
 use Rattle.sets.specs.SetLaws.{length-rows}
 use Rattle.sets.specs.ReadLaws.{flag-back}
 use Rattle.exports.specs.declared.Export.{Export}
-use Rattle.exports.specs.Exporting.{ExportedRows, exportRow, exportedIn, exportIn, ExportHeld}
+use Rattle.contents.specs.Copies.{copyRow, copiedIn}
+use Rattle.exports.specs.Exporting.{ExportedRows, exportIn, ExportHeld}
 use Rattle.transactions.specs.declared.Globals.{Globals}
 use Rattle.sections.specs.Saved.{savedGlobals, savedExport, exportSaved, exportNumbers}
 
@@ -59,9 +60,9 @@ numbers-are rows x h = by-cases (x .open) (h .none-closed)
   where
     by-cases : (b : Bool) → (b ≡ false → x .count ≡ 0)
         → boolByte b ∷ x .count ∷ x .taken ∷ []
-        ≡ maybe (pick b (some (record { records = exportedIn rows (x .count); taken = x .taken })) none) (0 ∷ 0 ∷ 0 ∷ [])
+        ≡ maybe (pick b (some (record { records = copiedIn rows (x .count); taken = x .taken })) none) (0 ∷ 0 ∷ 0 ∷ [])
         (λ (e : model.Export). 1 ∷ length (e .records) ∷ e .taken ∷ [])
-    by-cases true z = ap (λ (n : ℕ). 1 ∷ n ∷ x .taken ∷ []) (sym (length-rows exportRow rows (x .count)))
+    by-cases true z = ap (λ (n : ℕ). 1 ∷ n ∷ x .taken ∷ []) (sym (length-rows copyRow rows (x .count)))
     by-cases false z =
         let w : x .taken ≤ x .count = h .within in
         let c : x .count ≡ 0 = z refl in

@@ -4,34 +4,34 @@ use native.Mathlib.Omega.{arith}
 use borrow.Author.Needs.{needs}
 use Rattle.spec.specs.Slots.{slotCount}
 use Rattle.queries.specs.NextViews.{Walked}
-use Rattle.queries.specs.NextLaws.{walked-start, walked-on, walked-end}
+use Rattle.queries.specs.NextLaws.{walked-start, walked-as, walked-end}
 use Rattle.queries.proofs.slot_from.Statement.{statement}
 use Rattle.queries.proofs.slot_from.Tie as tie
 
 abbrev Inv-loop : tie.InvT-loop
-Inv-loop slots from low best₀ i₀ best i = Walked slots low i best
+Inv-loop slots from low best₀ next₀ best next = Walked slots low next best
 
 abbrev μ-loop : tie.MeasureT-loop
-μ-loop slots from low best₀ i₀ best i = slotCount - i
+μ-loop slots from low best₀ next₀ best next = slotCount - next
 
 loop-holds : tie.Need-loop-holds Inv-loop μ-loop
 loop-holds c = let f = c .fits .from .fits in
     walked-start _ _ (omega arith)
 
-slot-at-requires : tie.Need-slot-at-requires Inv-loop μ-loop
-slot-at-requires c κs = search needs
+bits-from-requires : tie.Need-bits-from-requires Inv-loop μ-loop
+bits-from-requires c κs = search needs
 
-nearer-requires : tie.Need-nearer-requires Inv-loop μ-loop
-nearer-requires c κs = search needs
+nearest-in-requires : tie.Need-nearest-in-requires Inv-loop μ-loop
+nearest-in-requires c κs = (c .before .before .before .pre, (c .before .loop-test .taken, c .bits-from .ensures, c .before .before .loop .inv))
 
-add-i : tie.Need-add-i Inv-loop μ-loop
-add-i c = omega arith
+word-end-requires : tie.Need-word-end-requires Inv-loop μ-loop
+word-end-requires c κs = search needs
 
 loop-less : tie.Need-loop-less Inv-loop μ-loop
-loop-less c = omega arith
+loop-less c = omega (arith, c .word-end .ensures)
 
 loop-again : tie.Need-loop-again Inv-loop μ-loop
-loop-again c = walked-on _ _ _ _ _ _ (c .before .before .before .loop .inv) (c .before .slot-at .ensures) (c .nearer .ensures)
+loop-again c = walked-as _ _ (c .word-end .ensures) (c .before .nearest-in .ensures)
 
 returns : tie.Need-returns Inv-loop μ-loop
 returns c = walked-end _ _ _ _ (c .before .before .pre) (c .loop-test .left) (c .before .loop .inv)
@@ -43,9 +43,9 @@ slot-from-spec =
     Inv-loop
     μ-loop
     loop-holds
-    slot-at-requires
-    nearer-requires
-    add-i
+    bits-from-requires
+    nearest-in-requires
+    word-end-requires
     loop-less
     loop-again
     returns)

@@ -1,8 +1,8 @@
 -- `rows::record_of` meets its contract: a word has 64 bits.
-use Rattle.exports.specs.RowLaws.{row-read}
+use Rattle.contents.specs.RowLaws.{row-read}
 use borrow.Author.Needs.{needs}
-use Rattle.exports.proofs.rows.record_of.Statement.{statement}
-use Rattle.exports.proofs.rows.record_of.Tie as tie
+use Rattle.contents.proofs.rows.record_of.Statement.{statement}
+use Rattle.contents.proofs.rows.record_of.Tie as tie
 
 cast-t5 : tie.Need-cast-t5
 cast-t5 c = search needs

@@ -1,4 +1,4 @@
--- `copies::copy_contents` meets its contract. The invariant: the records below an address are copied.
+-- `contents::copy_contents` meets its contract. The invariant: the records below an address are copied.
 use Prim.Native.Nat.{_-_}
 use native.Mathlib.Omega.{arith}
 use mathlib.Core.Path.{refl}
@@ -6,17 +6,17 @@ use Rattle.spec.specs.Widths.{addresses}
 use Rattle.queries.specs.Contents.{allRecords}
 use Rattle.queries.specs.ContentsLaws.{rising-all, next-at, next-done}
 use Rattle.queries.specs.NextLaws.{passed-start, follows-done}
-use Rattle.exports.specs.RowLaws.{words-read}
-use Rattle.exports.specs.CopyLaws.{Copying, copying-start, copying-above, copying-room, copying-on, copying-as, copying-end}
+use Rattle.contents.specs.RowLaws.{words-read}
+use Rattle.contents.specs.CopyLaws.{Copying, copying-start, copying-above, copying-room, copying-on, copying-as, copying-end}
 use borrow.Author.Needs.{needs}
-use Rattle.exports.proofs.copies.copy_contents.Statement.{statement}
-use Rattle.exports.proofs.copies.copy_contents.Tie as tie
+use Rattle.contents.proofs.copy_contents.Statement.{statement}
+use Rattle.contents.proofs.copy_contents.Tie as tie
 
 abbrev Inv-loop : tie.InvT-loop
-Inv-loop exported₀ rows slots n count₀ from₀ exported count from = Copying (allRecords rows n slots) exported count from
+Inv-loop copied₀ rows slots n count₀ from₀ copied count from = Copying (allRecords rows n slots) copied count from
 
 abbrev μ-loop : tie.MeasureT-loop
-μ-loop exported₀ rows slots n count₀ from₀ exported count from = addresses - from
+μ-loop copied₀ rows slots n count₀ from₀ copied count from = addresses - from
 
 places-requires : tie.Need-places-requires Inv-loop μ-loop
 places-requires c κs = tt

@@ -27,7 +27,7 @@ ghost use Rattle.console.specs.Finishes.{longestEnd, Finishes};
 
 // The triples of the first `count` rows of a copy.
 fn put_records(out: &mut [u8], at: usize, copied: &CopyRows, count: usize) -> usize
-    requires { ⌜ (count ≤ standard .mapLimit) × (at + 63 * count ≤ length (now out)) ⌝ }
+    requires { ⌜ (count ≤ limits .mapLimit) × (at + 63 * count ≤ length (now out)) ⌝ }
     ensures { λ r. ⌜ TriplesPut (now (copied .entry)) count (now (out .entry)) at (now (out .exit)) r ⌝ }
 {
     let mut place = at;

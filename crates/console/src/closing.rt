@@ -1,6 +1,5 @@
 // The end of the input: all records, or, after a line without its line feed, that it is malformed.
 use crate::session::Session;
-use contents::COPY_WORDS;
 use contents::CopyRows;
 use contents::rows;
 use map::Leaves;
@@ -9,7 +8,6 @@ use map::Slots;
 use sets::LeafSets;
 use sets::ReadSets;
 use sets::WriteSets;
-use spec::MAP_LIMIT;
 use workers::Workers;
 ghost use Prim.Native.Nat.{_+_, _*_, _≤_};
 ghost use lib.ListN.{length};
@@ -40,23 +38,30 @@ fn put_records(out: &mut [u8], at: usize, copied: &CopyRows, count: usize) -> us
     place
 }
 
-// `E`, how many records there are, and their triples. One walk copies the records; what is written is read off the copy.
-fn put_contents(out: &mut [u8], at: usize, rows: &Records, slots: &Slots, n: usize) -> usize
+// `E`, how many records there are, and their triples. One walk copies the records to lent rows; what is written is read off them.
+fn put_contents(
+    out: &mut [u8],
+    copied: &mut CopyRows,
+    at: usize,
+    rows: &Records,
+    slots: &Slots,
+    n: usize,
+) -> usize
     requires { ⌜ RecordsHeld (now rows) n ⌝ }
     requires { ⌜ SlotsHeld (now slots) ⌝ }
     requires { ⌜ (length (allRecords (now rows) n (now slots)) ≤ limits .mapLimit) × (at + longestEnd ≤ length (now out)) ⌝ }
     ensures { λ r. ⌜ Wrote (now (out .entry)) at (endLine (allRecords (now (rows .entry)) n (now (slots .entry)))) (now (out .exit)) r ⌝ }
 {
-    let mut copied = [[0u64; COPY_WORDS]; MAP_LIMIT];
-    let count = contents::copy_contents(&mut copied, rows, slots, n);
+    let count = contents::copy_contents(copied, rows, slots, n);
     let next = answers::put_answer(out, at, b'E', count as u64);
-    let last = put_records(out, next, &copied, count);
+    let last = put_records(out, next, copied, count);
     answers::put_byte(out, last, b'\n')
 }
 
 // The last line of the output, when the input has ended. After a malformed line there is none.
 pub fn finish(
     out: &mut [u8],
+    copied: &mut CopyRows,
     rows: &Records,
     leaves: &Leaves,
     slots: &Slots,
@@ -78,7 +83,7 @@ pub fn finish(
     if script::at_line_start(parser) {
         let globals = x.globals;
         let sizes = globals.sizes;
-        return put_contents(out, x.at, rows, slots, sizes.records);
+        return put_contents(out, copied, x.at, rows, slots, sizes.records);
     }
     answers::put_malformed(out, x.at)
 }

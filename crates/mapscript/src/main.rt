@@ -2,6 +2,8 @@
 use console::closing;
 use console::session;
 use console::session::Session;
+use contents::COPY_WORDS;
+use contents::CopyRows;
 use index::LEAF_WORDS;
 use index::LEAVES;
 use index::RECORD_WORDS;
@@ -176,6 +178,7 @@ fn advance(
 // The end: the last line, unless a read or a write failed, or the turns were used up before the input was.
 fn close(
     out: &mut [u8],
+    copied: &mut CopyRows,
     rows: &Records,
     leaves: &Leaves,
     slots: &Slots,
@@ -200,6 +203,7 @@ fn close(
     let x = w.session;
     let last = closing::finish(
         out,
+        copied,
         rows,
         leaves,
         slots,
@@ -237,6 +241,7 @@ fn run() -> Calls
     let mut leafsets = [[[0u64; LEAF_SET_WORDS]; LEAF_SET_LIMIT]; WORKERS];
     let mut writes = [[[0u64; WRITE_WORDS]; WRITE_LIMIT]; WORKERS];
     let mut workers = [0u64; WORKERS];
+    let mut copied = [[0u64; COPY_WORDS]; MAP_LIMIT];
     let start = session::fresh_session(
         &mut rows,
         &mut leaves,
@@ -272,6 +277,7 @@ fn run() -> Calls
     }
     close(
         &mut out,
+        &mut copied,
         &rows,
         &leaves,
         &slots,

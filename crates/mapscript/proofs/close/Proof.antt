@@ -13,15 +13,15 @@ returns-2 c = closes-going (c .before .if2 .taken)
 
 finish-requires : tie.Need-finish-requires
 finish-requires c κs =
-    let start = c .before .before .before .before .before .before in
+    let start = c .before .before .before .before .before .before .before in
     let s = start .pre .0 .stands in
     (s .ready, (s .started, (let e = s .waits in omega (arith, start .pre .1 .0, e))))
 
 write-due-requires : tie.Need-write-due-requires
 write-due-requires c κs =
-    let else1 = c .before .before .before .before .before .before .before in
-    let else2 = c .before .before .before .before .before .before in
-    let start = c .before .before .before .before .before .before .before .before .before .before in
+    let else1 = c .before .before .before .before .before .before .before .before in
+    let else2 = c .before .before .before .before .before .before .before in
+    let start = c .before .before .before .before .before .before .before .before .before .before .before in
     let h = start .pre .0 in
     let f = c .before .before .before .finish .ensures in
     let k = start .pre .1 .1 in
@@ -33,10 +33,10 @@ same-length c = search needs
 
 returns-3 : tie.Need-returns-3
 returns-3 c =
-    let else1 = c .before .before .before .before .before .before .before .before in
-    let else2 = c .before .before .before .before .before .before .before in
+    let else1 = c .before .before .before .before .before .before .before .before .before in
+    let else2 = c .before .before .before .before .before .before .before .before in
     let after-finish = c .before .before .before .before in
-    let h = c .before .before .before .before .before .before .before .before .before .before .before .pre .0 in
+    let h = c .before .before .before .before .before .before .before .before .before .before .before .before .pre .0 in
     closes-ended h (else2 .if2 .left) (else1 .if1 .left) (after-finish .finish .ensures) (c .write-due .ensures)
 
 pub close-spec : {M : Type 1} → statement M

@@ -15,13 +15,13 @@ use Rattle.mapscript.proofs.run.Statement.{statement}
 use Rattle.mapscript.proofs.run.Tie as tie
 
 abbrev Inv-loop : tie.InvT-loop
-Inv-loop input₀ out₀ rows₀ leaves₀ slots₀ reads₀ leafsets₀ writes₀ workers₀ w₀ turns₀ input out rows leaves slots reads leafsets writes workers w turns =
+Inv-loop input₀ out₀ rows₀ leaves₀ slots₀ reads₀ leafsets₀ writes₀ workers₀ copied₀ w₀ turns₀ input out rows leaves slots reads leafsets writes workers w turns =
     Rests (lent rows leaves slots) (logs reads leafsets writes) workers input w
     × (65536 ≡ length out) × (65536 ≡ length input) × (w .calls .made + turns ≡ mostTurns)
     × (w .calls .fed ≤ 65536 * w .calls .made) × (w .calls .told ≤ 65536 * w .calls .made)
 
 abbrev μ-loop : tie.MeasureT-loop
-μ-loop input₀ out₀ rows₀ leaves₀ slots₀ reads₀ leafsets₀ writes₀ workers₀ w₀ turns₀ input out rows leaves slots reads leafsets writes workers w turns =
+μ-loop input₀ out₀ rows₀ leaves₀ slots₀ reads₀ leafsets₀ writes₀ workers₀ copied₀ w₀ turns₀ input out rows leaves slots reads leafsets writes workers w turns =
     turns
 
 large-buffer-requires : tie.Need-large-buffer-requires Inv-loop μ-loop
@@ -87,11 +87,11 @@ slice-aggregate-close : tie.Need-slice-aggregate-close Inv-loop μ-loop
 slice-aggregate-close c = c .before .before .loop .inv .1
 
 slice-aggregate-close-2 : tie.Need-slice-aggregate-close-2 Inv-loop μ-loop
-slice-aggregate-close-2 c = c .before .before .before .before .before .before .before .before .before .before .loop .inv .2
+slice-aggregate-close-2 c = c .before .before .before .before .before .before .before .before .before .before .before .loop .inv .2
 
 close-requires : tie.Need-close-requires Inv-loop μ-loop
 close-requires c κs =
-    let i = c .before .before .before .before .before .before .before .before .before .before .loop .inv in
+    let i = c .before .before .before .before .before .before .before .before .before .before .before .loop .inv in
     let room = i .1 in
     let made = i .3 in
     let fed = i .4 in
@@ -100,8 +100,8 @@ close-requires c κs =
 
 returns : tie.Need-returns Inv-loop μ-loop
 returns c =
-    let left-loop = c .before .before .before .before .before .before .before .before .before .before .before in
-    let i = c .before .before .before .before .before .before .before .before .before .before .before .before .loop .inv in
+    let left-loop = c .before .before .before .before .before .before .before .before .before .before .before .before in
+    let i = c .before .before .before .before .before .before .before .before .before .before .before .before .before .loop .inv in
     let made = i .3 in
     ran (i .0) (c .before .close .ensures) (⊎-elim (λ p g. clash g (p .1 .left)) (λ p g. omega (arith, made, p .left)) (left-loop .loop-test .came))
 

@@ -15,7 +15,7 @@ at-line-start-requires c κs = tt
 
 put-contents-requires : tie.Need-put-contents-requires
 put-contents-requires c κs =
-    let s = c .before .before .before .before .before .before .before in
+    let s = c .before .before .before .before .before .before .before .before in
     let t = s .pre .0 .stored .map .tables in
     (records-held t, (slots-held t, (records-fit (s .pre .0 .stored .map), s .pre .1 .1)))
 
@@ -24,10 +24,10 @@ same-length c = wrote-length (c .before .before .put-contents .ensures)
 
 returns-2 : tie.Need-returns-2
 returns-2 c =
-    let start = c .before .before .before .before .before .before .before .before .before .before in
-    let else1 = c .before .before .before .before .before .before .before .before in
-    let after-at-line-start = c .before .before .before .before .before .before .before in
-    let then2 = c .before .before .before .before .before .before in
+    let start = c .before .before .before .before .before .before .before .before .before .before .before in
+    let else1 = c .before .before .before .before .before .before .before .before .before in
+    let after-at-line-start = c .before .before .before .before .before .before .before .before in
+    let then2 = c .before .before .before .before .before .before .before in
     finish-whole _ _ _ _ _ _ _ (start .pre .1 .0) (else1 .if1 .left) (after-at-line-start .at-line-start .ensures .1) (then2 .if2 .taken) (c .before .before .put-contents .ensures)
 
 put-malformed-requires : tie.Need-put-malformed-requires

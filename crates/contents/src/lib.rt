@@ -6,7 +6,8 @@ use map::Records;
 use map::Slots;
 use queries::Next;
 use rows::CopiedRecord;
-use spec::ADDRESSES;
+use spec::Address;
+use spec::HIGHEST;
 use spec::MAP_LIMIT;
 use spec::OWNERS;
 ghost use Prim.Native.Nat.{_≤_};
@@ -33,8 +34,8 @@ pub fn copy_contents(copied: &mut CopyRows, rows: &Records, slots: &Slots, n: us
 {
     rows::places(copied);
     let mut count = 0;
-    let mut from: u64 = 0;
-    while from < ADDRESSES {
+    let mut from: Address = 0;
+    loop {
         let next = queries::next_record(rows, slots, n, from);
         match next {
             Next::At {
@@ -48,11 +49,13 @@ pub fn copy_contents(copied: &mut CopyRows, rows: &Records, slots: &Slots, n: us
                     owner: (payload.owner % OWNERS) as u16,
                 };
                 rows::store(copied, count, record);
+                if address == HIGHEST {
+                    return count + 1;
+                }
                 count += 1;
-                from = address as u64 + 1;
+                from = address + 1;
             }
             Next::Done => return count,
         }
     }
-    count
 }

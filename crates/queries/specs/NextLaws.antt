@@ -1,5 +1,5 @@
 -- The contents one after the other: what no candidate holds, and what the first candidate holds.
-use Prim.Native.Nat.{ℕ, suc, _+_, _^_, _<_, _≤_, zero-le, suc-le-suc, min}
+use Prim.Native.Nat.{ℕ, suc, _+_, _^_, _<_, _≤_, zero-le, suc-le-suc}
 use native.Mathlib.Nat.{le-refl, le-trans, not-suc-le-zero}
 use native.Mathlib.Omega.{arith}
 use mathlib.Core.Path.{_≡_, refl, sym, ap, _∙_, subst}
@@ -9,25 +9,26 @@ use mathlib.Core.List.{List, [], _∷_}
 use mathlib.Core.Option.{Option, none, some}
 use lib.ListN.{length, getD}
 use lib.Count.{trailingZeros}
+use borrow.Author.Tests.{not-true, not-false}
 use Rattle.lists.specs.Tests.{pick, maybe, present, same, less}
 use Rattle.lists.specs.TestLaws.{cases, clash, same-true, same-false, less-true, less-false}
 use Rattle.lists.specs.Rows.{Row, row, look, From, Rising}
 use Rattle.lists.specs.RowLaws.{look-here, look-there, look-low, look-nil}
 use Rattle.lists.specs.Options.{both-options, some-same}
 use Rattle.lists.specs.Places.{place}
-use Rattle.spec.specs.Widths.{addressSize}
+use Rattle.spec.specs.Widths.{addressSize, addresses}
 use Rattle.spec.specs.Records.{Record}
 use Rattle.spec.specs.Leaves.{Leaf}
 use Rattle.spec.specs.Slots.{slotCount, Content, isIdle, Slot, emptySlot, vacant, entries, kept}
 use Rattle.spec.specs.Maps.{outcomeOf, current, contents}
-use Rattle.laws.specs.SlotCounts.{Place, lookup}
+use Rattle.laws.specs.SlotCounts.{entryAt, Place, lookup}
 use Rattle.laws.specs.SlotLaws.{content-none, kept-entry}
 use Rattle.laws.specs.ContentLaws.{look-contents, rising-contents}
 use Rattle.indexlet.specs.declared.Slot.{Slot as SlotWords}
 use Rattle.indexlet.specs.Words.{contentIn, slotIn, slotsOf}
 use Rattle.indexlet.specs.Words as words
 use Rattle.indexlet.specs.WordLaws.{slots-at}
-use Rattle.indexlet.specs.Bits.{rest}
+use Rattle.indexlet.specs.Bits.{bit, lowest-set, rest, rest-other}
 use Rattle.indexlet.specs.Bitmaps.{wordEnd, BitsFrom, Unseen}
 use Rattle.indexlet.specs.BitmapLaws.{unseen-start, unseen-end, unseen-on}
 use Rattle.indexlet.specs.Promises as indexlet
@@ -36,9 +37,10 @@ use Rattle.index.specs.Views.{recordFrom, rowOf, noRow, rowAt, recordsOf, Recor
 use Rattle.index.specs.RecordPlaces.{AtPlace}
 use Rattle.index.specs.ViewLaws.{length-records, record-at}
 use Rattle.spec.specs.declared.Current.{Current}
+use Rattle.queries.specs.declared.Candidate.{Candidate}
 use Rattle.queries.specs.declared.Next.the-variants.{At, Done}
 use Rattle.queries.specs.QueryViews.{mapWith, Sees}
-use Rattle.queries.specs.NextViews.{end, Follows, IndexFrom, SlotFrom, Nearer, NoNearer, Walked, Passed}
+use Rattle.queries.specs.NextViews.{Follows, Before, NotBelow, IndexFrom, SlotFrom, Nearer, NoNearer, Walked, Walking, CandidateFrom, Passed}
 use Rattle.queries.specs.Contents.{firstFrom}
 use Rattle.queries.specs.ContentsLaws.{below, here}
 use Rattle.map.specs.Views.{SlotRows, RecordRows}
@@ -118,23 +120,55 @@ module _ {A : Type 0} where
 
 -- ---- candidates of the index
 
-module _ (rows : RecordRows) (n from p : ℕ) (held : RecordsSorted rows n) (at : AtPlace rows n from p) where
-  pub index-past : n ≤ p → from ≤ end → IndexFrom rows n from end
+module _ (rows : RecordRows) (n from p : ℕ) (whole : RecordsHeld rows n) (at : AtPlace rows n from p) where
+  pub index-none : (c : Candidate) → n ≤ p → c .there ≡ false → IndexFrom rows n from c
   unfolding Rising
-  index-past h l =
+  index-none c h t =
       let e : p ≡ place from (recordsOf rows n) = at .is in
-      let m : length (recordsOf rows n) ≡ n = length-records rows n (held .room) in
-      record { low = l; clear = λ k g i. place-clear from 0 (recordsOf rows n) noRow k (held .rising) g (λ q. absurd (omega arith)) }
+      let m : length (recordsOf rows n) ≡ n = length-records rows n (whole .held .room) in
+      record {
+        low = λ u. clash u t;
+        clear = λ k g b. place-clear from 0 (recordsOf rows n) noRow k (whole .held .rising) g (λ q. absurd (omega arith));
+      }
 
-  pub index-here : (r : RecordRow) → p < n → rowOf r ≡ rowAt rows p → IndexFrom rows n from (r .address)
+  pub index-here : (r : RecordRow) → p < n → rowOf r ≡ rowAt rows p → IndexFrom rows n from (record { there = true; address = r .address })
   unfolding Rising
   index-here r h g =
       let e : p ≡ place from (recordsOf rows n) = at .is in
-      let m : length (recordsOf rows n) ≡ n = length-records rows n (held .room) in
+      let m : length (recordsOf rows n) ≡ n = length-records rows n (whole .held .room) in
       let a : r .address ≡ getD (recordsOf rows n) (place from (recordsOf rows n)) noRow .key
-      = ap (λ (x : Row Record). x .key) (g ∙ sym (record-at rows n p (held .room) h)) ∙ ap (λ (i : ℕ). getD (recordsOf rows n) i noRow .key) e in
+      = ap (λ (x : Row Record). x .key) (g ∙ sym (record-at rows n p (whole .held .room) h)) ∙ ap (λ (i : ℕ). getD (recordsOf rows n) i noRow .key) e in
       let l : from ≤ getD (recordsOf rows n) (place from (recordsOf rows n)) noRow .key = place-key from (recordsOf rows n) noRow (omega arith) in
-      record { low = omega arith; clear = λ k i j. place-clear from 0 (recordsOf rows n) noRow k (held .rising) i (λ q. omega arith) }
+      record {
+        low = λ u. omega arith;
+        clear = λ k i b.
+            let z : k < r .address = b refl in
+            place-clear from 0 (recordsOf rows n) noRow k (whole .held .rising) i (λ q. omega arith);
+      }
+
+-- ---- the nearer candidate
+
+module _ (key from : ℕ) (best : Candidate) where
+  -- the key lies below
+  pub nearer-below : key < from → Nearer key from best best
+  nearer-below h = record { most = λ k b. b; low = λ l. l; clear = λ g b. omega arith }
+
+  pub nearer-best : best .there ≡ true → best .address ≤ key → Nearer key from best best
+  nearer-best t h = record { most = λ k b. b; low = λ l. l; clear = λ g b. let z : key < best .address = b t in omega arith }
+
+  nearer-key : from ≤ key → NotBelow key best → Nearer key from best (record { there = true; address = key })
+  nearer-key h g =
+      record {
+        most = λ k b t. let z : k < key = b refl in let y : key ≤ best .address = g t in omega arith;
+        low = λ l t. h;
+        clear = λ a b. let z : key < key = b refl in omega arith;
+      }
+
+  pub nearer-first : from ≤ key → best .there ≡ false → Nearer key from best (record { there = true; address = key })
+  nearer-first h f = nearer-key h (λ t. clash t f)
+
+  pub nearer-before : from ≤ key → key < best .address → Nearer key from best (record { there = true; address = key })
+  nearer-before h g = nearer-key h (λ t. let z : key < best .address = g in omega arith)
 
 -- ---- candidates of the indexlet
 
@@ -148,66 +182,92 @@ of-row s e q =
     let r = kept-entry (s .key) (contentIn (s .content)) e (sym (slot-entry s) ∙ q) in
     (r .0, ap (λ (x : Row Content). x .key) (r .1))
 
+-- a row with an entry says something
+filled-row : (s : SlotWords) → vacant (slotIn s) ≡ false → isIdle (contentIn (s .content)) ≡ false
+unfolding vacant
+filled-row s f =
+    ⊎-elim
+    (λ t. clash (ap (λ (o : Option (Row Content)). not (present o)) (slot-entry s ∙ ap (λ (b : Bool). pick b none (some (row (s .key) (contentIn (s .content))))) t)) f)
+    (λ t. t)
+    (cases (isIdle (contentIn (s .content))))
+
 module _ (slots : SlotRows) (from : ℕ) where
-  pub walked-start : from ≤ end → Walked slots from 0 end
-  walked-start h = record { low = h; clear = λ j q. absurd (not-suc-le-zero q) }
+  pub walked-start : (c : Candidate) → c .there ≡ false → Walked slots from 0 c
+  walked-start c f = record { low = λ t. clash t f; clear = λ j q. absurd (not-suc-le-zero q) }
 
   -- an empty slot has no entry
-  empty-none : (best j : ℕ) → vacant (getD (slotsOf slots) j emptySlot) ≡ true → NoNearer slots from best j
+  empty-none : (best : Candidate) (j : ℕ) → vacant (getD (slotsOf slots) j emptySlot) ≡ true → NoNearer slots from best j
   unfolding vacant
-  empty-none best j t e q h = clash t (ap (λ (o : Option (Row Content)). not (present o)) q)
+  empty-none best j t = record { clear = λ e q h b. clash t (ap (λ (o : Option (Row Content)). not (present o)) q) }
 
   -- the slots of a word: those whose bits are left, and the others, which have no nearer entry
-  pub word-start : (best next w : ℕ) → BitsFrom false slots next w → next < slotCount → w < 2 ^ 64 → Unseen (NoNearer slots from best) next w
-  word-start best next w b h f = unseen-start w b h f (λ i l t. empty-none best i t)
+  pub walking-start : (best : Candidate) (next w : ℕ) → Walked slots from next best → BitsFrom false slots next w → next < slotCount → w < 2 ^ 64
+      → Walking slots from next best w
+  walking-start best next w k b h f =
+      record { passed = k; left = unseen-start w b h f (λ i l t. empty-none best i t); filled = λ i t. b .own i t .1 }
 
-  module _ (next best r w : ℕ) (s : SlotWords) (k : Walked slots from next best) (u : Unseen (NoNearer slots from best) next w) (x : Nearer (s .key) from best r) where
-    -- what was nearer is nearer than the one before
-    on : (j : ℕ) → NoNearer slots from best j → NoNearer slots from r j
-    on j f e q h = le-trans (x .most) (f e q h)
+  module _ (next : ℕ) (best : Candidate) (w : ℕ) (s : SlotWords) (k : Walking slots from next best w) (any : 0 < w) where
+    lowest : bit (trailingZeros 64 w) w ≡ 1
+    lowest = lowest-set 64 w any (k .left .fits)
 
-    nearer-left : Unseen (NoNearer slots from r) next w
-    nearer-left = record { left = λ i a b. ⊎-elim inl (λ p. inr (on i p)) (u .left i a b); inside = u .inside; fits = u .fits }
+    -- the key of the slot of the lowest bit is an address
+    pub walking-narrow : (j : ℕ) → j ≡ next + trailingZeros 64 w → indexlet.IsSlot slots j s → s .key < addresses
+    walking-narrow j q d =
+        d .narrow (filled-row s (ap vacant (d .slot) ∙ ap (λ (i : ℕ). vacant (getD (slotsOf slots) i emptySlot)) q ∙ k .filled (trailingZeros 64 w) lowest))
 
-    -- the slot of the lowest bit is passed
-    pub word-on : (v j : ℕ) → 0 < w → v ≡ rest w → j ≡ next + trailingZeros 64 w → indexlet.IsSlot slots j s
-        → (Walked slots from next r) × (Unseen (NoNearer slots from r) next v)
-    word-on v j o p q d = (
-      record { low = x .low (k .low); clear = λ i h. on i (k .clear i h) },
-      unseen-on w o nearer-left v j p q
-          (λ e g h. let a : s .key ≡ e .key = of-row s e (ap (λ (y : Slot). y .entry) (d .slot) ∙ g) .1 in
-          let b : from ≤ s .key → r ≤ s .key = x .clear in
-          omega (arith, b (omega arith))),
-    )
+    module _ (r : Candidate) (x : Nearer (s .key) from best r) where
+      -- what was nearer is nearer than the one before
+      on : (j : ℕ) → NoNearer slots from best j → NoNearer slots from r j
+      on j f = record { clear = λ e q h b. f .clear e q h (x .most (e .key) b) }
 
-  pub word-end : (next best w : ℕ) → w ≡ 0 → Walked slots from next best → Unseen (NoNearer slots from best) next w → Walked slots from (wordEnd next) best
-  word-end next best w e k u =
+      nearer-left : Unseen (NoNearer slots from r) next w
+      nearer-left = record { left = λ i a b. ⊎-elim inl (λ p. inr (on i p)) (k .left .left i a b); inside = k .left .inside; fits = k .left .fits }
+
+      -- the slot of the lowest bit is passed
+      pub walking-on : (v j : ℕ) → v ≡ rest w → j ≡ next + trailingZeros 64 w → indexlet.IsSlot slots j s → Walking slots from next r v
+      walking-on v j p q d =
+          record {
+            passed = record { low = x .low (k .passed .low); clear = λ i h. on i (k .passed .clear i h) };
+            left = unseen-on w any nearer-left v j p q (record { clear = own });
+            filled = λ i t.
+                ⊎-elim
+                (λ g. k .filled i (ap (λ (n : ℕ). bit n w) (same-true i (trailingZeros 64 w) g) ∙ lowest))
+                (λ g. k .filled i (sym (rest-other 64 w i (k .left .fits) (same-false i (trailingZeros 64 w) g)) ∙ ap (bit i) (sym p) ∙ t))
+                (cases (same i (trailingZeros 64 w)));
+          }
+        where
+          own : (e : Row Content) → entryAt (slotsOf slots) j ≡ some e → from ≤ e .key → Before (e .key) r → ⊥
+          own e g h b =
+              let a : s .key ≡ e .key = of-row s e (ap (λ (y : Slot). y .entry) (d .slot) ∙ g) .1 in
+              x .clear (omega arith) (λ t. let z : e .key < r .address = b t in omega arith)
+
+  pub walking-end : (next : ℕ) (best : Candidate) (w : ℕ) → w ≡ 0 → Walking slots from next best w → Walked slots from (wordEnd next) best
+  walking-end next best w e k =
       record {
-        low = k .low;
-        clear = λ j q. ⊎-elim (λ t. k .clear j (less-true j next t)) (λ t. unseen-end w e u j (less-false j next t) q) (cases (less j next));
+        low = k .passed .low;
+        clear = λ j q. ⊎-elim (λ t. k .passed .clear j (less-true j next t)) (λ t. unseen-end w e (k .left) j (less-false j next t) q) (cases (less j next));
       }
 
-  pub walked-as : {i j best : ℕ} → j ≡ i → Walked slots from i best → Walked slots from j best
+  pub walked-as : {i j : ℕ} {best : Candidate} → j ≡ i → Walked slots from i best → Walked slots from j best
   walked-as {i} {j} {best} e k = subst (λ (n : ℕ). Walked slots from n best) (sym e) k
 
-  pub walked-end : (best i : ℕ) → indexlet.SlotsHeld slots → slotCount ≤ i → Walked slots from i best → SlotFrom slots from best
+  pub walked-end : (best : Candidate) (i : ℕ) → indexlet.SlotsHeld slots → slotCount ≤ i → Walked slots from i best → SlotFrom slots from best
   walked-end best i held l w =
       record {
         low = w .low;
-        clear = λ k g h.
+        clear = λ k g b.
             ⊎-elim
             (λ q. q .1)
-            (λ q. absurd (far k g h (q .0)))
+            (λ q. absurd (far k g b (q .0)))
             (lookup addressSize (slotsOf slots) k (held .good));
       }
     where
-      far : (k : ℕ) → from ≤ k → k < best → Place (slotsOf slots) k → ⊥
-      far k g h p =
+      far : (k : ℕ) → from ≤ k → Before k best → Place (slotsOf slots) k → ⊥
+      far k g b p =
           let z : length (slotsOf slots) ≡ slotCount = held .good .size in
           let a : p .at < length (slotsOf slots) = p .inside in
           let o : p .content .key ≡ k = p .own in
-          let b : best ≤ p .content .key = w .clear (p .at) (omega arith) (p .content) (p .here) (omega arith) in
-          omega arith
+          w .clear (p .at) (omega arith) .clear (p .content) (p .here) (omega arith) (λ t. let y : k < best .address = b t in omega arith)
 
 -- ---- what the map has
 
@@ -222,15 +282,45 @@ module _ (rows : RecordRows) (n : ℕ) (slots : SlotRows) where
   pub passed-start : (from : ℕ) → Passed rows n slots from from
   passed-start from = record { low = le-refl from; clear = λ j g h. absurd (let z : from ≤ j = g in omega arith) }
 
+  -- the indexlet has no candidate, or one, and then it is the nearer of both
+  pub candidate-index : (from : ℕ) (a b : Candidate) → IndexFrom rows n from a → SlotFrom slots from b → b .there ≡ false → CandidateFrom rows n slots from a
+  candidate-index from a b x y f =
+      record { low = x .low; clear = λ j g h ls. current-none j (x .clear j g h) (y .clear j g (λ t. clash t f)) ls }
+
+  pub candidate-nearer : (from : ℕ) (a b c : Candidate) → IndexFrom rows n from a → SlotFrom slots from b → b .there ≡ true → Nearer (b .address) from a c
+      → CandidateFrom rows n slots from c
+  candidate-nearer from a b c x y e z =
+      record { low = z .low (x .low); clear = λ j g h ls. current-none j (x .clear j g (z .most j h)) (y .clear j g (λ t. before j h)) ls }
+    where
+      before : (j : ℕ) → Before j c → j < b .address
+      before j h =
+          ⊎-elim
+          (λ t. less-true j (b .address) t)
+          (λ t. let l : b .address ≤ j = less-false j (b .address) t in absurd (z .clear (y .low e) (λ u. let v : j < c .address = h u in omega arith)))
+          (cases (less j (b .address)))
+
+  -- up to the candidate there is nothing
+  passed-before : (from k : ℕ) (c : Candidate) → Passed rows n slots from k → CandidateFrom rows n slots k c → (j : ℕ) → from ≤ j → Before j c → (ls : List Leaf)
+      → current (mapWith rows n slots ls) j ≡ none
+  passed-before from k c p x j g h ls =
+      ⊎-elim (λ t. p .clear j g (less-true j k t) ls) (λ t. x .clear j (less-false j k t) h ls) (cases (less j k))
+
+  pub passed-over : (from k : ℕ) (c : Candidate) → Passed rows n slots from k → CandidateFrom rows n slots k c → not (c .there) ≡ false
+      → Passed rows n slots from (c .address)
+  passed-over from k c p x e =
+      let l : from ≤ k = p .low in
+      let u : k ≤ c .address = x .low (not-false (c .there) e) in
+      record { low = omega arith; clear = λ j g h ls. passed-before from k c p x j g (λ t. h) ls }
+
   module _ (whole : RecordsHeld rows n) (sound : indexlet.SlotsHeld slots) where
     -- no record has a key past all addresses
-    beyond-index : (k : ℕ) → end ≤ k → look (recordsOf rows n) k ≡ none
+    beyond-index : (k : ℕ) → addresses ≤ k → look (recordsOf rows n) k ≡ none
     beyond-index k h =
         let m : length (recordsOf rows n) ≡ n = length-records rows n (whole .held .room) in
-        look-bound end (recordsOf rows n) noRow k
-        (λ i q. let l : i < n = omega arith in subst (λ (x : Row Record). x .key < end) (sym (record-at rows n i (whole .held .room) l)) (whole .narrow i l)) h
+        look-bound addresses (recordsOf rows n) noRow k
+        (λ i q. let l : i < n = omega arith in subst (λ (x : Row Record). x .key < addresses) (sym (record-at rows n i (whole .held .room) l)) (whole .narrow i l)) h
 
-    beyond-slots : (k : ℕ) → end ≤ k → look (entries (slotsOf slots)) k ≡ none
+    beyond-slots : (k : ℕ) → addresses ≤ k → look (entries (slotsOf slots)) k ≡ none
     beyond-slots k h = ⊎-elim (λ q. q .1) (λ q. absurd (far (q .0))) (lookup addressSize (slotsOf slots) k (sound .good))
       where
         far : Place (slotsOf slots) k → ⊥
@@ -240,28 +330,12 @@ module _ (rows : RecordRows) (n : ℕ) (slots : SlotRows) where
             let i : p .at < slotCount = omega arith in
             let r = of-row (words.rowAt slots (p .at)) (p .content) (sym (ap (λ (y : Slot). y .entry) (slots-at slots (p .at) i)) ∙ p .here) in
             let o : p .content .key ≡ k = p .own in
-            let b : words.rowAt slots (p .at) .key < end = sound .sized .narrow (p .at) i (r .0) in
+            let b : words.rowAt slots (p .at) .key < addresses = sound .sized .narrow (p .at) i (r .0) in
             let c : words.rowAt slots (p .at) .key ≡ p .content .key = r .1 in
             omega arith
 
-    beyond : (k : ℕ) → end ≤ k → (ls : List Leaf) → current (mapWith rows n slots ls) k ≡ none
+    beyond : (k : ℕ) → addresses ≤ k → (ls : List Leaf) → current (mapWith rows n slots ls) k ≡ none
     beyond k h ls = current-none k (beyond-index k h) (beyond-slots k h) ls
-
-    -- past the candidates there is nothing
-    pub passed-over : (from k a b c : ℕ) → Passed rows n slots from k → IndexFrom rows n k a → SlotFrom slots k b → c ≡ min a b → Passed rows n slots from c
-    passed-over from k a b c p x y e =
-        let l : from ≤ k = p .low in
-        let u : k ≤ a = x .low in
-        let v : k ≤ b = y .low in
-        record {
-          low = omega arith;
-          clear = λ j g h ls.
-              ⊎-elim
-              (λ t. p .clear j g (less-true j k t) ls)
-              (λ t. let i : k ≤ j = less-false j k t in
-              current-none j (x .clear j i (omega arith)) (y .clear j i (omega arith)) ls)
-              (cases (less j k));
-        }
 
     pub passed-on : (from c : ℕ) (r : Current) → Passed rows n slots from c → Sees rows n slots c r → r .there ≡ false → Passed rows n slots from (c + 1)
     passed-on from c r p s e =
@@ -283,16 +357,19 @@ module _ (rows : RecordRows) (n : ℕ) (slots : SlotRows) where
     unfolding Rising
     rising-all ls = rising-contents (mapWith rows n slots ls) (whole .held .rising)
 
-    pub follows-done : (from k : ℕ) → Passed rows n slots from k → end ≤ k → Follows rows n slots from Done
+    follows-none : (from : ℕ) → ((j : ℕ) → from ≤ j → (ls : List Leaf) → current (mapWith rows n slots ls) j ≡ none) → Follows rows n slots from Done
+    follows-none from h =
+        record { next-is = λ ls. sym (first-none from 0 (contents (mapWith rows n slots ls)) (rising-all ls) (λ j g. look-all ls j ∙ h j g ls)) }
+
+    -- there is no candidate
+    pub follows-end : (from k : ℕ) (c : Candidate) → Passed rows n slots from k → CandidateFrom rows n slots k c → not (c .there) ≡ true → Follows rows n slots from Done
+    follows-end from k c p x f = follows-none from (λ j g ls. passed-before from k c p x j g (λ t. clash t (not-true (c .there) f)) ls)
+
+    -- all addresses are passed
+    pub follows-done : (from k : ℕ) → Passed rows n slots from k → addresses ≤ k → Follows rows n slots from Done
     follows-done from k p h =
-        record {
-          next-is = λ ls.
-              sym
-              (first-none from 0 (contents (mapWith rows n slots ls)) (rising-all ls)
-              (λ j g.
-              look-all ls j
-              ∙ ⊎-elim (λ t. p .clear j g (less-true j k t) ls) (λ t. beyond j (le-trans h (less-false j k t)) ls) (cases (less j k))));
-        }
+        follows-none from
+        (λ j g ls. ⊎-elim (λ t. p .clear j g (less-true j k t) ls) (λ t. beyond j (le-trans h (less-false j k t)) ls) (cases (less j k)))
 
     pub follows-at : (from c : ℕ) (r : Current) → Passed rows n slots from c → Sees rows n slots c r → r .there ≡ true
         → Follows rows n slots from (At c (r .payload) (r .commit))

@@ -13,13 +13,13 @@ use sets::leaves::LoggedLeaf;
 use sets::reads::Observed;
 use sets::writes;
 use sets::writes::Entry;
-use spec::ADDRESSES;
 use spec::Address;
 use spec::Current;
+use spec::HIGHEST;
 use spec::PayloadWords;
 ghost use mathlib.Core.Path.{_≡_};
 ghost use mathlib.Core.Bool.{false};
-ghost use Prim.Native.Nat.{ℕ, _<_, _≤_, min};
+ghost use Prim.Native.Nat.{ℕ, _<_, _≤_};
 ghost use Rattle.spec.specs.Slots.{slotCount};
 ghost use Rattle.spec.specs.Maps.{phantomIn};
 ghost use Rattle.lists.specs.Tests.{pick};
@@ -32,7 +32,7 @@ ghost use Rattle.map.specs.Parts.{RecordsHeld, SlotsHeld, LeavesListed, LeafLis
 ghost use Rattle.sets.specs.Writes.{entryIn};
 ghost use Rattle.map.specs.WriteWalks.{Writing};
 ghost use Rattle.queries.specs.QueryViews.{Sees, SeesUnder, Examines, Spans, SeenAt, Meets, LeafAt, LoggedAt};
-ghost use Rattle.queries.specs.NextViews.{IndexFrom, Nearer, Walked, SlotFrom, Follows};
+ghost use Rattle.queries.specs.NextViews.{IndexFrom, Nearer, Walked, SlotFrom, CandidateFrom, Follows};
 ghost use Rattle.queries.specs.PhantomViews.{Holding, Owns, Logged, ownPut, lockOnlyCount};
 
 // Places from one up to, not including, another.
@@ -55,6 +55,12 @@ pub enum Next {
         commit: u64,
     },
     Done,
+}
+
+// An address at which the next record may stand, if there is one: the index has it, or the indexlet says something of it.
+struct Candidate {
+    there: bool,
+    address: Address,
 }
 
 // The current record of an address of which the indexlet says c: what a pending write leaves there, else what the index has.
@@ -295,35 +301,47 @@ pub fn phantom(
     (own as u64) < out
 }
 
-// The first address of the index from an address on, or past all addresses if there is none.
-fn index_from(rows: &Records, n: usize, from: Address) -> u64
-    requires { ⌜ index.RecordsSorted (now rows) n ⌝ }
+// The first address of the index from an address on.
+fn index_from(rows: &Records, n: usize, from: Address) -> Candidate
+    requires { ⌜ RecordsHeld (now rows) n ⌝ }
     ensures { λ r. ⌜ IndexFrom (now (rows .entry)) n from r ⌝ }
 {
     let p = records::locate(rows, n, from);
     if n <= p {
-        return ADDRESSES;
+        return Candidate {
+            there: false,
+            address: 0,
+        };
     }
     let r = rows::get(rows, p);
-    r.address
+    let address = r.address as Address;
+    Candidate {
+        there: true,
+        address,
+    }
 }
 
-// The key, if it lies from `from` on and below `best`; else `best`.
-fn nearer(key: u64, from: u64, best: u64) -> u64
+// The key, if it lies from `from` on and before the candidate; else the candidate.
+fn nearer(key: Address, from: Address, best: Candidate) -> Candidate
     ensures { λ r. ⌜ Nearer key from best r ⌝ }
 {
     if key < from {
         return best;
     }
-    if best <= key {
-        return best;
+    if best.there {
+        if best.address <= key {
+            return best;
+        }
     }
-    key
+    Candidate {
+        there: true,
+        address: key,
+    }
 }
 
 // The nearest key from `from` on: `best` is that of the slots before `next`, and from there on to the end of the word the slots
 // whose bits these are have an entry.
-fn nearest_in(slots: &Slots, from: u64, best: u64, next: usize, bits: u64) -> u64
+fn nearest_in(slots: &Slots, from: Address, best: Candidate, next: usize, bits: u64) -> Candidate
     requires { ⌜ indexlet.SlotsHeld (now slots) ⌝ }
     requires { ⌜ (next < slotCount) × (BitsFrom false (now slots) next bits) × (Walked (now slots) from next best) ⌝ }
     ensures { λ r. ⌜ Walked (now (slots .entry)) from (wordEnd next) r ⌝ }
@@ -332,55 +350,58 @@ fn nearest_in(slots: &Slots, from: u64, best: u64, next: usize, bits: u64) -> u6
     let mut w = bits;
     while w != 0 {
         let s = indexlet::slot_at(slots, next + indexlet::lowest_bit(w));
-        nearest = nearer(s.key, from, nearest);
+        let key = s.key as Address;
+        nearest = nearer(key, from, nearest);
         w = indexlet::other_bits(w);
     }
     nearest
 }
 
-// The first address from an address on of which the indexlet says something, or past all addresses if there is none. Slots
-// without an entry are not looked at.
-fn slot_from(slots: &Slots, from: Address) -> u64
+// The first address from an address on of which the indexlet says something. Slots without an entry are not looked at.
+fn slot_from(slots: &Slots, from: Address) -> Candidate
     requires { ⌜ indexlet.SlotsHeld (now slots) ⌝ }
     ensures { λ r. ⌜ SlotFrom (now (slots .entry)) from r ⌝ }
 {
-    let low = from as u64;
-    let mut best = ADDRESSES;
+    let mut best = Candidate {
+        there: false,
+        address: 0,
+    };
     let mut next = 0;
     while next < SLOTS {
         let w = indexlet::bits_from(slots, next);
-        best = nearest_in(slots, low, best, next, w);
+        best = nearest_in(slots, from, best, next, w);
         next = indexlet::word_end(next);
     }
     best
 }
 
-fn least(a: u64, b: u64) -> u64
-    ensures { λ r. ⌜ r ≡ min a b ⌝ }
+// The first candidate from an address on.
+fn candidate_from(rows: &Records, slots: &Slots, n: usize, from: Address) -> Candidate
+    requires { ⌜ RecordsHeld (now rows) n ⌝ }
+    requires { ⌜ SlotsHeld (now slots) ⌝ }
+    ensures { λ r. ⌜ CandidateFrom (now (rows .entry)) n (now (slots .entry)) from r ⌝ }
 {
-    if a < b {
-        return a;
+    let a = index_from(rows, n, from);
+    let b = slot_from(slots, from);
+    if b.there {
+        return nearer(b.address, from, a);
     }
-    b
+    a
 }
 
-// The first record of the contents from an address on. Candidates are the addresses of the index and of the indexlet;
-// one that has no current record is passed over.
-pub fn next_record(rows: &Records, slots: &Slots, n: usize, from: u64) -> Next
+// The first record of the contents from an address on. A candidate without a current record is passed over.
+pub fn next_record(rows: &Records, slots: &Slots, n: usize, from: Address) -> Next
     requires { ⌜ RecordsHeld (now rows) n ⌝ }
     requires { ⌜ SlotsHeld (now slots) ⌝ }
     ensures { λ r. ⌜ Follows (now (rows .entry)) n (now (slots .entry)) from r ⌝ }
 {
     let mut at = from;
-    while at < ADDRESSES {
-        let here = at as Address;
-        let a = index_from(rows, n, here);
-        let b = slot_from(slots, here);
-        let c = least(a, b);
-        if ADDRESSES <= c {
+    loop {
+        let c = candidate_from(rows, slots, n, at);
+        if !c.there {
             return Next::Done;
         }
-        let address = c as Address;
+        let address = c.address;
         let r = current_record(rows, slots, n, address);
         if r.there {
             let payload = r.payload;
@@ -390,7 +411,9 @@ pub fn next_record(rows: &Records, slots: &Slots, n: usize, from: u64) -> Next
                 commit: r.commit,
             };
         }
-        at = c + 1;
+        if address == HIGHEST {
+            return Next::Done;
+        }
+        at = address + 1;
     }
-    Next::Done
 }

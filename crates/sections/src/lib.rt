@@ -21,6 +21,7 @@ use replay::stops::Stop;
 use sets::LeafSets;
 use sets::ReadSets;
 use sets::WriteSets;
+use spec::ADDRESSES;
 use spec::Address;
 use spec::OWNERS;
 use transactions::starts;
@@ -248,7 +249,10 @@ pub extern "C" fn sections_next(
 {
     let c = saved::load(globals);
     let sizes = c.sizes;
-    let next = queries::next_record(rows, slots, sizes.records, from);
+    if from >= ADDRESSES {
+        return false;
+    }
+    let next = queries::next_record(rows, slots, sizes.records, from as Address);
     match next {
         Next::At {
             address,

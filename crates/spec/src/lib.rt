@@ -11,6 +11,9 @@ pub const ADDRESS_BYTES: usize = 4;
 // How many addresses there are.
 pub const ADDRESSES: u64 = 0x1_0000_0000;
 
+// The highest of them, as `limits` has it.
+pub const HIGHEST: Address = 0xffff_ffff;
+
 // How many numbers name a worker (document 01: a seat), 32 bits wide: one from here on has no meaning.
 pub const WORKER_NAMES: u64 = 0x1_0000_0000;
 

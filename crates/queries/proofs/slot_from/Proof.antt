@@ -1,6 +1,7 @@
 -- `queries::slot_from` meets its contract. The invariant: no entry of the slots passed is nearer.
 use Prim.Native.Nat.{_-_}
 use native.Mathlib.Omega.{arith}
+use mathlib.Core.Path.{refl}
 use borrow.Author.Needs.{needs}
 use Rattle.spec.specs.Slots.{slotCount}
 use Rattle.queries.specs.NextViews.{Walked}
@@ -9,14 +10,13 @@ use Rattle.queries.proofs.slot_from.Statement.{statement}
 use Rattle.queries.proofs.slot_from.Tie as tie
 
 abbrev Inv-loop : tie.InvT-loop
-Inv-loop slots from low best₀ next₀ best next = Walked slots low next best
+Inv-loop slots from best₀ next₀ best next = Walked slots from next best
 
 abbrev μ-loop : tie.MeasureT-loop
-μ-loop slots from low best₀ next₀ best next = slotCount - next
+μ-loop slots from best₀ next₀ best next = slotCount - next
 
 loop-holds : tie.Need-loop-holds Inv-loop μ-loop
-loop-holds c = let f = c .fits .from .fits in
-    walked-start _ _ (omega arith)
+loop-holds c = walked-start _ _ _ refl
 
 bits-from-requires : tie.Need-bits-from-requires Inv-loop μ-loop
 bits-from-requires c κs = search needs

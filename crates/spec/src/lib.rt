@@ -8,8 +8,10 @@ pub type Address = u32;
 // How many bytes it has.
 pub const ADDRESS_BYTES: usize = 4;
 
-// How many addresses there are.
+// How many addresses there are, and the highest.
 pub const ADDRESSES: u64 = 0x1_0000_0000;
+
+pub const HIGHEST: Address = 0xffff_ffff;
 
 // How many numbers name a worker (document 01: a seat), 32 bits wide: one from here on has no meaning.
 pub const WORKER_NAMES: u64 = 0x1_0000_0000;

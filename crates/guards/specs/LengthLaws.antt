@@ -1,12 +1,12 @@
 -- The laws of lengths: what makes a section unfit, and what is known of one that is not.
 use Prim.Native.Nat.{ℕ, _+_, _-_, _<_, _≤_}
 use native.Mathlib.Omega.{arith}
-use mathlib.Core.Path.{_≡_, refl, sym}
+use mathlib.Core.Path.{_≡_, refl, sym, _∙_}
 use mathlib.Core.Logic.{⊎-elim}
 use mathlib.Core.Bool.{Bool, true, false, not}
-use lib.Dec.{leb}
+use lib.Dec.{ltb}
 use Rattle.lists.specs.Tests.{both, either, less, atMost, within}
-use Rattle.lists.specs.TestLaws.{cases, clash, atMost-yes, atMost-no, atMost-true}
+use Rattle.lists.specs.TestLaws.{cases, clash, less-yes, less-no, less-true, less-false, atMost-yes, atMost-no, atMost-true}
 use Rattle.spec.specs.Widths.{addresses}
 use Rattle.spec.specs.Records.{limits}
 use Rattle.spec.specs.Guards.{lastByte, unfit}
@@ -24,10 +24,19 @@ module _ (k n : ℕ) where
   pub unfit-long : limits .longest < n → true ≡ unfit k n
   unfit-long h = sym (by-length k n true false (atMost-yes {m = 1} {n = n} (omega arith)) (atMost-no {m = n} {n = limits .longest} h))
 
-  pub unfit-end : (n ≡ 0 → ⊥) → n ≤ limits .longest → leb addresses (k + n - 1) ≡ unfit k n
-  unfolding less lastByte
-  unfit-end z h =
-      sym (by-length k n true true (atMost-yes {m = 1} {n = n} (omega arith)) (atMost-yes {m = n} {n = limits .longest} h))
+  -- the last byte lies above the highest address where fewer addresses follow than bytes
+  above : (n ≡ 0 → ⊥) → k < addresses → less (limits .highest - k) (n - 1) ≡ less (limits .highest) (lastByte k n)
+  unfolding lastByte
+  above z a =
+      ⊎-elim
+      (λ e. e ∙ sym (less-yes (let l = less-true (limits .highest - k) (n - 1) e in omega (arith, z))))
+      (λ e. e ∙ sym (less-no (let l = less-false (limits .highest - k) (n - 1) e in omega (arith, z))))
+      (cases (less (limits .highest - k) (n - 1)))
+
+  pub unfit-end : (n ≡ 0 → ⊥) → n ≤ limits .longest → k < addresses → ltb (limits .highest - k) (n - 1) ≡ unfit k n
+  unfolding less
+  unfit-end z h a =
+      above z a ∙ sym (by-length k n true true (atMost-yes {m = 1} {n = n} (omega arith)) (atMost-yes {m = n} {n = limits .longest} h))
 
 -- the length of a section
 pub record Sized (n : ℕ) : Type 0 where

@@ -2,15 +2,15 @@
 use sets::WriteSet;
 use sets::writes;
 use sets::writes::Entry;
-use spec::ADDRESSES;
 use spec::Address;
+use spec::HIGHEST;
 use spec::LONGEST;
 ghost use mathlib.Core.Path.{_≡_};
 ghost use Rattle.spec.specs.Guards.{unfit, anyPut};
 ghost use Rattle.sets.specs.Writes.{writesOf, WriteSetOrdered};
 ghost use Rattle.guards.specs.Promises.{ofEntry};
 
-// No section can have this address and length. The length is tested first, so that the sum does not wrap.
+// No section can have this address and length. What lies above the address is compared, since a sum could pass all numbers.
 fn unfit(a: Address, len: u64) -> bool
     ensures { λ r. ⌜ r ≡ unfit a len ⌝ }
 {
@@ -20,7 +20,7 @@ fn unfit(a: Address, len: u64) -> bool
     if LONGEST < len {
         return true;
     }
-    ADDRESSES <= a as u64 + len - 1
+    ((HIGHEST - a) as u64) < len - 1
 }
 
 // The write is a put of an unfit section.

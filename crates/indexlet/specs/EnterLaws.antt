@@ -545,17 +545,17 @@ load-small {ws} {us} z s a =
 
 -- ---- all slots empty
 
--- the row of a slot without an entry: its key is no address, so that no leaf reaches it
+-- the row of a slot without an entry
 abbrev pub emptyRow : List ℕ
-emptyRow = addresses ∷ replicate 8 0
+emptyRow = 0 ∷ replicate 8 0
 
 abbrev pub emptyRows : SlotRows
 emptyRows = replicate slotRows emptyRow
 
-empty-row : (i : ℕ) → i < slotRows → rowAt emptyRows i ≡ record { key = addresses; content = unsaid; overflow = 0 }
+empty-row : (i : ℕ) → i < slotRows → rowAt emptyRows i ≡ record { key = 0; content = unsaid; overflow = 0 }
 empty-row i h = ap rowIn (getD-replicate slotRows i emptyRow [] h)
 
-empty-slot : slotIn (record { key = addresses; content = unsaid; overflow = 0 }) ≡ emptySlot
+empty-slot : slotIn (record { key = 0; content = unsaid; overflow = 0 }) ≡ emptySlot
 unfolding slotIn contentIn isIdle pendingIn holderIn
 empty-slot = refl
 

@@ -2,7 +2,6 @@
 // slots is a filter, which tells at once of most addresses that they have no entry, and of others where it is; and behind that
 // a bitmap of the slots that have an entry, so that a walk over the slots passes the others.
 // The promises speak of the model's slots (`slotsOf`, which reads the words) and of what the model does to them.
-use spec::ADDRESSES;
 use spec::Address;
 use spec::PayloadWords;
 ghost use mathlib.Core.Path.{_≡_};
@@ -138,12 +137,12 @@ fn put(t: &mut Slots, i: usize, s: Slot)
     t[i] = row;
 }
 
-// All slots are empty. The key of an empty one is no address, so that a walk that compares keys passes it; in the rows behind the
-// slots that word is not used.
+// All slots are empty. What says that a slot is empty is its content; its key is 0, and an address all the same. In the rows behind
+// the slots that word is not used.
 pub fn fresh_slots(t: &mut Slots)
     ensures { λ _. ⌜ SlotsFresh (now (t .exit)) ⌝ }
 {
-    let empty = [ADDRESSES, 0, 0, 0, 0, 0, 0, 0, 0];
+    let empty = [0, 0, 0, 0, 0, 0, 0, 0, 0];
     let slots = [empty; SLOT_ROWS];
     *t = slots;
 }
@@ -488,7 +487,7 @@ fn take(t: &mut Slots, a: Address, h: usize, c: Content) -> usize
 }
 
 // The entry of an address, which stands `passed` slots after the home slot h, is taken out, and each slot passed subtracts
-// one. Its key goes too, so that a search for it or a walk is not led to look further here.
+// one. Its key goes too, so that a search for it is not led to look further here.
 fn release(t: &mut Slots, a: Address, h: usize, passed: usize)
     requires { ⌜ SlotsHeld (now t) ⌝ }
     requires { ⌜ h ≡ homeSlot addressSize a ⌝ }
@@ -500,7 +499,7 @@ fn release(t: &mut Slots, a: Address, h: usize, passed: usize)
     let s = get(t, i);
     let content = nothing();
     let none = Slot {
-        key: ADDRESSES,
+        key: 0,
         content,
         overflow: s.overflow,
     };

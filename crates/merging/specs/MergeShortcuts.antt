@@ -238,7 +238,7 @@ module _ {p : ℕ → Bool} {rows : RecordRows} {slots : SlotRows} {n e o j : �
 
 -- the slot's entry is one that is taken
 module _ (rows : RecordRows) (n : ℕ) {lows : List ℕ} {m i j hidden : ℕ} {r : Reach} {slots : SlotRows} (s : SlotWords) (leaf : OneLeaf lows m i r) (held : indexlet.SlotsHeld slots)
-    (reads : indexlet.IsSlot slots j s) (low : r .low ≤ s .key) (high : s .key < r .high) (kind : s .content .kind ≡ 0 → ⊥) (inside : j < slotCount)
+    (reads : indexlet.IsSlot slots j s) (low : r .low ≤ s .key) (high : s .key ≤ r .low + r .span) (kind : s .content .kind ≡ 0 → ⊥) (inside : j < slotCount)
     (counted : hidden ≡ hiders (placed lows m i) rows n slots) where
   abbrev hiding : Row Content → Bool
   hiding = passing (placed lows m i) (hidingAt (recordsOf rows n))

@@ -166,7 +166,7 @@ fn take_slot(
 // word if there is none.
 fn reached_in(slots: &Slots, r: Reach, from: usize, bits: u64) -> usize
     requires { ⌜ indexlet-promises.SlotsHeld (now slots) ⌝ }
-    requires { ⌜ (from < slotCount) × (r .span ≡ r .high - r .low) × (BitsFrom false (now slots) from bits) ⌝ }
+    requires { ⌜ (from < slotCount) × (r .low + r .span < 2 ^ 64) × (BitsFrom false (now slots) from bits) ⌝ }
     ensures { λ j. ⌜ Skips (now (slots .entry)) r from j ⌝ }
 {
     let mut w = bits;
@@ -185,7 +185,7 @@ fn reached_in(slots: &Slots, r: Reach, from: usize, bits: u64) -> usize
 // those without an entry are not looked at.
 fn next_reached(slots: &Slots, r: Reach, from: usize) -> usize
     requires { ⌜ indexlet-promises.SlotsHeld (now slots) ⌝ }
-    requires { ⌜ (from ≤ slotCount) × (r .span ≡ r .high - r .low) ⌝ }
+    requires { ⌜ (from ≤ slotCount) × (r .low + r .span < 2 ^ 64) ⌝ }
     ensures { λ j. ⌜ Skips (now (slots .entry)) r from j ⌝ }
 {
     let mut next = from;

@@ -7,16 +7,17 @@ use mathlib.Core.Logic.{_⊎_, inl, inr, ⊎-elim}
 use mathlib.Core.Bool.{Bool, true, false, not}
 use mathlib.Core.List.{List}
 use mathlib.Core.Option.{Option, none, some}
-use lib.Dec.{ltb}
-use lib.ListN.{length, take, drop, drop-of-length-le, getD, set, length-set}
-use lib.Seq.{drop-cons, getD-set-same, getD-set-other}
+use lib.Dec.{leb}
+use lib.ListN.{length, take, drop, drop-of-length-le, getD, set, length-set, length-drop}
+use lib.Seq.{drop-cons, getD-take, getD-drop, length-take-le, getD-set-same, getD-set-other}
 use Rattle.lists.specs.Tests.{pick, both, present, same, less, atMost}
-use Rattle.lists.specs.TestLaws.{cases, clash, same-yes, same-no, same-true, same-false, less-yes, less-no, less-true, less-false, atMost-true, atMost-false}
+use Rattle.lists.specs.TestLaws.{cases, clash, same-yes, same-no, same-true, same-false, less-true, atMost-yes, atMost-no, atMost-true, atMost-false}
 use Rattle.lists.specs.Rows.{Row, look}
+use Rattle.lists.specs.Ascending.{ascends-at, ascends-drop}
 use Rattle.lists.specs.Sums.{total, total-most, total-none}
 use Rattle.lists.specs.Options.{options}
 use Rattle.spec.specs.Widths.{addresses}
-use Rattle.spec.specs.Records.{Record}
+use Rattle.spec.specs.Records.{limits, Record}
 use Rattle.spec.specs.Slots.{slotCount, Content, Slot, emptySlot}
 use Rattle.laws.specs.SlotCounts.{entryAt, tally, count, count-cons}
 use Rattle.index.specs.Views.{leafPlaces}
@@ -87,35 +88,35 @@ weigh-leaf lows m t i e = ⊎-elim (λ q. rw q) (λ q. rw q) (cases (placed lows
 
 -- ---- which leaves
 
--- The leaves at the places from `from` up to `to` hold the addresses from low up to high.
+-- The leaves at the places from `from` up to `to` hold the address low and the `span` addresses behind it.
 pub record ReachIs (lows : List ℕ) (m : ℕ) (r : Reach) : Type 0 where
   pub below : (k : ℕ) → k < r .low → lowPlace k (take m lows) < r .from
-  pub above : (k : ℕ) → r .high ≤ k → k < addresses → r .to ≤ lowPlace k (take m lows)
-  pub inside : (k : ℕ) → r .low ≤ k → k < r .high → (r .from ≤ lowPlace k (take m lows)) × (lowPlace k (take m lows) < r .to)
-  pub span : r .span ≡ r .high - r .low
+  pub above : (k : ℕ) → r .low + r .span < k → k < addresses → r .to ≤ lowPlace k (take m lows)
+  pub inside : (k : ℕ) → r .low ≤ k → k ≤ r .low + r .span → (r .from ≤ lowPlace k (take m lows)) × (lowPlace k (take m lows) < r .to)
+  pub word : r .low + r .span < 2 ^ 64
 
--- an address lies between low and high
+-- an address is one of these
 unfoldable pub reached : Reach → ℕ → Bool
-reached r k = both (atMost (r .low) k) (less k (r .high))
+reached r k = both (atMost (r .low) k) (atMost k (r .low + r .span))
 
-reached-yes : (r : Reach) (k : ℕ) → reached r k ≡ true → (r .low ≤ k) × (k < r .high)
+reached-yes : (r : Reach) (k : ℕ) → reached r k ≡ true → (r .low ≤ k) × (k ≤ r .low + r .span)
 unfolding reached
 reached-yes r k e =
     ⊎-elim
-    (λ a. (atMost-true (r .low) k a, less-true k (r .high) (ap (λ (b : Bool). both b (less k (r .high))) (sym a) ∙ e)))
-    (λ a. clash e (ap (λ (b : Bool). both b (less k (r .high))) a))
+    (λ a. (atMost-true (r .low) k a, atMost-true k (r .low + r .span) (ap (λ (b : Bool). both b (atMost k (r .low + r .span))) (sym a) ∙ e)))
+    (λ a. clash e (ap (λ (b : Bool). both b (atMost k (r .low + r .span))) a))
     (cases (atMost (r .low) k))
 
-pub reached-no : (r : Reach) (k : ℕ) → reached r k ≡ false → (k < r .low) ⊎ (r .high ≤ k)
+pub reached-no : (r : Reach) (k : ℕ) → reached r k ≡ false → (k < r .low) ⊎ (r .low + r .span < k)
 unfolding reached
 reached-no r k e =
     ⊎-elim
-    (λ a. inr (less-false k (r .high) (ap (λ (b : Bool). both b (less k (r .high))) (sym a) ∙ e)))
+    (λ a. inr (atMost-false k (r .low + r .span) (ap (λ (b : Bool). both b (atMost k (r .low + r .span))) (sym a) ∙ e)))
     (λ a. inl (atMost-false (r .low) k a))
     (cases (atMost (r .low) k))
 
 -- as the code has it
-pub reaches-yes : (b : Bool) (r : Reach) (k : ℕ) → b ≡ reached r k → not b ≡ false → (r .low ≤ k) × (k < r .high)
+pub reaches-yes : (b : Bool) (r : Reach) (k : ℕ) → b ≡ reached r k → not b ≡ false → (r .low ≤ k) × (k ≤ r .low + r .span)
 reaches-yes true r k e t = reached-yes r k (sym e)
 reaches-yes false r k e t = clash refl t
 
@@ -124,20 +125,20 @@ reaches-no true r k e t = clash t refl
 reaches-no false r k e t = sym e
 
 -- by one comparison: the number that low added to wraps back to the address
-pub one-comparison : (r : Reach) (k d : ℕ) → r .span ≡ r .high - r .low → (d + r .low) % 2 ^ 64 ≡ k → d < 2 ^ 64 → r .low < 2 ^ 64 → r .high < 2 ^ 64 → ltb d (r .span) ≡ reached r k
-unfolding reached less
-one-comparison r k d s e f l h =
+pub one-comparison : (r : Reach) (k d : ℕ) → r .low + r .span < 2 ^ 64 → (d + r .low) % 2 ^ 64 ≡ k → d < 2 ^ 64 → leb d (r .span) ≡ reached r k
+unfolding reached atMost
+one-comparison r k d s e f =
     ⊎-elim
     (λ a. let q : r .low ≤ k = atMost-true (r .low) k a in
     let z : d ≡ k - r .low = omega arith in
     ⊎-elim
-    (λ b. let t : k < r .high = less-true k (r .high) b in
-    less-yes {m = d} {n = r .span} (omega arith) ∙ sym (ap (λ (x : Bool). both x (ltb k (r .high))) a ∙ b))
-    (λ b. let t : r .high ≤ k = less-false k (r .high) b in
-    less-no {m = d} {n = r .span} (omega arith) ∙ sym (ap (λ (x : Bool). both x (ltb k (r .high))) a ∙ b))
-    (cases (less k (r .high))))
+    (λ b. let t : k ≤ r .low + r .span = atMost-true k (r .low + r .span) b in
+    atMost-yes {m = d} {n = r .span} (omega arith) ∙ sym (ap (λ (x : Bool). both x (leb k (r .low + r .span))) a ∙ b))
+    (λ b. let t : r .low + r .span < k = atMost-false k (r .low + r .span) b in
+    atMost-no {m = d} {n = r .span} (omega arith) ∙ sym (ap (λ (x : Bool). both x (leb k (r .low + r .span))) a ∙ b))
+    (cases (atMost k (r .low + r .span))))
     (λ a. let q : k < r .low = atMost-false (r .low) k a in
-    less-no {m = d} {n = r .span} (omega arith) ∙ sym (ap (λ (x : Bool). both x (ltb k (r .high))) a))
+    atMost-no {m = d} {n = r .span} (omega arith) ∙ sym (ap (λ (x : Bool). both x (leb k (r .low + r .span))) a))
     (cases (atMost (r .low) k))
 
 -- what finding them asks
@@ -148,22 +149,39 @@ pub record Ranging (lows : List ℕ) (m from to : ℕ) : Type 0 where
   pub some : from < to
 
 module _ (lows : List ℕ) (m from to : ℕ) (al : length lows ≡ leafPlaces) (r : Ranging lows m from to) where
-  -- up to the next leaf
-  pub range-next : (low high s : ℕ) → low ≡ getD lows from 0 → high ≡ getD lows to 0 → s ≡ high - low → to < m
-      → ReachIs lows m (record { from = from; to = to; low = low; high = high; span = s })
-  range-next low high s x y e n =
+  -- the lows of later leaves are higher
+  later : to < m → getD lows from 0 < getD lows to 0
+  later n =
       let g : from < to = r .some in
+      let room : m ≤ leafPlaces = r .listed .room in
+      let size : length (take m lows) ≡ m = length-take-le m lows (omega arith) in
+      let a : getD (take m lows) from 0 ≡ getD lows from 0 = getD-take m lows from 0 (r .inside) in
+      let b : getD (take m lows) to 0 ≡ getD lows to 0 = getD-take m lows to 0 n in
+      let c : getD (drop from (take m lows)) (to - from) 0 ≡ getD (take m lows) (from + (to - from)) 0 = getD-drop from (take m lows) (to - from) 0 in
+      let d : getD (take m lows) (from + (to - from)) 0 ≡ getD (take m lows) to 0 = ap (λ (i : ℕ). getD (take m lows) i 0) (omega arith) in
+      let left : length (drop from (take m lows)) ≡ length (take m lows) - from = length-drop from (take m lows) in
+      let q : getD (take m lows) from 0 + (to - from) ≤ getD (drop from (take m lows)) (to - from) 0
+      = ascends-at (getD (take m lows) from 0) (drop from (take m lows)) (to - from)
+      (ascends-drop 0 (take m lows) from (r .listed .rising) (let i = r .inside in omega arith)) (omega arith) in
+      omega arith
+
+  -- up to the next leaf
+  pub range-next : (low next last s : ℕ) → low ≡ getD lows from 0 → next ≡ getD lows to 0 → last ≡ next - 1 → s ≡ last - low → next < 2 ^ 64 → to < m
+      → ReachIs lows m (record { from = from; to = to; low = low; span = s })
+  range-next low next last s x y z e f n =
+      let g : from < to = r .some in
+      let q : getD lows from 0 < getD lows to 0 = later n in
       record {
         below = λ k l. low-below lows m (r .listed) al from k (r .first) (r .inside) (omega arith);
         above = λ k l b. low-from lows m (r .listed) al to k n (omega arith);
         inside = λ k l b. (low-from lows m (r .listed) al from k (r .inside) (omega arith), low-before lows m (r .listed) al to k (omega arith) n (omega arith));
-        span = e;
+        word = omega arith;
       }
 
   -- up to the last address
-  pub range-last : (low s : ℕ) → low ≡ getD lows from 0 → s ≡ addresses - low → m ≤ to
-      → ReachIs lows m (record { from = from; to = to; low = low; high = addresses; span = s })
-  range-last low s x e n =
+  pub range-last : (low s : ℕ) → low ≡ getD lows from 0 → s ≡ limits .highest - low → low < 2 ^ 64 → m ≤ to
+      → ReachIs lows m (record { from = from; to = to; low = low; span = s })
+  range-last low s x e f n =
       record {
         below = λ k l. low-below lows m (r .listed) al from k (r .first) (r .inside) (omega arith);
         above = λ k l b. absurd (let q : ⊥ = omega arith in q);
@@ -171,7 +189,7 @@ module _ (lows : List ℕ) (m from to : ℕ) (al : length lows ≡ leafPlaces) (
             λ k l b.
             let y : lowPlace k (take m lows) < m = low-inside lows m (r .listed) al k in
             (low-from lows m (r .listed) al from k (r .inside) (omega arith), omega arith);
-        span = e;
+        word = omega arith;
       }
 
 -- the low of a leaf that was read
@@ -192,7 +210,7 @@ module _ {lows : List ℕ} {m i : ℕ} {r : Reach} (h : OneLeaf lows m i r) wher
       let b : r .from ≡ i = h .from in
       same-no {m = lowPlace k (take m lows)} {n = i} (λ e. let z : ⊥ = omega arith in z)
 
-  pub leaf-above : (k : ℕ) → r .high ≤ k → k < addresses → placed lows m i k ≡ false
+  pub leaf-above : (k : ℕ) → r .low + r .span < k → k < addresses → placed lows m i k ≡ false
   unfolding placed
   leaf-above k l f =
       let a : r .to ≤ lowPlace k (take m lows) = h .range .above k l f in
@@ -202,7 +220,7 @@ module _ {lows : List ℕ} {m i : ℕ} {r : Reach} (h : OneLeaf lows m i r) wher
   pub leaf-outside : (k : ℕ) → k < addresses → reached r k ≡ false → placed lows m i k ≡ false
   leaf-outside k f e = ⊎-elim (λ l. leaf-below k l) (λ l. leaf-above k l f) (reached-no r k e)
 
-  pub leaf-inside : (k : ℕ) → r .low ≤ k → k < r .high → placed lows m i k ≡ true
+  pub leaf-inside : (k : ℕ) → r .low ≤ k → k ≤ r .low + r .span → placed lows m i k ≡ true
   unfolding placed
   leaf-inside k l f =
       let a = h .range .inside k l f in

@@ -166,7 +166,7 @@ module _ {rows : RecordRows} {lows : List ℕ} {slots : SlotRows} {n m : ℕ} {z
     tally-below : isIdle (contentIn (r .content)) ≡ false → r .key < z .low → Tallying rows lows slots n m z hidden pending (j + 1)
     tally-below t l = let w : lowPlace (r .key) (take m lows) < z .from = g .range .below (r .key) l in out-of (λ i a b e. let q : ⊥ = omega arith in q) t
 
-    tally-above : isIdle (contentIn (r .content)) ≡ false → z .high ≤ r .key → Tallying rows lows slots n m z hidden pending (j + 1)
+    tally-above : isIdle (contentIn (r .content)) ≡ false → z .low + z .span < r .key → Tallying rows lows slots n m z hidden pending (j + 1)
     tally-above t l = let w : z .to ≤ lowPlace (r .key) (take m lows) = g .range .above (r .key) l (reads .narrow t) in out-of (λ i a b e. let q : ⊥ = omega arith in q) t
 
     -- an address in none of these leaves, with an entry or without
@@ -177,7 +177,7 @@ module _ {rows : RecordRows} {lows : List ℕ} {slots : SlotRows} {n m : ℕ} {z
         (cases (isIdle (contentIn (r .content))))
 
     -- an entry in one of them
-    tally-some : (at x w : ℕ) (hidden' pending' : List ℕ) → isIdle (contentIn (r .content)) ≡ false → z .low ≤ r .key → r .key < z .high → AtLeaf lows m (r .key) at
+    tally-some : (at x w : ℕ) (hidden' pending' : List ℕ) → isIdle (contentIn (r .content)) ≡ false → z .low ≤ r .key → r .key ≤ z .low + z .span → AtLeaf lows m (r .key) at
         → x ≡ pick (both (not (present (look (recordsOf rows n) (r .key)))) (hidesSome (contentIn (r .content)))) 1 0 → w ≡ pick (present (contentIn (r .content) .pending)) 1 0
         → hidden' ≡ set hidden at (getD hidden at 0 + x) → pending' ≡ set pending at (getD pending at 0 + w)
         → Tallying rows lows slots n m z hidden' pending' (j + 1)
@@ -212,7 +212,7 @@ module _ {rows : RecordRows} {ls : LeafRows} {slots : SlotRows} {n m : ℕ} {r :
   tallied-end t h = record { same = t .same; numbers = tally-end (t .tallying) h }
 
   pub tallied-some : {ls' : LeafRows} {j : ℕ} (g : Tallying rows (lowsOf ls) slots n m r (hiddenOf ls) (pendingOf ls) j) → j < slotCount → (s : SlotWords) → indexlet.IsSlot slots j s
-      → (at x w : ℕ) → isIdle (contentIn (s .content)) ≡ false → r .low ≤ s .key → s .key < r .high → AtLeaf (lowsOf ls) m (s .key) at
+      → (at x w : ℕ) → isIdle (contentIn (s .content)) ≡ false → r .low ≤ s .key → s .key ≤ r .low + r .span → AtLeaf (lowsOf ls) m (s .key) at
       → x ≡ pick (both (not (present (look (recordsOf rows n) (s .key)))) (hidesSome (contentIn (s .content)))) 1 0 → w ≡ pick (present (contentIn (s .content) .pending)) 1 0
       → Raised ls ls' at x w → Tallied rows ls slots n m r (j + 1) ls'
   tallied-some {ls'} {j} g h s reads at x w t u v l a b q =
@@ -257,7 +257,7 @@ pick-most true = omega arith
 pick-most false = omega arith
 
 module _ {rows : RecordRows} {lows : List ℕ} {slots : SlotRows} {n m : ℕ} {z : Reach} {hidden pending : List ℕ} {j : ℕ} (g : Tallying rows lows slots n m z hidden pending j) (h : j < slotCount)
-    {k at : ℕ} (l : AtLeaf lows m k at) (u : z .low ≤ k) (v : k < z .high) (x : ℕ) (b : Bool) (e : x ≡ pick b 1 0) where
+    {k at : ℕ} (l : AtLeaf lows m k at) (u : z .low ≤ k) (v : k ≤ z .low + z .span) (x : ℕ) (b : Bool) (e : x ≡ pick b 1 0) where
   pub hidden-fits : (at < leafPlaces) × (getD hidden at 0 + x < 2 ^ 64)
   hidden-fits =
       let i : at < m = l .inside in

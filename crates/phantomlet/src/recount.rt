@@ -8,8 +8,8 @@ use index::leaves;
 use index::leaves::LeafWords;
 use indexlet::SLOTS;
 use indexlet::Slots;
-use spec::ADDRESSES;
 use spec::Address;
+use spec::HIGHEST;
 ghost use mathlib.Core.Path.{_≡_};
 ghost use mathlib.Core.Bool.{not};
 ghost use Prim.Native.Nat.{_+_, _-_, _^_, _<_, _≤_};
@@ -25,13 +25,12 @@ ghost use Rattle.phantomlet.specs.LeafWrites.{Cleared, Raised};
 ghost use Rattle.phantomlet.specs.LeafCounts.{ReachIs, Ranging, reached};
 ghost use Rattle.phantomlet.specs.MergeCounts.{Recounting, Tallying, Tallied, Numbering};
 
-// Which leaves are counted: the places from `from` up to, not including, `to`, which hold the addresses from `low` up to,
-// not including, `high`: `span` of them.
+// Which leaves are counted: the places from `from` up to, not including, `to`, which hold the address `low` and the `span`
+// addresses behind it.
 pub struct Reach {
     pub from: usize,
     pub to: usize,
     pub low: u64,
-    pub high: u64,
     pub span: u64,
 }
 
@@ -85,30 +84,28 @@ pub fn addresses_of(leaves: &Leaves, m: usize, from: usize, to: usize) -> Reach
     let low = first.low;
     if to < m {
         let next = leaves::leaf_at(leaves, to);
-        let high = next.low;
+        let last = between(1, next.low);
         return Reach {
             from,
             to,
             low,
-            high,
-            span: between(low, high),
+            span: between(low, last),
         };
     }
     Reach {
         from,
         to,
         low,
-        high: ADDRESSES,
-        span: between(low, ADDRESSES),
+        span: between(low, HIGHEST as u64),
     }
 }
 
 // The address lies in those leaves. One comparison, since in a walk over the slots two are guessed wrong every other time.
 pub fn reaches(r: Reach, key: u64) -> bool
-    requires { ⌜ r .span ≡ r .high - r .low ⌝ }
+    requires { ⌜ r .low + r .span < 2 ^ 64 ⌝ }
     ensures { λ b. ⌜ b ≡ reached r key ⌝ }
 {
-    std::num::wrapping_sub_u64(key, r.low) < r.span
+    std::num::wrapping_sub_u64(key, r.low) <= r.span
 }
 
 // 1 if a write is pending.

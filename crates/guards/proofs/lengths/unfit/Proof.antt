@@ -10,14 +10,17 @@ returns c = unfit-empty _ _ (c .if1 .taken)
 returns-2 : tie.Need-returns-2
 returns-2 c = unfit-long _ _ (c .if2 .taken)
 
-add-result : tie.Need-add-result
-add-result c = search needs
-
 sub-result : tie.Need-sub-result
 sub-result c = search needs
 
+cast-result : tie.Need-cast-result
+cast-result c = search needs
+
+sub-result-2 : tie.Need-sub-result-2
+sub-result-2 c = search needs
+
 returns-3 : tie.Need-returns-3
-returns-3 c = unfit-end _ _ (c .before .if1 .left) (c .if2 .left)
+returns-3 c = unfit-end _ _ (c .before .if1 .left) (c .if2 .left) (search needs)
 
 pub unfit-spec : {M : Type 1} → statement M
-unfit-spec = tie.close (tie.spec returns returns-2 add-result sub-result returns-3)
+unfit-spec = tie.close (tie.spec returns returns-2 sub-result cast-result sub-result-2 returns-3)

@@ -24,7 +24,7 @@ loop-holds : tie.Need-loop-holds Inv-loop μ-loop
 loop-holds c = (walk-start (c .pre .0), clear-start, stays-same)
 
 next-reached-requires : tie.Need-next-reached-requires Inv-loop μ-loop
-next-reached-requires c κs = (c .before .before .loop .inv .0 .words, (c .before .before .loop .inv .0 .there, c .before .before .before .pre .1 .range .span))
+next-reached-requires c κs = (c .before .before .loop .inv .0 .words, (c .before .before .loop .inv .0 .there, c .before .before .before .pre .1 .range .word))
 
 take-slot-requires : tie.Need-take-slot-requires Inv-loop μ-loop
 take-slot-requires c κs =

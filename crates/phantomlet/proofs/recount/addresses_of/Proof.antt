@@ -25,26 +25,31 @@ leaf-at-requires-2 c κs = search needs
 between-requires : tie.Need-between-requires
 between-requires c κs = search needs
 
+between-requires-2 : tie.Need-between-requires-2
+between-requires-2 c κs = search needs
+
 returns : tie.Need-returns
 returns c =
-    let after-leaf-places = c .before .before .before .before in
-    let s = c .before .before .before .before .before in
+    let s = c .before .before .before .before .before .before in
     let ls = s .args .leaves .now in (
-      range-next (lowsOf ls) (s .args .m) (s .args .from) (s .args .to) (column-places 0 ls (after-leaf-places .leaf-places .ensures)) (s .pre) _ _ _
-          (low-of ls (s .args .from) (c .before .before .before .leaf-at .ensures)) (low-of ls (s .args .to) (c .before .leaf-at2 .ensures)) (c .between .ensures) (c .before .before .if1 .taken),
+      range-next (lowsOf ls) (s .args .m) (s .args .from) (s .args .to) (column-places 0 ls (c .before .before .before .before .before .leaf-places .ensures)) (s .pre) _ _ _ _
+          (low-of ls (s .args .from) (c .before .before .before .before .leaf-at .ensures)) (low-of ls (s .args .to) (c .before .before .leaf-at2 .ensures)) (c .before .between .ensures) (c .between2 .ensures) (search needs) (c .before .before .before .if1 .taken),
       refl,
       refl,
     )
 
-between-requires-2 : tie.Need-between-requires-2
-between-requires-2 c κs = search needs
+cast-between : tie.Need-cast-between
+cast-between c = search needs
+
+between-requires-3 : tie.Need-between-requires-3
+between-requires-3 c κs = search needs
 
 returns-2 : tie.Need-returns-2
 returns-2 c =
     let s = c .before .before .before .before in
     let ls = s .args .leaves .now in (
       range-last (lowsOf ls) (s .args .m) (s .args .from) (s .args .to) (column-places 0 ls (c .before .before .before .leaf-places .ensures)) (s .pre) _ _
-          (low-of ls (s .args .from) (c .before .before .leaf-at .ensures)) (c .between2 .ensures) (c .before .if1 .left),
+          (low-of ls (s .args .from) (c .before .before .leaf-at .ensures)) (c .between3 .ensures) (search needs) (c .before .if1 .left),
       refl,
       refl,
     )
@@ -57,6 +62,8 @@ addresses-of-spec =
     leaf-at-requires
     leaf-at-requires-2
     between-requires
-    returns
     between-requires-2
+    returns
+    cast-between
+    between-requires-3
     returns-2)

@@ -8,7 +8,7 @@ wrapping-sub-u64-requires : tie.Need-wrapping-sub-u64-requires
 wrapping-sub-u64-requires c κs = search needs
 
 returns : tie.Need-returns
-returns c = one-comparison _ _ _ (c .before .before .pre) (c .before .wrapping-sub-u64 .ensures) (search needs) (search needs) (search needs)
+returns c = one-comparison _ _ _ (c .before .before .pre) (c .before .wrapping-sub-u64 .ensures) (search needs)
 
 pub reaches-spec : {M : Type 1} → statement M
 reaches-spec = tie.close (tie.spec wrapping-sub-u64-requires returns)

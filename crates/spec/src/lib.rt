@@ -8,7 +8,7 @@ pub type Address = u32;
 // How many bytes it has.
 pub const ADDRESS_BYTES: usize = 4;
 
-// How many addresses there are, and the highest.
+// How many addresses there are.
 pub const ADDRESSES: u64 = 0x1_0000_0000;
 
 // The highest of them, as `limits` has it.

@@ -11,7 +11,7 @@ use lib.Dec.{leb}
 use lib.ListN.{length, take, drop, drop-of-length-le, getD, set, length-set, length-drop}
 use lib.Seq.{drop-cons, getD-take, getD-drop, length-take-le, getD-set-same, getD-set-other}
 use Rattle.lists.specs.Tests.{pick, both, present, same, less, atMost}
-use Rattle.lists.specs.TestLaws.{cases, clash, same-yes, same-no, same-true, same-false, less-true, atMost-yes, atMost-no, atMost-true, atMost-false}
+use Rattle.lists.specs.TestLaws.{cases, clash, same-yes, same-no, same-true, same-false, less-true, less-false, atMost-yes, atMost-no, atMost-true, atMost-false}
 use Rattle.lists.specs.Rows.{Row, look}
 use Rattle.lists.specs.Ascending.{ascends-at, ascends-drop}
 use Rattle.lists.specs.Sums.{total, total-most, total-none}

@@ -18,7 +18,7 @@ pub struct MadeLeaf {
 pub const MOST_RUNS: usize = 129;
 
 // The leaves that a merge has made so far, from the left.
-pub type Made = [MadeLeaf; MOST_RUNS];
+pub type MadeLeaves = [MadeLeaf; MOST_RUNS];
 
 impl MadeLeaf {
     // The leaf from another low address on.
@@ -59,7 +59,7 @@ fn set_version(made: &mut [MadeLeaf], i: usize, version: u64)
 }
 
 // Leaf i is made, where the leaves go by value.
-pub fn make_run(made: Made, i: usize, low: u64, version: u64) -> Made
+pub fn make_run(made: MadeLeaves, i: usize, low: u64, version: u64) -> MadeLeaves
     requires { ⌜ i < mostRuns ⌝ }
     ensures { λ r. ⌜ r ≡ set made i (leaf low version) ⌝ }
 {

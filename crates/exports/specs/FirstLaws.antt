@@ -8,7 +8,7 @@ use Rattle.lists.specs.Rows.{Row}
 use Rattle.spec.specs.Records.{Record}
 use Rattle.spec.specs.Steps.{Places, shortest}
 use Rattle.spec.specs.Exports as model
-use Rattle.buffers.specs.Buffers.{Buffers, buffers, placesOf, Beyond, Lends, firstOf, othersOf, Unmoved}
+use Rattle.buffers.specs.Buffers.{Buffers, placesOf, Beyond, Lends, firstOf, Unmoved}
 use Rattle.buffers.specs.FirstPlaces.{first-places, behind, behind-first, behind-others, beyond-part, unmoved-part, rows-part}
 use Rattle.exports.specs.declared.Export.{Export}
 use Rattle.exports.specs.declared.ExportAnswer.{ExportAnswer}

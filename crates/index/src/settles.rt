@@ -6,13 +6,13 @@ use crate::leaves;
 use crate::leaves::LeafWords;
 use crate::rows;
 use cuts::MOST_RUNS;
-use cuts::Made;
+use cuts::MadeLeaves;
 use spec::RUN;
 ghost use mathlib.Core.Path.{_≡_};
 ghost use Prim.Native.Nat.{_+_, _-_, _*_, _^_, _<_, _≤_};
 ghost use Rattle.lists.specs.Tabulation.{tab};
 ghost use Rattle.lists.specs.Shifts.{over};
-ghost use Rattle.spec.specs.Records.{standard, Made};
+ghost use Rattle.spec.specs.Records.{standard};
 ghost use Rattle.cuts.specs.Making.{mostRuns};
 ghost use Rattle.index.specs.Views.{recordPlaces, leafPlaces, keysBetween};
 ghost use Rattle.index.specs.Settles.{Settling};
@@ -37,7 +37,7 @@ fn made_leaf(low: u64, version: u64) -> LeafWords
 }
 
 // The n runs after the one at row i: their lows are the addresses of their first rows, their versions the next after v.
-fn make_all(rows: &Records, i: usize, n: usize, v: u64) -> Made
+fn make_all(rows: &Records, i: usize, n: usize, v: u64) -> MadeLeaves
     requires { ⌜ n < mostRuns ⌝ }
     requires { ⌜ i + n * standard .run < recordPlaces ⌝ }
     requires { ⌜ v + n < 2 ^ 64 ⌝ }
@@ -55,7 +55,7 @@ fn make_all(rows: &Records, i: usize, n: usize, v: u64) -> Made
 }
 
 // The first n of the leaves that were made, a row each, from place `at` on.
-fn fill(leaves: &mut Leaves, made: Made, at: usize, n: usize)
+fn fill(leaves: &mut Leaves, made: MadeLeaves, at: usize, n: usize)
     requires { ⌜ at + n ≤ leafPlaces ⌝ }
     requires { ⌜ n < mostRuns ⌝ }
     ensures { λ _. ⌜ now (leaves .exit) ≡ over (now (leaves .entry)) at (tab (madeRow made) n) ⌝ }

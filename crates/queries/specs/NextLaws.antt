@@ -33,7 +33,7 @@ use Rattle.indexlet.specs.Bitmaps.{wordEnd, BitsFrom, Unseen}
 use Rattle.indexlet.specs.BitmapLaws.{unseen-start, unseen-end, unseen-on}
 use Rattle.indexlet.specs.Promises as indexlet
 use Rattle.index.specs.declared.rows.RecordRow.{RecordRow}
-use Rattle.index.specs.Views.{recordFrom, rowOf, noRow, rowAt, recordsOf, RecordsSorted}
+use Rattle.index.specs.Views.{recordFrom, rowOf, noRow, rowAt, recordsOf}
 use Rattle.index.specs.RecordPlaces.{AtPlace}
 use Rattle.index.specs.ViewLaws.{length-records, record-at}
 use Rattle.spec.specs.declared.Current.{Current}

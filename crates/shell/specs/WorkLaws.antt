@@ -1,7 +1,6 @@
 -- The parts of a run put together, call by call: from a fresh session on, whatever the system answers, what was read and what was
 -- handed over stand to each other as `Stands` says.
 use Prim.Native.Nat.{ℕ, zero, suc, _+_, _<_, _≤_, min}
-use native.Mathlib.Nat.{le-trans}
 use native.Mathlib.Omega.{arith}
 use mathlib.Core.Path.{_≡_, refl, sym, ap, _∙_, subst}
 use mathlib.Core.Logic.{_⊎_, inl, inr, ⊎-elim}
@@ -10,14 +9,13 @@ use mathlib.Core.List.{List, [], _++_, append-assoc, append-nil}
 use lib.Dec.{T, lt→ltb}
 use lib.IntN.{ℤ, pos, negsuc}
 use lib.ListN.{length, take, drop, length-append}
-use lib.Seq.{sets, sets-eq, take-at, length-take-le}
+use lib.Seq.{sets-eq, take-at, length-take-le}
 use lib.Signed.{ltZ}
 use Rattle.lists.specs.Tests.{both, atMost}
 use Rattle.lists.specs.TestLaws.{atMost-true, atMost-false, cases, clash}
 use Rattle.lists.specs.Texts.{Wrote}
 use Rattle.lists.specs.TextLaws.{wrote-length}
 use Rattle.io.specs.Counts.{clamped}
-use Rattle.libc.specs.Io.{Moved}
 use Rattle.map.specs.Views.{Lent}
 use Rattle.transactions.specs.Views.{Logs, stateOf, coreOf}
 use Rattle.console.specs.declared.session.Session.{Session}
@@ -27,7 +25,7 @@ use Rattle.console.specs.Finishes.{Finishes}
 use Rattle.console.specs.WholeRuns.{told-start, told-fed, told-taken, told-piece, told-end, told-stopped}
 use Rattle.shell.specs.declared.Work.{Work}
 use Rattle.shell.specs.declared.system.Calls.{Calls}
-use Rattle.shell.specs.Works.{brought, broken, noCalls, readCall, writeAnswer, writeCall, withRead, withWrite, afterRead, afterWrite, withSession, Stands, Rests, Reads, Owed, ReadMade, WriteMade, ReadDone, WriteDone, Turns, Closes, mostTurns, Ran}
+use Rattle.shell.specs.Works.{brought, broken, noCalls, readCall, writeAnswer, withRead, withWrite, afterRead, afterWrite, withSession, Stands, Rests, Reads, Owed, ReadMade, WriteMade, ReadDone, WriteDone, Turns, Closes, mostTurns, Ran}
 
 -- ---- texts
 

@@ -1,7 +1,7 @@
 -- `run` meets its contract, and ends: each part of the run goes on from the one before. The invariant: between two turns nothing waits,
 -- and the bytes of the turns left can be counted. The measure: the turns left.
 use native.Mathlib.Omega.{arith}
-use Prim.Native.Nat.{ℕ, _+_, _*_, _≤_}
+use Prim.Native.Nat.{_+_, _*_, _≤_}
 use mathlib.Core.Path.{_≡_, sym, ap}
 use mathlib.Core.Logic.{⊎-elim}
 use lib.ListN.{length}

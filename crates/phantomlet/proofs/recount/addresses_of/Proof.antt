@@ -1,11 +1,8 @@
 -- `phantomlet::recount::addresses_of` meets its contract: up to the next leaf's low, or up to the last address.
-use mathlib.Core.Path.{refl, sym, ap, _∙_, subst}
-use Prim.Native.Nat.{ℕ, _-_}
-use Rattle.index.specs.declared.leaves.LeafWords.{LeafWords}
+use mathlib.Core.Path.{refl}
 use Rattle.index.specs.LeafColumns.{lowsOf}
-use Rattle.index.specs.LeafColumnLaws.{column-places, column-getD}
-use Rattle.spec.specs.Widths.{addresses}
-use Rattle.phantomlet.specs.LeafCounts.{ReachIs, low-of, range-next, range-last}
+use Rattle.index.specs.LeafColumnLaws.{column-places}
+use Rattle.phantomlet.specs.LeafCounts.{low-of, range-next, range-last}
 use borrow.Author.Needs.{needs}
 use Rattle.phantomlet.proofs.recount.addresses_of.Statement.{statement}
 use Rattle.phantomlet.proofs.recount.addresses_of.Tie as tie

@@ -22,7 +22,7 @@ use workers;
 use workers::{Worker, Workers};
 
 // The answer of a read: a value and its owner, or none there, each with how many slots the look-up examined, or the refusal.
-#[derive(Drop)]
+#[derive(Clone, Copy)]
 pub enum ReadAnswer {
     Value(u64, u16, usize),
     Absent(usize),
@@ -30,7 +30,7 @@ pub enum ReadAnswer {
 }
 
 // How many reads are logged now, what the last one saw, and how many slots it examined.
-#[derive(Drop)]
+#[derive(Clone, Copy)]
 struct Taken {
     count: usize,
     seen: Current,

@@ -16,7 +16,7 @@ use workers;
 use workers::Workers;
 
 // The answer: how many records are shown, or the refusal.
-#[derive(Drop)]
+#[derive(Clone, Copy)]
 pub enum ScanAnswer {
     Count(usize),
     Refused(Refusal),

@@ -1,5 +1,7 @@
 // The lines of answers: their text, put into lent bytes at a place. Each function answers the place after its text, and asks
 // room for the longest text that it can write: 20 bytes for a number. What is written is said in specs/Output.antt.
+#![tactic(auto)]
+
 ghost use Rattle.std.specs.Prelude.{[], ◌∷◌, ◌++◌, ◌+◌, ◌*◌, ◌≤◌, ◌<◌, length, take};
 ghost use Rattle.lists.specs.Texts.{Wrote};
 ghost use Rattle.answers.specs.Output.{decimal, field, absent, triple, triples_of, guarded_answer, malformed_line};

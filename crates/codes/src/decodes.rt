@@ -11,7 +11,7 @@ use exports::ops::ExportOp;
 use spec::{ADDRESSES, Address, OWNERS, WORKER_NAMES};
 
 // An operation, with how many places of the buffers for addresses, values and owners it wants; or no meaning.
-#[derive(Drop)]
+#[derive(Clone, Copy)]
 pub enum Decoded {
     Meant(Op, usize, usize, usize),
     Meaningless,
@@ -137,7 +137,7 @@ pub fn decode(k: Code, m: usize, n: usize, q: usize) -> Decoded
 }
 
 // An export step, with how many places of the buffers for addresses, values and owners it wants; or no meaning.
-#[derive(Drop)]
+#[derive(Clone, Copy)]
 pub enum DecodedExport {
     Meant(ExportOp, usize, usize, usize),
     Meaningless,

@@ -1,5 +1,7 @@
 // Steps and their answers in numbers: what a code means, `decodes::decode` and `decodes::decode_export`, and the words of an
 // answer, `words::put_answer_words` and `words::put_export_words`. Nothing here knows the map.
+#![tactic(auto)]
+
 pub mod decodes;
 pub mod words;
 
@@ -15,7 +17,7 @@ pub type StepWords = [u64; STEP_WORDS];
 // 10 a fold of the oldest, 11 to 14 request 107's (open an export, a portion, a file, close it); and its numbers in the order of
 // a script line. Of a scan and a portion, d, e and f are how many places they want of the buffers for addresses, values and
 // owners; of a file, d is how many bytes it wants. A number that the step does not have is not looked at.
-#[derive(Drop)]
+#[derive(Clone, Copy)]
 pub struct Code {
     pub kind: u64,
     pub a: u64,
@@ -30,7 +32,7 @@ pub struct Code {
 // a scan, 4 a serial number, 5 the count of a fold, 6 the records of an export, 7 the count of a portion, 8 the bytes of a
 // file); that number; the one beside it, the owner of a value or what remains after a portion; and how many slots a read
 // examined. What an answer does not have is 0.
-#[derive(Drop)]
+#[derive(Clone, Copy)]
 pub struct Coded {
     pub number: u64,
     pub told: u64,

@@ -1,4 +1,6 @@
 // How a transaction commits, or ends without: lock, validate, install and abort.
+#![tactic(auto)]
+
 pub mod aborts;
 mod drops;
 pub mod installs;
@@ -9,7 +11,7 @@ use transactions::Globals;
 use transactions::begins::Plain;
 
 // The globals after a lock, an install or an abort, and its answer.
-#[derive(Drop)]
+#[derive(Clone, Copy)]
 pub struct Done {
     pub globals: Globals,
     pub answer: Plain,

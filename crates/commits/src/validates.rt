@@ -25,21 +25,21 @@ use workers;
 use workers::{Worker, Workers};
 
 // A validation's answer: the commit number, or the refusal.
-#[derive(Drop)]
+#[derive(Clone, Copy)]
 pub enum ValidateAnswer {
     Number(u64),
     Refused(Refusal),
 }
 
 // The globals after a validation, and its answer.
-#[derive(Drop)]
+#[derive(Clone, Copy)]
 pub struct ValidateDone {
     pub globals: Globals,
     pub answer: ValidateAnswer,
 }
 
 // What the comparison of a log with the map says.
-#[derive(Drop)]
+#[derive(Clone, Copy)]
 enum Verdict {
     Passed,
     Refused(Refusal),

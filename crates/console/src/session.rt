@@ -22,7 +22,7 @@ const LONGEST_LINE: usize = 44 + 63 * SCAN_PLACES;
 // What is kept from line to line, beside the lent arrays: the engine's globals, the parser, the place in the input, the place
 // in the output, whether a malformed line has ended the script, and whether the first line has not been read through, so that
 // it may be `G`.
-#[derive(Drop)]
+#[derive(Clone, Copy)]
 pub struct Session {
     pub globals: Globals,
     pub parser: Parser,

@@ -2,6 +2,8 @@
 // there.
 //
 // `rows` reads and writes the words of a copy, and nothing else touches them.
+#![tactic(auto)]
+
 ghost use Rattle.std.specs.Prelude.{◌≤◌, length};
 ghost use Rattle.spec.specs.Records.{limits};
 ghost use Rattle.map.specs.Parts.{RecordsHeld, SlotsHeld};

@@ -8,7 +8,7 @@ use crate::{COPY_WORDS, CopyRows};
 use spec::{ADDRESSES, Address, OWNERS};
 
 // A record of a copy.
-#[derive(Drop)]
+#[derive(Clone, Copy)]
 pub struct CopiedRecord {
     pub address: Address,
     pub value: u64,

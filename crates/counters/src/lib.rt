@@ -4,12 +4,14 @@
 // `next_numbers` and `next_versions` are lent the counters: such a function is proved by a walk of its code by hand, and so
 // is one that lends them. `take_numbers` and `take_versions` lend them in their bodies alone, so their callers need no walk.
 // The four are two pairs of one shape, and each pair has one walk.
+#![tactic(auto)]
+
 ghost use Rattle.std.specs.Prelude.{◌≡◌, ◌+◌, ◌^◌, ◌<◌};
 ghost use Rattle.counters.specs.Taking.{numbered, counted, versioned, installed};
 
 // The last commit number and the last leaf version given (document 01: serial number and mark), and how many installs there
 // were; they travel together.
-#[derive(Drop)]
+#[derive(Clone, Copy)]
 pub struct Counters {
     pub number: u64,
     pub version: u64,
@@ -65,7 +67,7 @@ fn next_versions(k: &mut Counters, count: u64) -> u64
 }
 
 // The counters once the next numbers are taken, and the last of these.
-#[derive(Drop)]
+#[derive(Clone, Copy)]
 pub struct Taken {
     pub counters: Counters,
     pub last: u64,

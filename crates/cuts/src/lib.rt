@@ -2,11 +2,13 @@
 //
 // `set_low` and `set_version` are lent the slice: such a function is proved by a walk of its code by hand, and so is one
 // that lends it. `make_run` lends it in its body alone, so its callers need no walk.
+#![tactic(auto)]
+
 ghost use Rattle.std.specs.Prelude.{◌≡◌, ◌<◌, length, set};
 ghost use Rattle.cuts.specs.Making.{most_runs, lowered, versioned, with_low, with_version, leaf};
 
 // A leaf that a merge makes: its low address and its version (document 01: leaf, low address and mark).
-#[derive(Drop)]
+#[derive(Clone, Copy)]
 pub struct MadeLeaf {
     pub low: u64,
     pub version: u64,

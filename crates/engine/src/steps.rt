@@ -20,7 +20,7 @@ use transactions::{Globals, begins, merges};
 use workers::Workers;
 
 // What a worker does within an open transaction. The buffers of a scan are lent beside it.
-#[derive(Drop)]
+#[derive(Clone, Copy)]
 pub enum Access {
     Read(Address),
     Scan(Address, Address),
@@ -29,7 +29,7 @@ pub enum Access {
 }
 
 // What brings a transaction to its end.
-#[derive(Drop)]
+#[derive(Clone, Copy)]
 pub enum Ending {
     Lock,
     Validate,
@@ -38,7 +38,7 @@ pub enum Ending {
 }
 
 // A step of document 01 and the requests; each names its worker first but the merges, at an address and of the oldest.
-#[derive(Drop)]
+#[derive(Clone, Copy)]
 pub enum Op {
     Begin(u32),
     Access(u32, Access),
@@ -49,7 +49,7 @@ pub enum Op {
 
 // Its answer. A read tells a value and its owner, or none there, and how many slots it examined; a scan how many places
 // of each buffer it filled.
-#[derive(Drop)]
+#[derive(Clone, Copy)]
 pub enum Reply {
     Granted,
     Value(u64, u16, usize),
@@ -61,7 +61,7 @@ pub enum Reply {
 }
 
 // The globals after a step, and its answer.
-#[derive(Drop)]
+#[derive(Clone, Copy)]
 pub struct Outcome {
     pub globals: Globals,
     pub reply: Reply,

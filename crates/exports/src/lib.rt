@@ -3,6 +3,8 @@
 //
 // Crate `contents` fills the array and reads it; `copies` fills the buffers of a portion; `files` writes the file. `ops` takes
 // any step as one operation.
+#![tactic(auto)]
+
 ghost use Rattle.std.specs.Prelude.{◌≡◌, List, ℕ, ◌≤◌, length};
 ghost use Rattle.std.proofs.Math.Option.{none};
 ghost use Rattle.lists.specs.Rows.{Row};
@@ -24,7 +26,7 @@ pub mod ops;
 pub type Exported = contents::CopyRows;
 
 // Whether an export is open, how many records it has, and how many of them portions have given.
-#[derive(Drop)]
+#[derive(Clone, Copy)]
 pub struct Export {
     pub open: bool,
     pub count: usize,
@@ -33,7 +35,7 @@ pub struct Export {
 
 // The answer to a step: how many records the export has; how many a portion gave, and how many remain; how many bytes a file
 // has; closed; refused.
-#[derive(Drop)]
+#[derive(Clone, Copy)]
 pub enum ExportAnswer {
     Opened(usize),
     Given(usize, usize),
@@ -43,7 +45,7 @@ pub enum ExportAnswer {
 }
 
 // The export after a step, and the answer.
-#[derive(Drop)]
+#[derive(Clone, Copy)]
 pub struct ExportDone {
     pub export: Export,
     pub answer: ExportAnswer,

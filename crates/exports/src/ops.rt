@@ -14,7 +14,7 @@ use map::{Records, Slots};
 use spec::Address;
 
 // A step. A portion is handed the places that it wants beside it, a file the bytes.
-#[derive(Drop)]
+#[derive(Clone, Copy)]
 pub enum ExportOp {
     Open,
     Portion,

@@ -1,4 +1,6 @@
 // The guard of a guarded map (request 102): what lock tests of a worker's puts. It knows one worker's rows, and no map.
+#![tactic(auto)]
+
 ghost use Rattle.guards.specs.Judging.{Guardable, Judges};
 
 use sets::{LeafSet, ReadSet, WriteSet};
@@ -10,7 +12,7 @@ mod overlaps;
 mod scans;
 
 // What the guard tells.
-#[derive(Drop)]
+#[derive(Clone, Copy)]
 pub enum Judged {
     Passed,
     Refused(Refusal),

@@ -13,7 +13,7 @@ use sets::{LeafSet, WriteSet, leaves, writes};
 use spec::{Address, LONGEST};
 
 // The latest scan that covers a section, if one does.
-#[derive(Drop)]
+#[derive(Clone, Copy)]
 pub enum Decision {
     By(Scanned),
     Nothing,

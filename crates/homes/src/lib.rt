@@ -1,5 +1,7 @@
 // The home slot of an address in the indexlet (document 01, "Indexlet slots"), by the table's formula (request 105). A crate of its
 // own, since all that is said of it can be checked without the slots.
+#![tactic(auto)]
+
 ghost use Rattle.std.specs.Prelude.{◌≡◌};
 ghost use Rattle.spec.specs.Widths.{address_size};
 ghost use Rattle.spec.specs.Slots.{table_entry, home_slot};

@@ -11,7 +11,7 @@ use spec::{Address, MAP_LIMIT};
 
 // A leaf in words: its low and its version (document 01: mark), and the phantomlet's numbers of the keys that it hides from somebody
 // and of the pending writes in it, which only move along with their leaf here.
-#[derive(Drop)]
+#[derive(Clone, Copy)]
 pub struct LeafWords {
     pub low: u64,
     pub version: u64,

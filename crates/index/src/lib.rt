@@ -3,6 +3,8 @@
 // `rows` reads and writes the records' words, and nothing else touches them; `records` looks up, puts and drops. `leaves`
 // reads and writes the leaves' words, and nothing else touches them, moves leaves, and finds the leaf of an address;
 // `settles` settles leaves after a merge.
+#![tactic(auto)]
+
 use spec::MAP_LIMIT;
 
 pub mod leaves;

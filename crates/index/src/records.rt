@@ -13,7 +13,7 @@ use crate::{FEW, FEWER, HALF, Records, rows};
 use spec::{Address, MAP_LIMIT, PayloadWords};
 
 // What a look-up finds.
-#[derive(Drop)]
+#[derive(Clone, Copy)]
 pub enum FoundRecord {
     At { payload: PayloadWords, commit: u64 },
     Nothing,

@@ -7,7 +7,7 @@ use crate::{RECORD_WORDS, Records};
 use spec::PayloadWords;
 
 // A record in words.
-#[derive(Drop)]
+#[derive(Clone, Copy)]
 pub struct RecordRow {
     pub address: u64,
     pub payload: PayloadWords,

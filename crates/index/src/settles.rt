@@ -15,7 +15,7 @@ use cuts::{MOST_RUNS, MadeLeaves};
 use spec::RUN;
 
 // What settling leaves: how many leaves there are, and the last version given.
-#[derive(Drop)]
+#[derive(Clone, Copy)]
 pub struct Settled {
     pub leaves: usize,
     pub version: u64,

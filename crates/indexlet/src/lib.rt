@@ -2,6 +2,8 @@
 // slots is a filter, which tells at once of most addresses that they have no entry, and of others where it is; and behind that
 // a bitmap of the slots that have an entry, so that a walk over the slots passes the others.
 // The promises speak of the model's slots (`slots_of`, which reads the words) and of what the model does to them.
+#![tactic(auto)]
+
 ghost use Rattle.std.specs.Prelude.{◌≡◌, true, false, ◌+◌, ◌-◌, ◌*◌, ◌/◌, ◌%◌, ◌^◌, ◌<◌, ◌≤◌, length, get_or};
 ghost use Rattle.std.specs.Int.Count.{count_trailing_zeros};
 ghost use Rattle.spec.specs.Widths.{address_size};
@@ -40,7 +42,7 @@ pub type Slots = [[u64; SLOT_WORDS]; SLOT_ROWS];
 
 // What is said of a key: a pending write (kind 0: none, 1: a put, else a deletion), what it gives and its commit number, the
 // install since which the key waits, the lock (0: free, else its holder and one more), and whether the lock is for a put (1) or not.
-#[derive(Drop)]
+#[derive(Clone, Copy)]
 pub struct Content {
     pub kind: u64,
     pub payload: PayloadWords,
@@ -51,7 +53,7 @@ pub struct Content {
 }
 
 // A row of words. It has an entry if it says anything.
-#[derive(Drop)]
+#[derive(Clone, Copy)]
 pub struct Slot {
     pub key: u64,
     pub content: Content,
@@ -59,14 +61,14 @@ pub struct Slot {
 }
 
 // What a search finds: what is said of the address, and how many slots the search examined.
-#[derive(Drop)]
+#[derive(Clone, Copy)]
 pub struct Looked {
     pub content: Content,
     pub examined: usize,
 }
 
 // Where a search ends: at the slot with the entry, or at 256; and how many slots it examined.
-#[derive(Drop)]
+#[derive(Clone, Copy)]
 struct Sought {
     at: usize,
     examined: usize,

@@ -79,7 +79,7 @@ fn still(old: indexlet::Content, c: indexlet::Content) -> bool
 
 // What an address adds to the phantomlet's numbers, at the place of its leaf, and what it takes away: pending writes, and
 // hidden keys; and the same of the entries outside of the index.
-#[derive(Drop)]
+#[derive(Clone, Copy)]
 pub struct Change {
     pub at: usize,
     pub pend: u64,
@@ -149,7 +149,7 @@ pub fn terms(
 }
 
 // The sizes after a change, and the place of the leaf that was changed: where to look first for the next address.
-#[derive(Drop)]
+#[derive(Clone, Copy)]
 pub struct Placed {
     pub sizes: Sizes,
     pub at: usize,

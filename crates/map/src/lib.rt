@@ -3,6 +3,7 @@
 // `entries` changes what the indexlet says of one address, and keeps the phantomlet; `locks` locks, unlocks and installs a
 // write set; `holders` tells who has a lock. A merge, which takes a leaf's pending writes into the index, is in crate `merging`;
 // what only reads, current records and the like, in crate `queries`.
+#![tactic(auto)]
 
 pub mod entries;
 pub mod holders;
@@ -17,7 +18,7 @@ pub type Slots = indexlet::Slots;
 
 // How much the arrays hold: records of the index, leaves, entries of the indexlet, and entries at addresses that the
 // index lacks.
-#[derive(Drop)]
+#[derive(Clone, Copy)]
 pub struct Sizes {
     pub records: usize,
     pub leaves: usize,

@@ -35,7 +35,7 @@ use spec::{Address, PayloadWords};
 
 // How far a walk over the slots has come: records of the index, entries of the indexlet, pending writes taken in, entries of
 // the leaf that stay, for their lock, and entries outside of the index.
-#[derive(Drop)]
+#[derive(Clone, Copy)]
 struct Walk {
     records: usize,
     entries: usize,
@@ -45,14 +45,14 @@ struct Walk {
 }
 
 // The rows of a leaf: from row `from` up to, not including, row `to`.
-#[derive(Drop)]
+#[derive(Clone, Copy)]
 struct Span {
     from: usize,
     to: usize,
 }
 
 // What a merge leaves: the sizes and counters, and how many pending writes it took in.
-#[derive(Drop)]
+#[derive(Clone, Copy)]
 pub struct Merged {
     pub sizes: Sizes,
     pub counters: Counters,

@@ -14,7 +14,7 @@ use spec::Address;
 
 // The oldest pending write of the slots walked over so far, if there is one: its address, and the install since which it
 // waits.
-#[derive(Drop)]
+#[derive(Clone, Copy)]
 struct Oldest {
     there: bool,
     key: u64,

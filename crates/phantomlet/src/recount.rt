@@ -21,7 +21,7 @@ use spec::{Address, HIGHEST};
 
 // Which leaves are counted: the places from `from` up to, not including, `to`, which hold the address `low` and the `span`
 // addresses behind it.
-#[derive(Drop)]
+#[derive(Clone, Copy)]
 pub struct Reach {
     pub from: usize,
     pub to: usize,

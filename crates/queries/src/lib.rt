@@ -1,4 +1,6 @@
 // Looking: current records, what a scan walks over, hidden keys, and the contents. Nothing here changes an array.
+#![tactic(auto)]
+
 ghost use Rattle.std.specs.Prelude.{◌≡◌, false, ℕ, ◌<◌, ◌≤◌};
 ghost use Rattle.spec.specs.Slots.{slot_count};
 ghost use Rattle.spec.specs.Maps.{phantom_in};
@@ -26,21 +28,21 @@ use sets::{WriteSet, writes};
 use spec::{Address, Current, HIGHEST, PayloadWords};
 
 // Places from one up to, not including, another.
-#[derive(Drop)]
+#[derive(Clone, Copy)]
 pub struct Range {
     pub from: usize,
     pub to: usize,
 }
 
 // The current record of an address, and how many slots of the indexlet the look-up examined (request 103).
-#[derive(Drop)]
+#[derive(Clone, Copy)]
 pub struct Seen {
     pub current: Current,
     pub examined: usize,
 }
 
 // The next record of the contents.
-#[derive(Drop)]
+#[derive(Clone, Copy)]
 pub enum Next {
     At {
         address: Address,
@@ -51,7 +53,7 @@ pub enum Next {
 }
 
 // An address at which the next record may stand, if there is one: the index has it, or the indexlet says something of it.
-#[derive(Drop)]
+#[derive(Clone, Copy)]
 struct Candidate {
     there: bool,
     address: Address,

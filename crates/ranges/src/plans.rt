@@ -19,7 +19,7 @@ use spec::{Address, LEAF_SET_LIMIT, READ_LIMIT, Refusal};
 use workers::Worker;
 
 // What a scan has to do: the places of the records, of the leaves and of the worker's writes.
-#[derive(Drop)]
+#[derive(Clone, Copy)]
 pub struct Task {
     pub index: Range,
     pub met: Range,
@@ -27,14 +27,14 @@ pub struct Task {
 }
 
 // A scan carried out: the worker with the new counts, and how many records are shown.
-#[derive(Drop)]
+#[derive(Clone, Copy)]
 pub struct Done {
     pub worker: Worker,
     pub count: usize,
 }
 
 // What the tests of a scan tell: the refusal, or what to do.
-#[derive(Drop)]
+#[derive(Clone, Copy)]
 pub enum Plan {
     Refused(Refusal),
     Go(Task),

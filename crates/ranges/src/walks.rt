@@ -13,14 +13,14 @@ use sets::{ReadSet, WriteSet, reads, writes};
 use spec::{Address, Current, OWNERS, PayloadWords};
 
 // Where the walk ends: places of the records and of the worker's writes.
-#[derive(Drop)]
+#[derive(Clone, Copy)]
 pub struct Bounds {
     pub to: usize,
     pub end: usize,
 }
 
 // One turn: the places after it, its address, and what is shown there, if anything is.
-#[derive(Drop)]
+#[derive(Clone, Copy)]
 pub struct Turn {
     pub i: usize,
     pub j: usize,

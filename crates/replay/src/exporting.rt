@@ -22,7 +22,7 @@ use map::{Records, Slots};
 use spec::Address;
 
 // After the code: the export's numbers, the place after the answers, and whether it was taken (complete).
-#[derive(Drop)]
+#[derive(Clone, Copy)]
 pub struct AfterExport {
     pub export: Export,
     pub at: usize,

@@ -20,7 +20,7 @@ use transactions::Globals;
 use workers::Workers;
 
 // After the code: the globals, the place after the answers, and whether it was taken (complete).
-#[derive(Drop)]
+#[derive(Clone, Copy)]
 pub struct AfterJob {
     pub globals: Globals,
     pub at: usize,

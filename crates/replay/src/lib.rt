@@ -1,5 +1,7 @@
 // Steps in coded form: one of a job, `steps::step`, and a list of them from a fresh map, those of exports among them,
 // `runs::replay`, whose promise is demand 3.
+#![tactic(auto)]
+
 mod exporting;
 mod jobs;
 mod parts;

@@ -24,7 +24,7 @@ use workers::Workers;
 
 // The globals and the export's numbers after the steps, how many were taken, how many words of answers were written, and why no
 // more.
-#[derive(Drop)]
+#[derive(Clone, Copy)]
 pub struct Replayed {
     pub globals: Globals,
     pub export: Export,
@@ -34,7 +34,7 @@ pub struct Replayed {
 }
 
 // After one code: the globals and the export's numbers, the place after the answers, and whether it was taken (complete).
-#[derive(Drop)]
+#[derive(Clone, Copy)]
 struct AfterCode {
     globals: Globals,
     export: Export,

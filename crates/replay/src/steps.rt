@@ -15,7 +15,7 @@ use transactions::Globals;
 use workers::Workers;
 
 // The globals after a step, and its answer.
-#[derive(Drop)]
+#[derive(Clone, Copy)]
 pub struct Stepped {
     pub globals: Globals,
     pub answer: Coded,

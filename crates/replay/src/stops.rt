@@ -5,7 +5,7 @@ ghost use Rattle.spec.specs.Steps.{places};
 ghost use Rattle.replay.specs.Replays.{longest_answer};
 
 // There are none; a code has no meaning; the answer buffer has no room for its longest answer.
-#[derive(Drop)]
+#[derive(Clone, Copy)]
 pub enum Stop {
     Complete,
     Meaningless,

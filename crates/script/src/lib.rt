@@ -1,5 +1,7 @@
 // Script lines: the parser, which takes a line byte by byte from slices of any size and keeps no line. What a line says is
 // `meaning`, in specs/Grammar.antt.
+#![tactic(auto)]
+
 ghost use Rattle.std.specs.Prelude.{◌≡◌, true, not, List, [], ◌∷◌, ℕ, ◌+◌, ◌*◌, ◌^◌, ◌<◌, ◌≤◌, length};
 ghost use Rattle.lists.specs.Tests.{less};
 ghost use Rattle.spec.specs.Widths.{worker_names};
@@ -10,7 +12,7 @@ ghost use Rattle.script.specs.Tokens.{Advances, ParsesPart, Digits, told};
 use spec::{ADDRESSES, Address, OWNERS, WORKER_NAMES};
 
 // A line of a script, with its numbers.
-#[derive(Drop)]
+#[derive(Clone, Copy)]
 pub enum Line {
     Begin(u32),
     Read(u32, Address),
@@ -30,7 +32,7 @@ pub enum Line {
 // every turn, and so is its padding; seven bytes of that go as two moves that overlap, which the next read of them waits
 // for. Hence the small fields come first, and there is no enum within. A letter without numbers has a variant of its own:
 // were its line told in `after_letter`, every short line would take more instructions.
-#[derive(Drop)]
+#[derive(Clone, Copy)]
 pub enum Parser {
     Start,
     Letter(u8),
@@ -65,7 +67,7 @@ pub enum Parser {
 }
 
 // What reading came to: a line that is a step; the line `G`; a malformed line; or the slice's end.
-#[derive(Drop)]
+#[derive(Clone, Copy)]
 pub enum Event {
     Line(Line),
     Guard,
@@ -74,7 +76,7 @@ pub enum Event {
 }
 
 // The parser to go on with, the place after the last byte read, and what reading came to.
-#[derive(Drop)]
+#[derive(Clone, Copy)]
 pub struct Parsed {
     pub parser: Parser,
     pub next: usize,
@@ -82,7 +84,7 @@ pub struct Parsed {
 }
 
 // A run of digits: the place after it, whether the number has a digit, and its value.
-#[derive(Drop)]
+#[derive(Clone, Copy)]
 struct Run {
     next: usize,
     digit: bool,
@@ -642,7 +644,7 @@ fn parse_part(s: &[u8], i: usize, p: Parser) -> Parsed
 }
 
 // A parser, and the place that it goes on at.
-#[derive(Drop)]
+#[derive(Clone, Copy)]
 struct Place {
     parser: Parser,
     at: usize,

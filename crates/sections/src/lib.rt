@@ -1,6 +1,8 @@
 // The map for programs in other languages, as a static library. All state lies in arrays that the caller lends: the engine's
 // six of rows and its workers, the globals (`saved::GlobalWords`), and of an export (request 107) its numbers
 // (`saved::ExportWords`) and its records (`exports::Exported`). The caller keeps them as the last call left them, and begins with `sections_fresh`.
+#![tactic(auto)]
+
 mod saved;
 
 ghost use Rattle.std.specs.Prelude.{◌≡◌, List, ℕ, length};

@@ -8,14 +8,14 @@ use crate::LeafSet;
 use spec::Address;
 
 // A row of a leaf set.
-#[derive(Drop)]
+#[derive(Clone, Copy)]
 pub struct LoggedLeaf {
     pub version: u64,
     pub low: Address,
 }
 
 // A scan as its transaction remembers it (request 102): its range, and which rows of the read set it logged.
-#[derive(Drop)]
+#[derive(Clone, Copy)]
 pub struct Scanned {
     pub lo: u64,
     pub hi: u64,
@@ -24,7 +24,7 @@ pub struct Scanned {
 }
 
 // What a row remembers: a scan, if it is the first row of one.
-#[derive(Drop)]
+#[derive(Clone, Copy)]
 pub struct ScanNote {
     pub first: bool,
     pub scan: Scanned,

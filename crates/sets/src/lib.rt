@@ -1,5 +1,7 @@
 // The read set, the leaf set and the write set of each worker, in rows of words that the caller lends. How many rows of a set are
 // in use stands in the worker.
+#![tactic(auto)]
+
 use spec::{LEAF_SET_LIMIT, READ_LIMIT, WORKERS, WRITE_LIMIT};
 
 pub mod leaves;

@@ -8,7 +8,7 @@ use crate::ReadSet;
 use spec::{Address, Current, PayloadWords};
 
 // A row of a read set: an address, with the record that a read or a scan found there.
-#[derive(Drop)]
+#[derive(Clone, Copy)]
 pub struct Observed {
     pub address: Address,
     pub current: Current,

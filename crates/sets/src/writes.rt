@@ -13,7 +13,7 @@ use crate::WriteSet;
 use spec::{Address, PayloadWords};
 
 // A row of a write set: the kind is 1 (a put) or 2 (a deletion).
-#[derive(Drop)]
+#[derive(Clone, Copy)]
 pub struct Entry {
     pub address: Address,
     pub kind: u64,
@@ -21,7 +21,7 @@ pub struct Entry {
 }
 
 // A row as it stands in words.
-#[derive(Drop)]
+#[derive(Clone, Copy)]
 struct WriteRow {
     address: u64,
     kind: u64,
@@ -29,7 +29,7 @@ struct WriteRow {
 }
 
 // What a look-up finds: a put with what it gives, a deletion, or no write.
-#[derive(Drop)]
+#[derive(Clone, Copy)]
 pub enum FoundWrite {
     Put(PayloadWords),
     Deletion,

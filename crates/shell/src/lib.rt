@@ -1,5 +1,7 @@
 // What the program keeps from turn to turn, and what it makes of each answer of the system. What it asks of the system, and
 // when, is said in specs/Works.antt; the calls themselves stand in system.rt.
+#![tactic(auto)]
+
 pub mod system;
 
 ghost use Rattle.std.specs.Prelude.{◌≡◌, length};
@@ -11,7 +13,7 @@ use system::Calls;
 
 // What is kept from turn to turn: the session, how many bytes of the buffer are input, whether to go on, whether a read or a
 // write failed, and the count of the calls.
-#[derive(Drop)]
+#[derive(Clone, Copy)]
 pub struct Work {
     pub session: Session,
     pub count: usize,

@@ -13,7 +13,7 @@ use workers::Workers;
 
 // How many calls were made, how many bytes they read, how many they were handed to write, and what the last one answered: the
 // bytes that a read brought, or less than 0 where it failed; 0 for a write, or less where it failed.
-#[derive(Drop)]
+#[derive(Clone, Copy)]
 pub struct Calls {
     made: u64,
     fed: u64,

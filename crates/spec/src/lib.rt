@@ -1,4 +1,6 @@
 // The types that the model and the code share. Document 01 itself stands in specs/, as definitions.
+#![tactic(auto)]
+
 ghost use Rattle.std.specs.Prelude.{◌≡◌};
 ghost use Rattle.spec.specs.Refusals.{number_of};
 
@@ -47,7 +49,7 @@ pub const OWNERS: u64 = 65536;
 
 // What a put gives a record, in words: the value, and whose section it is (request 106: owner), of which the lowest 16 bits
 // count, so that every word has a meaning.
-#[derive(Drop)]
+#[derive(Clone, Copy)]
 pub struct PayloadWords {
     pub value: u64,
     pub owner: u64,
@@ -55,7 +57,7 @@ pub struct PayloadWords {
 
 // The current record of an address, or none there (document 01: present record): what a put gave it, and its commit number
 // (stamp).
-#[derive(Drop)]
+#[derive(Clone, Copy)]
 pub struct Current {
     pub there: bool,
     pub payload: PayloadWords,
@@ -65,7 +67,7 @@ pub struct Current {
 // A refusal, one variant for each row of document 01's table; then those that request 102 adds to lock in a guarded map: a
 // length or an end that does not fit, no scan that covers the section, an overlap; then those of request 107: an export is
 // open already, none is open.
-#[derive(Drop)]
+#[derive(Clone, Copy)]
 pub enum Refusal {
     NoWorker,
     WorkerFree,
@@ -90,7 +92,7 @@ pub enum Refusal {
 }
 
 // The stage of a worker's transaction (document 01: a job's stage).
-#[derive(Drop)]
+#[derive(Clone, Copy)]
 pub enum Stage {
     Free,
     Open,

@@ -1,5 +1,7 @@
 // The constant table of document 01's home slot rule. The product computes an entry by the formula (`homes::table_entry`);
 // here the table is held to the rule, and the product to the table. Nothing of the product depends on this crate.
+#![tactic(auto)]
+
 ghost use Rattle.std.specs.Prelude.{◌≡◌, true};
 ghost use Rattle.spec.specs.Slots.{table_entry};
 

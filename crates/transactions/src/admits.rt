@@ -8,7 +8,7 @@ use workers;
 use workers::{Worker, Workers};
 
 // A worker whose stage is right, or the refusal.
-#[derive(Drop)]
+#[derive(Clone, Copy)]
 pub enum Admit {
     Refused(Refusal),
     Allowed(Worker),

@@ -10,7 +10,7 @@ use workers;
 use workers::Workers;
 
 // The answer of a step that tells nothing more.
-#[derive(Drop)]
+#[derive(Clone, Copy)]
 pub enum Plain {
     Granted,
     Refused(Refusal),

@@ -12,7 +12,7 @@ use spec::Address;
 use workers::Workers;
 
 // The globals after a merge, and how many pending writes entered the index.
-#[derive(Drop)]
+#[derive(Clone, Copy)]
 pub struct MergeDone {
     pub globals: Globals,
     pub count: usize,

@@ -1,5 +1,7 @@
 // A worker (document 01: a seat) and the stages of its transaction (a job): free, open, locked, checked, and free again.
 // The eight stand in lent words; one function gives a worker by value and one puts it.
+#![tactic(auto)]
+
 ghost use Rattle.std.specs.Prelude.{◌≡◌, ◌<◌, length, get_or, set};
 ghost use Rattle.spec.specs.Records.{limits};
 ghost use Rattle.workers.specs.Workers.{begun, at_lock, at_check, freed, rank_of, stage_at, packed, unpacked, workers_of};
@@ -15,7 +17,7 @@ const NUMBER_FIELD: u64 = 0x1_0000_0000;
 const FIELD: u64 = 256;
 
 // The stage, the commit number once checked, and how many rows of the three sets are in use: 64 bits in all.
-#[derive(Drop)]
+#[derive(Clone, Copy)]
 pub struct Worker {
     pub number: u32,
     pub stage: Stage,

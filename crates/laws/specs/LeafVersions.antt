@@ -132,6 +132,7 @@ meeting_covers {ls = l ∷ ls} g lo k hi h i =
     (leaf_meets l ls lo k hi (le_refl l.low, g.rising.1) h i)
 
 mem_live : {l : Leaf} (ls : List Leaf) (u : ℕ) → l.version ≡ u → Memᴰ l ls → live ls u ≡ true
+mem_live {l = l} [] u q x'' = elim x'' [ ]
 mem_live (m ∷ ms) u q (Memᴰ.head e) = live_head m ms u (sym (ap (λ (x : Leaf). x.version) e) ∙ q)
 mem_live (m ∷ ms) u q (Memᴰ.tail n) = live_later m ms u (mem_live ms u q n)
 

@@ -121,6 +121,7 @@ oldest_one a (b ∷ bs) = ⊎_elim (λ e. rw e (later (oldest_one b bs))) (λ e.
 
 pub oldest_least : (a : Row ℕ) (bs : List (Row ℕ)) (x : Row ℕ) → Memᴰ x (a ∷ bs) → AtLeastAsOld (oldest_of a bs) x
 unfolding oldest_of
+oldest_least a [] x (mathlib.Core.List.Memᴰ.tail x7) = elim x7 [ ]
 oldest_least a [] x (Memᴰ.head e) = subst (AtLeastAsOld a) (sym e) (old_refl a)
 oldest_least a (b ∷ bs) x m =
     ⊎_elim
@@ -152,6 +153,7 @@ pub record AgedEntry (es : List (Row Content)) (r : Row ℕ) : Type 0 where
 
 pub ages_from_lem : (es : List (Row Content)) (r : Row ℕ) → Memᴰ r (ages es) → AgedEntry es r
 unfolding ages
+ages_from_lem [] r m = elim m [ ]
 ages_from_lem (e ∷ es) r m = go e.item.pending refl (ages_from_lem es r) m
   where
     more : AgedEntry es r → AgedEntry (e ∷ es) r
@@ -167,6 +169,7 @@ ages_from_lem (e ∷ es) r m = go e.item.pending refl (ages_from_lem es r) m
 pub ages_to : (es : List (Row Content)) (e : Row Content) (p : Pending) → Memᴰ e es → e.item.pending ≡ some p
     → Memᴰ (row e.key p.since) (ages es)
 unfolding ages
+ages_to [] e p x'' q = elim x'' [ ]
 ages_to (x ∷ es) e p (Memᴰ.head h) q = go x.item.pending (sym (ap (λ (y : Row Content). y.item.pending) h) ∙ q)
   where
     go : (o : Option Pending) → o ≡ some p → Memᴰ (row e.key p.since) (maybe o (ages es) (λ (p : Pending). row x.key p.since ∷ ages es))

@@ -86,6 +86,7 @@ module _ {bytes : ℕ} (m : MapState) (g : Good bytes m.slots) where
     where
       go : (rs : List (Row ℕ)) → Memᴰ (row k t) rs → ((r : Row ℕ) → Memᴰ r rs → waits_since m r.key ≡ some r.item)
           → (u : ℕ) × (waits_since m (oldest_key rs) ≡ some u) × AtLeastAsOld (row (oldest_key rs) u) (row k t)
+      go [] h f = elim h [ ]
       go (a ∷ bs) h f = ((oldest_of a bs).item, f (oldest_of a bs) (oldest_one a bs), oldest_least a bs (row k t) h)
 
   -- ---- what a merge takes in

@@ -65,7 +65,7 @@ next_aged {σ} h a s = record { past = λ k t e. past k t e (wait_change h s) }
 final_aged : {σ : State} → Kept σ → Aged σ → (ss : List Step) → Aged (final σ ss)
 unfolding final
 final_aged h a [] = a
-final_aged h a (s ∷ ss) = final_aged (next_kept h s) (next_aged h a s) ss
+final_aged {σ = σ} h a (s ∷ ss) = final_aged {σ = next σ s} (next_kept h s) (next_aged h a s) ss
 
 fresh_aged : (d : Made) → Aged (fresh d)
 unfolding waits_since content_of entries look
@@ -207,7 +207,7 @@ within h a k t n e l [] m = absurd (let z : ⊥ = omega arith in z)
 within {σ} h a k t n e l (s ∷ ss) m =
     ⊎_elim
     (λ q. taken_now s q (let z : 1 ≤ n = omega arith in z))
-    (λ q. on (is_merge_oldest s) refl m q.fewer q.waits (λ n' l' m'. within (next_kept h s) (next_aged h a s) k t n' q.waits l' ss m'))
+    (λ q. on (is_merge_oldest s) refl m q.fewer q.waits (λ n' l' m'. within {σ = next σ s} (next_kept h s) (next_aged h a s) k t n' q.waits l' ss m'))
     (one_step h a k t e s)
   where
     on : (b : Bool) → is_merge_oldest s ≡ b → n ≤ pick b (suc (oldest_merges ss)) (oldest_merges ss)

@@ -55,7 +55,7 @@ next_kept {σ} h s = go (refusal σ s) refl
 pub final_kept : {σ : State} → Kept σ → (ss : List Step) → Kept (final σ ss)
 unfolding final
 final_kept h [] = h
-final_kept h (s ∷ ss) = final_kept (next_kept h s) ss
+final_kept {σ = σ} h (s ∷ ss) = final_kept {σ = next σ s} (next_kept h s) ss
 
 -- ---- the limits stay what they are
 

@@ -13,10 +13,10 @@ unfoldable pub Ascends : ℕ → List ℕ → Type 0
 Ascends lo [] = Unit {0}
 Ascends lo (k ∷ ks) = (lo ≤ k) × Ascends (suc k) ks
 
-pub ascends_mem : {lo k : ℕ} {ks : List ℕ} → Ascends lo ks → Memᴰ k ks → lo ≤ k
+pub ascends_mem : {k lo : ℕ} {ks : List ℕ} → Ascends lo ks → Memᴰ k ks → lo ≤ k
 unfolding Ascends
-ascends_mem {lo} {k} f (Memᴰ.head {x = x} e) = let g : lo ≤ x = f.0 in omega arith
-ascends_mem {lo} {k} f (Memᴰ.tail {x = x} m) =
+ascends_mem {k} {lo} f (Memᴰ.head {x = x} e) = let g : lo ≤ x = f.0 in omega arith
+ascends_mem {k} {lo} f (Memᴰ.tail {x = x} m) =
     let g : lo ≤ x = f.0 in let i : suc x ≤ k = ascends_mem f.1 m in omega arith
 
 -- the number at place n is at least n above the first bound
@@ -82,6 +82,7 @@ mem_filter {A} {x} p (y ∷ ys) m =
 
 pub filter_mem : {A : Type 0} {x : A} (p : A → Bool) (xs : List A) → Memᴰ x xs → p x ≡ true → Memᴰ x (filter p xs)
 unfolding filter
+filter_mem {A = A} p [] x3 t = elim x3 [ ]
 filter_mem p (y ∷ ys) (Memᴰ.head q) t = rw (sym (ap p q) ∙ t) (Memᴰ.head q)
 filter_mem p (y ∷ ys) (Memᴰ.tail m) t =
     ⊎_elim (λ e. rw e (Memᴰ.tail (filter_mem p ys m t))) (λ e. rw e (filter_mem p ys m t)) (cases (p y))
@@ -95,5 +96,6 @@ mem_keys (r ∷ rs) (Memᴰ.tail m) = let t = mem_keys rs m in (t.0, Memᴰ.tail
 
 pub keys_mem : {A : Type 0} (r : Row A) (rs : List (Row A)) → Memᴰ r rs → Memᴰ r.key (keys rs)
 unfolding keys
+keys_mem {A = A} r [] x' = elim x' [ ]
 keys_mem r (s ∷ rs) (Memᴰ.head q) = Memᴰ.head (ap (λ (x : Row _). x.key) q)
 keys_mem r (s ∷ rs) (Memᴰ.tail m) = Memᴰ.tail (keys_mem r rs m)

@@ -274,6 +274,7 @@ any_skip p y ys f = rw f
 
 pub any_false : {A : Type 0} (p : A → Bool) (xs : List A) → any p xs ≡ false → (x : A) → Memᴰ x xs → p x ≡ false
 unfolding any
+any_false {A = A} p [] e x x4 = elim x4 [ ]
 any_false p (y ∷ ys) e x (Memᴰ.head q) =
     ⊎_elim (λ t. clash {b = any p (y ∷ ys)} (rw t) e) (λ f. ap p q ∙ f) (cases (p y))
 any_false p (y ∷ ys) e x (Memᴰ.tail m) =
@@ -295,6 +296,7 @@ none_any p (y ∷ ys) h = rw (h y (Memᴰ.head refl)) (none_any p ys (λ x m. h 
 
 pub some_any : {A : Type 0} (p : A → Bool) (xs : List A) (x : A) → Memᴰ x xs → p x ≡ true → any p xs ≡ true
 unfolding any
+some_any {A = A} p [] x x4 e = elim x4 [ ]
 some_any p (y ∷ ys) x (Memᴰ.head q) e = rw (sym (ap p q) ∙ e)
 some_any p (y ∷ ys) x (Memᴰ.tail m) e = ⊎_elim (λ t. rw t) (λ t. rw t (some_any p ys x m e)) (cases (p y))
 
@@ -329,6 +331,7 @@ rising_different rs f = from_different 0 rs f
 
 pub member_keys : {A : Type 0} (rs : List (Row A)) (k : ℕ) (a : A) → Memᴰ (row k a) rs → Memᴰ k (keys rs)
 unfolding keys
+member_keys {A = A} [] k a x' = elim x' [ ]
 member_keys (r ∷ rs) k a (Memᴰ.head e) = Memᴰ.head (ap (λ (x : Row _). x.key) e)
 member_keys (r ∷ rs) k a (Memᴰ.tail m) = Memᴰ.tail (member_keys rs k a m)
 

@@ -78,6 +78,7 @@ saw_now reads rows o os h =
 
 standing_member : (rs : List (Row (Option Payload))) (k : ℕ) (p : Payload) → Memᴰ (row k (some p)) rs → Memᴰ (row k p) (standing rs)
 unfolding standing
+standing_member [] k p x' = elim x' [ ]
 standing_member (r ∷ rs) k p (Memᴰ.head e) = go r.item (sym (ap (λ (x : Row (Option Payload)). x.item) e))
   where
     key : k ≡ r.key
@@ -94,6 +95,7 @@ standing_member (r ∷ rs) k p (Memᴰ.tail m) = go r.item (standing_member rs k
 
 mapped_member : {A B : Type 0} (f : A → B) (rs : List (Row A)) (k : ℕ) (a : A) → Memᴰ (row k a) rs → Memᴰ (row k (f a)) (map_items f rs)
 unfolding map_items
+mapped_member {A = A} {B = B} f [] k a x' = elim x' [ ]
 mapped_member f (r ∷ rs) k a (Memᴰ.head e) = Memᴰ.head (ap (λ (x : Row _). row x.key (f x.item)) e)
 mapped_member f (r ∷ rs) k a (Memᴰ.tail m) = Memᴰ.tail (mapped_member f rs k a m)
 

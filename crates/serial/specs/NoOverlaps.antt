@@ -158,6 +158,7 @@ module _ {F : Facts} {ρ : Reading} (i : Invariant F ρ) (g : F.guard ≡ true) 
 
 member_look : (lo : ℕ) (rs : List (Row Record)) (r : Row Record) → From lo rs → Memᴰ r rs → (lo ≤ r.key) × (look rs r.key ≡ some r.item)
 unfolding From
+member_look lo [] r f x'' = elim x'' [ ]
 member_look lo (x ∷ rs) r f (Memᴰ.head e) =
     (subst (λ (y : Row Record). lo ≤ y.key) (sym e) f.0, look_here x rs r.key (ap (λ (y : Row Record). y.key) (sym e)) ∙ ap (λ (y : Row Record). some y.item) (sym e))
 member_look lo (x ∷ rs) r f (Memᴰ.tail m) =

@@ -1,0 +1,10 @@
+use Prim.Native.Nat.{◌-◌}
+use Rattle.guards.specs.Promises.{overlaps_at}
+use Rattle.guards.specs.PutLaws.{Testing}
+use Rattle.guards.proofs.overlaps.own_overlap.Given as goal
+
+abbrev pub invariant-loop-i : goal.invariant-loop-i
+invariant-loop-i l = Testing (overlaps_at l.a l.len) l.writes l.n l.i
+
+abbrev pub decreases-loop-i : goal.decreases-loop-i
+decreases-loop-i l = l.n - l.i

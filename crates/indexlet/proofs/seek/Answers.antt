@@ -1,0 +1,40 @@
+use Prim.Native.Nat.{◌-◌}
+use native.Mathlib.Omega.{arith}
+use mathlib.Core.Path.{sym, ◌∙◌}
+use Rattle.spec.specs.Widths.{address_size}
+use Rattle.spec.specs.Slots.{slot_count}
+use Rattle.laws.specs.Probes.{home_less}
+use Rattle.indexlet.specs.SeekLaws.{Seeking, seek_start, seek_hit, seek_stop, seek_on, seek_end}
+use Rattle.std.proofs.Common.{rules, ◌≡◌, true, false, ◌+◌, ◌*◌, ◌/◌, ◌%◌, ◌^◌, ◌<◌, ◌≤◌, length, get_or, ℕ, Bool, nat_eq, nat_lt, List, [], ◌∷◌, ◌++◌, slice_set, bit_and, bit_or, Fits, w8, w32, w64, Bor, MutBor}
+use Rattle.std.specs.Int.Count.{count_trailing_zeros}
+use Rattle.spec.specs.Slots.{home_slot, is_idle, vacant, holds, empty_slot, entries}
+use Rattle.spec.specs.Slots as model
+use Rattle.laws.specs.Probes.{gap, First}
+use Rattle.laws.specs.SlotLaws.{EntryRoom}
+use Rattle.indexlet.specs.Words.{content_in, slot_in, row_at, saying, store, slots_of}
+use Rattle.indexlet.specs.Filters.{bucket_count, bucket_of, cell_at, cell_put}
+use Rattle.indexlet.specs.Bits.{bit, rest}
+use Rattle.indexlet.specs.Bitmaps.{word_bits, bitmap_at, bitmap_put, Turns, word_end, BitsFrom}
+use Rattle.indexlet.specs.Promises.{Sized, SlotsHeld, SlotsBecome, Going, shifted, Countable, SlotsFresh, IsSlot, Looks, unsaid, content_at, Finds, TakenOut, TakenIn, Enters, Stands, sought}
+use Rattle.indexlet.proofs.seek.Goals as goal
+
+pub loop-d-init : goal.loop-d-init
+loop-d-init c = seek_start _ _ _ c.requires
+
+pub overflow_add-i : goal.overflow_add-i
+overflow_add-i c = omega (arith, c.requires, home_less address_size c.args.a)
+
+pub returns-then-holds_key : goal.returns-then-holds_key
+returns-then-holds_key c =    seek_hit _ _ _ _ c.loop-d.invariant c.loop-d-test.true _ c.get-s.ensures
+    (sym c.holds_key.ensures ∙ c.if-holds_key.true)
+
+pub returns-then-s-eq0 : goal.returns-then-s-eq0
+returns-then-s-eq0 c =    seek_stop _ _ _ _ c.loop-d.invariant c.loop-d-test.true _ c.get-s.ensures
+    (sym c.holds_key.ensures ∙ c.if-holds_key.false) c.if-s-eq0.true
+
+pub loop-d-preserved : goal.loop-d-preserved
+loop-d-preserved c =    seek_on _ _ _ _ c.loop-d.invariant c.loop-d-test.true _ c.get-s.ensures
+    (sym c.holds_key.ensures ∙ c.if-holds_key.false) c.if-s-eq0.false
+
+pub returns : goal.returns
+returns c = seek_end _ _ _ _ c.loop-d.invariant c.loop-d-test.false

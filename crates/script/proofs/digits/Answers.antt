@@ -13,7 +13,6 @@ use Rattle.spec.specs.Widths.{worker_names}
 use Rattle.script.specs.Grammar.{line_of}
 use Rattle.script.specs.Parsing.{none_before, one_before, two_before, three_before, in_number, started, filled, After, Parses}
 use Rattle.script.specs.Tokens.{Advances, ParsesPart, Digits, told}
-use Rattle.std.proofs.Math.Bool.{not-true, not-false}
 use Rattle.script.proofs.digits.Goals as goal
 
 pub loop-i-init : goal.loop-i-init
@@ -26,13 +25,13 @@ pub returns-then-b-gt57 : goal.returns-then-b-gt57
 returns-then-b-gt57 c = digits_stop c.loop-i.invariant (inl (digit_high _ c.if-b-gt57.true))
 
 pub returns-then-not-room : goal.returns-then-not-room
-returns-then-not-room c =    digits_stop c.loop-i.invariant (inr (less_false _ _ (sym c.room.ensures ∙ not-true _ c.if-not-room.true)))
+returns-then-not-room c =    digits_stop c.loop-i.invariant (inr (less_false _ _ (sym c.room.ensures ∙ c.if-not-room.true)))
 
 pub overflow_mul-n : goal.overflow_mul-n
-overflow_mul-n c = omega (arith, less_true _ _ (sym c.room.ensures ∙ not-false _ c.if-not-room.false))
+overflow_mul-n c = omega (arith, less_true _ _ (sym c.room.ensures ∙ c.if-not-room.false))
 
 pub overflow_add-n : goal.overflow_add-n
-overflow_add-n c = omega (arith, less_true _ _ (sym c.room.ensures ∙ not-false _ c.if-not-room.false))
+overflow_add-n c = omega (arith, less_true _ _ (sym c.room.ensures ∙ c.if-not-room.false))
 
 pub loop-i-preserved : goal.loop-i-preserved
 loop-i-preserved c =    spells_digit c.loop-i.invariant c.loop-i-test.true (digit_yes _ c.if-b-lt48.false c.if-b-gt57.false)

@@ -10,6 +10,7 @@ use Rattle.script.specs.Grammar.{line_of}
 use Rattle.script.specs.Parsing.{two_before, three_before, started, filled, After, Parses}
 use Rattle.script.specs.Tokens.{Advances, ParsesPart, Digits, told}
 use Rattle.script.proofs.first_number.Goals as goal
+use Rattle.script.proofs.first_number.Goals.{then-run+else-end-eq-SPACE+else-end-eq-LINE_FEED, else-run}
 
 pub returns-then-next-s-clause-parses_part : goal.returns-then-next-s-clause-parses_part
 unfolding in_number
@@ -25,4 +26,6 @@ returns-then-end-eq-LINE_FEED-clause-parses_part c =    let d = c.digits-run.ens
     field_fed _ none_before _ d c.if-next-s.false c.if-run.true c.if-end-eq-LINE_FEED.true c.one.ensures
 
 pub returns-clause-parses_part : goal.returns-clause-parses_part
-returns-clause-parses_part c =    let d = c.digits-run.ensures in field_refused _ none_before d c.if-next-s.false (⊎_elim (λ w. inl (w.1.left, w.2.left)) (λ w. inr w.left) c.if-run.branch)
+returns-clause-parses_part c =
+    field_refused _ none_before c.digits-run.ensures c.if-next-s.false
+    (elim c.if-run.branch [ then-run+else-end-eq-SPACE+else-end-eq-LINE_FEED w ↦ inl (w.if-end-eq-SPACE.false, w.if-end-eq-LINE_FEED.false) | else-run w ↦ inr w.if-run.false ])

@@ -34,5 +34,5 @@ pub returns-in-77 : goal.returns-in-77
 returns-in-77 c = merge_letter _ _ c.in-77.is (omega (arith, c.if-a-ge-WORKER_NAMES.false))
 
 pub returns-in_default : goal.returns-in_default
-returns-in_default c =    let r = c.in_default in
-    seat_other _ _ r.1 r.0.0.0.0.0.1 r.0.0.0.0.1 r.0.0.0.1 r.0.0.1 r.0.1 c.if-a-ge-WORKER_NAMES.false
+returns-in_default c =
+    seat_other _ _ (omega arith) (omega arith) (omega arith) (omega arith) (omega arith) (omega arith) (omega (arith, c.if-a-ge-WORKER_NAMES.false))

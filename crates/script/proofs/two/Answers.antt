@@ -7,6 +7,7 @@ use Rattle.spec.specs.Widths.{worker_names}
 use Rattle.script.specs.Grammar.{line_of}
 use Rattle.script.specs.Parsing.{none_before, one_before, two_before, three_before, in_number, started, filled, After, Parses}
 use Rattle.script.specs.Tokens.{Advances, ParsesPart, Digits, told}
+use Rattle.std.proofs.Common.{arith}
 use Rattle.script.proofs.two.Goals as goal
 
 pub returns-then-a-ge-WORKER_NAMES : goal.returns-then-a-ge-WORKER_NAMES
@@ -24,4 +25,4 @@ unfolding two_numbers same
 returns-in-68 c = two_letter _ 68 _ _ c.in-68.is c.if-a-ge-WORKER_NAMES.false c.if-b-ge-ADDRESSES.false
 
 pub returns-in_default : goal.returns-in_default
-returns-in_default c =    let r = c.in_default in two_other _ _ _ r.0.1 r.1 c.if-a-ge-WORKER_NAMES.false c.if-b-ge-ADDRESSES.false
+returns-in_default c = two_other _ _ _ (omega arith) (omega arith) c.if-a-ge-WORKER_NAMES.false c.if-b-ge-ADDRESSES.false

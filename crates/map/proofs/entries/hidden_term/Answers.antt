@@ -1,0 +1,26 @@
+use Rattle.map.specs.EntryLaws.{hidden_silent, hidden_lacking, hidden_indexed}
+use Rattle.std.proofs.Common.{rules, ◌≡◌, ℕ, ◌+◌, ◌-◌, ◌*◌, ◌<◌, ◌≤◌, length, ◌/◌, ◌%◌, Bool, true, false, nat_eq, nat_lt, List, [], ◌∷◌, ◌++◌, slice_index_or, slice_set, bit_and, bit_or, Fits, w8, w32, w64, Bor, MutBor}
+use Rattle.spec.specs.Widths.{address_size}
+use Rattle.spec.specs.Slots.{content_of, enter}
+use Rattle.spec.specs.Maps.{fresh_map}
+use Rattle.laws.specs.SlotLaws.{EntryRoom}
+use Rattle.indexlet.specs.Words.{content_in, slots_of}
+use Rattle.indexlet.specs.Promises as indexlet
+use Rattle.index.specs.Views as index
+use Rattle.index.specs.LeafPlaces.{AtLeaf}
+use Rattle.index.specs.LeafColumns.{lows_of, hidden_of, pending_of}
+use Rattle.map.specs.Views.{lent}
+use Rattle.map.specs.MapHeld.{Tables}
+use Rattle.map.specs.Entries.{MapBecomes, ContentSet, Adjustable, Adjusts, Terms, hidden_term, outside_term, still_as}
+use Rattle.map.proofs.entries.hidden_term.Goals as goal
+use Rattle.std.specs.Prelude.{not}
+use Rattle.std.proofs.Math.Path.{ap}
+
+pub returns-then-not-hides_some : goal.returns-then-not-hides_some
+returns-then-not-hides_some c = hidden_silent _ c.args.lacks c.args.c c.hides_some.ensures (ap not c.if-not-hides_some.true)
+
+pub returns-then-lacks : goal.returns-then-lacks
+returns-then-lacks c = hidden_lacking _ c.args.lacks c.args.c c.hides_some.ensures (ap not c.if-not-hides_some.false) c.if-lacks.true
+
+pub returns : goal.returns
+returns c = hidden_indexed _ c.args.lacks c.args.c c.hides_some.ensures c.if-lacks.false

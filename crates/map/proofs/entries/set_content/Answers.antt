@@ -1,0 +1,32 @@
+use Rattle.map.specs.EntryLaws.{pending_adjusts, hidden_adjusts, outside_moves, said_rows, content_set}
+use Rattle.std.proofs.Common.{rules, ◌≡◌, ℕ, ◌+◌, ◌-◌, ◌*◌, ◌<◌, ◌≤◌, length, ◌/◌, ◌%◌, Bool, true, false, nat_eq, nat_lt, List, [], ◌∷◌, ◌++◌, slice_index_or, slice_set, bit_and, bit_or, Fits, w8, w32, w64, Bor, MutBor}
+use Rattle.spec.specs.Widths.{address_size}
+use Rattle.spec.specs.Slots.{content_of, enter}
+use Rattle.spec.specs.Maps.{fresh_map}
+use Rattle.laws.specs.SlotLaws.{EntryRoom}
+use Rattle.indexlet.specs.Words.{content_in, slots_of}
+use Rattle.indexlet.specs.Promises as indexlet
+use Rattle.index.specs.Views as index
+use Rattle.index.specs.LeafPlaces.{AtLeaf}
+use Rattle.index.specs.LeafColumns.{lows_of, hidden_of, pending_of}
+use Rattle.map.specs.Views.{lent}
+use Rattle.map.specs.MapHeld.{Tables}
+use Rattle.map.specs.Entries.{MapBecomes, ContentSet, Adjustable, Adjusts, Terms, hidden_term, outside_term, still_as}
+use Rattle.map.proofs.entries.set_content.Goals as goal
+
+pub adjust-requires-clause-adjustable : goal.adjust-requires-clause-adjustable
+adjust-requires-clause-adjustable c =    pending_adjusts _ c.args.z _ c.requires.tables _ _ c.requires.entry_room _ c.requires.terms
+
+pub adjust-requires-clause-adjustable_2 : goal.adjust-requires-clause-adjustable_2
+adjust-requires-clause-adjustable_2 c =    hidden_adjusts _ c.args.z _ c.requires.tables _ _ c.requires.entry_room _ c.requires.terms
+
+pub overflow_add-sizes : goal.overflow_add-sizes
+overflow_add-sizes c =    record { fits = (outside_moves _ c.args.z _ c.requires.tables _ _ c.requires.entry_room _ c.requires.terms).0 }
+
+pub overflow_sub-sizes : goal.overflow_sub-sizes
+overflow_sub-sizes c =    (outside_moves _ c.args.z _ c.requires.tables _ _ c.requires.entry_room _ c.requires.terms).1
+
+pub returns : goal.returns
+returns c =    said_rows c.adjust.ensures.same
+    (content_set _ c.args.z _ c.requires.tables _ _ c.requires.entry_room _ c.requires.terms _ _ _ _ c.adjust.ensures.hidden c.adjust.ensures.pending
+    c.enter-entries.ensures.held c.enter-entries.ensures.view c.enter-entries.ensures.number)

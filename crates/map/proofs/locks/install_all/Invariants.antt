@@ -1,0 +1,14 @@
+use Prim.Native.Nat.{◌-◌, ◌≤◌}
+use Rattle.spec.specs.Maps.{install_all}
+use Rattle.map.specs.Views.{lent, map_of}
+use Rattle.sets.specs.Writes.{writes_of}
+use Rattle.map.specs.LockLaws.{Installing}
+use Rattle.map.proofs.locks.install_all.Given as goal
+
+abbrev pub invariant-loop-i : goal.invariant-loop-i
+invariant-loop-i l =
+    (l.i ≤ l.n) × Installing l.number l.t (lent l.rows l.leaves l.slots) l.sizes l.k.version l.ws l.i l.n (install_all l.number l.t (map_of (lent l.rows l.initial.leaves l.initial.slots) l.initial.sizes) (writes_of l.ws l.n))
+
+abbrev pub decreases-loop-i : goal.decreases-loop-i
+decreases-loop-i l =
+    l.n - l.i

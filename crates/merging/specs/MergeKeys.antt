@@ -26,6 +26,7 @@ use Rattle.map.specs.Views.{SlotRows, RecordRows}
 
 -- where a member stands
 mem_place : {A : Type 0} {x : A} (xs : List A) (d : A) → Memᴰ x xs → (i : ℕ) × (i < length xs) × (get_or xs i d ≡ x)
+mem_place {A = A} [] d x'' = elim x'' [ ]
 mem_place (y ∷ ys) d (Memᴰ.head q) = (0, omega arith, sym q)
 mem_place (y ∷ ys) d (Memᴰ.tail m) = let r = mem_place ys d m in (suc r.0, let h : r.0 < length ys = r.1 in omega arith, r.2)
 

@@ -1,0 +1,8 @@
+use Rattle.queries.specs.NextViews.{Walking}
+use Rattle.queries.proofs.nearest_in.Given as goal
+
+abbrev pub invariant-loop-w : goal.invariant-loop-w
+invariant-loop-w l = Walking l.slots l.from l.next l.nearest l.w
+
+abbrev pub decreases-loop-w : goal.decreases-loop-w
+decreases-loop-w l = l.w

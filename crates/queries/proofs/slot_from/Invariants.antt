@@ -1,0 +1,10 @@
+use Prim.Native.Nat.{◌-◌}
+use Rattle.spec.specs.Slots.{slot_count}
+use Rattle.queries.specs.NextViews.{Walked}
+use Rattle.queries.proofs.slot_from.Given as goal
+
+abbrev pub invariant-loop-next : goal.invariant-loop-next
+invariant-loop-next l = Walked l.slots l.from l.next l.best
+
+abbrev pub decreases-loop-next : goal.decreases-loop-next
+decreases-loop-next l = slot_count - l.next

@@ -24,6 +24,7 @@ use Rattle.merging.specs.Merges.{Merges}
 use Rattle.merging.specs.MergeWalks.{leaving, hiders, OutsideFits, OutsideNow, Underway, WalksSlot, Starting, StartingFirst, Took, TookFirst}
 use Rattle.merging.specs.MergeSpans.{LeafSpan, Raised, Lowered}
 use Rattle.merging.specs.MergeShortcuts.{Skips, Alone, Numbered}
+use borrow.Author.Tests.{eqb-true}
 use Rattle.merging.proofs.merge.hides_alone.Goals as goal
 use Rattle.std.specs.Prelude.{not}
 use Rattle.std.proofs.Math.Path.{ap}

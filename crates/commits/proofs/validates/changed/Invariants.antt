@@ -1,0 +1,11 @@
+use Prim.Native.Nat.{◌-◌, ◌≤◌}
+use Rattle.sets.specs.Reads.{reads_of}
+use Rattle.commits.specs.Searching.{Searching}
+use Rattle.commits.specs.Validates.{changed_in}
+use Rattle.commits.proofs.validates.changed.Given as goal
+
+abbrev pub invariant-loop-i : goal.invariant-loop-i
+invariant-loop-i l = (l.i ≤ l.k) × Searching (changed_in l.rows l.n l.slots) (reads_of l.reads l.k) l.i
+
+abbrev pub decreases-loop-i : goal.decreases-loop-i
+decreases-loop-i l = l.k - l.i

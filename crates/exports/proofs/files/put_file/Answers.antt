@@ -1,0 +1,25 @@
+use native.Mathlib.Omega.{arith}
+use Rattle.lists.specs.TextLaws.{wrote_length}
+use Rattle.exports.specs.FilePuts.{next_place, file_put}
+use borrow.Author.Rules.{rules}
+use Rattle.std.proofs.Common.{[], ◌∷◌, ◌+◌, ◌*◌, ◌<◌, ◌≤◌, length, ◌≡◌, ℕ, ◌-◌, ◌/◌, ◌%◌, Bool, true, false, nat_eq, nat_lt, List, ◌++◌, slice_index_or, slice_set, bit_and, bit_or, Fits, w8, w32, w64, Bor, MutBor}
+use Rattle.lists.specs.Texts.{Wrote}
+use Rattle.spec.specs.Widths.{address_size}
+use Rattle.spec.specs.Records.{limits}
+use Rattle.spec.specs.Files.{little_endian, address_bytes, entry_size, entry_bytes, file_of}
+use Rattle.contents.specs.Copies.{copied_in}
+use Rattle.contents.specs.RowLaws.{row_of}
+use Rattle.exports.specs.FilePuts.{one_entry, Putting}
+use Rattle.exports.proofs.files.put_file.Goals as goal
+
+pub put_four-addresses-requires : goal.put_four-addresses-requires
+put_four-addresses-requires c =    omega (arith, next_place 4 _ c.put_four-size.ensures, wrote_length c.put_four-size.ensures, c.requires.n_in_bounds)
+
+pub put_addresses-entries-requires-clause-n_in_bounds : goal.put_addresses-entries-requires-clause-n_in_bounds
+put_addresses-entries-requires-clause-n_in_bounds c =    omega (arith, next_place 4 _ c.put_four-size.ensures, wrote_length c.put_four-size.ensures, next_place 4 _ c.put_four-addresses.ensures, wrote_length c.put_four-addresses.ensures, c.requires.n_in_bounds)
+
+pub put_entries-requires-clause-n_in_bounds : goal.put_entries-requires-clause-n_in_bounds
+put_entries-requires-clause-n_in_bounds c =    let a = c.put_addresses-entries.ensures in omega (arith, next_place 4 _ c.put_four-size.ensures, wrote_length c.put_four-size.ensures, next_place 4 _ c.put_four-addresses.ensures, wrote_length c.put_four-addresses.ensures, a.place_is, wrote_length a.wrote, c.requires.n_in_bounds)
+
+pub returns : goal.returns
+returns c =    file_put _ _ c.put_four-size.ensures c.put_four-addresses.ensures c.put_addresses-entries.ensures c.put_entries.ensures

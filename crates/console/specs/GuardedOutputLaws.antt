@@ -107,6 +107,7 @@ record Stands (rs : List (Row Record)) (q : Row Payload) : Type 0 where
 
 stands : (rs : List (Row Record)) (q : Row Payload) → Memᴰ q (unstamped rs) → Stands rs q
 unfolding map_items
+stands [] q x' = elim x' [ ]
 stands (r ∷ rs) q (Memᴰ.head e) = record { at = r; member = Memᴰ.head refl; is = sym e }
 stands (r ∷ rs) q (Memᴰ.tail m) =
     let w = stands rs q m in
@@ -114,6 +115,7 @@ stands (r ∷ rs) q (Memᴰ.tail m) =
 
 member_unstamped : (rs : List (Row Record)) (r : Row Record) → Memᴰ r rs → Memᴰ (row r.key r.item.payload) (unstamped rs)
 unfolding map_items
+member_unstamped [] r x' = elim x' [ ]
 member_unstamped (x ∷ rs) r (Memᴰ.head e) = Memᴰ.head (ap (λ (y : Row Record). row y.key y.item.payload) e)
 member_unstamped (x ∷ rs) r (Memᴰ.tail m) = Memᴰ.tail (member_unstamped rs r m)
 

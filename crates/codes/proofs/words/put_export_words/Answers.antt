@@ -1,0 +1,39 @@
+use native.Mathlib.Omega.{arith}
+use mathlib.Core.Path.{refl}
+use Rattle.lists.specs.TextLaws.{wrote_length}
+use Rattle.exports.specs.Exporting.{places_written}
+use Rattle.codes.specs.ExportCodeLaws.{export_short, export_long, roomy_given}
+use borrow.Author.Rules.{rules}
+use Rattle.std.proofs.Common.{◌≡◌, List, [], ◌∷◌, ℕ, ◌+◌, ◌*◌, ◌≤◌, length, ◌-◌, ◌<◌, ◌/◌, ◌%◌, Bool, true, false, nat_eq, nat_lt, ◌++◌, slice_index_or, slice_set, bit_and, bit_or, Fits, w8, w32, w64, Bor, MutBor}
+use Rattle.lists.specs.Texts.{Wrote}
+use Rattle.spec.specs.Steps.{shortest}
+use Rattle.buffers.specs.Buffers.{buffers, places_of, rows_in}
+use Rattle.exports.specs.Exporting.{space, export_answer_in, bytes_written}
+use Rattle.engine.specs.Performs.{reply_in}
+use Rattle.codes.specs.Codes.{coded_of, no_meaning, listed_words, words_of}
+use Rattle.codes.specs.ExportCodes.{export_coded_of, export_words}
+use Rattle.codes.specs.Words.{head_words, Roomy, ExportRoomy}
+use Rattle.codes.proofs.words.put_export_words.Goals as goal
+
+pub put_rows-requires-clause-n_bound : goal.put_rows-requires-clause-n_bound
+unfolding places_written
+put_rows-requires-clause-n_bound c =    let h = roomy_given c.requires c.in-Given.is in h.places
+
+pub put_rows-requires-clause-n_in_bounds : goal.put_rows-requires-clause-n_in_bounds
+unfolding places_written
+put_rows-requires-clause-n_in_bounds c =    let h = roomy_given c.requires c.in-Given.is in omega (arith, h.words, wrote_length c.put_head-next.ensures, c.put_head-next.ensures.place)
+
+pub returns-in-Opened : goal.returns-in-Opened
+returns-in-Opened c =    export_short _ _ c.encode_export-a.ensures c.put_head-next.ensures _ c.in-Opened.is refl
+
+pub returns-in-Given : goal.returns-in-Given
+returns-in-Given c =    export_long _ _ c.encode_export-a.ensures c.put_head-next.ensures c.in-Given.is c.put_rows.ensures
+
+pub returns-in-Filed : goal.returns-in-Filed
+returns-in-Filed c =    export_short _ _ c.encode_export-a.ensures c.put_head-next.ensures _ c.in-Filed.is refl
+
+pub returns-in-Closed : goal.returns-in-Closed
+returns-in-Closed c =    export_short _ _ c.encode_export-a.ensures c.put_head-next.ensures _ c.in-Closed.is refl
+
+pub returns-in-Refused : goal.returns-in-Refused
+returns-in-Refused c =    export_short _ _ c.encode_export-a.ensures c.put_head-next.ensures _ c.in-Refused.is refl

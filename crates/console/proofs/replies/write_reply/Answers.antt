@@ -1,0 +1,43 @@
+use borrow.Author.Rules.{rules}
+use Prim.Native.Nat.{◌≤◌}
+use native.Mathlib.Omega.{arith}
+use mathlib.Core.Path.{◌≡◌, subst}
+use lib.ListN.{length}
+use Rattle.lists.specs.TextLaws.{wrote_length}
+use Rattle.engine.specs.declared.steps.Reply.{Reply}
+use Rattle.engine.specs.Performs.{places_in}
+use Rattle.console.specs.Program.{places}
+use Rattle.console.specs.Replies.{wrote_granted, wrote_value, wrote_absent, wrote_listed, wrote_numbered, wrote_counted, wrote_refused}
+use Rattle.std.proofs.Common.{[], ◌∷◌, ◌++◌, ◌+◌, ◌*◌, take, ℕ, ◌-◌, ◌<◌, ◌/◌, ◌%◌, Bool, true, false, nat_eq, nat_lt, List, slice_index_or, slice_set, bit_and, bit_or, Fits, w8, w32, w64, Bor, MutBor}
+use Rattle.lists.specs.Texts.{Wrote}
+use Rattle.answers.specs.Output.{field, absent, triples_of}
+use Rattle.buffers.specs.Buffers.{buffers}
+use Rattle.console.specs.Program.{longest_line}
+use Rattle.console.specs.Replies.{Replies}
+use Rattle.console.proofs.replies.write_reply.Goals as goal
+
+pub returns-in-Granted : goal.returns-in-Granted
+returns-in-Granted c = wrote_granted c.in-Granted.is c.put_line.ensures
+
+pub returns-in-Value : goal.returns-in-Value
+returns-in-Value c = wrote_value _ _ _ c.in-Value.is c.put_value_line.ensures
+
+pub returns-in-Absent : goal.returns-in-Absent
+returns-in-Absent c = wrote_absent _ c.in-Absent.is c.put_absent_line.ensures
+
+pub returns-in-Listed : goal.returns-in-Listed
+returns-in-Listed c =    let r = c.in-Listed.is in
+    let a : length c.args.addresses.now ≡ places = c.in-Listed.is in
+    let b : length c.args.values.now ≡ places = c.in-Listed.is in
+    let o : length c.args.owners.now ≡ places = c.in-Listed.is in
+    let n : r.0.0 ≤ places = subst (λ (p : Reply). places_in p ≤ places) r.1 c.requires.reply_bound in
+    wrote_listed _ r.1 (omega arith) (omega arith) (omega arith) c.put_listed_line.ensures
+
+pub returns-in-Numbered : goal.returns-in-Numbered
+returns-in-Numbered c = wrote_numbered _ c.in-Numbered.is c.put_granted_line.ensures
+
+pub returns-in-Counted : goal.returns-in-Counted
+returns-in-Counted c = wrote_counted _ c.in-Counted.is c.put_granted_line-in-Counted.ensures
+
+pub returns-in-Refused : goal.returns-in-Refused
+returns-in-Refused c =    wrote_refused _ _ c.in-Refused.is c.number_of.ensures c.put_line-in-Refused.ensures

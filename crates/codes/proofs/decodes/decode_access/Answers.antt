@@ -7,6 +7,7 @@ use Rattle.spec.specs.Widths.{addresses, worker_names}
 use Rattle.spec.specs.Steps.{places}
 use Rattle.codes.specs.Codes.{places_lent, decoded_scan, decoded_put, decoded_access, decoded_seat, decoded_merge, decoded_numbered, decoded}
 use Rattle.codes.specs.ExportCodes.{decoded_portion, decoded_file, decoded_export}
+use Rattle.std.proofs.Common.{arith}
 use Rattle.codes.proofs.decodes.decode_access.Goals as goal
 
 pub returns-then-k-ge-ADDRESSES : goal.returns-then-k-ge-ADDRESSES
@@ -29,4 +30,4 @@ unfolding same
 returns-in-4 c = access_kind _ _ 4 c.in-4.is c.if-k-ge-ADDRESSES.false
 
 pub returns-in_default : goal.returns-in_default
-returns-in_default c = let r = c.in_default in access_other _ _ r.0.0.0.1 r.0.0.1 r.0.1 r.1 c.if-k-ge-ADDRESSES.false
+returns-in_default c = access_other _ _ (omega arith) (omega arith) (omega arith) (omega arith) c.if-k-ge-ADDRESSES.false

@@ -7,6 +7,7 @@ use Rattle.spec.specs.Widths.{addresses, worker_names}
 use Rattle.spec.specs.Steps.{places}
 use Rattle.codes.specs.Codes.{places_lent, decoded_scan, decoded_put, decoded_access, decoded_seat, decoded_merge, decoded_numbered, decoded}
 use Rattle.codes.specs.ExportCodes.{decoded_portion, decoded_file, decoded_export}
+use Rattle.std.proofs.Common.{arith}
 use Rattle.codes.proofs.decodes.decode_export.Goals as goal
 
 pub returns-in-11 : goal.returns-in-11
@@ -26,4 +27,4 @@ unfolding same
 returns-in-14 c = export_kind _ _ _ 14 c.in-14.is
 
 pub returns-in_default : goal.returns-in_default
-returns-in_default c = let r = c.in_default in export_other _ _ _ r.0.0.0.1 r.0.0.1 r.0.1 r.1
+returns-in_default c = export_other _ _ _ (omega arith) (omega arith) (omega arith) (omega arith)

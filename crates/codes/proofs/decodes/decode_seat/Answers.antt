@@ -7,6 +7,7 @@ use Rattle.spec.specs.Widths.{addresses, worker_names}
 use Rattle.spec.specs.Steps.{places}
 use Rattle.codes.specs.Codes.{places_lent, decoded_scan, decoded_put, decoded_access, decoded_seat, decoded_merge, decoded_numbered, decoded}
 use Rattle.codes.specs.ExportCodes.{decoded_portion, decoded_file, decoded_export}
+use Rattle.std.proofs.Common.{arith}
 use Rattle.codes.proofs.decodes.decode_seat.Goals as goal
 
 pub returns-then-k-ge-WORKER_NAMES : goal.returns-then-k-ge-WORKER_NAMES
@@ -33,4 +34,4 @@ unfolding same
 returns-in-8 c = seat_kind _ _ 8 c.in-8.is c.if-k-ge-WORKER_NAMES.false
 
 pub returns-in_default : goal.returns-in_default
-returns-in_default c = let r = c.in_default in c.decode_access.ensures ∙ seat_other _ _ r.0.0.0.0.1 r.0.0.0.1 r.0.0.1 r.0.1 r.1 c.if-k-ge-WORKER_NAMES.false
+returns-in_default c = c.decode_access.ensures ∙ seat_other _ _ (omega arith) (omega arith) (omega arith) (omega arith) (omega arith) c.if-k-ge-WORKER_NAMES.false

@@ -26,12 +26,12 @@ pub returns-in-Absent : goal.returns-in-Absent
 returns-in-Absent c = wrote_absent _ c.in-Absent.is c.put_absent_line.ensures
 
 pub returns-in-Listed : goal.returns-in-Listed
-returns-in-Listed c =    let r = c.in-Listed.is in
-    let a : length c.args.addresses.now ≡ places = c.in-Listed.is in
-    let b : length c.args.values.now ≡ places = c.in-Listed.is in
-    let o : length c.args.owners.now ≡ places = c.in-Listed.is in
-    let n : r.0.0 ≤ places = subst (λ (p : Reply). places_in p ≤ places) r.1 c.requires.reply_bound in
-    wrote_listed _ r.1 (omega arith) (omega arith) (omega arith) c.put_listed_line.ensures
+returns-in-Listed c =
+    let a : length c.args.addresses.now ≡ places = c.told-addresses in
+    let b : length c.args.values.now ≡ places = c.told-values in
+    let o : length c.args.owners.now ≡ places = c.told-owners in
+    let n : c.in-Listed.n ≤ places = subst (λ (p : Reply). places_in p ≤ places) c.in-Listed.is c.requires.reply_bound in
+    wrote_listed _ c.in-Listed.is (omega arith) (omega arith) (omega arith) c.put_listed_line.ensures
 
 pub returns-in-Numbered : goal.returns-in-Numbered
 returns-in-Numbered c = wrote_numbered _ c.in-Numbered.is c.put_granted_line.ensures

@@ -5,7 +5,6 @@ use Rattle.std.specs.Prelude.{ℕ, ◌+◌, ◌^◌, ◌<◌, ◌≤◌, ◌≡�
 use Rattle.std.specs.Int.Signed.{lt_z}
 use Rattle.lists.specs.Tests.{both}
 use Rattle.io.specs.Counts.{clamp_len}
-use Rattle.libc.specs.Io.{Moved}
 use Rattle.map.specs.Views.{Lent}
 use Rattle.transactions.specs.Views.{Logs, state_of, core_of}
 use Rattle.transactions.specs.Ready.{Ready}
@@ -16,6 +15,11 @@ use Rattle.shell.specs.declared.Work.{Work}
 use Rattle.shell.specs.declared.system.Calls.{Calls}
 
 -- ---- what is made of an answer of the system
+
+-- what a call that is handed n bytes may answer: -1, or how many bytes it moved, at most n
+abbrev pub Moved : ℕ → ℤ → Type 0
+Moved n (pos k) = k ≤ n
+Moved n (negsuc k) = k ≡ 0
 
 -- whether a read brought bytes
 abbrev pub brought : ℤ → Bool

@@ -6,9 +6,9 @@ ghost use Rattle.transactions.specs.Views.{logs};
 ghost use Rattle.shell.specs.Works.{no_calls, Countable, Reads, Owed, ReadMade, WriteMade};
 
 use crate::Work;
-use libc::{STDIN_FILENO, STDOUT_FILENO};
 use map::{Leaves, Records, Slots};
 use sets::{LeafSets, ReadSets, WriteSets};
+use std::io::{Read, Stdin, Stdout, Write};
 use workers::Workers;
 
 // How many calls were made, how many bytes they read, how many they were handed to write, and what the last one answered: the
@@ -42,6 +42,7 @@ pub fn answer(calls: Calls) -> isize
 
 // Asks the system for more input. The arrays are lent for the contract alone: it says when there is something to ask for.
 pub fn read_next(
+    from: Stdin,
     input: &mut [u8],
     rows: &Records,
     leaves: &Leaves,
@@ -57,7 +58,11 @@ pub fn read_next(
     ensures { ReadMade w.calls (length input.new) result }
 {
     let c = w.calls;
-    let got = libc::read(STDIN_FILENO, input);
+    let mut from = from;
+    let got = match from.read(input) {
+        Ok(n) => n as isize,
+        Err(_) => -1,
+    };
     let fed = c.fed + io::count(got, input) as u64;
     Calls {
         made: c.made + 1,
@@ -69,6 +74,7 @@ pub fn read_next(
 
 // Asks the system to write the first n bytes. The arrays are lent for the contract alone: it says that these bytes are due.
 pub fn write_due(
+    to: Stdout,
     out: &[u8],
     n: usize,
     rows: &Records,
@@ -87,7 +93,8 @@ pub fn write_due(
     ensures { WriteMade w.calls n result }
 {
     let c = w.calls;
-    let written = io::write_all(STDOUT_FILENO, &out[..n]);
+    let mut to = to;
+    let written = to.write_all(&out[..n]).is_ok();
     let told = c.told + n as u64;
     if !written {
         return Calls {

@@ -1,0 +1,40 @@
+use Rattle.codes.specs.ExportCodeLaws.{export_lends}
+use Rattle.replay.specs.FitLaws.{fits_yes, fits_no}
+use Rattle.replay.specs.RunLaws.{export_unmeant, export_full, export_roomy, export_taken}
+use borrow.Author.Rules.{rules}
+use Rattle.std.proofs.Common.{◌≡◌, ◌≤◌, length, ℕ, ◌+◌, ◌-◌, ◌*◌, ◌<◌, ◌/◌, ◌%◌, Bool, true, false, nat_eq, nat_lt, List, [], ◌∷◌, ◌++◌, slice_index_or, slice_set, bit_and, bit_or, Fits, w8, w32, w64, Bor, MutBor}
+use Rattle.spec.specs.Records.{limits}
+use Rattle.spec.specs.Maps.{contents}
+use Rattle.map.specs.Views.{Lent, map_of}
+use Rattle.map.specs.Parts.{RecordsHeld, SlotsHeld}
+use Rattle.queries.specs.Contents.{all_records}
+use Rattle.buffers.specs.Buffers.{buffers}
+use Rattle.exports.specs.Exporting.{ExportHeld, space}
+use Rattle.transactions.specs.Cores.{Core}
+use Rattle.transactions.specs.Views.{Logs}
+use Rattle.transactions.specs.Ready.{Ready}
+use Rattle.replay.specs.Replays.{whole}
+use Rattle.replay.specs.RunLaws.{TakesCode}
+use Rattle.replay.proofs.exporting.take_export.Goals as goal
+use Rattle.std.specs.Prelude.{not}
+use Rattle.std.proofs.Math.Path.{ap}
+
+pub returns-then-not-fits : goal.returns-then-not-fits
+returns-then-not-fits c =    export_full _ _ _ _ _ c.requires.slots_len_bound.1 c.requires.at_in_bounds.0 c.requires.at_in_bounds.1 c.decode_export-d.ensures c.in-Meant.is (fits_no _ _ c.fits2.ensures (ap not c.if-not-fits.true))
+
+pub perform_export-p-requires-clause-lends_to : goal.perform_export-p-requires-clause-lends_to
+perform_export-p-requires-clause-lends_to c =    (export_lends _ _ c.decode_export-d.ensures c.in-Meant.is)
+
+pub put_export_words-next-requires : goal.put_export_words-next-requires
+put_export_words-next-requires c =    export_roomy _ _ _ _ _ c.requires.slots_len_bound.1 c.requires.at_in_bounds.0 c.requires.at_in_bounds.1 c.decode_export-d.ensures c.in-Meant.is
+    c.perform_export-p.result (fits_yes _ _ c.fits2.ensures (ap not c.if-not-fits.false)) (export_lends _ _
+    c.decode_export-d.ensures c.in-Meant.is) c.perform_export-p.ensures
+
+pub returns-else-not-fits : goal.returns-else-not-fits
+returns-else-not-fits c =    export_taken _ _ _ _ _ c.requires.slots_len_bound.1 c.requires.at_in_bounds.0 c.requires.at_in_bounds.1 c.decode_export-d.ensures c.in-Meant.is
+    c.perform_export-p.result (fits_yes _ _ c.fits2.ensures (ap not c.if-not-fits.false)) (export_lends _ _
+    c.decode_export-d.ensures c.in-Meant.is) c.perform_export-p.ensures
+    c.put_export_words-next.ensures
+
+pub returns-in-Meaningless : goal.returns-in-Meaningless
+returns-in-Meaningless c =    export_unmeant _ _ _ _ _ c.requires.slots_len_bound.1 c.requires.at_in_bounds.0 c.requires.at_in_bounds.1 c.decode_export-d.ensures c.in-Meaningless.is

@@ -1,0 +1,32 @@
+use Rattle.codes.specs.CodeLaws.{meant_lends}
+use Rattle.replay.specs.FitLaws.{fits_yes, fits_no}
+use Rattle.replay.specs.RunLaws.{job_unmeant, job_full, job_roomy, job_taken}
+use Rattle.engine.specs.Performs.{performed_of}
+use borrow.Author.Rules.{rules}
+use Rattle.std.proofs.Common.{List, ℕ, ◌<◌, ◌≤◌, length, ◌≡◌, ◌+◌, ◌-◌, ◌*◌, ◌/◌, ◌%◌, Bool, true, false, nat_eq, nat_lt, [], ◌∷◌, ◌++◌, slice_index_or, slice_set, bit_and, bit_or, Fits, w8, w32, w64, Bor, MutBor}
+use Rattle.map.specs.Views.{lent}
+use Rattle.transactions.specs.Views.{logs, core_of}
+use Rattle.transactions.specs.Ready.{Ready}
+use Rattle.buffers.specs.Buffers.{buffers}
+use Rattle.exports.specs.declared.Export.{Export}
+use Rattle.exports.specs.Exporting.{ExportedRows, ExportHeld, space}
+use Rattle.replay.specs.Replays.{whole}
+use Rattle.replay.specs.RunLaws.{TakesCode}
+use Rattle.replay.proofs.jobs.take_job.Goals as goal
+use Rattle.std.specs.Prelude.{not}
+use Rattle.std.proofs.Math.Path.{ap}
+
+pub returns-then-not-fits : goal.returns-then-not-fits
+returns-then-not-fits c =    job_full _ _ _ _ c.requires.ready c.requires.at_in_bounds.0 c.requires.at_in_bounds.1 c.decode-d.ensures c.in-Meant.is (fits_no _ _ c.fits2.ensures (ap not c.if-not-fits.true))
+
+pub perform_first-p-requires-clause-lends : goal.perform_first-p-requires-clause-lends
+perform_first-p-requires-clause-lends c =    meant_lends _ _ c.decode-d.ensures c.in-Meant.is
+
+pub put_answer_words-next-requires : goal.put_answer_words-next-requires
+put_answer_words-next-requires c =    job_roomy _ _ _ _ c.requires.ready c.requires.at_in_bounds.0 c.requires.at_in_bounds.1 c.decode-d.ensures c.in-Meant.is (performed_of _ c.perform_first-p.result) (fits_yes _ _ c.fits2.ensures (ap not c.if-not-fits.false)) c.perform_first-p.ensures
+
+pub returns-else-not-fits : goal.returns-else-not-fits
+returns-else-not-fits c =    job_taken _ _ _ _ c.requires.ready c.requires.at_in_bounds.0 c.requires.at_in_bounds.1 c.decode-d.ensures c.in-Meant.is (performed_of _ c.perform_first-p.result) (fits_yes _ _ c.fits2.ensures (ap not c.if-not-fits.false)) c.perform_first-p.ensures c.put_answer_words-next.ensures
+
+pub returns-in-Meaningless : goal.returns-in-Meaningless
+returns-in-Meaningless c =    job_unmeant _ _ _ _ c.requires.ready c.requires.at_in_bounds.0 c.requires.at_in_bounds.1 c.decode-d.ensures c.in-Meaningless.is

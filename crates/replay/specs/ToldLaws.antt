@@ -69,8 +69,8 @@ record Cut (ξ : Exporting) (es fs : List Exchange) (ζ : Exporting) : Type 0 wh
 
 tells_cut : {ξ ζ : Exporting} (es fs : List Exchange) → Tells ξ (es ++ fs) ζ → Cut ξ es fs ζ
 tells_cut {ξ} [] fs t = record { between = ξ; first = nothing_told; second = t }
-tells_cut (e ∷ es) fs (told_next a r t) =
-    let c = tells_cut es fs t in
+tells_cut {ξ = ξ} (e ∷ es) fs (told_next a r t) =
+    let c = tells_cut {ξ = next_of ξ (request_of e)} es fs t in
     record { between = c.between; first = told_next a r c.first; second = c.second }
 
 -- ---- one step of an export

@@ -17,6 +17,7 @@ use sets::{LEAF_SET_WORDS, LeafSets, READ_WORDS, ReadSets, WRITE_WORDS, WriteSet
 use shell::system::Calls;
 use shell::{Work, system};
 use spec::{LEAF_SET_LIMIT, MAP_LIMIT, READ_LIMIT, WORKERS, WRITE_LIMIT};
+use std::io::{Stdin, Stdout};
 use workers::Workers;
 
 // Turns of a buffer's bytes each, so that numbers of 64 bits count all calls and their bytes.
@@ -24,6 +25,7 @@ const MOST_TURNS: u64 = u64::MAX / 131072;
 
 // Reads the next bytes of the input. At its end there is nothing to go on with.
 fn read_more(
+    from: Stdin,
     input: &mut [u8],
     rows: &Records,
     leaves: &Leaves,
@@ -39,13 +41,14 @@ fn read_more(
     ensures { ReadDone w (length input.new) result }
 {
     let calls = system::read_next(
-        input, rows, leaves, slots, reads, leafsets, writes, workers, w,
+        from, input, rows, leaves, slots, reads, leafsets, writes, workers, w,
     );
     shell::after_read(calls, input, w)
 }
 
 // After the lines that had room: whatever is due for them is written, before anything else is read or run.
 fn settle(
+    to: Stdout,
     out: &[u8],
     rows: &Records,
     leaves: &Leaves,
@@ -64,13 +67,15 @@ fn settle(
     let x = w.session;
     let n = x.at;
     let calls = system::write_due(
-        out, n, rows, leaves, slots, reads, leafsets, writes, workers, input, w,
+        to, out, n, rows, leaves, slots, reads, leafsets, writes, workers, input, w,
     );
     shell::after_write(calls, w)
 }
 
 // One turn: more input, or the lines of what there is.
 fn advance(
+    from: Stdin,
+    to: Stdout,
     input: &mut [u8],
     out: &mut [u8],
     rows: &mut Records,
@@ -95,7 +100,7 @@ fn advance(
     let count = w.count;
     if count <= x.next {
         return read_more(
-            input, rows, leaves, slots, reads, leafsets, writes, workers, w,
+            from, input, rows, leaves, slots, reads, leafsets, writes, workers, w,
         );
     }
     let y = session::feed(
@@ -119,12 +124,13 @@ fn advance(
         calls,
     };
     settle(
-        out, rows, leaves, slots, reads, leafsets, writes, workers, input, run,
+        to, out, rows, leaves, slots, reads, leafsets, writes, workers, input, run,
     )
 }
 
 // The end: the last line, unless a read or a write failed, or the turns were used up before the input was.
 fn close(
+    to: Stdout,
     out: &mut [u8],
     copied: &mut CopyRows,
     rows: &Records,
@@ -153,12 +159,12 @@ fn close(
         out, copied, rows, leaves, slots, reads, leafsets, writes, workers, x,
     );
     system::write_due(
-        out, last, rows, leaves, slots, reads, leafsets, writes, workers, input, w,
+        to, out, last, rows, leaves, slots, reads, leafsets, writes, workers, input, w,
     )
 }
 
 // A whole run.
-fn run() -> Calls
+fn run(from: Stdin, to: Stdout) -> Calls
     ensures { Ran result }
 {
     let mut input = io::large_buffer();
@@ -191,6 +197,8 @@ fn run() -> Calls
     let mut turns = MOST_TURNS;
     while turns > 0 && w.going {
         w = advance(
+            from,
+            to,
             &mut input,
             &mut out,
             &mut rows,
@@ -205,6 +213,7 @@ fn run() -> Calls
         turns -= 1;
     }
     close(
+        to,
         &mut out,
         &mut copied,
         &rows,
@@ -219,6 +228,6 @@ fn run() -> Calls
     )
 }
 
-fn main() {
-    run();
+fn main(rt: HostRuntime) {
+    run(rt.stdin(), rt.stdout());
 }

@@ -1,0 +1,33 @@
+use native.Mathlib.Omega.{arith}
+use Prim.Native.Nat.{◌+◌, ◌*◌, ◌≤◌}
+use mathlib.Core.Path.{◌≡◌, sym, ap}
+use mathlib.Core.Logic.{⊎_elim}
+use lib.ListN.{length}
+use Rattle.lists.specs.TestLaws.{clash}
+use Rattle.map.specs.Views.{lent}
+use Rattle.transactions.specs.Views.{logs}
+use Rattle.shell.specs.declared.system.Calls.{Calls}
+use Rattle.shell.specs.Works.{Rests, most_turns}
+use Rattle.shell.specs.WorkLaws.{rests_start, turn_grows, ran}
+use Rattle.std.proofs.Common.{rules, true, take, ℕ, ◌-◌, ◌<◌, ◌/◌, ◌%◌, Bool, false, nat_eq, nat_lt, List, [], ◌∷◌, ◌++◌, slice_index_or, slice_set, bit_and, bit_or, Fits, w8, w32, w64, Bor, MutBor}
+use Rattle.console.specs.Finishes.{longest_end}
+use Rattle.shell.specs.Works.{Stands, Countable, Reads, ReadDone, WriteDone, Turns, Closes, Ran}
+use Rattle.mapscript.proofs.run.Goals as goal
+use Rattle.mapscript.proofs.run.Goals.{then-loop-turns-test+else-w, else-loop-turns-test}
+
+pub loop-turns-init : goal.loop-turns-init
+loop-turns-init c =    let n = c.none.ensures in
+    let made = ap (λ (k : Calls). k.made) n in
+    let fed = ap (λ (k : Calls). k.fed) n in
+    let told = ap (λ (k : Calls). k.told) n in
+    (rests_start _ c.fresh_session-start.ensures n, c.large_buffer-out.ensures, c.large_buffer-input.ensures, omega (arith, made), omega (arith, fed, made), omega (arith, told, made))
+
+pub returns : goal.returns
+returns c =
+    let i = c.loop-turns.invariant in
+    let made = i.3 in
+    ran i.0 c.close.ensures
+    (elim c.loop-turns-test.branch [
+      then-loop-turns-test+else-w w ↦ (λ g. clash g w.if-w.false)
+    | else-loop-turns-test w ↦ (λ g. omega (arith, made, w.loop-turns-test.false))
+    ])

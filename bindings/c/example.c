@@ -1,6 +1,6 @@
 /* A morning with the section map: two jobs, a phantom, a fold, an export, a guard. Build it with
  *
- *     cc -std=c11 -I bindings/c bindings/c/example.c target/staticlib/libsections.a
+ *     cc -std=c11 -I bindings/c bindings/c/example.c crates/sections/out/libsections.a
  *
  * It prints what example.stdout has. */
 #include "sections.h"

@@ -2,7 +2,7 @@
  *
  * A map is one `struct sections` in memory of the caller; nothing is allocated. Each step is a function that answers
  * SECTIONS_GRANTED or a refusal, and what was granted. `example.c` beside this file shows them at work. Link
- * target/staticlib/libsections.a, which `rt staticlib sections` proves and writes.
+ * crates/sections/out/libsections.a, which `rt lib` proves and writes in crates/sections.
  *
  * A guarded map (request 102) is made by sections_init_guarded, or by sections_run with `guarded`, and stays one. Its values are
  * lengths in bytes, and whatever steps it is given, no two present sections ever overlap. A job scans before it locks: each put

@@ -60,14 +60,9 @@ impl Sources {
             let it = rest.split_once('=')?.1;
             return Some((home.into(), up_to_semicolon(it).trim().into()));
         }
-        let import = text.lines().find_map(|line| {
-            let line = line.trim();
-            let line = line.strip_prefix("pub ").unwrap_or(line);
-            let path = line.strip_prefix("use ")?.strip_suffix(';')?;
-            path.ends_with(&format!("::{name}")).then_some(path)
-        })?;
+        let import = imports(text).into_iter().find(|path| path.ends_with(&format!("::{name}")))?;
         (import.split("::").next() != Some("crate"))
-            .then(|| self.declared(home, keyword, import))
+            .then(|| self.declared(home, keyword, &import))
             .flatten()
     }
 
@@ -209,6 +204,39 @@ fn source_text(folder: &Path, extension: &str) -> io::Result<String> {
 
 fn uncommented(text: &str) -> String {
     text.lines().map(|line| line.split("//").next().unwrap_or("").to_owned() + "\n").collect()
+}
+
+/// The paths that a text imports, each whole.
+fn imports(text: &str) -> Vec<String> {
+    let mut paths = Vec::new();
+    for (at, _) in text.match_indices("use ") {
+        let before = text[..at].strip_suffix("pub ").unwrap_or(&text[..at]);
+        if before.is_empty() || before.ends_with('\n') {
+            let item = text[at + 4..].split(';').next().unwrap_or("");
+            spread(&item.split_whitespace().collect::<String>(), &mut paths);
+        }
+    }
+    paths
+}
+
+/// The paths of an import with braces: `a::{b, c::{d, e}}`.
+fn spread(item: &str, paths: &mut Vec<String>) {
+    let Some((front, inner)) = item.split_once('{') else {
+        return paths.push(item.into());
+    };
+    let inner = inner.strip_suffix('}').unwrap_or(inner);
+    let (mut depth, mut start) = (0, 0);
+    for (at, byte) in inner.bytes().chain([b',']).enumerate() {
+        match byte {
+            b'{' => depth += 1,
+            b'}' => depth -= 1,
+            b',' if depth == 0 => {
+                spread(&format!("{front}{}", &inner[start..at]), paths);
+                start = at + 1;
+            }
+            _ => {}
+        }
+    }
 }
 
 /// Up to the semicolon that is in no bracket.

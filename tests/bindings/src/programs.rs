@@ -18,7 +18,7 @@ pub fn compile(compiler: &[&str], source: &Path, program: &Path) {
     command.args(&compiler[1..]).args(["-Wall", "-Wextra", "-Werror", "-pedantic", "-I"]);
     command.arg(root().join("bindings/c")).arg(source).arg("-o").arg(program);
     // After `-x c++` the archive would be read as a text.
-    command.args(["-x", "none"]).arg(root().join("target/staticlib/libsections.a"));
+    command.args(["-x", "none"]).arg(root().join("crates/sections/out/libsections.a"));
     let output = command.output().expect("there is a compiler");
     assert!(output.status.success(), "{}", String::from_utf8_lossy(&output.stderr));
 }

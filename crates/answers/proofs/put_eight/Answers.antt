@@ -9,7 +9,7 @@ use Rattle.answers.specs.OutputLaws.{pair, four}
 use Rattle.answers.proofs.put_eight.Goals as goal
 
 pub put_four-requires : goal.put_four-requires
-put_four-requires c =    (omega arith, omega (arith, c.put_four-next.ensures, length_four (c.args.n / 10000)))
+put_four-requires c = (omega arith, omega (arith, c.put_four-next.ensures, length_four (c.args.n / 10000)))
 
 pub returns : goal.returns
 unfolding eight

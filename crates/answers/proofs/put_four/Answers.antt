@@ -9,7 +9,7 @@ use Rattle.answers.specs.OutputLaws.{pair, eight}
 use Rattle.answers.proofs.put_four.Goals as goal
 
 pub put_pair-requires : goal.put_pair-requires
-put_pair-requires c =    (omega arith, omega (arith, c.put_pair-next.ensures, length_pair (c.args.n / 100)))
+put_pair-requires c = (omega arith, omega (arith, c.put_pair-next.ensures, length_pair (c.args.n / 100)))
 
 pub returns : goal.returns
 unfolding four

@@ -8,7 +8,7 @@ use Rattle.answers.specs.OutputLaws.{pair, four, eight}
 use Rattle.answers.proofs.put_line.Goals as goal
 
 pub put_byte-requires : goal.put_byte-requires
-put_byte-requires c =    omega (arith, c.put_answer-next.ensures, field_most c.args.number c.ranges.number.fits)
+put_byte-requires c = omega (arith, c.put_answer-next.ensures, field_most c.args.number c.ranges.number.fits)
 
 pub returns : goal.returns
 returns c = wrote_join c.put_answer-next.ensures c.put_byte.ensures

@@ -8,8 +8,8 @@ use Rattle.answers.specs.OutputLaws.{pair, four, eight}
 use Rattle.answers.proofs.put_middle.Goals as goal
 
 pub put_four-requires : goal.put_four-requires
-put_four-requires c =    let n = c.args.n in
+put_four-requires c = let n = c.args.n in
     (omega arith, omega (arith, c.put_short-next.ensures, decimal_most 3 (n / 10000) (omega arith)))
 
 pub returns : goal.returns
-returns c =    wrote_four _ c.if-n-lt10000.false c.put_short-next.ensures c.put_four.ensures
+returns c = wrote_four _ c.if-n-lt10000.false c.put_short-next.ensures c.put_four.ensures

@@ -8,8 +8,8 @@ use Rattle.answers.specs.OutputLaws.{pair, four, eight}
 use Rattle.answers.proofs.put_short.Goals as goal
 
 pub put_pair-requires : goal.put_pair-requires
-put_pair-requires c =    let n = c.args.n in
+put_pair-requires c = let n = c.args.n in
     (omega arith, omega (arith, c.put_small-next.ensures, decimal_most 1 (n / 100) (omega arith)))
 
 pub returns : goal.returns
-returns c =    wrote_two _ c.if-n-lt100.false c.put_small-next.ensures c.put_pair.ensures
+returns c = wrote_two _ c.if-n-lt100.false c.put_small-next.ensures c.put_pair.ensures

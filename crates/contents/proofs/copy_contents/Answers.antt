@@ -18,13 +18,13 @@ pub loop-address-init : goal.loop-address-init
 loop-address-init c = copying_start _ _ (rising_all _ _ _ c.requires.records_held) c.places.ensures
 
 pub store-requires : goal.store-requires
-store-requires c =    copying_room (rising_all _ _ _ c.requires.records_held) c.loop-address.invariant (next_at c.next_record-next.ensures c.in-At.is) c.requires.slots_len_bound
+store-requires c = copying_room (rising_all _ _ _ c.requires.records_held) c.loop-address.invariant (next_at c.next_record-next.ensures c.in-At.is) c.requires.slots_len_bound
 
 pub overflow_add-result : goal.overflow_add-result
-overflow_add-result c =    omega (arith, copying_room (rising_all _ _ _ c.requires.records_held) c.loop-address.invariant (next_at c.next_record-next.ensures c.in-At.is) c.requires.slots_len_bound)
+overflow_add-result c = omega (arith, copying_room (rising_all _ _ _ c.requires.records_held) c.loop-address.invariant (next_at c.next_record-next.ensures c.in-At.is) c.requires.slots_len_bound)
 
 pub returns-then-address : goal.returns-then-address
-returns-then-address c =    copying_end
+returns-then-address c = copying_end
     (copying_as c.store.ensures
     (copying_on (rising_all _ _ _ c.requires.records_held) c.loop-address.invariant (next_at c.next_record-next.ensures c.in-At.is) _
     c.requires.slots_len_bound (words_read c.in-At.address c.in-At.payload.value c.in-At.payload.owner (omega arith) (omega arith))))
@@ -34,18 +34,18 @@ returns-then-address c =    copying_end
     refl)
 
 pub overflow_add-count : goal.overflow_add-count
-overflow_add-count c =    omega (arith, copying_room (rising_all _ _ _ c.requires.records_held) c.loop-address.invariant (next_at c.next_record-next.ensures c.in-At.is) c.requires.slots_len_bound)
+overflow_add-count c = omega (arith, copying_room (rising_all _ _ _ c.requires.records_held) c.loop-address.invariant (next_at c.next_record-next.ensures c.in-At.is) c.requires.slots_len_bound)
 
 pub loop-address-smaller : goal.loop-address-smaller
-loop-address-smaller c =    omega (
-      arith,
-      c.if-address.false,
-      copying_above (rising_all _ _ _ c.requires.records_held) c.loop-address.invariant
-          (next_at c.next_record-next.ensures c.in-At.is),
-    )
+loop-address-smaller c = omega (
+  arith,
+  c.if-address.false,
+  copying_above (rising_all _ _ _ c.requires.records_held) c.loop-address.invariant
+      (next_at c.next_record-next.ensures c.in-At.is),
+)
 
 pub loop-address-preserved : goal.loop-address-preserved
-loop-address-preserved c =    copying_as c.store.ensures
+loop-address-preserved c = copying_as c.store.ensures
     (copying_on (rising_all _ _ _ c.requires.records_held) c.loop-address.invariant (next_at c.next_record-next.ensures c.in-At.is) _
     c.requires.slots_len_bound (words_read c.in-At.address c.in-At.payload.value c.in-At.payload.owner (omega arith) (omega arith)))
 

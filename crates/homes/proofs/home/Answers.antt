@@ -5,5 +5,5 @@ use Rattle.spec.specs.Slots.{table_entry, home_slot}
 use Rattle.homes.proofs.home.Goals as goal
 
 pub returns : goal.returns
-returns c =    home_steps c.args.a _ _ _ _ c.ranges.a.fits
+returns c = home_steps c.args.a _ _ _ _ c.ranges.a.fits
     c.table_entry-h3.ensures c.table_entry-h2.ensures c.table_entry-h1.ensures c.table_entry.ensures

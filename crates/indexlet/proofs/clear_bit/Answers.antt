@@ -18,4 +18,4 @@ use Rattle.indexlet.specs.Promises.{Sized, SlotsHeld, SlotsBecome, Going, shifte
 use Rattle.indexlet.proofs.clear_bit.Goals as goal
 
 pub overflow_sub-w : goal.overflow_sub-w
-overflow_sub-w c =    omega (arith, clear_fits (c.args.i % word_bits) _ c.requires.1, c.word-w.ensures, c.bit_of-m.ensures)
+overflow_sub-w c = omega (arith, clear_fits (c.args.i % word_bits) _ c.requires.1, c.word-w.ensures, c.bit_of-m.ensures)

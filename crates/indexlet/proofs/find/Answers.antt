@@ -19,10 +19,10 @@ pub cell-w-requires : goal.cell-w-requires
 cell-w-requires c = bucket_inside _ _ c.bucket-b.ensures
 
 pub returns-then-w-lt256 : goal.returns-then-w-lt256
-returns-then-w-lt256 c =    none_finds (filter_miss c.args.t.now c.args.a _ _ c.requires c.bucket-b.ensures c.cell-w.ensures c.if-w-lt256.true) (omega arith)
+returns-then-w-lt256 c = none_finds (filter_miss c.args.t.now c.args.a _ _ c.requires c.bucket-b.ensures c.cell-w.ensures c.if-w-lt256.true) (omega arith)
 
 pub returns-then-holds_key : goal.returns-then-holds_key
-returns-then-holds_key c =    at_finds c.requires (omega arith) (tried c.args.t.now c.args.a _ _ _ (omega arith) c.get-s.ensures c.holds_key.ensures c.if-holds_key.true)
+returns-then-holds_key c = at_finds c.requires (omega arith) (tried c.args.t.now c.args.a _ _ _ (omega arith) c.get-s.ensures c.holds_key.ensures c.if-holds_key.true)
 
 pub returns : goal.returns
 returns c = sought_finds c.requires c.seek-f.ensures

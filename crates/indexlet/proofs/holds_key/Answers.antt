@@ -19,4 +19,4 @@ pub returns-then-s-a : goal.returns-then-s-a
 returns-then-s-a c = sym (holds_other c.args.a c.args.s c.if-s-a.true)
 
 pub returns : goal.returns
-returns c =    ap not c.idle.ensures ∙ sym (holds_same c.args.a c.args.s c.if-s-a.false)
+returns c = ap not c.idle.ensures ∙ sym (holds_same c.args.a c.args.s c.if-s-a.false)

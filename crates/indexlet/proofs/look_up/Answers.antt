@@ -20,15 +20,15 @@ use Rattle.indexlet.specs.Promises.{Sized, SlotsHeld, SlotsBecome, Going, shifte
 use Rattle.indexlet.proofs.look_up.Goals as goal
 
 pub passed-requires : goal.passed-requires
-passed-requires c =    (subst (λ (n : ℕ). n < slot_count) (sym c.home-h.ensures) (home_less address_size c.args.a), c.if-at-lt-SLOTS.true)
+passed-requires c = (subst (λ (n : ℕ). n < slot_count) (sym c.home-h.ensures) (home_less address_size c.args.a), c.if-at-lt-SLOTS.true)
 
 pub overflow_add-result : goal.overflow_add-result
 overflow_add-result c = omega (arith, c.passed.ensures, gap_less c.home-h.result c.find-at.result)
 
 pub returns-then-at-lt-SLOTS : goal.returns-then-at-lt-SLOTS
-returns-then-at-lt-SLOTS c =    let f = c.find-at in
+returns-then-at-lt-SLOTS c = let f = c.find-at in
     look_hit _ _ _ c.requires (said_at f.ensures c.content_at-content.ensures) _ _ c.if-at-lt-SLOTS.true (f.ensures.hit c.if-at-lt-SLOTS.true)
     (add-one c.passed.result ∙ ap suc (c.passed.ensures ∙ ap (λ (n : ℕ). gap n f.result) c.home-h.ensures))
 
 pub returns : goal.returns
-returns c =    look_miss _ _ _ c.requires (said_at c.find-at.ensures c.content_at-content.ensures) _ c.seek-r.ensures
+returns c = look_miss _ _ _ c.requires (said_at c.find-at.ensures c.content_at-content.ensures) _ c.seek-r.ensures

@@ -16,7 +16,7 @@ use Rattle.indexlet.specs.Promises.{Sized, SlotsHeld, SlotsBecome, Going, Counta
 use Rattle.indexlet.proofs.recount_passed.Goals as goal
 
 pub recount-requires-3-clause-countable : goal.recount-requires-3-clause-countable
-recount-requires-3-clause-countable c =    countable_after (shifted c.args.up c.args.down) c.args.h _ c.requires.sized.1 (omega (arith, c.requires.sized.1)) (omega (arith, c.if-h-n-le-SLOTS.false)) c.requires.sized.2 c.recount-2.ensures c.requires.countable
+recount-requires-3-clause-countable c = countable_after (shifted c.args.up c.args.down) c.args.h _ c.requires.sized.1 (omega (arith, c.requires.sized.1)) (omega (arith, c.if-h-n-le-SLOTS.false)) c.requires.sized.2 c.recount-2.ensures c.requires.countable
 
 pub returns : goal.returns
-returns c =    going_join (shifted c.args.up c.args.down) c.args.h _ _ _ c.requires.sized.1 (omega (arith, c.requires.sized.1)) (omega (arith, c.requires.sized.2)) (omega (arith, c.if-h-n-le-SLOTS.false)) c.recount-2.ensures c.recount-3.ensures
+returns c = going_join (shifted c.args.up c.args.down) c.args.h _ _ _ c.requires.sized.1 (omega (arith, c.requires.sized.1)) (omega (arith, c.requires.sized.2)) (omega (arith, c.if-h-n-le-SLOTS.false)) c.recount-2.ensures c.recount-3.ensures

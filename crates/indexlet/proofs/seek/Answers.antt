@@ -25,15 +25,15 @@ pub overflow_add-i : goal.overflow_add-i
 overflow_add-i c = omega (arith, c.requires, home_less address_size c.args.a)
 
 pub returns-then-holds_key : goal.returns-then-holds_key
-returns-then-holds_key c =    seek_hit _ _ _ _ c.loop-d.invariant c.loop-d-test.true _ c.get-s.ensures
+returns-then-holds_key c = seek_hit _ _ _ _ c.loop-d.invariant c.loop-d-test.true _ c.get-s.ensures
     (sym c.holds_key.ensures ∙ c.if-holds_key.true)
 
 pub returns-then-s-eq0 : goal.returns-then-s-eq0
-returns-then-s-eq0 c =    seek_stop _ _ _ _ c.loop-d.invariant c.loop-d-test.true _ c.get-s.ensures
+returns-then-s-eq0 c = seek_stop _ _ _ _ c.loop-d.invariant c.loop-d-test.true _ c.get-s.ensures
     (sym c.holds_key.ensures ∙ c.if-holds_key.false) c.if-s-eq0.true
 
 pub loop-d-preserved : goal.loop-d-preserved
-loop-d-preserved c =    seek_on _ _ _ _ c.loop-d.invariant c.loop-d-test.true _ c.get-s.ensures
+loop-d-preserved c = seek_on _ _ _ _ c.loop-d.invariant c.loop-d-test.true _ c.get-s.ensures
     (sym c.holds_key.ensures ∙ c.if-holds_key.false) c.if-s-eq0.false
 
 pub returns : goal.returns

@@ -18,4 +18,4 @@ use Rattle.indexlet.specs.Promises.{Sized, SlotsHeld, SlotsBecome, Going, shifte
 use Rattle.indexlet.proofs.set_bit.Goals as goal
 
 pub overflow_add-w : goal.overflow_add-w
-overflow_add-w c =    omega (arith, set_fits 64 (c.args.i % word_bits) _ (omega arith) (omega (arith, c.word-w.ensures)) c.requires.1, c.word-w.ensures, c.bit_of-m.ensures)
+overflow_add-w c = omega (arith, set_fits 64 (c.args.i % word_bits) _ (omega arith) (omega (arith, c.word-w.ensures)) c.requires.1, c.word-w.ensures, c.bit_of-m.ensures)

@@ -20,35 +20,35 @@ pub get-s-requires : goal.get-s-requires
 get-s-requires c = home_inside c.args.a _ c.requires.h_value
 
 pub say_at-requires : goal.say_at-requires
-say_at-requires c =    home_inside c.args.a _ c.requires.h_value
+say_at-requires c = home_inside c.args.a _ c.requires.h_value
 
 pub returns-then-idle-clause-slots_become : goal.returns-then-idle-clause-slots_become
-returns-then-idle-clause-slots_become c =    let empty = sym c.idle.ensures ∙ c.if-idle.true in (
-        home_ends _ c.args.a _ c.requires.h_value c.requires.slots_held _ c.get-s.ensures empty c.args.c c.requires.c_value c.ranges.a.fits _ c.say_at.ensures,
-        home_inside c.args.a _ c.requires.h_value,
-      )
+returns-then-idle-clause-slots_become c = let empty = sym c.idle.ensures ∙ c.if-idle.true in (
+  home_ends _ c.args.a _ c.requires.h_value c.requires.slots_held _ c.get-s.ensures empty c.args.c c.requires.c_value c.ranges.a.fits _ c.say_at.ensures,
+  home_inside c.args.a _ c.requires.h_value,
+)
 
 pub returns-then-idle-clause-turns : goal.returns-then-idle-clause-turns
-returns-then-idle-clause-turns c =    let empty = sym c.idle.ensures ∙ c.if-idle.true in home_turns _ c.args.a _ c.requires.h_value c.requires.slots_held _ c.get-s.ensures empty c.args.c
+returns-then-idle-clause-turns c = let empty = sym c.idle.ensures ∙ c.if-idle.true in home_turns _ c.args.a _ c.requires.h_value c.requires.slots_held _ c.get-s.ensures empty c.args.c
 
 pub passed_by_new-d-requires-clause-h_lt_slot_count : goal.passed_by_new-d-requires-clause-h_lt_slot_count
-passed_by_new-d-requires-clause-h_lt_slot_count c =    (home_inside c.args.a _ c.requires.h_value, c.requires.t_len_bound)
+passed_by_new-d-requires-clause-h_lt_slot_count c = (home_inside c.args.a _ c.requires.h_value, c.requires.t_len_bound)
 
 pub recount_passed-requires-clause-sized : goal.recount_passed-requires-clause-sized
-recount_passed-requires-clause-sized c =    (c.requires.slots_held.sized, home_inside c.args.a _ c.requires.h_value, c.passed_by_new-d.ensures.1)
+recount_passed-requires-clause-sized c = (c.requires.slots_held.sized, home_inside c.args.a _ c.requires.h_value, c.passed_by_new-d.ensures.1)
 
 pub recount_passed-requires-clause-countable : goal.recount_passed-requires-clause-countable
-recount_passed-requires-clause-countable c =    take_counts _ c.args.a _ _ c.requires.h_value c.passed_by_new-d.ensures.0 c.passed_by_new-d.ensures.1 c.requires.slots_held
+recount_passed-requires-clause-countable c = take_counts _ c.args.a _ _ c.requires.h_value c.passed_by_new-d.ensures.0 c.passed_by_new-d.ensures.1 c.requires.slots_held
 
 pub overflow_add-i : goal.overflow_add-i
-overflow_add-i c =    omega (arith, c.requires.h_value, home_less address_size c.args.a, c.passed_by_new-d.ensures.1)
+overflow_add-i c = omega (arith, c.requires.h_value, home_less address_size c.args.a, c.passed_by_new-d.ensures.1)
 
 pub returns-clause-slots_become : goal.returns-clause-slots_become
-returns-clause-slots_become c =    (
-        take_ends _ c.args.a _ _ c.requires.h_value c.passed_by_new-d.ensures.0 c.passed_by_new-d.ensures.1 c.args.c _ c.recount_passed.ensures _ refl
-            c.requires.c_value c.ranges.a.fits _ c.say_at-2.ensures,
-        omega arith,
-      )
+returns-clause-slots_become c = (
+  take_ends _ c.args.a _ _ c.requires.h_value c.passed_by_new-d.ensures.0 c.passed_by_new-d.ensures.1 c.args.c _ c.recount_passed.ensures _ refl
+      c.requires.c_value c.ranges.a.fits _ c.say_at-2.ensures,
+  omega arith,
+)
 
 pub returns-clause-turns : goal.returns-clause-turns
-returns-clause-turns c =    take_turns _ c.args.a _ _ c.requires.h_value c.passed_by_new-d.ensures.0 c.passed_by_new-d.ensures.1 c.args.c
+returns-clause-turns c = take_turns _ c.args.a _ _ c.requires.h_value c.passed_by_new-d.ensures.0 c.passed_by_new-d.ensures.1 c.args.c

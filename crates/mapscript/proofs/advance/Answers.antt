@@ -11,18 +11,18 @@ use Rattle.shell.specs.Works.{Stands, Rests, Countable, Reads, ReadDone, WriteDo
 use Rattle.mapscript.proofs.advance.Goals as goal
 
 pub returns-then-count-x-clause-rests_2 : goal.returns-then-count-x-clause-rests_2
-returns-then-count-x-clause-rests_2 c =    let s = c.requires in
+returns-then-count-x-clause-rests_2 c = let s = c.requires in
     let d = c.read_more.ensures in
     let u = c.if-count-x.true in
     rests_turned _ (record { rests = s.rests; used = u; goes = s.going_value.0 }) d
 
 pub settle-requires-clause-stands : goal.settle-requires-clause-stands
-settle-requires-clause-stands c =    let s = c.requires in
+settle-requires-clause-stands c = let s = c.requires in
     let f = c.feed-y.ensures in
     stands_run s.rests.stands f
 
 pub returns-clause-rests_2 : goal.returns-clause-rests_2
-returns-clause-rests_2 c =    let s = c.requires in
+returns-clause-rests_2 c = let s = c.requires in
     let f = c.feed-y.ensures in
     let d = c.settle.ensures in
     rests_settled (stands_run s.rests.stands f) d

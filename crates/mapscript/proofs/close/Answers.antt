@@ -9,12 +9,12 @@ use Rattle.shell.specs.Works.{Stands, Rests, Countable, Reads, ReadDone, WriteDo
 use Rattle.mapscript.proofs.close.Goals as goal
 
 pub write_due-requires-clause-owed : goal.write_due-requires-clause-owed
-write_due-requires-clause-owed c =    let h = c.requires.rests in
+write_due-requires-clause-owed c = let h = c.requires.rests in
     let f = c.finish-last.ensures in
     let k = c.requires.longest_end_in_bounds.1 in
     let few = finish_within h.stands.started f in
     owed_last h c.if-w-2.false c.if-w.false f
 
 pub returns : goal.returns
-returns c =    let h = c.requires.rests in
+returns c = let h = c.requires.rests in
     closes_ended h c.if-w-2.false c.if-w.false c.finish-last.ensures c.write_due.ensures

@@ -16,7 +16,7 @@ use Rattle.mapscript.proofs.run.Goals as goal
 use Rattle.mapscript.proofs.run.Goals.{then-loop-turns-test+else-w, else-loop-turns-test}
 
 pub loop-turns-init : goal.loop-turns-init
-loop-turns-init c =    let n = c.none.ensures in
+loop-turns-init c = let n = c.none.ensures in
     let made = ap (λ (k : Calls). k.made) n in
     let fed = ap (λ (k : Calls). k.fed) n in
     let told = ap (λ (k : Calls). k.told) n in
@@ -28,6 +28,6 @@ returns c =
     let made = i.3 in
     ran i.0 c.close.ensures
     (elim c.loop-turns-test.branch [
-      then-loop-turns-test+else-w w ↦ (λ g. clash g w.if-w.false)
-    | else-loop-turns-test w ↦ (λ g. omega (arith, made, w.loop-turns-test.false))
+      | then-loop-turns-test+else-w w ↦ (λ g. clash g w.if-w.false)
+      | else-loop-turns-test w ↦ (λ g. omega (arith, made, w.loop-turns-test.false))
     ])

@@ -22,4 +22,4 @@ pub returns-then-n-p : goal.returns-then-n-p
 returns-then-n-p c = index_none c.args.rows.now _ _ _ c.requires c.locate-p.ensures _ c.if-n-p.true refl
 
 pub returns : goal.returns
-returns c =    index_here c.args.rows.now _ _ _ c.requires c.locate-p.ensures c.get-r.result c.if-n-p.false c.get-r.ensures
+returns c = index_here c.args.rows.now _ _ _ c.requires c.locate-p.ensures c.get-r.result c.if-n-p.false c.get-r.ensures

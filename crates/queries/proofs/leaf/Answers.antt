@@ -24,8 +24,8 @@ use Rattle.queries.specs.PhantomViews.{Holding, Owns, Logged, own_put, lock_only
 use Rattle.queries.proofs.leaf.Goals as goal
 
 pub overflow_cast-result : goal.overflow_cast-result
-overflow_cast-result c =    record { fits = subst (λ (x : ℕ). x < addresses) (sym (low_of c.args.leaves.now c.args.i c.leaf_at-l.ensures)) c.requires.narrow }
+overflow_cast-result c = record { fits = subst (λ (x : ℕ). x < addresses) (sym (low_of c.args.leaves.now c.args.i c.leaf_at-l.ensures)) c.requires.narrow }
 
 pub returns : goal.returns
-returns c =    let ls = c.args.leaves.now in
+returns c = let ls = c.args.leaves.now in
     logged_at ls _ _ c.leaf_places.ensures c.leaf_at-l.ensures

@@ -21,5 +21,5 @@ use Rattle.queries.specs.PhantomViews.{Holding, Owns, Logged, own_put, lock_only
 use Rattle.queries.proofs.leaves_meeting.Goals as goal
 
 pub returns : goal.returns
-returns c =    let ls = c.args.leaves.now in
+returns c = let ls = c.args.leaves.now in
     meets (lows_of ls) _ _ _ _ _ c.requires.leaves_listed.listed.room (column_places 0 ls c.leaf_places.ensures) c.requires.lo_le_hi c.find_leaf-from.ensures c.find_leaf-last.ensures

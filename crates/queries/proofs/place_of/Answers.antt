@@ -21,5 +21,5 @@ use Rattle.queries.specs.PhantomViews.{Holding, Owns, Logged, own_put, lock_only
 use Rattle.queries.proofs.place_of.Goals as goal
 
 pub returns : goal.returns
-returns c =    let ls = c.args.leaves.now in
+returns c = let ls = c.args.leaves.now in
     leaf_at_lem (lows_of ls) _ _ _ c.requires.room (column_places 0 ls c.leaf_places.ensures) c.find_leaf.ensures

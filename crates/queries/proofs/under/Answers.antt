@@ -17,10 +17,10 @@ use Rattle.queries.specs.PhantomViews.{Holding, Owns, Logged, own_put, lock_only
 use Rattle.queries.proofs.under.Goals as goal
 
 pub returns-in-At : goal.returns-in-At
-returns-in-At c =    record { sees = λ slots said. sees_found _ _ slots _ c.args.c said _ _ _ c.if-c-eq0.true c.in-At.is c.find-found.ensures }
+returns-in-At c = record { sees = λ slots said. sees_found _ _ slots _ c.args.c said _ _ _ c.if-c-eq0.true c.in-At.is c.find-found.ensures }
 
 pub returns-in-Nothing : goal.returns-in-Nothing
-returns-in-Nothing c =    record { sees = λ slots said. sees_nothing _ _ slots _ c.args.c said _ c.if-c-eq0.true c.in-Nothing.is c.find-found.ensures }
+returns-in-Nothing c = record { sees = λ slots said. sees_nothing _ _ slots _ c.args.c said _ c.if-c-eq0.true c.in-Nothing.is c.find-found.ensures }
 
 pub returns : goal.returns
 returns c = record { sees = λ slots said. sees_pending _ _ slots _ c.args.c said c.if-c-eq0.false }

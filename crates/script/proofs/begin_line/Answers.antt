@@ -11,7 +11,7 @@ use Rattle.script.specs.Tokens.{Advances, ParsesPart, Digits, told}
 use Rattle.script.proofs.begin_line.Goals as goal
 
 pub returns-then-s-i-eq-SPACE : goal.returns-then-s-i-eq-SPACE
-returns-then-s-i-eq-SPACE c =    letter_begins (sym c.if-at_line_start.true ∙ c.at_line_start.ensures.value) (omega arith) c.if-letter-gt-SPACE.true c.if-s-i-eq-SPACE.true
+returns-then-s-i-eq-SPACE c = letter_begins (sym c.if-at_line_start.true ∙ c.at_line_start.ensures.value) (omega arith) c.if-letter-gt-SPACE.true c.if-s-i-eq-SPACE.true
 
 pub returns-else-s-i-eq-SPACE : goal.returns-else-s-i-eq-SPACE
 returns-else-s-i-eq-SPACE c = goes_none _ _ _

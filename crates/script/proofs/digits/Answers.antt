@@ -25,7 +25,7 @@ pub returns-then-b-gt57 : goal.returns-then-b-gt57
 returns-then-b-gt57 c = digits_stop c.loop-i.invariant (inl (digit_high _ c.if-b-gt57.true))
 
 pub returns-then-not-room : goal.returns-then-not-room
-returns-then-not-room c =    digits_stop c.loop-i.invariant (inr (less_false _ _ (sym c.room.ensures ∙ c.if-not-room.true)))
+returns-then-not-room c = digits_stop c.loop-i.invariant (inr (less_false _ _ (sym c.room.ensures ∙ c.if-not-room.true)))
 
 pub overflow_mul-n : goal.overflow_mul-n
 overflow_mul-n c = omega (arith, less_true _ _ (sym c.room.ensures ∙ c.if-not-room.false))
@@ -34,4 +34,4 @@ pub overflow_add-n : goal.overflow_add-n
 overflow_add-n c = omega (arith, less_true _ _ (sym c.room.ensures ∙ c.if-not-room.false))
 
 pub loop-i-preserved : goal.loop-i-preserved
-loop-i-preserved c =    spells_digit c.loop-i.invariant c.loop-i-test.true (digit_yes _ c.if-b-lt48.false c.if-b-gt57.false)
+loop-i-preserved c = spells_digit c.loop-i.invariant c.loop-i-test.true (digit_yes _ c.if-b-lt48.false c.if-b-gt57.false)

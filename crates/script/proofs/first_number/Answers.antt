@@ -18,11 +18,11 @@ returns-then-next-s-clause-parses_part c = field_ended _ none_before c.digits-ru
 
 pub returns-then-end-eq-SPACE-clause-parses_part : goal.returns-then-end-eq-SPACE-clause-parses_part
 unfolding in_number
-returns-then-end-eq-SPACE-clause-parses_part c =    let d = c.digits-run.ensures in
+returns-then-end-eq-SPACE-clause-parses_part c = let d = c.digits-run.ensures in
     field_spaced _ none_before (one_before _) d c.if-next-s.false c.if-run.true c.if-end-eq-SPACE.true refl
 
 pub returns-then-end-eq-LINE_FEED-clause-parses_part : goal.returns-then-end-eq-LINE_FEED-clause-parses_part
-returns-then-end-eq-LINE_FEED-clause-parses_part c =    let d = c.digits-run.ensures in
+returns-then-end-eq-LINE_FEED-clause-parses_part c = let d = c.digits-run.ensures in
     field_fed _ none_before _ d c.if-next-s.false c.if-run.true c.if-end-eq-LINE_FEED.true c.one.ensures
 
 pub returns-clause-parses_part : goal.returns-clause-parses_part

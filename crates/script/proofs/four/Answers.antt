@@ -20,4 +20,4 @@ pub returns-then-d-ge-OWNERS : goal.returns-then-d-ge-OWNERS
 returns-then-d-ge-OWNERS c = four_put_wide _ _ _ _ _ c.if-letter-ne80.false c.if-a-ge-WORKER_NAMES.false c.if-b-ge-ADDRESSES.false c.if-d-ge-OWNERS.true
 
 pub returns : goal.returns
-returns c =    four_put _ _ _ _ _ c.if-letter-ne80.false c.if-a-ge-WORKER_NAMES.false c.if-b-ge-ADDRESSES.false c.ranges.c.fits c.if-d-ge-OWNERS.false
+returns c = four_put _ _ _ _ _ c.if-letter-ne80.false c.if-a-ge-WORKER_NAMES.false c.if-b-ge-ADDRESSES.false c.ranges.c.fits c.if-d-ge-OWNERS.false

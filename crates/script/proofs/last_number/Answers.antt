@@ -16,7 +16,7 @@ unfolding in_number
 returns-then-next-s-clause-parses_part c = field_ended _ (three_before _ _ _) c.digits-run.ensures
 
 pub returns-then-end-eq-LINE_FEED-clause-parses_part : goal.returns-then-end-eq-LINE_FEED-clause-parses_part
-returns-then-end-eq-LINE_FEED-clause-parses_part c =    let d = c.digits-run.ensures in
+returns-then-end-eq-LINE_FEED-clause-parses_part c = let d = c.digits-run.ensures in
     field_fed _ (three_before _ _ _) _ d c.if-next-s.false c.if-run.true c.if-end-eq-LINE_FEED.true c.four.ensures
 
 pub returns-clause-parses_part : goal.returns-clause-parses_part

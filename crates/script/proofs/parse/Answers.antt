@@ -14,13 +14,13 @@ pub loop-i-init : goal.loop-i-init
 loop-i-init c = goes_none _ _ _
 
 pub returns-in-Line : goal.returns-in-Line
-returns-in-Line c =    goes_ends (goes_join c.begin_line-begun.ensures c.loop-i.invariant) c.parse_part-t.ensures.parses_part (line_ends c.in-Line.is)
+returns-in-Line c = goes_ends (goes_join c.begin_line-begun.ensures c.loop-i.invariant) c.parse_part-t.ensures.parses_part (line_ends c.in-Line.is)
 
 pub returns-in-Guard : goal.returns-in-Guard
-returns-in-Guard c =    goes_ends (goes_join c.begin_line-begun.ensures c.loop-i.invariant) c.parse_part-t.ensures.parses_part (guard_ends c.in-Guard.is)
+returns-in-Guard c = goes_ends (goes_join c.begin_line-begun.ensures c.loop-i.invariant) c.parse_part-t.ensures.parses_part (guard_ends c.in-Guard.is)
 
 pub returns-in-Malformed : goal.returns-in-Malformed
-returns-in-Malformed c =    goes_ends (goes_join c.begin_line-begun.ensures c.loop-i.invariant) c.parse_part-t.ensures.parses_part (malformed_ends c.in-Malformed.is)
+returns-in-Malformed c = goes_ends (goes_join c.begin_line-begun.ensures c.loop-i.invariant) c.parse_part-t.ensures.parses_part (malformed_ends c.in-Malformed.is)
 
 pub loop-i-preserved : goal.loop-i-preserved
 loop-i-preserved c = goes_on_lem c.loop-i.invariant c.parse_part-t.ensures.parses_part c.in-SliceEnd.is

@@ -22,4 +22,4 @@ pub returns-then-b-eq71-clause-parses_part : goal.returns-then-b-eq71-clause-par
 returns-then-b-eq71-clause-parses_part c = turn_byte _ _ _ c.requires (start_guard _ c.if-b-eq71.true)
 
 pub returns-clause-parses_part : goal.returns-clause-parses_part
-returns-clause-parses_part c =    turn_byte _ _ _ c.requires (start_good _ c.if-b-eq-SPACE.false c.if-b-eq-LINE_FEED.false c.if-b-eq84.false c.if-b-eq71.false)
+returns-clause-parses_part c = turn_byte _ _ _ c.requires (start_good _ c.if-b-eq-SPACE.false c.if-b-eq-LINE_FEED.false c.if-b-eq84.false c.if-b-eq71.false)

@@ -18,5 +18,5 @@ use Rattle.sections.specs.Entries.{code_in, coded_in, StepEntry, stop_number, Co
 use Rattle.sections.proofs.sections_next.Goals as goal
 
 pub returns-then-from-ge-ADDRESSES : goal.returns-then-from-ge-ADDRESSES
-returns-then-from-ge-ADDRESSES c =    let t = (ready_loaded _ _ c.load-c.ensures c.requires).stored.map.tables in
+returns-then-from-ge-ADDRESSES c = let t = (ready_loaded _ _ c.load-c.ensures c.requires).stored.map.tables in
     next_record_none _ _ c.load-c.ensures (follows_done _ _ _ (records_held t) (slots_held t) _ _ (passed_start _ _ _ _) c.if-from-ge-ADDRESSES.true) refl

@@ -15,5 +15,5 @@ use Rattle.sections.specs.Entries.{code_in, coded_in, StepEntry, stop_number, Co
 use Rattle.sections.proofs.sections_replay.Goals as goal
 
 pub returns : goal.returns
-returns c =    replayed _ _ _ _ _ c.replay-p.result c.replay-p.ensures c.store.ensures
+returns c = replayed _ _ _ _ _ c.replay-p.result c.replay-p.ensures c.store.ensures
     c.store_export.ensures c.put_counts.ensures c.stop_number.ensures

@@ -15,5 +15,5 @@ use Rattle.sections.specs.Entries.{code_in, coded_in, StepEntry, stop_number, Co
 use Rattle.sections.proofs.sections_step.Goals as goal
 
 pub returns : goal.returns
-returns c =    step_entry _ _ _ _ _ c.step-s.result c.load-c.ensures c.code_in-k.ensures c.requires c.step-s.ensures
+returns c = step_entry _ _ _ _ _ c.step-s.result c.load-c.ensures c.code_in-k.ensures c.requires c.step-s.ensures
     c.store.ensures c.put_answer.ensures

@@ -7,9 +7,9 @@ use Rattle.workers.specs.Workers.{begun, at_lock, at_check, freed, rank_of, stag
 use Rattle.workers.proofs.pack.Goals as goal
 
 pub returns-clause-value : goal.returns-clause-value
-returns-clause-value c =    let e = pack_is c.args.x c.rank.ensures in
+returns-clause-value c = let e = pack_is c.args.x c.rank.ensures in
     e
 
 pub returns-clause-result_value : goal.returns-clause-result_value
-returns-clause-result_value c =    let e = pack_is c.args.x c.rank.ensures in
+returns-clause-result_value c = let e = pack_is c.args.x c.rank.ensures in
     ap unpacked e ∙ unpack_pack _ (record { number = search rules; reads = search rules; leaves = search rules; writes = search rules })

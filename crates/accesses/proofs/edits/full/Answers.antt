@@ -19,4 +19,4 @@ pub returns-then-n-lt-WRITE_LIMIT : goal.returns-then-n-lt-WRITE_LIMIT
 returns-then-n-lt-WRITE_LIMIT c = full_room _ _ _ c.if-n-lt-WRITE_LIMIT.true
 
 pub returns-in-Nothing : goal.returns-in-Nothing
-returns-in-Nothing c =    full_none _ _ _ _ Nothing c.in-Nothing.is refl c.find_write.ensures c.if-n-lt-WRITE_LIMIT.false
+returns-in-Nothing c = full_none _ _ _ _ Nothing c.in-Nothing.is refl c.find_write.ensures c.if-n-lt-WRITE_LIMIT.false

@@ -19,4 +19,4 @@ pub returns-then-n-ge-READ_LIMIT : goal.returns-then-n-ge-READ_LIMIT
 returns-then-n-ge-READ_LIMIT c = read_full c.requires.entered c.if-n-ge-READ_LIMIT.true
 
 pub returns : goal.returns
-returns c =    read_logged c.requires.entered c.if-n-ge-READ_LIMIT.false c.take-taken.ensures (core_put _ _ c.put_worker.ensures) c.shown.ensures
+returns c = read_logged c.requires.entered c.if-n-ge-READ_LIMIT.false c.take-taken.ensures (core_put _ _ c.put_worker.ensures) c.shown.ensures

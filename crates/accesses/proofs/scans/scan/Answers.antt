@@ -17,20 +17,20 @@ use Rattle.accesses.specs.Scans.{Scans}
 use Rattle.accesses.proofs.scans.scan.Goals as goal
 
 pub measure-requires : goal.measure-requires
-measure-requires c =    planning c.requires (subst (Admitted is_open _ _) c.in-Allowed.is c.«open».ensures)
+measure-requires c = planning c.requires (subst (Admitted is_open _ _) c.in-Allowed.is c.«open».ensures)
 
 pub carry_out-done-requires-clause-planning : goal.carry_out-done-requires-clause-planning
-carry_out-done-requires-clause-planning c =    let e = subst (Admitted is_open _ _) c.in-Allowed.is c.«open».ensures in
+carry_out-done-requires-clause-planning c = let e = subst (Admitted is_open _ _) c.in-Allowed.is c.«open».ensures in
     let p = subst (Plans _ _ _ _ _ _ _ _ _) c.in-Go.is c.measure.ensures in
     planning c.requires e
 
 pub returns-in-Refused : goal.returns-in-Refused
-returns-in-Refused c =    scans_turned _ _ _ c.requires (subst (Admitted is_open _ _) c.in-Refused.is c.«open».ensures)
+returns-in-Refused c = scans_turned _ _ _ c.requires (subst (Admitted is_open _ _) c.in-Refused.is c.«open».ensures)
 
 pub returns-in-Refused-measure : goal.returns-in-Refused-measure
-returns-in-Refused-measure c =    scans_declined _ _ _ c.requires (subst (Admitted is_open _ _) c.in-Allowed.is c.«open».ensures)
+returns-in-Refused-measure c = scans_declined _ _ _ c.requires (subst (Admitted is_open _ _) c.in-Allowed.is c.«open».ensures)
     (subst (Plans _ _ _ _ _ _ _ _ _) c.in-Refused-measure.is c.measure.ensures)
 
 pub returns-in-Go : goal.returns-in-Go
-returns-in-Go c =    scans_granted _ _ _ c.requires (subst (Admitted is_open _ _) c.in-Allowed.is c.«open».ensures)
+returns-in-Go c = scans_granted _ _ _ c.requires (subst (Admitted is_open _ _) c.in-Allowed.is c.«open».ensures)
     (subst (Plans _ _ _ _ _ _ _ _ _) c.in-Go.is c.measure.ensures) c.carry_out-done.ensures (core_put _ _ c.put_worker.ensures)

@@ -30,4 +30,4 @@ unfolding shortest
 bounds-owners-i c = omega arith
 
 pub loop-i-preserved : goal.loop-i-preserved
-loop-i-preserved c =    (putting_on c.loop-i.i c.loop-i.invariant.0 c.put_three-next.ensures, omega arith)
+loop-i-preserved c = (putting_on c.loop-i.i c.loop-i.invariant.0 c.put_three-next.ensures, omega arith)

@@ -12,14 +12,14 @@ use Rattle.transactions.specs.Begins.{plain_in}
 use Rattle.commits.proofs.aborts.abort.Goals as goal
 
 pub drop_transaction-globals-requires-clause-write_set_ordered : goal.drop_transaction-globals-requires-clause-write_set_ordered
-drop_transaction-globals-requires-clause-write_set_ordered c =    let k = c.requires in
+drop_transaction-globals-requires-clause-write_set_ordered c = let k = c.requires in
     let e = subst (Admitted any_stage _ _) c.in-Allowed.is c.busy.ensures in
     (ready_writable k).set _ e.inside
 
 pub returns-in-Refused : goal.returns-in-Refused
-returns-in-Refused c =    abort_refused _ c.requires _ (subst (Admitted any_stage _ _) c.in-Refused.is c.busy.ensures)
+returns-in-Refused c = abort_refused _ c.requires _ (subst (Admitted any_stage _ _) c.in-Refused.is c.busy.ensures)
 
 pub returns-in-Allowed : goal.returns-in-Allowed
-returns-in-Allowed c =    abort_granted _ c.requires _
+returns-in-Allowed c = abort_granted _ c.requires _
     (subst (Admitted any_stage _ _) c.in-Allowed.is c.busy.ensures)
     c.drop_transaction-globals.ensures

@@ -12,7 +12,7 @@ use Rattle.commits.specs.Commits.{Reaches}
 use Rattle.commits.proofs.drops.drop_transaction.Goals as goal
 
 pub returns : goal.returns
-returns c =    drops _ _ _ _ _ _ _ _
+returns c = drops _ _ _ _ _ _ _ _
     c.requires.w_lt_workers
     c.worker_at-x.ensures.value
     c.free-free.ensures c.unlock_all-z.ensures c.put_worker.ensures

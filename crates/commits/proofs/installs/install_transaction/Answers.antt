@@ -15,7 +15,7 @@ use Rattle.commits.specs.Commits.{Reaches}
 use Rattle.commits.proofs.installs.install_transaction.Goals as goal
 
 pub returns : goal.returns
-returns c =    installs _ _ _ _ _ _ _ _ _
+returns c = installs _ _ _ _ _ _ _ _ _
     c.requires.w_lt_workers
     c.worker_at-x.ensures.value
     c.free-free.ensures

@@ -23,20 +23,20 @@ use Rattle.commits.specs.Locks.{refusal_in, guard_tests, Tested, LocksOpen}
 use Rattle.commits.proofs.locks.lock.Goals as goal
 
 pub guard-requires-clause-guardable : goal.guard-requires-clause-guardable
-guard-requires-clause-guardable c =    let e = subst (Admitted is_open _ _) c.in-Allowed.is c.open.ensures in
+guard-requires-clause-guardable c = let e = subst (Admitted is_open _ _) c.in-Allowed.is c.open.ensures in
     guardable _ c.requires _ e
 
 pub lock_open-requires-clause-write_set_ordered : goal.lock_open-requires-clause-write_set_ordered
-lock_open-requires-clause-write_set_ordered c =    let k = c.requires in
+lock_open-requires-clause-write_set_ordered c = let k = c.requires in
     let e = subst (Admitted is_open _ _) c.in-Allowed.is c.open.ensures in
     (ready_writable k).set _ e.inside
 
 pub returns-in-Refused : goal.returns-in-Refused
-returns-in-Refused c =    lock_refused _ c.requires _ (subst (Admitted is_open _ _) c.in-Refused.is c.open.ensures)
+returns-in-Refused c = lock_refused _ c.requires _ (subst (Admitted is_open _ _) c.in-Refused.is c.open.ensures)
 
 pub returns-in-Refused-guard : goal.returns-in-Refused-guard
-returns-in-Refused-guard c =    lock_barred _ c.requires _ (subst (Admitted is_open _ _) c.in-Allowed.is c.open.ensures) _ _ c.in-Refused-guard.is c.guard.ensures
+returns-in-Refused-guard c = lock_barred _ c.requires _ (subst (Admitted is_open _ _) c.in-Allowed.is c.open.ensures) _ _ c.in-Refused-guard.is c.guard.ensures
 
 pub returns-in-Passed : goal.returns-in-Passed
-returns-in-Passed c =    lock_refines _ c.requires _ (subst (Admitted is_open _ _) c.in-Allowed.is c.open.ensures) _
+returns-in-Passed c = lock_refines _ c.requires _ (subst (Admitted is_open _ _) c.in-Allowed.is c.open.ensures) _
     c.in-Passed.is c.guard.ensures _ c.lock_open.ensures

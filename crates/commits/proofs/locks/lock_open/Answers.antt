@@ -22,15 +22,15 @@ use Rattle.commits.specs.Locks.{refusal_in, guard_tests, Tested, LocksOpen}
 use Rattle.commits.proofs.locks.lock_open.Goals as goal
 
 pub lock_tests-tested-requires-clause-counted : goal.lock_tests-tested-requires-clause-counted
-lock_tests-tested-requires-clause-counted c =    let p = c.requires in
+lock_tests-tested-requires-clause-counted c = let p = c.requires in
     counted p.map_held.tables
 
 pub lock_all-z-requires-clause-lockable : goal.lock_all-z-requires-clause-lockable
-lock_all-z-requires-clause-lockable c =    let p = c.requires in
+lock_all-z-requires-clause-lockable c = let p = c.requires in
     let o = set_of c.worker_at-x.ensures.value p.write_set_ordered in tested_can _ _ _ _ _ _ _ _ c.lock_tests-tested.ensures o.rising (sym c.refused.ensures ∙ c.if-refused.false)
 
 pub returns : goal.returns
-returns c =    locks_granted _ _ _ _ _ _ _ _ _
+returns c = locks_granted _ _ _ _ _ _ _ _ _
     c.requires.w_lt_workers
     c.worker_at-x.ensures.value
     c.lock_tests-tested.ensures

@@ -25,7 +25,7 @@ pub returns-then-waits_beyond : goal.returns-then-waits_beyond
 returns-then-waits_beyond c = tested_full _ _ _ _ _ _ c.held.ensures c.if-held.false c.waits_beyond.ensures c.if-waits_beyond.true
 
 pub returns-then-addresses_beyond : goal.returns-then-addresses_beyond
-returns-then-addresses_beyond c =    tested_map _ _ _ _ _ _ c.held.ensures c.if-held.false c.waits_beyond.ensures c.if-waits_beyond.false c.addresses_beyond.ensures c.if-addresses_beyond.true
+returns-then-addresses_beyond c = tested_map _ _ _ _ _ _ c.held.ensures c.if-held.false c.waits_beyond.ensures c.if-waits_beyond.false c.addresses_beyond.ensures c.if-addresses_beyond.true
 
 pub returns : goal.returns
-returns c =    tested_passed _ _ _ _ _ _ c.held.ensures c.if-held.false c.waits_beyond.ensures c.if-waits_beyond.false c.addresses_beyond.ensures c.if-addresses_beyond.false
+returns c = tested_passed _ _ _ _ _ _ c.held.ensures c.if-held.false c.waits_beyond.ensures c.if-waits_beyond.false c.addresses_beyond.ensures c.if-addresses_beyond.false

@@ -23,14 +23,14 @@ use Rattle.commits.specs.Answers.{validate_in}
 use Rattle.commits.proofs.validates.changed.Goals as goal
 
 pub returns-then-differs : goal.returns-then-differs
-returns-then-differs c =    let h = c.loop-i-test.true in
+returns-then-differs c = let h = c.loop-i-test.true in
     let e = length_rows read_in c.args.reads.now c.args.k in
     search_hit no_read (omega arith)
     (row_changed c.args.k h c.read_at-l.ensures c.current_record-now.ensures c.differs.ensures c.if-differs.true)
     c.loop-i.invariant.1
 
 pub loop-i-preserved : goal.loop-i-preserved
-loop-i-preserved c =    let h = c.loop-i-test.true in
+loop-i-preserved c = let h = c.loop-i-test.true in
     let e = length_rows read_in c.args.reads.now c.args.k in (
       omega arith,
       search_on no_read (omega arith)
@@ -39,6 +39,6 @@ loop-i-preserved c =    let h = c.loop-i-test.true in
     )
 
 pub returns : goal.returns
-returns c =    let h = c.loop-i-test.false in
+returns c = let h = c.loop-i-test.false in
     let e = length_rows read_in c.args.reads.now c.args.k in
     search_end (omega arith) c.loop-i.invariant.1

@@ -19,10 +19,10 @@ use Rattle.commits.specs.Answers.{validate_in}
 use Rattle.commits.proofs.validates.differs.Goals as goal
 
 pub returns-then-same_payload : goal.returns-then-same_payload
-returns-then-same_payload c =    differ_stamps _ _ c.if-now.true c.if-then.true (sym c.same_payload.ensures ∙ c.if-same_payload.true)
+returns-then-same_payload c = differ_stamps _ _ c.if-now.true c.if-then.true (sym c.same_payload.ensures ∙ c.if-same_payload.true)
 
 pub returns-then-then : goal.returns-then-then
-returns-then-then c =    differ_payloads _ _ c.if-now.true c.if-then.true (sym c.same_payload.ensures ∙ c.if-same_payload.false)
+returns-then-then c = differ_payloads _ _ c.if-now.true c.if-then.true (sym c.same_payload.ensures ∙ c.if-same_payload.false)
 
 pub returns-then-now : goal.returns-then-now
 returns-then-now c = differ_gone _ _ c.if-now.true c.if-then.false

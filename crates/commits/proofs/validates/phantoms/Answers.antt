@@ -22,7 +22,7 @@ use Rattle.commits.specs.Answers.{validate_in}
 use Rattle.commits.proofs.validates.phantoms.Goals as goal
 
 pub returns-then-phantom : goal.returns-then-phantom
-returns-then-phantom c =    let a = c.args in
+returns-then-phantom c = let a = c.args in
     let h = c.loop-i-test.true in
     let e = length_rows version_in a.leafset.now a.k in
     search_hit 0 (omega arith)
@@ -30,7 +30,7 @@ returns-then-phantom c =    let a = c.args in
     c.loop-i.invariant.1
 
 pub loop-i-preserved : goal.loop-i-preserved
-loop-i-preserved c =    let a = c.args in
+loop-i-preserved c = let a = c.args in
     let h = c.loop-i-test.true in
     let e = length_rows version_in a.leafset.now a.k in (
       omega arith,
@@ -40,7 +40,7 @@ loop-i-preserved c =    let a = c.args in
     )
 
 pub returns : goal.returns
-returns c =    let a = c.args in
+returns c = let a = c.args in
     let h = c.loop-i-test.false in
     let e = length_rows version_in a.leafset.now a.k in
     search_end (omega arith) c.loop-i.invariant.1

@@ -21,5 +21,5 @@ pub returns-then-last-ge-LAST_NUMBER : goal.returns-then-last-ge-LAST_NUMBER
 returns-then-last-ge-LAST_NUMBER c = number_spent _ _ _ c.if-last-ge-LAST_NUMBER.true
 
 pub returns : goal.returns
-returns c =    number_taken _ _ _ _ _ _ c.if-last-ge-LAST_NUMBER.false c.take_number-taken.ensures
+returns c = number_taken _ _ _ _ _ _ c.if-last-ge-LAST_NUMBER.false c.take_number-taken.ensures
     c.check-checked.ensures c.put_worker.ensures

@@ -23,7 +23,7 @@ use Rattle.commits.specs.Answers.{validate_in}
 use Rattle.commits.proofs.validates.under_lock.Goals as goal
 
 pub returns-then-locked_by_other : goal.returns-then-locked_by_other
-returns-then-locked_by_other c =    let h = c.loop-i-test.true in
+returns-then-locked_by_other c = let h = c.loop-i-test.true in
     let e = length_rows read_in c.args.reads.now c.args.k in
     search_hit no_read (omega arith)
     (row_locked_lem c.args.slots.now c.args.w c.args.k h c.read_at-l.ensures c.locked_by_other.ensures c.if-locked_by_other.true)
@@ -31,7 +31,7 @@ returns-then-locked_by_other c =    let h = c.loop-i-test.true in
     ∙ any_keys (locked_in c.args.slots.now c.args.w) (reads_of c.args.reads.now c.args.k)
 
 pub loop-i-preserved : goal.loop-i-preserved
-loop-i-preserved c =    let h = c.loop-i-test.true in
+loop-i-preserved c = let h = c.loop-i-test.true in
     let e = length_rows read_in c.args.reads.now c.args.k in (
       omega arith,
       search_on no_read (omega arith)
@@ -40,7 +40,7 @@ loop-i-preserved c =    let h = c.loop-i-test.true in
     )
 
 pub returns : goal.returns
-returns c =    let h = c.loop-i-test.false in
+returns c = let h = c.loop-i-test.false in
     let e = length_rows read_in c.args.reads.now c.args.k in
     search_end (omega arith) c.loop-i.invariant.1
     ∙ any_keys (locked_in c.args.slots.now c.args.w) (reads_of c.args.reads.now c.args.k)

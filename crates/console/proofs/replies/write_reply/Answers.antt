@@ -40,4 +40,4 @@ pub returns-in-Counted : goal.returns-in-Counted
 returns-in-Counted c = wrote_counted _ c.in-Counted.is c.put_granted_line-in-Counted.ensures
 
 pub returns-in-Refused : goal.returns-in-Refused
-returns-in-Refused c =    wrote_refused _ _ c.in-Refused.is c.number_of.ensures c.put_line-in-Refused.ensures
+returns-in-Refused c = wrote_refused _ _ c.in-Refused.is c.number_of.ensures c.put_line-in-Refused.ensures

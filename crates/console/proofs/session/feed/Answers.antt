@@ -12,4 +12,4 @@ use Rattle.console.specs.Sessions.{Started, can_go_on, EndsMalformed, RunsGuard,
 use Rattle.console.proofs.session.feed.Goals as goal
 
 pub loop-addresses-preserved : goal.loop-addresses-preserved
-loop-addresses-preserved c =    feeds_join c.loop-addresses.invariant c.run_line-x.ensures.feeds
+loop-addresses-preserved c = feeds_join c.loop-addresses.invariant c.run_line-x.ensures.feeds

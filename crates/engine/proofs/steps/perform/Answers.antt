@@ -10,4 +10,4 @@ use Rattle.engine.specs.Performs.{plain_reply, read_reply, scan_reply, of_done, 
 use Rattle.engine.proofs.steps.perform.Goals as goal
 
 pub returns-in-Begin : goal.returns-in-Begin
-returns-in-Begin c =    performs_quiet _ (quiet_plain _ c.begin.result (λ b. refl) c.in-Begin.is c.of_plain-reply.ensures ((c.begin.ensures c.args.c).refines_so _ _ c.requires))
+returns-in-Begin c = performs_quiet _ (quiet_plain _ c.begin.result (λ b. refl) c.in-Begin.is c.of_plain-reply.ensures ((c.begin.ensures c.args.c).refines_so _ _ c.requires))

@@ -13,7 +13,7 @@ use Rattle.exports.specs.FilePuts.{one_entry, Putting}
 use Rattle.exports.proofs.files.put_four.Goals as goal
 
 pub put_two-requires : goal.put_two-requires
-put_two-requires c =    let w = c.put_two-next.ensures in omega (arith, next_place 2 _ w, wrote_length w, c.requires)
+put_two-requires c = let w = c.put_two-next.ensures in omega (arith, next_place 2 _ w, wrote_length w, c.requires)
 
 pub returns : goal.returns
 returns c = wrote_as (four_is _) (wrote_join c.put_two-next.ensures c.put_two.ensures)

@@ -15,7 +15,7 @@ pub returns-in-Open : goal.returns-in-Open
 returns-in-Open c = stepped_as _ c.in-Open.is (c.open_export.ensures _)
 
 pub returns-in-Portion : goal.returns-in-Portion
-returns-in-Portion c =    stepped_as _ c.in-Portion.is (c.portion_first.ensures _ _)
+returns-in-Portion c = stepped_as _ c.in-Portion.is (c.portion_first.ensures _ _)
 
 pub returns-in-File : goal.returns-in-File
 returns-in-File c = stepped_as _ c.in-File.is (c.file_first.ensures _ _)

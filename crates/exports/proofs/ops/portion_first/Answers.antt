@@ -14,4 +14,4 @@ use Rattle.exports.specs.Exporting.{ExportHeld, space, ExportStepped, export_ste
 use Rattle.exports.proofs.ops.portion_first.Goals as goal
 
 pub returns : goal.returns
-returns c =    λ contents bs. portion_part _ _ c.requires.lends (c.portion.ensures contents bs)
+returns c = λ contents bs. portion_part _ _ c.requires.lends (c.portion.ensures contents bs)

@@ -10,13 +10,13 @@ use Rattle.guards.specs.Promises.{of_entry, overlaps_at, overlaps_logged, RowsHe
 use Rattle.guards.proofs.overlaps.read_overlaps.Goals as goal
 
 pub returns-in-Put : goal.returns-in-Put
-returns-in-Put c =    read_found _ _ _ _ c.if-c.true c.overlaps.ensures c.if-overlaps.true c.in-Put.is c.find_write.ensures
+returns-in-Put c = read_found _ _ _ _ c.if-c.true c.overlaps.ensures c.if-overlaps.true c.in-Put.is c.find_write.ensures
 
 pub returns-in-Deletion : goal.returns-in-Deletion
-returns-in-Deletion c =    read_found _ _ _ _ c.if-c.true c.overlaps.ensures c.if-overlaps.true c.in-Deletion.is c.find_write.ensures
+returns-in-Deletion c = read_found _ _ _ _ c.if-c.true c.overlaps.ensures c.if-overlaps.true c.in-Deletion.is c.find_write.ensures
 
 pub returns-in-Nothing : goal.returns-in-Nothing
-returns-in-Nothing c =    read_found _ _ _ _ c.if-c.true c.overlaps.ensures c.if-overlaps.true c.in-Nothing.is c.find_write.ensures
+returns-in-Nothing c = read_found _ _ _ _ c.if-c.true c.overlaps.ensures c.if-overlaps.true c.in-Nothing.is c.find_write.ensures
 
 pub returns-then-c : goal.returns-then-c
 returns-then-c c = read_apart _ _ _ _ c.if-c.true c.overlaps.ensures c.if-overlaps.false

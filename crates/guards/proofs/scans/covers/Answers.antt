@@ -14,7 +14,7 @@ pub returns-then-lowest_reaching-s : goal.returns-then-lowest_reaching-s
 returns-then-lowest_reaching-s c = covers_late _ _ _ (omega (arith, c.lowest_reaching.ensures))
 
 pub overflow_add-result : goal.overflow_add-result
-overflow_add-result c =    let z = fit_sized _ _ c.requires in
+overflow_add-result c = let z = fit_sized _ _ c.requires in
     search (rules, z.most)
 
 pub overflow_sub-result : goal.overflow_sub-result

@@ -11,14 +11,14 @@ use Rattle.guards.specs.Promises.{of_entry, decision_in}
 use Rattle.guards.proofs.scans.uncovered_write.Goals as goal
 
 pub deciding-requires-clause-len_value : goal.deciding-requires-clause-len_value
-deciding-requires-clause-len_value c =    let p = c.requires in
+deciding-requires-clause-len_value c = let p = c.requires in
     sym (of_put_lem _ _ c.if-e-eq1.true) ∙ p.e_value
 
 pub returns-in-By : goal.returns-in-By
-returns-in-By c =    entry_put _ _ c.if-e-eq1.true (uncovered_by _ _ _ c.in-By.is c.deciding.ensures)
+returns-in-By c = entry_put _ _ c.if-e-eq1.true (uncovered_by _ _ _ c.in-By.is c.deciding.ensures)
 
 pub returns-in-Nothing : goal.returns-in-Nothing
-returns-in-Nothing c =    entry_put _ _ c.if-e-eq1.true (uncovered_by _ _ _ c.in-Nothing.is c.deciding.ensures)
+returns-in-Nothing c = entry_put _ _ c.if-e-eq1.true (uncovered_by _ _ _ c.in-Nothing.is c.deciding.ensures)
 
 pub returns : goal.returns
 returns c = entry_deletion _ _ c.if-e-eq1.false

@@ -15,7 +15,7 @@ use Rattle.index.specs.LeafColumns.{leaf_at, leaf_put}
 use Rattle.index.proofs.leaves.descend.Goals as goal
 
 pub loop-step-preserved : goal.loop-step-preserved
-loop-step-preserved c =    let l = c.loop-step in
+loop-step-preserved c = let l = c.loop-step in
     let ls = take c.args.m (lows_of c.args.leaves.now) in
     let e : length ls ≡ c.args.m = length-take-le c.args.m (lows_of c.args.leaves.now) (rw (column_places 0 c.args.leaves.now c.leaf_places.ensures) c.requires.listed.room) in
     let more = c.loop-step-test.true in
@@ -24,7 +24,7 @@ loop-step-preserved c =    let l = c.loop-step in
     (low_took 0 ls c.args.key first (l.step / 2) (rw e c.requires.listed.some) c.requires.listed.rising (omega (arith, more))))
 
 pub returns-then-step-eq1 : goal.returns-then-step-eq1
-returns-then-step-eq1 c =    let l = c.loop-step in
+returns-then-step-eq1 c = let l = c.loop-step in
     let ls = take c.args.m (lows_of c.args.leaves.now) in
     let e : length ls ≡ c.args.m = length-take-le c.args.m (lows_of c.args.leaves.now) (rw (column_places 0 c.args.leaves.now c.leaf_places.ensures) c.requires.listed.room) in
     let p : low_place c.args.key ls < length ls = place_inside c.args.key ls (rw e c.requires.listed.some) in
@@ -35,7 +35,7 @@ returns-then-step-eq1 c =    let l = c.loop-step in
     record { is = rw r q; inside = omega arith }
 
 pub returns : goal.returns
-returns c =    let ls = take c.args.m (lows_of c.args.leaves.now) in
+returns c = let ls = take c.args.m (lows_of c.args.leaves.now) in
     let e : length ls ≡ c.args.m = length-take-le c.args.m (lows_of c.args.leaves.now) (rw (column_places 0 c.args.leaves.now c.leaf_places.ensures) c.requires.listed.room) in
     let p : low_place c.args.key ls < length ls = place_inside c.args.key ls (rw e c.requires.listed.some) in
     let q : c.loop-step.base ≡ low_place c.args.key ls = near_end c.loop-step.invariant (omega (arith, c.loop-step-test.false, c.if-step-eq1.false)) in

@@ -15,12 +15,12 @@ use Rattle.index.specs.LeafColumns.{leaf_at, leaf_put}
 use Rattle.index.proofs.leaves.lies_at.Goals as goal
 
 pub returns-then-next-m : goal.returns-then-next-m
-returns-then-next-m c =    let f : c.args.m ≤ length (lows_of c.args.leaves.now) = rw (column_places 0 c.args.leaves.now c.leaf_places.ensures) c.requires.room in
+returns-then-next-m c = let f : c.args.m ≤ length (lows_of c.args.leaves.now) = rw (column_places 0 c.args.leaves.now c.leaf_places.ensures) c.requires.room in
     let low : get_or (lows_of c.args.leaves.now) c.args.at 0 ≤ c.args.key = rw (ap (λ (l : LeafWords). l.low) c.leaf_at-l.ensures ∙ sym (column_get_or 0 c.args.leaves.now c.args.at)) at c.if-key-l.false in
     tells_last (lows_of c.args.leaves.now) c.args.m c.args.key c.args.at c.requires f low c.if-next-m.true
 
 pub returns-then-key-upper : goal.returns-then-key-upper
-returns-then-key-upper c =    let f : c.args.m ≤ length (lows_of c.args.leaves.now) = rw (column_places 0 c.args.leaves.now c.leaf_places.ensures) c.requires.room in
+returns-then-key-upper c = let f : c.args.m ≤ length (lows_of c.args.leaves.now) = rw (column_places 0 c.args.leaves.now c.leaf_places.ensures) c.requires.room in
     let low : get_or (lows_of c.args.leaves.now) c.args.at 0 ≤ c.args.key = rw (ap (λ (l : LeafWords). l.low) c.leaf_at-l.ensures ∙ sym (column_get_or 0 c.args.leaves.now c.args.at)) at c.if-key-l.false in
     let upper : c.args.key < get_or (lows_of c.args.leaves.now) (c.args.at + 1) 0 = rw (ap (λ (l : LeafWords). l.low) c.leaf_at-upper.ensures ∙ sym (column_get_or 0 c.args.leaves.now (c.args.at + 1))) at c.if-key-upper.true in
     let there : c.args.at < c.args.m = c.if-m-at.false in

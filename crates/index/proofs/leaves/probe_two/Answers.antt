@@ -14,11 +14,11 @@ use Rattle.index.specs.LeafColumns.{leaf_at, leaf_put}
 use Rattle.index.proofs.leaves.probe_two.Goals as goal
 
 pub returns-then-base-middle : goal.returns-then-base-middle
-returns-then-base-middle c =    let rs = take c.args.m (lows_of c.args.leaves.now) in
+returns-then-base-middle c = let rs = take c.args.m (lows_of c.args.leaves.now) in
     two_high c.args.base c.args.step (probed_low rs c.args.key c.args.base c.args.step) (λ (x : ℕ). probed_low rs c.args.key x (c.args.step / 2))
     (low_led rs c.args.key c.args.base c.args.step) (subst (λ (x : ℕ). c.args.base < x) c.probe-middle.ensures c.if-base-middle.true) c.probe-high.ensures
 
 pub returns : goal.returns
-returns c =    let rs = take c.args.m (lows_of c.args.leaves.now) in
+returns c = let rs = take c.args.m (lows_of c.args.leaves.now) in
     two_low c.args.base c.args.step (probed_low rs c.args.key c.args.base c.args.step) (λ (x : ℕ). probed_low rs c.args.key x (c.args.step / 2)) (omega (arith, c.requires.lt_step.0))
     (low_led rs c.args.key c.args.base c.args.step) (subst (λ (x : ℕ). x ≤ c.args.base) c.probe-middle.ensures c.if-base-middle.false) c.probe-low.ensures

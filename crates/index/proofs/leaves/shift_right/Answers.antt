@@ -13,4 +13,4 @@ pub loop-i-init : goal.loop-i-init
 loop-i-init c = raising_start c.args.leaves.now c.args.from c.args.to c.args.n
 
 pub loop-i-preserved : goal.loop-i-preserved
-loop-i-preserved c =    raising_on _ [] c.requires.from_le_to (rw c.leaf_places.ensures c.requires.n_bound) c.loop-i-test.true c.loop-i.invariant refl
+loop-i-preserved c = raising_on _ [] c.requires.from_le_to (rw c.leaf_places.ensures c.requires.n_bound) c.loop-i-test.true c.loop-i.invariant refl

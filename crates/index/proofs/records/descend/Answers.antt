@@ -15,7 +15,7 @@ use Rattle.index.specs.RecordPlaces.{AtPlace}
 use Rattle.index.proofs.records.descend.Goals as goal
 
 pub loop-step-preserved : goal.loop-step-preserved
-loop-step-preserved c =    let rs = records_of c.args.rows.now c.args.n in
+loop-step-preserved c = let rs = records_of c.args.rows.now c.args.n in
     let l = c.loop-step in
     let more = c.loop-step-test.true in
     let first = probed rs c.args.key l.base l.step in
@@ -23,7 +23,7 @@ loop-step-preserved c =    let rs = records_of c.args.rows.now c.args.n in
     (probe_took rs c.args.key first (l.step / 2) c.requires.records_sorted.rising (omega (arith, more))))
 
 pub returns-then-step-eq1 : goal.returns-then-step-eq1
-returns-then-step-eq1 c =    let rs = records_of c.args.rows.now c.args.n in
+returns-then-step-eq1 c = let rs = records_of c.args.rows.now c.args.n in
     let l = c.loop-step in
     let one = c.if-step-eq1.true in
     let m : place c.args.key rs ≤ length rs = place_most c.args.key rs in
@@ -34,7 +34,7 @@ returns-then-step-eq1 c =    let rs = records_of c.args.rows.now c.args.n in
     record { is = rw r e; within = omega arith }
 
 pub returns : goal.returns
-returns c =    let rs = records_of c.args.rows.now c.args.n in
+returns c = let rs = records_of c.args.rows.now c.args.n in
     let m : place c.args.key rs ≤ length rs = place_most c.args.key rs in
     let l : length rs ≡ c.args.n = length_records c.args.rows.now c.args.n c.requires.records_sorted.room in
     let e : c.loop-step.base ≡ place c.args.key rs = near_end c.loop-step.invariant (omega (arith, c.loop-step-test.false, c.if-step-eq1.false)) in

@@ -11,12 +11,12 @@ use Rattle.index.specs.Searches.{probed}
 use Rattle.index.proofs.records.insert.Goals as goal
 
 pub returns-clause-value : goal.returns-clause-value
-returns-clause-value c =    (
-        refl,
-        inserted c.args.rows.now c.store.new.rows c.record_places.ensures c.args.n c.args.p c.raise.new.rows c.args.r c.requires.0 c.requires.1
-            c.raise.ensures c.store.ensures,
-      )
+returns-clause-value c = (
+  refl,
+  inserted c.args.rows.now c.store.new.rows c.record_places.ensures c.args.n c.args.p c.raise.new.rows c.args.r c.requires.0 c.requires.1
+      c.raise.ensures c.store.ensures,
+)
 
 pub returns-clause-rows_unchanged : goal.returns-clause-rows_unchanged
-returns-clause-rows_unchanged c =    behind_inserted c.args.rows.now c.store.new.rows c.record_places.ensures c.args.n c.args.p c.raise.new.rows c.args.r c.requires.0 c.requires.1
-          c.raise.ensures c.store.ensures
+returns-clause-rows_unchanged c = behind_inserted c.args.rows.now c.store.new.rows c.record_places.ensures c.args.n c.args.p c.raise.new.rows c.args.r c.requires.0 c.requires.1
+    c.raise.ensures c.store.ensures

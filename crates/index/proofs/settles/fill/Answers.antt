@@ -18,7 +18,7 @@ pub loop-x-init : goal.loop-x-init
 loop-x-init c = filling_start c.args.leaves.now c.args.at (made_row c.args.made) c.args.n
 
 pub loop-x-preserved : goal.loop-x-preserved
-loop-x-preserved c =    let f : c.args.at + c.args.n ≤ length c.args.leaves.now = rw c.leaf_places.ensures c.requires.n_bound in
+loop-x-preserved c = let f : c.args.at + c.args.n ≤ length c.args.leaves.now = rw c.leaf_places.ensures c.requires.n_bound in
     filling_on _ f c.loop-x-test.true c.loop-x.invariant
     (c.put_leaf.ensures
     ∙ ap (leaf_put c.loop-x.leaves (c.args.at + c.loop-x.x)) c.made_leaf-l.ensures)

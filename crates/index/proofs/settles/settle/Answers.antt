@@ -18,15 +18,15 @@ use Rattle.index.specs.SettleRows.{made_leaf, made_row, MadeRuns, kept_rows, joi
 use Rattle.index.proofs.settles.settle.Goals as goal
 
 pub keep-requires : goal.keep-requires
-keep-requires c =    let n = settling_next c.requires in
+keep-requires c = let n = settling_next c.requires in
     omega (arith, c.requires.leaf_in_lem, c.requires.leaves_in_lem)
 
 pub join-requires : goal.join-requires
-join-requires c =    let n = settling_next c.requires in
+join-requires c = let n = settling_next c.requires in
     omega (arith, c.if-p-eq0.false, c.requires.leaf_in_lem, c.requires.leaves_in_lem)
 
 pub keep-requires-in-1-to-16 : goal.keep-requires-in-1-to-16
-keep-requires-in-1-to-16 c =    let n = settling_next c.requires in
+keep-requires-in-1-to-16 c = let n = settling_next c.requires in
     omega (arith, c.requires.leaf_in_lem, c.requires.leaves_in_lem)
 
 pub cut-requires : goal.cut-requires
@@ -36,14 +36,14 @@ cut-requires c =
     omega (arith, c.requires, f)
 
 pub returns-then-p-eq0 : goal.returns-then-p-eq0
-returns-then-p-eq0 c =    let k = keys_between c.args.rows.now c.args.i c.args.j in
+returns-then-p-eq0 c = let k = keys_between c.args.rows.now c.args.i c.args.j in
     let e : length k ≡ c.args.j - c.args.i = length_between c.args.rows.now c.args.i c.args.j c.requires.from_to c.requires.rows_in_lem in
     let z : c.args.j - c.args.i ≡ 0 = c.in-0.is in
     rw (c.keep.ensures.0, c.keep.ensures.1)
     (rows_kept c.args.leaves.now c.args.m c.args.p c.args.v k c.leaf_places.ensures c.requires.leaves_in_lem c.requires.leaf_in_lem c.keep.new.leaves (inl c.if-p-eq0.true) (omega arith) c.keep.ensures.2)
 
 pub returns-else-p-eq0 : goal.returns-else-p-eq0
-returns-else-p-eq0 c =    let k = keys_between c.args.rows.now c.args.i c.args.j in
+returns-else-p-eq0 c = let k = keys_between c.args.rows.now c.args.i c.args.j in
     let e : length k ≡ c.args.j - c.args.i = length_between c.args.rows.now c.args.i c.args.j c.requires.from_to c.requires.rows_in_lem in
     let z : c.args.j - c.args.i ≡ 0 = c.in-0.is in
     let n = c.if-p-eq0.false in

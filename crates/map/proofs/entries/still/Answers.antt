@@ -15,7 +15,7 @@ use Rattle.map.specs.Entries.{MapBecomes, ContentSet, Adjustable, Adjusts, Terms
 use Rattle.map.proofs.entries.still.Goals as goal
 
 pub returns-then-idle : goal.returns-then-idle
-returns-then-idle c =    still_same _ _ c.idle.ensures c.idle-2.ensures
+returns-then-idle c = still_same _ _ c.idle.ensures c.idle-2.ensures
     c.hides_some.ensures c.hides_some-then-idle.ensures c.if-idle.true
 
 pub returns : goal.returns

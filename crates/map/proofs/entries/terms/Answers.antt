@@ -19,7 +19,7 @@ use Rattle.map.specs.Entries.{MapBecomes, ContentSet, Adjustable, Adjusts, Terms
 use Rattle.map.proofs.entries.terms.Goals as goal
 
 pub returns-then-still : goal.returns-then-still
-returns-then-still c =    let like = sym c.still.ensures ∙ c.if-still.true in
+returns-then-still c = let like = sym c.still.ensures ∙ c.if-still.true in
     record {
       place = c.requires.at_leaf;
       pend = c.waits-pend.ensures;
@@ -31,7 +31,7 @@ returns-then-still c =    let like = sym c.still.ensures ∙ c.if-still.true in
     }
 
 pub returns : goal.returns
-returns c =    let n = c.lacks-absent.ensures in
+returns c = let n = c.lacks-absent.ensures in
     let hide = c.hidden_term.ensures ∙ ap (λ (b : Bool). hidden_term b (content_in c.args.c)) n in
     let unhide = c.hidden_term-2.ensures ∙ ap (λ (b : Bool). hidden_term b (content_in c.args.old)) n in
     let join = c.outside_term.ensures ∙ ap (λ (b : Bool). outside_term b (content_in c.args.c)) n in

@@ -25,9 +25,9 @@ use Rattle.map.specs.AddressCounts.{entryless, unknown, Waits, Addressed, WaitsB
 use Rattle.map.proofs.locks.install_one.Goals as goal
 
 pub set_content-requires-clause-entry_room : goal.set_content-requires-clause-entry_room
-set_content-requires-clause-entry_room c =    install_room _ _ _ _ c.requires.tables.words.good (given c.write_at-row.ensures c.requires.i_lt_n.0) c.requires.i_lt_n.1
+set_content-requires-clause-entry_room c = install_room _ _ _ _ c.requires.tables.words.good (given c.write_at-row.ensures c.requires.i_lt_n.0) c.requires.i_lt_n.1
 
 pub returns : goal.returns
-returns c =    said_as c.set_content.ensures
+returns c = said_as c.set_content.ensures
     (install_said _ c.args.number c.args.t _ c.write_at-row.result (content_in c.content_at-old.result) _
     (given c.write_at-row.ensures c.requires.i_lt_n.0) (said_at c.find-at.ensures c.content_at-old.ensures) c.installed-c.ensures)

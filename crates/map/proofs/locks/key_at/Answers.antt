@@ -24,5 +24,5 @@ use Rattle.map.specs.AddressCounts.{entryless, unknown, Waits, Addressed, WaitsB
 use Rattle.map.proofs.locks.key_at.Goals as goal
 
 pub returns : goal.returns
-returns c =    ap (λ (r : Row Write). r.key)
+returns c = ap (λ (r : Row Write). r.key)
     (given c.write_at-r.ensures c.requires.i_lt_n)

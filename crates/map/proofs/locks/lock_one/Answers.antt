@@ -26,6 +26,6 @@ use Rattle.map.specs.AddressCounts.{entryless, unknown, Waits, Addressed, WaitsB
 use Rattle.map.proofs.locks.lock_one.Goals as goal
 
 pub returns : goal.returns
-returns c =    said_as c.set_content.ensures
+returns c = said_as c.set_content.ensures
     (lock_said _ c.args.w _ c.write_at-row.result (content_in c.content_at-old.result) _
     (given c.write_at-row.ensures c.requires.i_lt_n.0) (said_at c.find-at.ensures c.content_at-old.ensures) c.with_lock-c.ensures)

@@ -34,7 +34,7 @@ returns-then-hidden-eq0 c = λ e. let y = reaches_yes _ c.args.r c.slot_at-s.res
     alone_plain _ _ c.slot_at-s.result c.requires.one_leaf c.requires.records_sorted.1 c.slot_at-s.ensures y.0 y.1 c.if-kind-eq0.false c.requires.j_lt_slot_count.0 c.requires.j_lt_slot_count.1 c.if-hidden-eq0.true
 
 pub overflow_cast-key : goal.overflow_cast-key
-overflow_cast-key c =    record { fits = c.slot_at-s.ensures.narrow (idle_waiting c.slot_at-s.result.content c.if-kind-eq0.false) }
+overflow_cast-key c = record { fits = c.slot_at-s.ensures.narrow (idle_waiting c.slot_at-s.result.content c.if-kind-eq0.false) }
 
 pub returns : goal.returns
 returns c = λ e. let y = reaches_yes _ c.args.r c.slot_at-s.result.key c.reaches.ensures (ap not c.if-not-reaches.false) in

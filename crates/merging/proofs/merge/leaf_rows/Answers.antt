@@ -32,13 +32,13 @@ use Rattle.merging.specs.MergeShortcuts.{Skips, Alone, Numbered}
 use Rattle.merging.proofs.merge.leaf_rows.Goals as goal
 
 pub overflow_cast-low : goal.overflow_cast-low
-overflow_cast-low c =    record { fits = subst (λ (x : ℕ). x < addresses) (sym (low_of c.args.leaves.now c.args.i c.leaf_at-own.ensures)) (c.requires.lows.narrow c.args.i c.requires.i_lt_m) }
+overflow_cast-low c = record { fits = subst (λ (x : ℕ). x < addresses) (sym (low_of c.args.leaves.now c.args.i c.leaf_at-own.ensures)) (c.requires.lows.narrow c.args.i c.requires.i_lt_m) }
 
 pub overflow_cast-high : goal.overflow_cast-high
-overflow_cast-high c =    record { fits = subst (λ (x : ℕ). x < addresses) (sym (low_of c.args.leaves.now (c.args.i + 1) c.leaf_at-next.ensures)) (c.requires.lows.narrow (c.args.i + 1) c.if-i-m.true) }
+overflow_cast-high c = record { fits = subst (λ (x : ℕ). x < addresses) (sym (low_of c.args.leaves.now (c.args.i + 1) c.leaf_at-next.ensures)) (c.requires.lows.narrow (c.args.i + 1) c.if-i-m.true) }
 
 pub returns-then-i-m : goal.returns-then-i-m
-returns-then-i-m c =    let ls = c.args.leaves.now in
+returns-then-i-m c = let ls = c.args.leaves.now in
     record {
       lows_are = c.requires.lows;
       places = column_places 0 ls c.leaf_places.ensures;
@@ -49,7 +49,7 @@ returns-then-i-m c =    let ls = c.args.leaves.now in
     }
 
 pub returns : goal.returns
-returns c =    let ls = c.args.leaves.now in
+returns c = let ls = c.args.leaves.now in
     record {
       lows_are = c.requires.lows;
       places = column_places 0 ls c.leaf_places.ensures;

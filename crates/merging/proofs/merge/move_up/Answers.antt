@@ -24,4 +24,4 @@ use Rattle.merging.specs.MergeShortcuts.{Skips, Alone, Numbered}
 use Rattle.merging.proofs.merge.move_up.Goals as goal
 
 pub returns-then-from-to : goal.returns-then-from-to
-returns-then-from-to c =    raised_rows c.args.rows.now c.raise.new.rows c.args.from c.args.to c.args.n c.record_places.ensures (omega (arith, c.requires.from_le_to, c.requires.n_bound)) c.requires.n_bound c.raise.ensures c.requires.from_le_to
+returns-then-from-to c = raised_rows c.args.rows.now c.raise.new.rows c.args.from c.args.to c.args.n c.record_places.ensures (omega (arith, c.requires.from_le_to, c.requires.n_bound)) c.requires.n_bound c.raise.ensures c.requires.from_le_to

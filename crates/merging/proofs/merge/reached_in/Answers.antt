@@ -34,13 +34,13 @@ pub slot_at-s-requires-clause-i_lt_slot_count : goal.slot_at-s-requires-clause-i
 slot_at-s-requires-clause-i_lt_slot_count c = omega (arith, unseen_inside c.loop-w.w (omega arith) c.loop-w.invariant, c.lowest_bit.ensures)
 
 pub returns-then-reaches : goal.returns-then-reaches
-returns-then-reaches c =    skips_all (omega arith) (omega (arith, unseen_inside c.loop-w.w (omega arith) c.loop-w.invariant, c.lowest_bit.ensures))
+returns-then-reaches c = skips_all (omega arith) (omega (arith, unseen_inside c.loop-w.w (omega arith) c.loop-w.invariant, c.lowest_bit.ensures))
     (λ i a b. unseen_before c.loop-w.w (omega arith) c.loop-w.invariant i a (omega (arith, c.lowest_bit.ensures)))
 
 pub loop-w-preserved : goal.loop-w-preserved
-loop-w-preserved c =    unseen_on c.loop-w.w (omega arith) c.loop-w.invariant _ _ c.other_bits-w.ensures (omega (arith, c.lowest_bit.ensures))
+loop-w-preserved c = unseen_on c.loop-w.w (omega arith) c.loop-w.invariant _ _ c.other_bits-w.ensures (omega (arith, c.lowest_bit.ensures))
     (elsewhere_read c.args.r _ c.slot_at-s.ensures (sym c.reaches.ensures ∙ c.if-reaches.false))
 
 pub returns : goal.returns
-returns c =    skips_all (omega (arith, c.word_end.ensures)) (omega (arith, c.word_end.ensures, c.requires.from_lt_slot_count.0))
+returns c = skips_all (omega (arith, c.word_end.ensures)) (omega (arith, c.word_end.ensures, c.requires.from_lt_slot_count.0))
     (λ i a b. unseen_end c.loop-w.w (omega arith) c.loop-w.invariant i a (omega (arith, c.word_end.ensures)))

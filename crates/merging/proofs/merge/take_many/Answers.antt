@@ -29,16 +29,16 @@ pub overflow_add-top : goal.overflow_add-top
 overflow_add-top c = record { fits = omega (arith, span_within c.requires.leaf_span, c.requires.hidden_value, hiders_fit c.requires.starting (placed (lows_of c.args.leaves.now) c.args.z.leaves c.args.i)) }
 
 pub move_up-requires-clause-n_bound : goal.move_up-requires-clause-n_bound
-move_up-requires-clause-n_bound c =    omega (arith, span_within c.requires.leaf_span, c.requires.hidden_value, hiders_fit c.requires.starting (placed (lows_of c.args.leaves.now) c.args.z.leaves c.args.i))
+move_up-requires-clause-n_bound c = omega (arith, span_within c.requires.leaf_span, c.requires.hidden_value, hiders_fit c.requires.starting (placed (lows_of c.args.leaves.now) c.args.z.leaves c.args.i))
 
 pub take_all-w-requires-clause-starting_first : goal.take_all-w-requires-clause-starting_first
 take_all-w-requires-clause-starting_first c = first_starts c.requires.starting c.requires.leaf_span c.move_up.ensures
 
 pub move_down-requires-clause-to_le_from : goal.move_down-requires-clause-to_le_from
-move_down-requires-clause-to_le_from c =    walk_below c.requires.starting c.requires.leaf_span c.move_up.ensures (ap (λ (x : ℕ). c.args.s.to + x) c.requires.hidden_value) c.take_all-w.ensures
+move_down-requires-clause-to_le_from c = walk_below c.requires.starting c.requires.leaf_span c.move_up.ensures (ap (λ (x : ℕ). c.args.s.to + x) c.requires.hidden_value) c.take_all-w.ensures
 
 pub move_down-requires-clause-n_bound : goal.move_down-requires-clause-n_bound
-move_down-requires-clause-n_bound c =    omega (arith, span_within c.requires.leaf_span, c.requires.hidden_value, hiders_fit c.requires.starting (placed (lows_of c.args.leaves.now) c.args.z.leaves c.args.i))
+move_down-requires-clause-n_bound c = omega (arith, span_within c.requires.leaf_span, c.requires.hidden_value, hiders_fit c.requires.starting (placed (lows_of c.args.leaves.now) c.args.z.leaves c.args.i))
 
 pub returns : goal.returns
-returns c =    took_all c.requires.starting c.requires.leaf_span c.move_up.ensures (ap (λ (x : ℕ). c.args.s.to + x) c.requires.hidden_value) c.take_all-w.ensures c.move_down.ensures
+returns c = took_all c.requires.starting c.requires.leaf_span c.move_up.ensures (ap (λ (x : ℕ). c.args.s.to + x) c.requires.hidden_value) c.take_all-w.ensures c.move_down.ensures

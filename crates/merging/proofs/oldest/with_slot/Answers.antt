@@ -11,13 +11,13 @@ use Rattle.merging.specs.OldestWalks.{elder, Elder, age_in, Passes}
 use Rattle.merging.proofs.oldest.with_slot.Goals as goal
 
 pub returns-then-c-eq0 : goal.returns-then-c-eq0
-returns-then-c-eq0 c =    let r = c.slot_at-s in
+returns-then-c-eq0 c = let r = c.slot_at-s in
     elder_past c.args.slots.now c.args.j c.args.o r.result r.ensures c.requires.j_lt_slot_count.0 c.requires.j_lt_slot_count.1 c.if-c-eq0.true
 
 pub returns-then-is_older : goal.returns-then-is_older
-returns-then-is_older c =    let r = c.slot_at-s in
+returns-then-is_older c = let r = c.slot_at-s in
     elder_here c.args.slots.now c.args.j c.args.o r.result r.ensures c.requires.j_lt_slot_count.0 c.requires.j_lt_slot_count.1 c.if-c-eq0.false (sym c.is_older.ensures ∙ c.if-is_older.true)
 
 pub returns : goal.returns
-returns c =    let r = c.slot_at-s in
+returns c = let r = c.slot_at-s in
     elder_stays c.args.slots.now c.args.j c.args.o r.result r.ensures c.requires.j_lt_slot_count.0 c.requires.j_lt_slot_count.1 c.if-c-eq0.false (sym c.is_older.ensures ∙ c.if-is_older.false)

@@ -20,7 +20,7 @@ use Rattle.phantomlet.specs.MergeCounts.{Recounting, Tallying, Tallied, Numberin
 use Rattle.phantomlet.proofs.recount.clear.Goals as goal
 
 pub loop-x-preserved : goal.loop-x-preserved
-loop-x-preserved c =    let l = c.loop-x in
+loop-x-preserved c = let l = c.loop-x in
     let a : length c.args.leaves.now ≡ leaf_places = c.leaf_places.ensures in
     let b : c.args.to ≤ leaf_places = c.requires.1 in
     let t = c.loop-x-test.true in (

@@ -15,12 +15,12 @@ use Rattle.phantomlet.specs.MergeCounts.{Recounting, Tallying, Tallied, Numberin
 use Rattle.phantomlet.proofs.recount.recount.Goals as goal
 
 pub returns-then-bare : goal.returns-then-bare
-returns-then-bare c =    record {
-      same = same_leaves c.args.leaves.now;
-      numbers = carried _ c.requires c.leaf_places.ensures c.bare.ensures c.if-bare.true;
-    }
+returns-then-bare c = record {
+  same = same_leaves c.args.leaves.now;
+  numbers = carried _ c.requires c.leaf_places.ensures c.bare.ensures c.if-bare.true;
+}
 
 pub tally_all-requires : goal.tally_all-requires
-tally_all-requires c =    let r = c.addresses_of-r in
+tally_all-requires c = let r = c.addresses_of-r in
     tally_start r.result c.requires c.leaf_places.ensures r.ensures.0 r.ensures.1
     c.before-from.ensures r.ensures.2 refl c.clear.ensures

@@ -26,15 +26,15 @@ use Rattle.phantomlet.specs.MergeCounts.{Recounting, Tallying, Tallied, Numberin
 use Rattle.phantomlet.proofs.recount.tally_slot.Goals as goal
 
 pub returns-then-not-reaches : goal.returns-then-not-reaches
-returns-then-not-reaches c =    let r = c.slot_at-s in
+returns-then-not-reaches c = let r = c.slot_at-s in
     tallied_same (tally_outside c.requires.tallying c.requires.j_lt_slot_count r.result r.ensures (reaches_no _ c.args.r r.result.key c.reaches.ensures (ap not c.if-not-reaches.true)))
 
 pub returns-then-idle : goal.returns-then-idle
-returns-then-idle c =    let r = c.slot_at-s in
+returns-then-idle c = let r = c.slot_at-s in
     tallied_same (tally_none c.requires.tallying c.requires.j_lt_slot_count r.result r.ensures (sym c.idle.ensures ∙ c.if-idle.true))
 
 pub raise-requires-clause-x_bound : goal.raise-requires-clause-x_bound
-raise-requires-clause-x_bound c =    let r = c.slot_at-s in
+raise-requires-clause-x_bound c = let r = c.slot_at-s in
     let y = reaches_yes _ c.args.r r.result.key c.reaches.ensures (ap not c.if-not-reaches.false) in
     let l = c.find_leaf-at in
     let a = hidden_fits c.requires.tallying c.requires.j_lt_slot_count l.ensures y.0 y.1 c.hides_at-x.result
@@ -43,7 +43,7 @@ raise-requires-clause-x_bound c =    let r = c.slot_at-s in
     (a.1, b.1)
 
 pub returns : goal.returns
-returns c =    let r = c.slot_at-s in
+returns c = let r = c.slot_at-s in
     let y = reaches_yes _ c.args.r r.result.key c.reaches.ensures (ap not c.if-not-reaches.false) in
     let l = c.find_leaf-at in
     tallied_some c.requires.tallying c.requires.j_lt_slot_count r.result r.ensures l.result c.hides_at-x.result c.waits-w.result

@@ -10,7 +10,7 @@ use Rattle.ranges.specs.Scanning.{ReadsRoom, LogsRows, LeavesRoom, LogsLeaves, s
 use Rattle.ranges.proofs.logs.log_leaves.Goals as goal
 
 pub loop-i-preserved : goal.loop-i-preserved
-loop-i-preserved c =    leaves_on _ _ _ _ _ _ _ _ _ c.loop-i.invariant _ _ _ c.loop-i-test.true c.leaf-leaf.ensures c.log_leaf-count.ensures
+loop-i-preserved c = leaves_on _ _ _ _ _ _ _ _ _ c.loop-i.invariant _ _ _ c.loop-i-test.true c.leaf-leaf.ensures c.log_leaf-count.ensures
 
 pub returns : goal.returns
 returns c = leaves_end _ _ _ _ _ _ _ _ _ c.loop-i.invariant c.loop-i-test.false

@@ -10,7 +10,7 @@ use Rattle.ranges.specs.Scanning.{ReadsRoom, LogsRows, LeavesRoom, LogsLeaves}
 use Rattle.ranges.proofs.logs.log_rows.Goals as goal
 
 pub loop-i-preserved : goal.loop-i-preserved
-loop-i-preserved c =    rows_on _ _ _ _ _ _ _ _ _ c.loop-i.invariant _ _ _ c.loop-i-test.true c.seen_at-s.ensures c.log_read-count.ensures
+loop-i-preserved c = rows_on _ _ _ _ _ _ _ _ _ c.loop-i.invariant _ _ _ c.loop-i-test.true c.seen_at-s.ensures c.log_read-count.ensures
 
 pub returns : goal.returns
 returns c = rows_end _ _ _ _ _ _ _ _ _ c.loop-i.invariant c.loop-i-test.false

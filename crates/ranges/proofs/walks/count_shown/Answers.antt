@@ -10,7 +10,7 @@ use Rattle.ranges.specs.Walks.{log_row, rest, Walks, Nears, Sees, Keeps, Inside,
 use Rattle.ranges.proofs.walks.count_shown.Goals as goal
 
 pub loop-i-preserved : goal.loop-i-preserved
-loop-i-preserved c =    let w = c.requires.walks in
+loop-i-preserved c = let w = c.requires.walks in
     counting_on _ w _ _ _ _ _ _ _ c.loop-i.invariant (c.next-x.ensures.comes _ w c.indexed-s.ensures) c.one-more.ensures
 
 pub returns : goal.returns

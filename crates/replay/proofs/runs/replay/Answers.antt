@@ -15,7 +15,7 @@ use Rattle.replay.specs.LoopLaws.{rest_stop}
 use Rattle.replay.proofs.runs.replay.Goals as goal
 
 pub take_all-requires-clause-fresh : goal.take_all-requires-clause-fresh
-take_all-requires-clause-fresh c =    fresh_as c.fresh_state-start.ensures
+take_all-requires-clause-fresh c = fresh_as c.fresh_state-start.ensures
 
 pub returns : goal.returns
-returns c =    replays_as c.fresh_state-start.ensures c.take_all.ensures
+returns c = replays_as c.fresh_state-start.ensures c.take_all.ensures

@@ -22,16 +22,16 @@ use Rattle.replay.specs.LoopLaws.{rest_stop}
 use Rattle.replay.proofs.runs.take_all.Goals as goal
 
 pub loop-i-init : goal.loop-i-init
-loop-i-init c =    replaying_start _ _ _ _ c.requires.fresh c.requires.first_value
+loop-i-init c = replaying_start _ _ _ _ c.requires.fresh c.requires.first_value
 
 pub loop-i-preserved : goal.loop-i-preserved
-loop-i-preserved c =    replaying_on c.loop-i.invariant (takes_as c.take_code-t.ensures c.code_at-k.ensures.value) (omega (arith, c.loop-i-test.true)) c.in-Complete.is
+loop-i-preserved c = replaying_on c.loop-i.invariant (takes_as c.take_code-t.ensures c.code_at-k.ensures.value) (omega (arith, c.loop-i-test.true)) c.in-Complete.is
 
 pub returns-in-Meaningless : goal.returns-in-Meaningless
-returns-in-Meaningless c =    replays_stop c.loop-i.invariant (takes_as c.take_code-t.ensures c.code_at-k.ensures.value) (omega (arith, c.loop-i-test.true)) stop.Meaningless c.in-Meaningless.is refl (λ r ξ. refl)
+returns-in-Meaningless c = replays_stop c.loop-i.invariant (takes_as c.take_code-t.ensures c.code_at-k.ensures.value) (omega (arith, c.loop-i-test.true)) stop.Meaningless c.in-Meaningless.is refl (λ r ξ. refl)
 
 pub returns-in-Full : goal.returns-in-Full
-returns-in-Full c =    replays_stop c.loop-i.invariant (takes_as c.take_code-t.ensures c.code_at-k.ensures.value) (omega (arith, c.loop-i-test.true)) stop.Full c.in-Full.is refl (λ r ξ. refl)
+returns-in-Full c = replays_stop c.loop-i.invariant (takes_as c.take_code-t.ensures c.code_at-k.ensures.value) (omega (arith, c.loop-i-test.true)) stop.Full c.in-Full.is refl (λ r ξ. refl)
 
 pub returns : goal.returns
 returns c = replays_end _ c.loop-i.invariant c.loop-i-test.false c.last_stop-stop.ensures

@@ -16,7 +16,7 @@ use Rattle.replay.specs.LoopLaws.{rest_stop}
 use Rattle.replay.proofs.runs.take_code.Goals as goal
 
 pub take_export-t-requires-clause-slots_len_bound : goal.take_export-t-requires-clause-slots_len_bound
-take_export-t-requires-clause-slots_len_bound c =    let t = c.requires.ready.stored.map.tables in (records_fit c.requires.ready.stored.map, c.requires.at_in_bounds.1)
+take_export-t-requires-clause-slots_len_bound c = let t = c.requires.ready.stored.map.tables in (records_fit c.requires.ready.stored.map, c.requires.at_in_bounds.1)
 
 pub returns : goal.returns
-returns c =    c.take_export-t.ensures _ _ _ c.requires.ready (contents_of c.requires.ready.stored.map)
+returns c = c.take_export-t.ensures _ _ _ c.requires.ready (contents_of c.requires.ready.stored.map)

@@ -11,4 +11,4 @@ use Rattle.replay.specs.CodedSteps.{step_end_of, CodedStep}
 use Rattle.replay.proofs.steps.step.Goals as goal
 
 pub perform_first-p-requires-clause-lends : goal.perform_first-p-requires-clause-lends
-perform_first-p-requires-clause-lends c =    meant_lends _ _ c.decode-d.ensures c.in-Meant.is
+perform_first-p-requires-clause-lends c = meant_lends _ _ c.decode-d.ensures c.in-Meant.is

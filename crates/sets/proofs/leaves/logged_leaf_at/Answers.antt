@@ -7,4 +7,4 @@ use Rattle.sets.specs.Leaves.{LeafSetHeld, LogsLeaf, GivesLeaf, GivesNote}
 use Rattle.sets.proofs.leaves.logged_leaf_at.Goals as goal
 
 pub returns : goal.returns
-returns c =    leaf_given c.args.leaves.now c.args.i _ refl refl
+returns c = leaf_given c.args.leaves.now c.args.i _ refl refl

@@ -6,4 +6,4 @@ use Rattle.sets.specs.Leaves.{LeafSetHeld, LogsLeaf, GivesLeaf, GivesNote}
 use Rattle.sets.proofs.leaves.note_at.Goals as goal
 
 pub returns : goal.returns
-returns c =    note_given c.args.leaves.now c.args.i _ refl
+returns c = note_given c.args.leaves.now c.args.i _ refl

@@ -7,4 +7,4 @@ use Rattle.sets.specs.Reads.{ReadSetHeld, LogsRead, GivesRead}
 use Rattle.sets.proofs.reads.read_at.Goals as goal
 
 pub returns : goal.returns
-returns c =    read_given c.args.reads.now c.args.i _ refl
+returns c = read_given c.args.reads.now c.args.i _ refl

@@ -16,10 +16,10 @@ use Rattle.sets.specs.WritePlaces.{PlaceOf, WritesHave}
 use Rattle.sets.proofs.writes.writes_below.Goals as goal
 
 pub returns-then-key-r : goal.returns-then-key-r
-returns-then-key-r c =    below_stop c.args.a c.requires c.loop-i.i c.loop-i-test.true c.loop-i.invariant (omega (arith, ap (λ (r : WriteRow). r.address) c.get-r.ensures))
+returns-then-key-r c = below_stop c.args.a c.requires c.loop-i.i c.loop-i-test.true c.loop-i.invariant (omega (arith, ap (λ (r : WriteRow). r.address) c.get-r.ensures))
 
 pub loop-i-preserved : goal.loop-i-preserved
-loop-i-preserved c =    below_on c.args.a c.requires c.loop-i.i c.loop-i-test.true (omega (arith, ap (λ (r : WriteRow). r.address) c.get-r.ensures))
+loop-i-preserved c = below_on c.args.a c.requires c.loop-i.i c.loop-i-test.true (omega (arith, ap (λ (r : WriteRow). r.address) c.get-r.ensures))
 
 pub returns : goal.returns
 returns c = below_end c.args.a c.requires c.loop-i.i c.loop-i-test.false c.loop-i.invariant

@@ -1,9 +1,8 @@
 // The counters: the last commit number and the last leaf version given, and the functions that take the next ones; and how
 // many installs there were.
 //
-// `next_numbers` and `next_versions` are lent the counters: such a function is proved by a walk of its code by hand, and so
-// is one that lends them. `take_numbers` and `take_versions` lend them in their bodies alone, so their callers need no walk.
-// The four are two pairs of one shape, and each pair has one walk.
+// `next_numbers` and `next_versions` are lent the counters. `take_numbers` and `take_versions` lend them in their bodies alone:
+// their callers pass the counters by value.
 #![tactic(auto)]
 
 ghost use Rattle.std.specs.Prelude.{◌≡◌, ◌+◌, ◌^◌, ◌<◌};

@@ -1,7 +1,6 @@
 // The leaves that one merge makes, cut into runs: a lent slice of small structs, low address and version.
 //
-// `set_low` and `set_version` are lent the slice: such a function is proved by a walk of its code by hand, and so is one
-// that lends it. `make_run` lends it in its body alone, so its callers need no walk.
+// `set_low` and `set_version` are lent the slice. `make_run` lends it in its body alone: its callers pass the leaves by value.
 #![tactic(auto)]
 
 ghost use Rattle.std.specs.Prelude.{◌≡◌, ◌<◌, length, set};

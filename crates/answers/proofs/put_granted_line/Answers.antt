@@ -1,10 +1,7 @@
+-- `answers::put_granted_line` meets its contract: an answer, a field and a byte.
 use native.Mathlib.Omega.{arith}
 use Rattle.lists.specs.TextLaws.{wrote_join}
 use Rattle.answers.specs.OutputLaws.{field_most}
-use Rattle.std.proofs.Common.{rules, [], ◌∷◌, ◌++◌, ◌+◌, ◌*◌, ◌≤◌, ◌<◌, length, take, ◌≡◌, ℕ, ◌-◌, ◌/◌, ◌%◌, Bool, true, false, nat_eq, nat_lt, List, slice_index_or, slice_set, bit_and, bit_or, Fits, w8, w32, w64, Bor, MutBor}
-use Rattle.lists.specs.Texts.{Wrote}
-use Rattle.answers.specs.Output.{decimal, field, absent, triple, triples_of, guarded_answer, malformed_line}
-use Rattle.answers.specs.OutputLaws.{pair, four, eight}
 use Rattle.answers.proofs.put_granted_line.Goals as goal
 
 pub put_field-last-requires : goal.put_field-last-requires

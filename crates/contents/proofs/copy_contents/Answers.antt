@@ -1,17 +1,11 @@
-use Prim.Native.Nat.{◌+◌, ◌-◌}
+use Prim.Native.Nat.{◌+◌}
 use native.Mathlib.Omega.{arith}
 use mathlib.Core.Path.{refl}
-use Rattle.spec.specs.Widths.{addresses}
-use Rattle.queries.specs.Contents.{all_records}
 use Rattle.queries.specs.ContentsLaws.{rising_all, next_at, next_done}
 use Rattle.queries.specs.NextLaws.{passed_start, follows_done}
 use Rattle.contents.specs.RowLaws.{words_read}
-use Rattle.contents.specs.CopyLaws.{Copying, copying_start, copying_above, copying_room, copying_on, copying_as, copying_end}
-use borrow.Author.Rules.{rules}
-use Rattle.std.proofs.Common.{◌≤◌, length, ◌≡◌, ℕ, ◌*◌, ◌<◌, ◌/◌, ◌%◌, Bool, true, false, nat_eq, nat_lt, List, [], ◌∷◌, ◌++◌, slice_index_or, slice_set, bit_and, bit_or, Fits, w8, w32, w64, Bor, MutBor}
-use Rattle.spec.specs.Records.{limits}
-use Rattle.map.specs.Parts.{RecordsHeld, SlotsHeld}
-use Rattle.contents.specs.Copies.{Copied}
+use Rattle.contents.specs.CopyLaws.{copying_start, copying_above, copying_room, copying_on, copying_as, copying_end}
+use Rattle.std.proofs.Common.{true, false}
 use Rattle.contents.proofs.copy_contents.Goals as goal
 
 pub loop-address-init : goal.loop-address-init

@@ -1,3 +1,4 @@
+-- `contents::copy_contents` meets its contract. The invariant: the records below an address are copied.
 use Prim.Native.Nat.{◌-◌}
 use Rattle.spec.specs.Widths.{addresses}
 use Rattle.queries.specs.Contents.{all_records}

@@ -1,8 +1,7 @@
-use mathlib.Core.Path.{refl, sym, ◌∙◌}
+-- `judge` meets its contract: by the three tests, in their order.
+use mathlib.Core.Path.{refl}
 use mathlib.Core.Bool.{true, false}
 use Rattle.guards.specs.JudgeLaws.{judged}
-use Rattle.std.proofs.Common.{rules, ◌≡◌, ℕ, ◌+◌, ◌-◌, ◌*◌, ◌<◌, ◌≤◌, length, ◌/◌, ◌%◌, Bool, nat_eq, nat_lt, List, [], ◌∷◌, ◌++◌, slice_index_or, slice_set, bit_and, bit_or, Fits, w8, w32, w64, Bor, MutBor}
-use Rattle.guards.specs.Judging.{Guardable, Judges}
 use Rattle.guards.proofs.judge.Goals as goal
 
 pub returns-then-unfit_put : goal.returns-then-unfit_put

@@ -1,7 +1,6 @@
+-- `home` meets its contract: each byte goes through the table's formula.
 use Rattle.homes.specs.HomeLaws.{home_steps}
-use Rattle.std.proofs.Common.{rules, ◌≡◌, ℕ, ◌+◌, ◌-◌, ◌*◌, ◌<◌, ◌≤◌, length, ◌/◌, ◌%◌, Bool, true, false, nat_eq, nat_lt, List, [], ◌∷◌, ◌++◌, slice_index_or, slice_set, bit_and, bit_or, Fits, w8, w32, w64, Bor, MutBor}
-use Rattle.spec.specs.Widths.{address_size}
-use Rattle.spec.specs.Slots.{table_entry, home_slot}
+use Rattle.spec.specs.Slots.{table_entry}
 use Rattle.homes.proofs.home.Goals as goal
 
 pub returns : goal.returns

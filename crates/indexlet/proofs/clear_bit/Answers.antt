@@ -1,20 +1,8 @@
-use Prim.Native.Nat.{ℕ, ◌-◌, ◌/◌, ◌%◌}
+-- `indexlet::clear_bit` meets its contract: one bit of the slot's word is cleared.
+use Prim.Native.Nat.{◌%◌}
 use native.Mathlib.Omega.{arith}
-use mathlib.Core.Path.{ap₂, ◌∙◌}
 use Rattle.indexlet.specs.Bits.{clear_fits}
-use Rattle.indexlet.specs.Bitmaps.{word_bits, bitmap_put}
-use Rattle.std.proofs.Common.{rules, ◌≡◌, true, false, ◌+◌, ◌*◌, ◌^◌, ◌<◌, ◌≤◌, length, get_or, Bool, nat_eq, nat_lt, List, [], ◌∷◌, ◌++◌, slice_set, bit_and, bit_or, Fits, w8, w32, w64, Bor, MutBor}
-use Rattle.std.specs.Int.Count.{count_trailing_zeros}
-use Rattle.spec.specs.Widths.{address_size}
-use Rattle.spec.specs.Slots.{slot_count, home_slot, is_idle, vacant, holds, empty_slot, entries}
-use Rattle.spec.specs.Slots as model
-use Rattle.laws.specs.Probes.{gap, First}
-use Rattle.laws.specs.SlotLaws.{EntryRoom}
-use Rattle.indexlet.specs.Words.{content_in, slot_in, row_at, saying, store, slots_of}
-use Rattle.indexlet.specs.Filters.{bucket_count, bucket_of, cell_at, cell_put}
-use Rattle.indexlet.specs.Bits.{bit, rest}
-use Rattle.indexlet.specs.Bitmaps.{bitmap_at, Turns, word_end, BitsFrom}
-use Rattle.indexlet.specs.Promises.{Sized, SlotsHeld, SlotsBecome, Going, shifted, Countable, SlotsFresh, IsSlot, Looks, unsaid, content_at, Finds, TakenOut, TakenIn, Enters, Stands, sought}
+use Rattle.indexlet.specs.Bitmaps.{word_bits}
 use Rattle.indexlet.proofs.clear_bit.Goals as goal
 
 pub overflow_sub-w : goal.overflow_sub-w

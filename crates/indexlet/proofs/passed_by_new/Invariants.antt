@@ -1,3 +1,4 @@
+-- `indexlet::passed_by_new` meets its contract. The invariant: the slots passed have entries.
 use Prim.Native.Nat.{◌-◌, ◌*◌}
 use Rattle.spec.specs.Slots.{slot_count}
 use Rattle.indexlet.specs.Words.{slots_of}

@@ -1,3 +1,4 @@
+-- `indexlet::recount` meets its contract. The invariant: the counts of the first d slots are changed.
 use Prim.Native.Nat.{◌-◌, ◌≤◌}
 use Rattle.indexlet.specs.Promises.{Going, shifted}
 use Rattle.indexlet.proofs.recount.Given as goal

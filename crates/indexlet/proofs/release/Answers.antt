@@ -1,3 +1,4 @@
+-- `indexlet::release` meets its contract: the counts of the slots passed are one less, and the entry goes.
 use native.Mathlib.Omega.{arith}
 use mathlib.Core.Path.{ap, ◌∙◌}
 use Rattle.laws.specs.Probes.{home_less}
@@ -7,17 +8,6 @@ use Rattle.indexlet.specs.declared.Content.{Content as ContentWords}
 use Rattle.indexlet.specs.Words.{content_in}
 use Rattle.indexlet.specs.WordLaws.{idle_zero}
 use Rattle.indexlet.specs.WalkLaws.{home_inside, far_less, release_counts, release_ends}
-use Rattle.std.proofs.Common.{rules, ◌≡◌, true, false, ◌+◌, ◌-◌, ◌*◌, ◌/◌, ◌%◌, ◌^◌, ◌<◌, ◌≤◌, length, get_or, ℕ, Bool, nat_eq, nat_lt, List, [], ◌∷◌, ◌++◌, slice_set, bit_and, bit_or, Fits, w8, w32, w64, Bor, MutBor}
-use Rattle.std.specs.Int.Count.{count_trailing_zeros}
-use Rattle.spec.specs.Slots.{slot_count, home_slot, vacant, holds, empty_slot, entries}
-use Rattle.spec.specs.Slots as model
-use Rattle.laws.specs.Probes.{gap, First}
-use Rattle.laws.specs.SlotLaws.{EntryRoom}
-use Rattle.indexlet.specs.Words.{slot_in, row_at, saying, store, slots_of}
-use Rattle.indexlet.specs.Filters.{bucket_count, bucket_of, cell_at, cell_put}
-use Rattle.indexlet.specs.Bits.{bit, rest}
-use Rattle.indexlet.specs.Bitmaps.{word_bits, bitmap_at, bitmap_put, Turns, word_end, BitsFrom}
-use Rattle.indexlet.specs.Promises.{Sized, SlotsHeld, SlotsBecome, Going, shifted, Countable, SlotsFresh, IsSlot, Looks, unsaid, content_at, Finds, TakenOut, TakenIn, Enters, Stands, sought}
 use Rattle.indexlet.proofs.release.Goals as goal
 
 pub recount_passed-requires-clause-sized : goal.recount_passed-requires-clause-sized

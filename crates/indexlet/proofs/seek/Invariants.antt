@@ -1,3 +1,4 @@
+-- `indexlet::seek` meets its contract. The invariant: what is left of the search is the whole search.
 use Prim.Native.Nat.{◌-◌}
 use Rattle.spec.specs.Slots.{slot_count}
 use Rattle.indexlet.specs.SeekLaws.{Seeking}

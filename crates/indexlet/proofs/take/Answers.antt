@@ -1,19 +1,11 @@
+-- `indexlet::take` meets its contract: the entry stands in the home slot; or the counts of the slots passed are one more, and the first
+-- empty one has the entry.
 use native.Mathlib.Omega.{arith}
 use mathlib.Core.Path.{refl, sym, ◌∙◌}
 use Rattle.spec.specs.Widths.{address_size}
 use Rattle.laws.specs.Probes.{home_less}
 use Rattle.indexlet.specs.WalkLaws.{home_inside, take_counts, take_ends, take_turns, home_ends, home_turns}
-use Rattle.std.proofs.Common.{rules, ◌≡◌, true, false, ◌+◌, ◌-◌, ◌*◌, ◌/◌, ◌%◌, ◌^◌, ◌<◌, ◌≤◌, length, get_or, ℕ, Bool, nat_eq, nat_lt, List, [], ◌∷◌, ◌++◌, slice_set, bit_and, bit_or, Fits, w8, w32, w64, Bor, MutBor}
-use Rattle.std.specs.Int.Count.{count_trailing_zeros}
-use Rattle.spec.specs.Slots.{slot_count, home_slot, is_idle, vacant, holds, empty_slot, entries}
-use Rattle.spec.specs.Slots as model
-use Rattle.laws.specs.Probes.{gap, First}
-use Rattle.laws.specs.SlotLaws.{EntryRoom}
-use Rattle.indexlet.specs.Words.{content_in, slot_in, row_at, saying, store, slots_of}
-use Rattle.indexlet.specs.Filters.{bucket_count, bucket_of, cell_at, cell_put}
-use Rattle.indexlet.specs.Bits.{bit, rest}
-use Rattle.indexlet.specs.Bitmaps.{word_bits, bitmap_at, bitmap_put, Turns, word_end, BitsFrom}
-use Rattle.indexlet.specs.Promises.{Sized, SlotsHeld, SlotsBecome, Going, shifted, Countable, SlotsFresh, IsSlot, Looks, unsaid, content_at, Finds, TakenOut, TakenIn, Enters, Stands, sought}
+use Rattle.std.proofs.Common.{true}
 use Rattle.indexlet.proofs.take.Goals as goal
 
 pub get-s-requires : goal.get-s-requires
@@ -23,10 +15,11 @@ pub say_at-requires : goal.say_at-requires
 say_at-requires c = home_inside c.args.a _ c.requires.h_value
 
 pub returns-then-idle-clause-slots_become : goal.returns-then-idle-clause-slots_become
-returns-then-idle-clause-slots_become c = let empty = sym c.idle.ensures ∙ c.if-idle.true in (
-  home_ends _ c.args.a _ c.requires.h_value c.requires.slots_held _ c.get-s.ensures empty c.args.c c.requires.c_value c.ranges.a.fits _ c.say_at.ensures,
-  home_inside c.args.a _ c.requires.h_value,
-)
+returns-then-idle-clause-slots_become c =
+    let empty = sym c.idle.ensures ∙ c.if-idle.true in (
+      home_ends _ c.args.a _ c.requires.h_value c.requires.slots_held _ c.get-s.ensures empty c.args.c c.requires.c_value c.ranges.a.fits _ c.say_at.ensures,
+      home_inside c.args.a _ c.requires.h_value,
+    )
 
 pub returns-then-idle-clause-turns : goal.returns-then-idle-clause-turns
 returns-then-idle-clause-turns c = let empty = sym c.idle.ensures ∙ c.if-idle.true in home_turns _ c.args.a _ c.requires.h_value c.requires.slots_held _ c.get-s.ensures empty c.args.c

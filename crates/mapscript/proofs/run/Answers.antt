@@ -1,22 +1,15 @@
 use native.Mathlib.Omega.{arith}
-use Prim.Native.Nat.{◌+◌, ◌*◌, ◌≤◌}
-use mathlib.Core.Path.{◌≡◌, sym, ap}
-use mathlib.Core.Logic.{⊎_elim}
-use lib.ListN.{length}
+use mathlib.Core.Path.{ap}
 use Rattle.lists.specs.TestLaws.{clash}
-use Rattle.map.specs.Views.{lent}
-use Rattle.transactions.specs.Views.{logs}
 use Rattle.shell.specs.declared.system.Calls.{Calls}
-use Rattle.shell.specs.Works.{Rests, most_turns}
-use Rattle.shell.specs.WorkLaws.{rests_start, turn_grows, ran}
-use Rattle.std.proofs.Common.{rules, true, take, ℕ, ◌-◌, ◌<◌, ◌/◌, ◌%◌, Bool, false, nat_eq, nat_lt, List, [], ◌∷◌, ◌++◌, slice_index_or, slice_set, bit_and, bit_or, Fits, w8, w32, w64, Bor, MutBor}
-use Rattle.console.specs.Finishes.{longest_end}
-use Rattle.shell.specs.Works.{Stands, Countable, Reads, ReadDone, WriteDone, Turns, Closes, Ran}
+use Rattle.shell.specs.WorkLaws.{rests_start, ran}
+use Rattle.std.proofs.Common.{false}
 use Rattle.mapscript.proofs.run.Goals as goal
 use Rattle.mapscript.proofs.run.Goals.{then-loop-turns-test+else-w, else-loop-turns-test}
 
 pub loop-turns-init : goal.loop-turns-init
-loop-turns-init c = let n = c.none.ensures in
+loop-turns-init c =
+    let n = c.none.ensures in
     let made = ap (λ (k : Calls). k.made) n in
     let fed = ap (λ (k : Calls). k.fed) n in
     let told = ap (λ (k : Calls). k.told) n in

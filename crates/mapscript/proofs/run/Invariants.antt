@@ -1,3 +1,5 @@
+-- `run` meets its contract, and ends: each part of the run goes on from the one before. The invariant: between two turns nothing waits,
+-- and the bytes of the turns left can be counted. The measure: the turns left.
 use Prim.Native.Nat.{◌+◌, ◌*◌, ◌≤◌}
 use mathlib.Core.Path.{◌≡◌}
 use lib.ListN.{length}

@@ -1,3 +1,4 @@
+-- `queries::count_lock_only` meets its contract. The invariant: those counted and those left are all.
 use Prim.Native.Nat.{◌-◌}
 use Rattle.index.specs.LeafColumns.{lows_of}
 use Rattle.queries.specs.PhantomViews.{Counting}

@@ -1,3 +1,4 @@
+-- `queries::nearest_in` meets its contract. The invariant: no slot before, or whose bit is taken off, has a nearer entry.
 use Rattle.queries.specs.NextViews.{Walking}
 use Rattle.queries.proofs.nearest_in.Given as goal
 

@@ -1,3 +1,4 @@
+-- `queries::next_record` meets its contract. The invariant: no record stands between the start and here.
 use Prim.Native.Nat.{◌-◌}
 use Rattle.spec.specs.Widths.{addresses}
 use Rattle.queries.specs.NextViews.{Passed}

@@ -1,3 +1,4 @@
+-- `queries::slot_from` meets its contract. The invariant: no entry of the slots passed is nearer.
 use Prim.Native.Nat.{◌-◌}
 use Rattle.spec.specs.Slots.{slot_count}
 use Rattle.queries.specs.NextViews.{Walked}

@@ -1,13 +1,9 @@
+-- `script::begin_line` meets its contract: it passes a letter of a line of numbers and the space after it, or nothing.
 use native.Mathlib.Omega.{arith}
 use mathlib.Core.Path.{sym, ◌∙◌}
 use Rattle.script.specs.Tokens.{goes_none}
 use Rattle.script.specs.TokenLaws.{letter_begins}
-use Rattle.std.proofs.Common.{rules, ◌≡◌, true, not, List, [], ◌∷◌, ℕ, ◌+◌, ◌*◌, ◌^◌, ◌<◌, ◌≤◌, length, ◌-◌, ◌/◌, ◌%◌, Bool, false, nat_eq, nat_lt, ◌++◌, slice_index_or, slice_set, bit_and, bit_or, Fits, w8, w32, w64, Bor, MutBor}
-use Rattle.lists.specs.Tests.{less}
-use Rattle.spec.specs.Widths.{worker_names}
-use Rattle.script.specs.Grammar.{line_of}
-use Rattle.script.specs.Parsing.{none_before, one_before, two_before, three_before, in_number, started, filled, After, Parses}
-use Rattle.script.specs.Tokens.{Advances, ParsesPart, Digits, told}
+use Rattle.std.proofs.Common.{true}
 use Rattle.script.proofs.begin_line.Goals as goal
 
 pub returns-then-s-i-eq-SPACE : goal.returns-then-s-i-eq-SPACE

@@ -1,18 +1,10 @@
-use Prim.Native.Nat.{◌-◌}
 use native.Mathlib.Omega.{arith}
 use mathlib.Core.Path.{sym, ◌∙◌}
 use mathlib.Core.Logic.{inl, inr}
-use lib.ListN.{length}
 use Rattle.lists.specs.TestLaws.{less_true, less_false}
 use Rattle.script.specs.GrammarLaws.{digit_yes, digit_low, digit_high}
-use Rattle.script.specs.Tokens.{Spells}
-use Rattle.script.specs.TokenLaws.{spells_none, spells_digit, digits_stop, digits_end}
-use Rattle.std.proofs.Common.{rules, ◌≡◌, true, not, List, [], ◌∷◌, ℕ, ◌+◌, ◌*◌, ◌^◌, ◌<◌, ◌≤◌, ◌/◌, ◌%◌, Bool, false, nat_eq, nat_lt, ◌++◌, slice_index_or, slice_set, bit_and, bit_or, Fits, w8, w32, w64, Bor, MutBor}
-use Rattle.lists.specs.Tests.{less}
-use Rattle.spec.specs.Widths.{worker_names}
-use Rattle.script.specs.Grammar.{line_of}
-use Rattle.script.specs.Parsing.{none_before, one_before, two_before, three_before, in_number, started, filled, After, Parses}
-use Rattle.script.specs.Tokens.{Advances, ParsesPart, Digits, told}
+use Rattle.script.specs.TokenLaws.{spells_none, spells_digit, digits_stop}
+use Rattle.std.proofs.Common.{true, false}
 use Rattle.script.proofs.digits.Goals as goal
 
 pub loop-i-init : goal.loop-i-init

@@ -1,3 +1,4 @@
+-- `script::digits` meets its contract. The invariant: the bytes passed are digits, and take the number begun to what it is now.
 use Prim.Native.Nat.{◌-◌}
 use lib.ListN.{length}
 use Rattle.script.specs.Tokens.{Spells}

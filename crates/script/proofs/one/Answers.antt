@@ -1,13 +1,9 @@
+-- `script::one` meets its contract: at each `return` the test and the letter say which line it is.
 use native.Mathlib.Omega.{arith}
 use Rattle.lists.specs.Tests.{same}
 use Rattle.script.specs.Grammar.{seat_line}
 use Rattle.script.specs.LetterLaws.{merge_letter, seat_letter, seat_other}
-use Rattle.std.proofs.Common.{rules, ◌≡◌, true, not, List, [], ◌∷◌, ℕ, ◌+◌, ◌*◌, ◌^◌, ◌<◌, ◌≤◌, length, ◌-◌, ◌/◌, ◌%◌, Bool, false, nat_eq, nat_lt, ◌++◌, slice_index_or, slice_set, bit_and, bit_or, Fits, w8, w32, w64, Bor, MutBor}
-use Rattle.lists.specs.Tests.{less}
-use Rattle.spec.specs.Widths.{worker_names}
-use Rattle.script.specs.Grammar.{line_of}
-use Rattle.script.specs.Parsing.{none_before, one_before, two_before, three_before, in_number, started, filled, After, Parses}
-use Rattle.script.specs.Tokens.{Advances, ParsesPart, Digits, told}
+use Rattle.std.proofs.Common.{false}
 use Rattle.script.proofs.one.Goals as goal
 
 pub returns-in-66 : goal.returns-in-66

@@ -1,13 +1,5 @@
-use Prim.Native.Nat.{◌-◌}
-use native.Mathlib.Omega.{arith}
-use lib.ListN.{length}
-use Rattle.script.specs.Tokens.{Advances, goes_none, goes_join, goes_on_lem, goes_ends, goes_whole, line_ends, guard_ends, malformed_ends}
-use Rattle.std.proofs.Common.{rules, ◌≡◌, true, not, List, [], ◌∷◌, ℕ, ◌+◌, ◌*◌, ◌^◌, ◌<◌, ◌≤◌, ◌/◌, ◌%◌, Bool, false, nat_eq, nat_lt, ◌++◌, slice_index_or, slice_set, bit_and, bit_or, Fits, w8, w32, w64, Bor, MutBor}
-use Rattle.lists.specs.Tests.{less}
-use Rattle.spec.specs.Widths.{worker_names}
-use Rattle.script.specs.Grammar.{line_of}
-use Rattle.script.specs.Parsing.{none_before, one_before, two_before, three_before, in_number, started, filled, After, Parses}
-use Rattle.script.specs.Tokens.{ParsesPart, Digits, told}
+use Rattle.script.specs.Tokens.{goes_none, goes_join, goes_on_lem, goes_ends, goes_whole, line_ends, guard_ends, malformed_ends}
+use Rattle.std.proofs.Common.{false}
 use Rattle.script.proofs.parse.Goals as goal
 
 pub loop-i-init : goal.loop-i-init

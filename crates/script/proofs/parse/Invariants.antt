@@ -1,3 +1,5 @@
+-- `script::parse` meets its contract. The invariant: the bytes passed since the loop began take the parser of then to the
+-- parser now.
 use Prim.Native.Nat.{◌-◌}
 use lib.ListN.{length}
 use Rattle.script.specs.Tokens.{Advances}

@@ -1,12 +1,7 @@
-use native.Mathlib.Omega.{arith}
+-- `script::start` meets its contract: the first byte is the letter, T, G or another one, or the line is malformed.
 use mathlib.Core.Logic.{inl, inr}
 use Rattle.script.specs.TokenLaws.{turn_byte, start_bad, start_oldest, start_guard, start_good}
-use Rattle.std.proofs.Common.{rules, ◌≡◌, true, not, List, [], ◌∷◌, ℕ, ◌+◌, ◌*◌, ◌^◌, ◌<◌, ◌≤◌, length, ◌-◌, ◌/◌, ◌%◌, Bool, false, nat_eq, nat_lt, ◌++◌, slice_index_or, slice_set, bit_and, bit_or, Fits, w8, w32, w64, Bor, MutBor}
-use Rattle.lists.specs.Tests.{less}
-use Rattle.spec.specs.Widths.{worker_names}
-use Rattle.script.specs.Grammar.{line_of}
-use Rattle.script.specs.Parsing.{none_before, one_before, two_before, three_before, in_number, started, filled, After, Parses}
-use Rattle.script.specs.Tokens.{Advances, ParsesPart, Digits, told}
+use Rattle.std.proofs.Common.{true, false}
 use Rattle.script.proofs.start.Goals as goal
 
 pub returns-then-b-eq-SPACE-clause-parses_part : goal.returns-then-b-eq-SPACE-clause-parses_part

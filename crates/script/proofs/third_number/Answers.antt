@@ -1,14 +1,9 @@
-use native.Mathlib.Omega.{arith}
-use mathlib.Core.Logic.{⊎_elim, inl, inr}
+-- `script::third_number` meets its contract: the run of digits, and then what the byte after it says.
+use mathlib.Core.Logic.{inl, inr}
 use mathlib.Core.Path.{refl}
 use Rattle.script.specs.Parsing.{two_before, three_before, in_number}
-use Rattle.script.specs.TokenLaws.{field_ended, field_spaced, field_fed, field_refused, digits_from}
-use Rattle.std.proofs.Common.{rules, ◌≡◌, true, not, List, [], ◌∷◌, ℕ, ◌+◌, ◌*◌, ◌^◌, ◌<◌, ◌≤◌, length, ◌-◌, ◌/◌, ◌%◌, Bool, false, nat_eq, nat_lt, ◌++◌, slice_index_or, slice_set, bit_and, bit_or, Fits, w8, w32, w64, Bor, MutBor}
-use Rattle.lists.specs.Tests.{less}
-use Rattle.spec.specs.Widths.{worker_names}
-use Rattle.script.specs.Grammar.{line_of}
-use Rattle.script.specs.Parsing.{none_before, one_before, started, filled, After, Parses}
-use Rattle.script.specs.Tokens.{Advances, ParsesPart, Digits, told}
+use Rattle.script.specs.TokenLaws.{field_ended, field_spaced, field_fed, field_refused}
+use Rattle.std.proofs.Common.{true, false}
 use Rattle.script.proofs.third_number.Goals as goal
 use Rattle.script.proofs.third_number.Goals.{then-run+else-end-eq-SPACE+else-end-eq-LINE_FEED, else-run}
 
@@ -18,11 +13,13 @@ returns-then-next-s-clause-parses_part c = field_ended _ (two_before _ _) c.digi
 
 pub returns-then-end-eq-SPACE-clause-parses_part : goal.returns-then-end-eq-SPACE-clause-parses_part
 unfolding in_number
-returns-then-end-eq-SPACE-clause-parses_part c = let d = c.digits-run.ensures in
+returns-then-end-eq-SPACE-clause-parses_part c =
+    let d = c.digits-run.ensures in
     field_spaced _ (two_before _ _) (three_before _ _ _) d c.if-next-s.false c.if-run.true c.if-end-eq-SPACE.true refl
 
 pub returns-then-end-eq-LINE_FEED-clause-parses_part : goal.returns-then-end-eq-LINE_FEED-clause-parses_part
-returns-then-end-eq-LINE_FEED-clause-parses_part c = let d = c.digits-run.ensures in
+returns-then-end-eq-LINE_FEED-clause-parses_part c =
+    let d = c.digits-run.ensures in
     field_fed _ (two_before _ _) _ d c.if-next-s.false c.if-run.true c.if-end-eq-LINE_FEED.true c.three.ensures
 
 pub returns-clause-parses_part : goal.returns-clause-parses_part

@@ -1,10 +1,6 @@
+-- `script::three` meets its contract: at each `return` the tests say which line it is.
 use Rattle.script.specs.LetterLaws.{three_wide, three_wide', three_scan, three_scan_wide, three_other}
-use Rattle.std.proofs.Common.{rules, ◌≡◌, true, not, List, [], ◌∷◌, ℕ, ◌+◌, ◌*◌, ◌^◌, ◌<◌, ◌≤◌, length, ◌-◌, ◌/◌, ◌%◌, Bool, false, nat_eq, nat_lt, ◌++◌, slice_index_or, slice_set, bit_and, bit_or, Fits, w8, w32, w64, Bor, MutBor}
-use Rattle.lists.specs.Tests.{less}
-use Rattle.spec.specs.Widths.{worker_names}
-use Rattle.script.specs.Grammar.{line_of}
-use Rattle.script.specs.Parsing.{none_before, one_before, two_before, three_before, in_number, started, filled, After, Parses}
-use Rattle.script.specs.Tokens.{Advances, ParsesPart, Digits, told}
+use Rattle.std.proofs.Common.{true, false}
 use Rattle.script.proofs.three.Goals as goal
 
 pub returns-then-letter-ne83 : goal.returns-then-letter-ne83

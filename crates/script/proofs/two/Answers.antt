@@ -1,13 +1,8 @@
+-- `script::two` meets its contract: at each `return` the tests and the letter say which line it is.
 use Rattle.lists.specs.Tests.{same}
 use Rattle.script.specs.Grammar.{two_numbers}
 use Rattle.script.specs.LetterLaws.{two_wide, two_wide', two_letter, two_other}
-use Rattle.std.proofs.Common.{rules, ◌≡◌, true, not, List, [], ◌∷◌, ℕ, ◌+◌, ◌*◌, ◌^◌, ◌<◌, ◌≤◌, length, ◌-◌, ◌/◌, ◌%◌, Bool, false, nat_eq, nat_lt, ◌++◌, slice_index_or, slice_set, bit_and, bit_or, Fits, w8, w32, w64, Bor, MutBor}
-use Rattle.lists.specs.Tests.{less}
-use Rattle.spec.specs.Widths.{worker_names}
-use Rattle.script.specs.Grammar.{line_of}
-use Rattle.script.specs.Parsing.{none_before, one_before, two_before, three_before, in_number, started, filled, After, Parses}
-use Rattle.script.specs.Tokens.{Advances, ParsesPart, Digits, told}
-use Rattle.std.proofs.Common.{arith}
+use Rattle.std.proofs.Common.{true, false, arith}
 use Rattle.script.proofs.two.Goals as goal
 
 pub returns-then-a-ge-WORKER_NAMES : goal.returns-then-a-ge-WORKER_NAMES

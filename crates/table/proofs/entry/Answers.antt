@@ -1,8 +1,7 @@
-use borrow.Author.Rules.{rules}
+-- `table::entry` meets its contract: the 256 numbers are the rule's.
 use Rattle.lists.specs.Tabulation.{tab_from, tab}
 use Rattle.spec.specs.Slots.{table_entry}
 use Rattle.table.specs.Table.{table_at}
-use Rattle.std.proofs.Common.{◌≡◌, true, ℕ, ◌+◌, ◌-◌, ◌*◌, ◌<◌, ◌≤◌, length, ◌/◌, ◌%◌, Bool, false, nat_eq, nat_lt, List, [], ◌∷◌, ◌++◌, slice_index_or, slice_set, bit_and, bit_or, Fits, w8, w32, w64, Bor, MutBor}
 use Rattle.table.proofs.entry.Goals as goal
 
 pub returns : goal.returns

@@ -1,8 +1,6 @@
 use mathlib.Core.Path.{◌∙◌}
 use Rattle.workers.specs.WordLaws.{workers_length}
-use Rattle.std.proofs.Common.{rules, ◌≡◌, ◌<◌, length, get_or, set, ℕ, ◌+◌, ◌-◌, ◌*◌, ◌≤◌, ◌/◌, ◌%◌, Bool, true, false, nat_eq, nat_lt, List, [], ◌∷◌, ◌++◌, bit_and, bit_or, Fits, w8, w32, w64, Bor, MutBor}
-use Rattle.spec.specs.Records.{limits}
-use Rattle.workers.specs.Workers.{begun, at_lock, at_check, freed, rank_of, stage_at, packed, unpacked, workers_of}
+use Rattle.std.proofs.Common.{rules}
 use Rattle.workers.proofs.eight.Goals as goal
 
 pub returns : goal.returns

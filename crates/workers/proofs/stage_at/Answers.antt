@@ -2,9 +2,7 @@ use mathlib.Core.Path.{refl}
 use Rattle.lists.specs.Tests.{same}
 use Rattle.workers.specs.Workers.{stage_at}
 use Rattle.workers.specs.WordLaws.{stage_is, stage_checked}
-use Rattle.std.proofs.Common.{rules, ◌≡◌, ◌<◌, length, get_or, set, ℕ, ◌+◌, ◌-◌, ◌*◌, ◌≤◌, ◌/◌, ◌%◌, Bool, true, false, nat_eq, nat_lt, List, [], ◌∷◌, ◌++◌, bit_and, bit_or, Fits, w8, w32, w64, Bor, MutBor}
-use Rattle.spec.specs.Records.{limits}
-use Rattle.workers.specs.Workers.{begun, at_lock, at_check, freed, rank_of, packed, unpacked, workers_of}
+use Rattle.std.proofs.Common.{true, false}
 use Rattle.workers.proofs.stage_at.Goals as goal
 
 pub returns-then-n-eq0 : goal.returns-then-n-eq0

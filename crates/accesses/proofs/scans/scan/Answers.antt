@@ -1,26 +1,19 @@
-use native.Mathlib.Omega.{arith}
+-- `scans::scan` meets its contract: refused for the worker, refused by the tests, or carried out.
 use mathlib.Core.Path.{subst}
-use borrow.Author.Rules.{rules}
 use Rattle.spec.specs.Steps.{is_open}
 use Rattle.transactions.specs.Admits.{Admitted}
 use Rattle.transactions.specs.ViewLaws.{core_put}
 use Rattle.ranges.specs.Plans.{Plans}
-use Rattle.ranges.specs.PlanLaws.{planned}
 use Rattle.accesses.specs.ScanCauses.{planning}
 use Rattle.accesses.specs.ScanLaws.{scans_turned, scans_declined, scans_granted}
-use Rattle.std.proofs.Common.{◌≡◌, ℕ, ◌+◌, ◌-◌, ◌*◌, ◌<◌, ◌≤◌, length, ◌/◌, ◌%◌, Bool, true, false, nat_eq, nat_lt, List, [], ◌∷◌, ◌++◌, slice_index_or, slice_set, bit_and, bit_or, Fits, w8, w32, w64, Bor, MutBor}
-use Rattle.map.specs.Views.{lent}
-use Rattle.transactions.specs.Views.{logs, core_of}
-use Rattle.transactions.specs.Ready.{Ready}
-use Rattle.buffers.specs.Buffers.{buffers}
-use Rattle.accesses.specs.Scans.{Scans}
 use Rattle.accesses.proofs.scans.scan.Goals as goal
 
 pub measure-requires : goal.measure-requires
 measure-requires c = planning c.requires (subst (Admitted is_open _ _) c.in-Allowed.is c.«open».ensures)
 
 pub carry_out-done-requires-clause-planning : goal.carry_out-done-requires-clause-planning
-carry_out-done-requires-clause-planning c = let e = subst (Admitted is_open _ _) c.in-Allowed.is c.«open».ensures in
+carry_out-done-requires-clause-planning c =
+    let e = subst (Admitted is_open _ _) c.in-Allowed.is c.«open».ensures in
     let p = subst (Plans _ _ _ _ _ _ _ _ _) c.in-Go.is c.measure.ensures in
     planning c.requires e
 

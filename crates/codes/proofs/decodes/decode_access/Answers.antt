@@ -1,13 +1,8 @@
+-- `decodes::decode_access` meets its contract: at each return the tests say what the code means.
 use mathlib.Core.Path.{◌∙◌}
 use Rattle.lists.specs.Tests.{same}
 use Rattle.codes.specs.CodeLaws.{access_wide, access_kind, access_other}
-use borrow.Author.Rules.{rules}
-use Rattle.std.proofs.Common.{◌≡◌, ◌<◌, ℕ, ◌+◌, ◌-◌, ◌*◌, ◌≤◌, length, ◌/◌, ◌%◌, Bool, true, false, nat_eq, nat_lt, List, [], ◌∷◌, ◌++◌, slice_index_or, slice_set, bit_and, bit_or, Fits, w8, w32, w64, Bor, MutBor}
-use Rattle.spec.specs.Widths.{addresses, worker_names}
-use Rattle.spec.specs.Steps.{places}
-use Rattle.codes.specs.Codes.{places_lent, decoded_scan, decoded_put, decoded_access, decoded_seat, decoded_merge, decoded_numbered, decoded}
-use Rattle.codes.specs.ExportCodes.{decoded_portion, decoded_file, decoded_export}
-use Rattle.std.proofs.Common.{arith}
+use Rattle.std.proofs.Common.{true, false, arith}
 use Rattle.codes.proofs.decodes.decode_access.Goals as goal
 
 pub returns-then-k-ge-ADDRESSES : goal.returns-then-k-ge-ADDRESSES

@@ -1,12 +1,7 @@
+-- `decodes::decode_export` meets its contract: by the number of its kind.
 use mathlib.Core.Path.{◌∙◌}
 use Rattle.lists.specs.Tests.{same}
 use Rattle.codes.specs.ExportCodeLaws.{export_kind, export_other}
-use borrow.Author.Rules.{rules}
-use Rattle.std.proofs.Common.{◌≡◌, ◌<◌, ℕ, ◌+◌, ◌-◌, ◌*◌, ◌≤◌, length, ◌/◌, ◌%◌, Bool, true, false, nat_eq, nat_lt, List, [], ◌∷◌, ◌++◌, slice_index_or, slice_set, bit_and, bit_or, Fits, w8, w32, w64, Bor, MutBor}
-use Rattle.spec.specs.Widths.{addresses, worker_names}
-use Rattle.spec.specs.Steps.{places}
-use Rattle.codes.specs.Codes.{places_lent, decoded_scan, decoded_put, decoded_access, decoded_seat, decoded_merge, decoded_numbered, decoded}
-use Rattle.codes.specs.ExportCodes.{decoded_portion, decoded_file, decoded_export}
 use Rattle.std.proofs.Common.{arith}
 use Rattle.codes.proofs.decodes.decode_export.Goals as goal
 

@@ -1,17 +1,6 @@
-use native.Mathlib.Omega.{arith}
+-- `words::put_answer_words` meets its contract: five words, and a scan's records.
 use mathlib.Core.Path.{refl}
-use Rattle.lists.specs.TextLaws.{wrote_length}
-use Rattle.codes.specs.WordLaws.{wrote_short, wrote_long, roomy_listed}
-use borrow.Author.Rules.{rules}
-use Rattle.std.proofs.Common.{◌≡◌, List, [], ◌∷◌, ℕ, ◌+◌, ◌*◌, ◌≤◌, length, ◌-◌, ◌<◌, ◌/◌, ◌%◌, Bool, true, false, nat_eq, nat_lt, ◌++◌, slice_index_or, slice_set, bit_and, bit_or, Fits, w8, w32, w64, Bor, MutBor}
-use Rattle.lists.specs.Texts.{Wrote}
-use Rattle.spec.specs.Steps.{shortest}
-use Rattle.buffers.specs.Buffers.{buffers, places_of, rows_in}
-use Rattle.exports.specs.Exporting.{space, export_answer_in, bytes_written}
-use Rattle.engine.specs.Performs.{reply_in}
-use Rattle.codes.specs.Codes.{coded_of, no_meaning, listed_words, words_of}
-use Rattle.codes.specs.ExportCodes.{export_coded_of, export_words}
-use Rattle.codes.specs.Words.{head_words, Roomy, ExportRoomy}
+use Rattle.codes.specs.WordLaws.{wrote_short, wrote_long}
 use Rattle.codes.proofs.words.put_answer_words.Goals as goal
 
 pub returns-in-Granted : goal.returns-in-Granted

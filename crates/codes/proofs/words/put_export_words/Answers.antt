@@ -1,18 +1,9 @@
+-- `words::put_export_words` meets its contract: five words, and a portion's records.
 use native.Mathlib.Omega.{arith}
 use mathlib.Core.Path.{refl}
 use Rattle.lists.specs.TextLaws.{wrote_length}
 use Rattle.exports.specs.Exporting.{places_written}
 use Rattle.codes.specs.ExportCodeLaws.{export_short, export_long, roomy_given}
-use borrow.Author.Rules.{rules}
-use Rattle.std.proofs.Common.{◌≡◌, List, [], ◌∷◌, ℕ, ◌+◌, ◌*◌, ◌≤◌, length, ◌-◌, ◌<◌, ◌/◌, ◌%◌, Bool, true, false, nat_eq, nat_lt, ◌++◌, slice_index_or, slice_set, bit_and, bit_or, Fits, w8, w32, w64, Bor, MutBor}
-use Rattle.lists.specs.Texts.{Wrote}
-use Rattle.spec.specs.Steps.{shortest}
-use Rattle.buffers.specs.Buffers.{buffers, places_of, rows_in}
-use Rattle.exports.specs.Exporting.{space, export_answer_in, bytes_written}
-use Rattle.engine.specs.Performs.{reply_in}
-use Rattle.codes.specs.Codes.{coded_of, no_meaning, listed_words, words_of}
-use Rattle.codes.specs.ExportCodes.{export_coded_of, export_words}
-use Rattle.codes.specs.Words.{head_words, Roomy, ExportRoomy}
 use Rattle.codes.proofs.words.put_export_words.Goals as goal
 
 pub put_rows-requires-clause-n_bound : goal.put_rows-requires-clause-n_bound

@@ -1,17 +1,6 @@
-use Prim.Native.Nat.{◌-◌, ◌≤◌}
 use native.Mathlib.Omega.{arith}
-use Rattle.lists.specs.TextLaws.{wrote_length}
 use Rattle.spec.specs.Steps.{shortest}
-use Rattle.buffers.specs.Buffers.{buffers}
-use Rattle.codes.specs.WordLaws.{Putting, putting_none, putting_on, putting_end}
-use Rattle.std.proofs.Common.{rules, ◌≡◌, List, [], ◌∷◌, ℕ, ◌+◌, ◌*◌, length, ◌<◌, ◌/◌, ◌%◌, Bool, true, false, nat_eq, nat_lt, ◌++◌, slice_index_or, slice_set, bit_and, bit_or, Fits, w8, w32, w64, Bor, MutBor}
-use Rattle.lists.specs.Texts.{Wrote}
-use Rattle.buffers.specs.Buffers.{places_of, rows_in}
-use Rattle.exports.specs.Exporting.{space, export_answer_in, bytes_written}
-use Rattle.engine.specs.Performs.{reply_in}
-use Rattle.codes.specs.Codes.{coded_of, no_meaning, listed_words, words_of}
-use Rattle.codes.specs.ExportCodes.{export_coded_of, export_words}
-use Rattle.codes.specs.Words.{head_words, Roomy, ExportRoomy}
+use Rattle.codes.specs.WordLaws.{putting_none, putting_on}
 use Rattle.codes.proofs.words.put_rows.Goals as goal
 
 pub loop-i-init : goal.loop-i-init

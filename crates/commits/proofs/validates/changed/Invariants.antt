@@ -1,3 +1,4 @@
+-- `validates::changed` meets its contract: the first row that differs, or none does.
 use Prim.Native.Nat.{◌-◌, ◌≤◌}
 use Rattle.sets.specs.Reads.{reads_of}
 use Rattle.commits.specs.Searching.{Searching}

@@ -1,3 +1,4 @@
+-- `validates::phantoms` meets its contract: the first leaf that is gone or hides a key, or none does.
 use Prim.Native.Nat.{◌-◌, ◌≤◌}
 use Rattle.spec.specs.Maps.{phantom_in}
 use Rattle.map.specs.Views.{lent, map_of}

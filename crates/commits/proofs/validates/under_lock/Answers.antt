@@ -1,29 +1,15 @@
-use Prim.Native.Nat.{◌-◌, ◌≤◌, zero-le}
 use native.Mathlib.Omega.{arith}
 use mathlib.Core.Path.{◌∙◌}
 use Rattle.sets.specs.Reads.{read_in, reads_of, no_read}
 use Rattle.sets.specs.SetLaws.{length_rows}
-use Rattle.commits.specs.Searching.{Searching, search_start, search_on, search_hit, search_end, any_keys}
-use Rattle.commits.specs.Validates.{locked_in, row_locked, row_locked_lem}
-use Rattle.std.proofs.Common.{rules, ◌≡◌, not, ◌<◌, ℕ, ◌+◌, ◌*◌, length, ◌/◌, ◌%◌, Bool, true, false, nat_eq, nat_lt, List, [], ◌∷◌, ◌++◌, slice_index_or, slice_set, bit_and, bit_or, Fits, w8, w32, w64, Bor, MutBor}
-use Rattle.spec.specs.Maps.{phantom_in}
-use Rattle.lists.specs.Rows.{any, keys}
-use Rattle.spec.specs.Payloads.{payload_in}
-use Rattle.spec.specs.Records.{limits, same_payload, same_record}
-use Rattle.spec.specs.Steps as model
-use Rattle.map.specs.Parts.{RecordsHeld, SlotsHeld}
-use Rattle.map.specs.Views.{lent, map_of}
-use Rattle.queries.specs.PhantomViews.{Holding, Owns}
-use Rattle.sets.specs.Reads.{record_in, ReadSetHeld}
-use Rattle.sets.specs.Leaves.{versions_of, LeafSetHeld}
-use Rattle.transactions.specs.Views.{logs, core_of}
-use Rattle.transactions.specs.Ready.{Ready, Refines}
-use Rattle.commits.specs.Validates.{changed_in, LoggedAll, Examinable, verdict_in, judged, validated_of, numbering}
-use Rattle.commits.specs.Answers.{validate_in}
+use Rattle.commits.specs.Searching.{search_on, search_hit, search_end, any_keys}
+use Rattle.commits.specs.Validates.{locked_in, row_locked_lem}
+use Rattle.std.proofs.Common.{true, false}
 use Rattle.commits.proofs.validates.under_lock.Goals as goal
 
 pub returns-then-locked_by_other : goal.returns-then-locked_by_other
-returns-then-locked_by_other c = let h = c.loop-i-test.true in
+returns-then-locked_by_other c =
+    let h = c.loop-i-test.true in
     let e = length_rows read_in c.args.reads.now c.args.k in
     search_hit no_read (omega arith)
     (row_locked_lem c.args.slots.now c.args.w c.args.k h c.read_at-l.ensures c.locked_by_other.ensures c.if-locked_by_other.true)
@@ -31,7 +17,8 @@ returns-then-locked_by_other c = let h = c.loop-i-test.true in
     ∙ any_keys (locked_in c.args.slots.now c.args.w) (reads_of c.args.reads.now c.args.k)
 
 pub loop-i-preserved : goal.loop-i-preserved
-loop-i-preserved c = let h = c.loop-i-test.true in
+loop-i-preserved c =
+    let h = c.loop-i-test.true in
     let e = length_rows read_in c.args.reads.now c.args.k in (
       omega arith,
       search_on no_read (omega arith)
@@ -40,7 +27,8 @@ loop-i-preserved c = let h = c.loop-i-test.true in
     )
 
 pub returns : goal.returns
-returns c = let h = c.loop-i-test.false in
+returns c =
+    let h = c.loop-i-test.false in
     let e = length_rows read_in c.args.reads.now c.args.k in
     search_end (omega arith) c.loop-i.invariant.1
     ∙ any_keys (locked_in c.args.slots.now c.args.w) (reads_of c.args.reads.now c.args.k)

@@ -1,3 +1,4 @@
+-- `validates::under_lock` meets its contract: the first row whose address is locked, or none is.
 use Prim.Native.Nat.{◌-◌, ◌≤◌}
 use Rattle.sets.specs.Reads.{reads_of}
 use Rattle.commits.specs.Searching.{Searching}

@@ -1,19 +1,6 @@
-use Prim.Native.Nat.{◌-◌, ◌≤◌}
 use native.Mathlib.Omega.{arith}
-use borrow.Author.Rules.{rules}
-use Rattle.lists.specs.TextLaws.{wrote_length}
-use Rattle.console.specs.Closings.{TriplesPut, triples_none, triples_on, triples_end}
-use Rattle.std.proofs.Common.{◌+◌, ◌*◌, length, ◌≡◌, ℕ, ◌<◌, ◌/◌, ◌%◌, Bool, true, false, nat_eq, nat_lt, List, [], ◌∷◌, ◌++◌, slice_index_or, slice_set, bit_and, bit_or, Fits, w8, w32, w64, Bor, MutBor}
-use Rattle.lists.specs.Texts.{Wrote}
-use Rattle.spec.specs.Records.{limits}
-use Rattle.map.specs.Parts.{RecordsHeld, SlotsHeld}
-use Rattle.map.specs.Views.{lent}
-use Rattle.queries.specs.Contents.{all_records}
-use Rattle.transactions.specs.Views.{logs, core_of}
-use Rattle.transactions.specs.Ready.{Ready}
-use Rattle.answers.specs.Output.{end_line}
-use Rattle.console.specs.Sessions.{session_of, Started}
-use Rattle.console.specs.Finishes.{longest_end, Finishes}
+use Rattle.console.specs.Closings.{triples_none, triples_on}
+use Rattle.std.proofs.Common.{true}
 use Rattle.console.proofs.closing.put_records.Goals as goal
 
 pub loop-i-init : goal.loop-i-init

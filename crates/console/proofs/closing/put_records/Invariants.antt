@@ -1,3 +1,4 @@
+-- `closing::put_records` meets its contract. The invariant: the triples of the first rows are written.
 use Prim.Native.Nat.{◌-◌, ◌≤◌}
 use Rattle.console.specs.Closings.{TriplesPut}
 use Rattle.console.proofs.closing.put_records.Given as goal

@@ -1,15 +1,8 @@
+-- `replies::put_listed_line` meets its contract: an answer, a field, the triples and a byte.
 use native.Mathlib.Omega.{arith}
-use borrow.Author.Rules.{rules}
 use Rattle.lists.specs.TextLaws.{wrote_join}
 use Rattle.answers.specs.OutputLaws.{field_most}
 use Rattle.console.specs.Replies.{triples_most}
-use Rattle.std.proofs.Common.{[], ◌∷◌, ◌++◌, ◌+◌, ◌*◌, ◌≤◌, length, take, ◌≡◌, ℕ, ◌-◌, ◌<◌, ◌/◌, ◌%◌, Bool, true, false, nat_eq, nat_lt, List, slice_index_or, slice_set, bit_and, bit_or, Fits, w8, w32, w64, Bor, MutBor}
-use Rattle.lists.specs.Texts.{Wrote}
-use Rattle.answers.specs.Output.{field, absent, triples_of}
-use Rattle.buffers.specs.Buffers.{buffers}
-use Rattle.engine.specs.Performs.{places_in}
-use Rattle.console.specs.Program.{places, longest_line}
-use Rattle.console.specs.Replies.{Replies}
 use Rattle.console.proofs.replies.put_listed_line.Goals as goal
 
 pub put_field-first-requires : goal.put_field-first-requires

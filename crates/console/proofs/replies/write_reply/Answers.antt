@@ -1,19 +1,12 @@
-use borrow.Author.Rules.{rules}
+-- `replies::write_reply` meets its contract, reply by reply.
 use Prim.Native.Nat.{◌≤◌}
 use native.Mathlib.Omega.{arith}
 use mathlib.Core.Path.{◌≡◌, subst}
 use lib.ListN.{length}
-use Rattle.lists.specs.TextLaws.{wrote_length}
 use Rattle.engine.specs.declared.steps.Reply.{Reply}
 use Rattle.engine.specs.Performs.{places_in}
 use Rattle.console.specs.Program.{places}
 use Rattle.console.specs.Replies.{wrote_granted, wrote_value, wrote_absent, wrote_listed, wrote_numbered, wrote_counted, wrote_refused}
-use Rattle.std.proofs.Common.{[], ◌∷◌, ◌++◌, ◌+◌, ◌*◌, take, ℕ, ◌-◌, ◌<◌, ◌/◌, ◌%◌, Bool, true, false, nat_eq, nat_lt, List, slice_index_or, slice_set, bit_and, bit_or, Fits, w8, w32, w64, Bor, MutBor}
-use Rattle.lists.specs.Texts.{Wrote}
-use Rattle.answers.specs.Output.{field, absent, triples_of}
-use Rattle.buffers.specs.Buffers.{buffers}
-use Rattle.console.specs.Program.{longest_line}
-use Rattle.console.specs.Replies.{Replies}
 use Rattle.console.proofs.replies.write_reply.Goals as goal
 
 pub returns-in-Granted : goal.returns-in-Granted

@@ -1,12 +1,7 @@
+-- `session::can_go_on` meets its contract, test by test.
 use native.Mathlib.Omega.{arith}
 use Rattle.console.specs.SessionLaws.{goes_stopped, goes_used, goes_full, goes_yes}
-use Rattle.std.proofs.Common.{rules, ◌≡◌, true, ℕ, ◌+◌, ◌≤◌, List, length, ◌-◌, ◌*◌, ◌<◌, ◌/◌, ◌%◌, Bool, false, nat_eq, nat_lt, [], ◌∷◌, ◌++◌, slice_index_or, slice_set, bit_and, bit_or, Fits, w8, w32, w64, Bor, MutBor}
-use Rattle.map.specs.Views.{lent}
-use Rattle.transactions.specs.Views.{logs, core_of}
-use Rattle.transactions.specs.Ready.{Ready}
-use Rattle.transactions.specs.Starts.{guarded_globals}
-use Rattle.console.specs.Program.{longest_line}
-use Rattle.console.specs.Sessions.{session_of, Started, can_go_on, EndsMalformed, RunsGuard, RunsLine, Runs, Begins, with_places}
+use Rattle.std.proofs.Common.{true, false}
 use Rattle.console.proofs.session.can_go_on.Goals as goal
 
 pub returns-then-stopped : goal.returns-then-stopped

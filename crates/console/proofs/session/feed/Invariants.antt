@@ -1,3 +1,4 @@
+-- `session::feed` meets its contract. The invariant: what was written and what is still due are what was due.
 use Rattle.map.specs.Views.{lent}
 use Rattle.transactions.specs.Views.{logs}
 use Rattle.console.specs.Sessions.{session_of, Feeds, left}

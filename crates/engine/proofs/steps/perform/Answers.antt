@@ -1,12 +1,6 @@
-use borrow.Author.Rules.{rules}
+-- `steps::perform` meets its contract: the promise of the function that it calls, under the operation's name.
 use mathlib.Core.Path.{refl}
-use Rattle.engine.specs.PerformLaws.{quiet_plain, quiet_merge, quiet_as, quiet_outcome, performs_quiet, performs_as}
-use Rattle.std.proofs.Common.{◌≡◌, ℕ, ◌+◌, ◌-◌, ◌*◌, ◌<◌, ◌≤◌, length, ◌/◌, ◌%◌, Bool, true, false, nat_eq, nat_lt, List, [], ◌∷◌, ◌++◌, slice_index_or, slice_set, bit_and, bit_or, Fits, w8, w32, w64, Bor, MutBor}
-use Rattle.map.specs.Views.{lent}
-use Rattle.transactions.specs.Views.{logs, core_of}
-use Rattle.transactions.specs.Ready.{Ready}
-use Rattle.buffers.specs.Buffers.{buffers}
-use Rattle.engine.specs.Performs.{plain_reply, read_reply, scan_reply, of_done, of_validate, of_merge, performed_of, Quiet, Performs}
+use Rattle.engine.specs.PerformLaws.{quiet_plain, performs_quiet}
 use Rattle.engine.proofs.steps.perform.Goals as goal
 
 pub returns-in-Begin : goal.returns-in-Begin

@@ -1,10 +1,6 @@
-use Prim.Native.Nat.{◌-◌, ◌≤◌}
 use native.Mathlib.Omega.{arith}
-use Rattle.buffers.specs.Buffers.{buffers}
-use Rattle.exports.specs.CopyLaws.{Gives, gives_none, gives_room, gives_on, gives_end}
-use borrow.Author.Rules.{rules}
-use Rattle.std.proofs.Common.{◌≡◌, ℕ, ◌+◌, ◌*◌, ◌<◌, length, ◌/◌, ◌%◌, Bool, true, false, nat_eq, nat_lt, List, [], ◌∷◌, ◌++◌, slice_index_or, slice_set, bit_and, bit_or, Fits, w8, w32, w64, Bor, MutBor}
-use Rattle.exports.specs.CopyLaws.{GiveRoom}
+use Rattle.exports.specs.CopyLaws.{gives_none, gives_room, gives_on}
+use Rattle.std.proofs.Common.{true}
 use Rattle.exports.proofs.copies.give.Goals as goal
 
 pub loop-i-init : goal.loop-i-init

@@ -1,3 +1,4 @@
+-- `copies::give` meets its contract. The invariant: the first i records are written.
 use Prim.Native.Nat.{◌-◌, ◌≤◌}
 use Rattle.buffers.specs.Buffers.{buffers}
 use Rattle.exports.specs.CopyLaws.{Gives}

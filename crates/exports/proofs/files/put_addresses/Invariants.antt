@@ -1,3 +1,4 @@
+-- `files::put_addresses` meets its contract. The invariant: the addresses of the first i records are put.
 use Prim.Native.Nat.{◌-◌, ◌≤◌}
 use Rattle.spec.specs.Widths.{address_size}
 use Rattle.spec.specs.Files.{address_bytes}

@@ -1,3 +1,4 @@
+-- `files::put_entries` meets its contract. The invariant: the entries of the first i records are put.
 use Prim.Native.Nat.{◌-◌, ◌≤◌}
 use Rattle.spec.specs.Files.{entry_size, entry_bytes}
 use Rattle.exports.specs.FilePuts.{Putting}

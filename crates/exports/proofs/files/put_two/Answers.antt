@@ -1,14 +1,6 @@
-use borrow.Author.Rules.{rules}
+-- `files::put_two` meets its contract: a byte and a byte.
 use Rattle.lists.specs.TextLaws.{wrote_join}
 use Rattle.exports.specs.FilePuts.{two_is, wrote_as}
-use Rattle.std.proofs.Common.{[], ◌∷◌, ◌+◌, ◌*◌, ◌<◌, ◌≤◌, length, ◌≡◌, ℕ, ◌-◌, ◌/◌, ◌%◌, Bool, true, false, nat_eq, nat_lt, List, ◌++◌, slice_index_or, slice_set, bit_and, bit_or, Fits, w8, w32, w64, Bor, MutBor}
-use Rattle.lists.specs.Texts.{Wrote}
-use Rattle.spec.specs.Widths.{address_size}
-use Rattle.spec.specs.Records.{limits}
-use Rattle.spec.specs.Files.{little_endian, address_bytes, entry_size, entry_bytes, file_of}
-use Rattle.contents.specs.Copies.{copied_in}
-use Rattle.contents.specs.RowLaws.{row_of}
-use Rattle.exports.specs.FilePuts.{one_entry, Putting}
 use Rattle.exports.proofs.files.put_two.Goals as goal
 
 pub returns : goal.returns

@@ -1,8 +1,6 @@
+-- `lengths::unfit` meets its contract.
 use Rattle.guards.specs.LengthLaws.{unfit_empty, unfit_long, unfit_end}
-use Rattle.std.proofs.Common.{rules, ◌≡◌, ℕ, ◌+◌, ◌-◌, ◌*◌, ◌<◌, ◌≤◌, length, ◌/◌, ◌%◌, Bool, true, false, nat_eq, nat_lt, List, [], ◌∷◌, ◌++◌, slice_index_or, slice_set, bit_and, bit_or, Fits, w8, w32, w64, Bor, MutBor}
-use Rattle.spec.specs.Guards.{unfit, any_put}
-use Rattle.sets.specs.Writes.{writes_of, WriteSetOrdered}
-use Rattle.guards.specs.Promises.{of_entry}
+use Rattle.std.proofs.Common.{rules, true, false}
 use Rattle.guards.proofs.lengths.unfit.Goals as goal
 
 pub returns-then-len-eq0 : goal.returns-then-len-eq0

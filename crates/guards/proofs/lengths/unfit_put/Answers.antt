@@ -1,11 +1,5 @@
-use Prim.Native.Nat.{◌-◌}
-use native.Mathlib.Omega.{arith}
-use Rattle.spec.specs.Guards.{unfit}
-use Rattle.guards.specs.PutLaws.{Testing, test_start, test_on, test_hit, test_end}
-use Rattle.std.proofs.Common.{rules, ◌≡◌, ℕ, ◌+◌, ◌*◌, ◌<◌, ◌≤◌, length, ◌/◌, ◌%◌, Bool, true, false, nat_eq, nat_lt, List, [], ◌∷◌, ◌++◌, slice_index_or, slice_set, bit_and, bit_or, Fits, w8, w32, w64, Bor, MutBor}
-use Rattle.spec.specs.Guards.{any_put}
-use Rattle.sets.specs.Writes.{writes_of, WriteSetOrdered}
-use Rattle.guards.specs.Promises.{of_entry}
+use Rattle.guards.specs.PutLaws.{test_start, test_on, test_hit, test_end}
+use Rattle.std.proofs.Common.{true, false}
 use Rattle.guards.proofs.lengths.unfit_put.Goals as goal
 
 pub loop-i-init : goal.loop-i-init

@@ -1,3 +1,4 @@
+-- `lengths::unfit_put` meets its contract: the first unfit put, or none is.
 use Prim.Native.Nat.{◌-◌}
 use Rattle.spec.specs.Guards.{unfit}
 use Rattle.guards.specs.PutLaws.{Testing}

@@ -1,3 +1,4 @@
+-- `overlaps::logged_overlap` meets its contract: the first logged row that overlaps the section, or none does.
 use Prim.Native.Nat.{◌-◌}
 use lib.ListN.{take, drop}
 use Rattle.sets.specs.Reads.{reads_of}

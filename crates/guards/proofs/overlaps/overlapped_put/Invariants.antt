@@ -1,3 +1,4 @@
+-- `overlaps::overlapped_put` meets its contract: the first put that something overlaps, or none is.
 use Prim.Native.Nat.{◌-◌}
 use Rattle.spec.specs.Guards.{overlapped}
 use Rattle.sets.specs.Reads.{reads_of}

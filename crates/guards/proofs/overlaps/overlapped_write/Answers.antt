@@ -1,18 +1,13 @@
+-- `overlaps::overlapped_write` meets its contract: by the scan that decides, then own puts, then what the scan logged.
 use mathlib.Core.Path.{sym, ◌∙◌}
 use Rattle.guards.specs.PutLaws.{of_put_lem, entry_put, entry_deletion}
 use Rattle.guards.specs.OverlapLaws.{overlapped_none, overlapped_own, overlapped_logged}
-use Rattle.std.proofs.Common.{rules, ◌≡◌, false, ◌-◌, ◌≤◌, min, ℕ, ◌+◌, ◌*◌, ◌<◌, length, ◌/◌, ◌%◌, Bool, true, nat_eq, nat_lt, List, [], ◌∷◌, ◌++◌, slice_index_or, slice_set, bit_and, bit_or, Fits, w8, w32, w64, Bor, MutBor}
-use Rattle.lists.specs.Rows.{any}
-use Rattle.spec.specs.Records.{limits}
-use Rattle.spec.specs.Guards.{stretch, unfit, overlapped, any_put}
-use Rattle.sets.specs.Reads.{observed_in, reads_of, ReadSetHeld}
-use Rattle.sets.specs.Leaves.{scanned_in, scans_of}
-use Rattle.sets.specs.Writes.{writes_of, WriteSetOrdered}
-use Rattle.guards.specs.Promises.{of_entry, overlaps_at, overlaps_logged, RowsHeld}
+use Rattle.std.proofs.Common.{false, true}
 use Rattle.guards.proofs.overlaps.overlapped_write.Goals as goal
 
 pub deciding-requires-clause-len_value : goal.deciding-requires-clause-len_value
-deciding-requires-clause-len_value c = let p = c.requires in
+deciding-requires-clause-len_value c =
+    let p = c.requires in
     sym (of_put_lem _ _ c.if-e-eq1.true) ∙ p.e_value
 
 pub returns-then-own_overlap : goal.returns-then-own_overlap

@@ -1,3 +1,4 @@
+-- `overlaps::own_overlap` meets its contract: the first own put that overlaps the section, or none does.
 use Prim.Native.Nat.{◌-◌}
 use Rattle.guards.specs.Promises.{overlaps_at}
 use Rattle.guards.specs.PutLaws.{Testing}

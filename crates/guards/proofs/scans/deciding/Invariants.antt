@@ -1,3 +1,4 @@
+-- `scans::deciding` meets its contract: the last row that remembers a scan that covers the section, or none does.
 use Rattle.guards.specs.ScanLaws.{Deciding}
 use Rattle.guards.proofs.scans.deciding.Given as goal
 

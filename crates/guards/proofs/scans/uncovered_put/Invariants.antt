@@ -1,3 +1,4 @@
+-- `scans::uncovered_put` meets its contract: the first put that no scan covers, or all are covered.
 use Prim.Native.Nat.{◌-◌}
 use Rattle.spec.specs.Guards.{uncovered}
 use Rattle.sets.specs.Leaves.{scans_of}

@@ -3,19 +3,17 @@ use native.Mathlib.Omega.{arith}
 use mathlib.Core.Path.{◌≡◌}
 use lib.ListN.{length, take}
 use lib.Seq.{length-take-le}
-use Rattle.index.specs.Nearing.{Nearing, near_on, near_two, near_end}
+use Rattle.index.specs.Nearing.{near_on, near_two, near_end}
 use Rattle.index.specs.LeafPlaces.{low_place, place_inside, probed_low, low_took}
 use Rattle.index.specs.LeafColumns.{lows_of}
 use Rattle.index.specs.LeafColumnLaws.{column_places}
-use Rattle.std.proofs.Common.{rules, ◌+◌, ◌≤◌, ℕ, ◌-◌, ◌*◌, ◌%◌, Bool, true, false, nat_eq, nat_lt, List, [], ◌∷◌, ◌++◌, slice_index_or, slice_set, bit_and, bit_or, Fits, w8, w32, w64, Bor, MutBor}
-use Rattle.lists.specs.Shifts.{moved}
-use Rattle.index.specs.Views.{record_places, leaf_places}
-use Rattle.index.specs.LeafPlaces.{Listed, AtLeaf, Tells}
-use Rattle.index.specs.LeafColumns.{leaf_at, leaf_put}
+use Rattle.std.proofs.Common.{true, false}
+use Rattle.index.specs.Views.{leaf_places}
 use Rattle.index.proofs.leaves.descend.Goals as goal
 
 pub loop-step-preserved : goal.loop-step-preserved
-loop-step-preserved c = let l = c.loop-step in
+loop-step-preserved c =
+    let l = c.loop-step in
     let ls = take c.args.m (lows_of c.args.leaves.now) in
     let e : length ls ≡ c.args.m = length-take-le c.args.m (lows_of c.args.leaves.now) (rw (column_places 0 c.args.leaves.now c.leaf_places.ensures) c.requires.listed.room) in
     let more = c.loop-step-test.true in
@@ -24,7 +22,8 @@ loop-step-preserved c = let l = c.loop-step in
     (low_took 0 ls c.args.key first (l.step / 2) (rw e c.requires.listed.some) c.requires.listed.rising (omega (arith, more))))
 
 pub returns-then-step-eq1 : goal.returns-then-step-eq1
-returns-then-step-eq1 c = let l = c.loop-step in
+returns-then-step-eq1 c =
+    let l = c.loop-step in
     let ls = take c.args.m (lows_of c.args.leaves.now) in
     let e : length ls ≡ c.args.m = length-take-le c.args.m (lows_of c.args.leaves.now) (rw (column_places 0 c.args.leaves.now c.leaf_places.ensures) c.requires.listed.room) in
     let p : low_place c.args.key ls < length ls = place_inside c.args.key ls (rw e c.requires.listed.some) in
@@ -35,7 +34,8 @@ returns-then-step-eq1 c = let l = c.loop-step in
     record { is = rw r q; inside = omega arith }
 
 pub returns : goal.returns
-returns c = let ls = take c.args.m (lows_of c.args.leaves.now) in
+returns c =
+    let ls = take c.args.m (lows_of c.args.leaves.now) in
     let e : length ls ≡ c.args.m = length-take-le c.args.m (lows_of c.args.leaves.now) (rw (column_places 0 c.args.leaves.now c.leaf_places.ensures) c.requires.listed.room) in
     let p : low_place c.args.key ls < length ls = place_inside c.args.key ls (rw e c.requires.listed.some) in
     let q : c.loop-step.base ≡ low_place c.args.key ls = near_end c.loop-step.invariant (omega (arith, c.loop-step-test.false, c.if-step-eq1.false)) in

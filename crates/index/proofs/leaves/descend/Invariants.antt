@@ -1,3 +1,4 @@
+-- `index::leaves::descend` meets its contract: two steps at a time, and one at the end.
 use lib.ListN.{take}
 use Rattle.index.specs.Nearing.{Nearing}
 use Rattle.index.specs.LeafPlaces.{low_place}

@@ -5,40 +5,39 @@ use lib.Seq.{length-take-le}
 use native.Mathlib.Omega.{arith}
 use Rattle.index.specs.Nearing.{least, fewer, few, Took, first_taken, near_start, near_least, near_fewer, near_few}
 use Rattle.index.specs.LeafPlaces.{low_place, place_inside, low_took}
-use Rattle.index.specs.Views.{record_places}
+use Rattle.index.specs.Views.{record_places, leaf_places}
 use Rattle.index.specs.LeafColumns.{lows_of}
 use Rattle.index.specs.LeafColumnLaws.{column_places}
-use Rattle.std.proofs.Common.{rules, ◌+◌, ◌/◌, ℕ, ◌-◌, ◌*◌, ◌%◌, Bool, true, false, nat_eq, nat_lt, List, [], ◌∷◌, ◌++◌, slice_index_or, slice_set, bit_and, bit_or, Fits, w8, w32, w64, Bor, MutBor}
-use Rattle.lists.specs.Shifts.{moved}
-use Rattle.index.specs.Views.{leaf_places}
-use Rattle.index.specs.Nearing.{Nearing}
-use Rattle.index.specs.LeafPlaces.{Listed, AtLeaf, Tells, probed_low}
-use Rattle.index.specs.LeafColumns.{leaf_at, leaf_put}
+use Rattle.std.proofs.Common.{true, false}
 use Rattle.index.proofs.leaves.find_leaf.Goals as goal
 
 pub descend-requires-clause-nearing : goal.descend-requires-clause-nearing
-descend-requires-clause-nearing c = let ls = take c.args.m (lows_of c.args.leaves.now) in
+descend-requires-clause-nearing c =
+    let ls = take c.args.m (lows_of c.args.leaves.now) in
     let e : length ls ≡ c.args.m = length-take-le c.args.m (lows_of c.args.leaves.now) (rw (column_places 0 c.args.leaves.now c.leaf_places.ensures) c.requires.room) in
     let p : low_place c.args.a ls < length ls = place_inside c.args.a ls (rw e c.requires.some) in
     let h : c.args.m ≤ least = c.if-m-le-LEAST.true in
     near_least (omega arith)
 
 pub descend-requires-then-m-le-FEWER-clause-nearing : goal.descend-requires-then-m-le-FEWER-clause-nearing
-descend-requires-then-m-le-FEWER-clause-nearing c = let ls = take c.args.m (lows_of c.args.leaves.now) in
+descend-requires-then-m-le-FEWER-clause-nearing c =
+    let ls = take c.args.m (lows_of c.args.leaves.now) in
     let e : length ls ≡ c.args.m = length-take-le c.args.m (lows_of c.args.leaves.now) (rw (column_places 0 c.args.leaves.now c.leaf_places.ensures) c.requires.room) in
     let p : low_place c.args.a ls < length ls = place_inside c.args.a ls (rw e c.requires.some) in
     let h : c.args.m ≤ fewer = c.if-m-le-FEWER.true in
     near_fewer (omega arith)
 
 pub descend-requires-then-m-le-FEW-clause-nearing : goal.descend-requires-then-m-le-FEW-clause-nearing
-descend-requires-then-m-le-FEW-clause-nearing c = let ls = take c.args.m (lows_of c.args.leaves.now) in
+descend-requires-then-m-le-FEW-clause-nearing c =
+    let ls = take c.args.m (lows_of c.args.leaves.now) in
     let e : length ls ≡ c.args.m = length-take-le c.args.m (lows_of c.args.leaves.now) (rw (column_places 0 c.args.leaves.now c.leaf_places.ensures) c.requires.room) in
     let p : low_place c.args.a ls < length ls = place_inside c.args.a ls (rw e c.requires.some) in
     let h : c.args.m ≤ few = c.if-m-le-FEW.true in
     near_few (omega arith)
 
 pub returns-then-last-gt0 : goal.returns-then-last-gt0
-returns-then-last-gt0 c = let g = c.probe-last in
+returns-then-last-gt0 c =
+    let g = c.probe-last in
     let ls = take c.args.m (lows_of c.args.leaves.now) in
     let e : length ls ≡ c.args.m = length-take-le c.args.m (lows_of c.args.leaves.now) (rw (column_places 0 c.args.leaves.now c.leaf_places.ensures) c.requires.room) in
     let p : low_place c.args.a ls < length ls = place_inside c.args.a ls (rw e c.requires.some) in
@@ -48,7 +47,8 @@ returns-then-last-gt0 c = let g = c.probe-last in
     record { is = q; inside = omega arith }
 
 pub descend-requires-2-clause-nearing : goal.descend-requires-2-clause-nearing
-descend-requires-2-clause-nearing c = let g = c.probe-last in
+descend-requires-2-clause-nearing c =
+    let g = c.probe-last in
     let ls = take c.args.m (lows_of c.args.leaves.now) in
     let e : length ls ≡ c.args.m = length-take-le c.args.m (lows_of c.args.leaves.now) (rw (column_places 0 c.args.leaves.now c.leaf_places.ensures) c.requires.room) in
     let t : Took (low_place c.args.a ls) 0 record_places g.result = rw g.ensures (low_took 0 ls c.args.a 0 record_places (rw e c.requires.some) c.requires.rising (omega arith)) in

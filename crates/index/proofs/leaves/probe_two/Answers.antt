@@ -1,3 +1,4 @@
+-- `index::leaves::probe_two` meets its contract: where the first step leads, the second was tried.
 use Prim.Native.Nat.{ℕ, ◌/◌, ◌<◌, ◌≤◌}
 use native.Mathlib.Omega.{arith}
 use mathlib.Core.Path.{subst}
@@ -5,20 +6,17 @@ use lib.ListN.{take}
 use Rattle.index.specs.Nearing.{two_high, two_low}
 use Rattle.index.specs.LeafPlaces.{probed_low, low_led}
 use Rattle.index.specs.LeafColumns.{lows_of}
-use Rattle.std.proofs.Common.{rules, ◌≡◌, ◌+◌, length, ◌-◌, ◌*◌, ◌%◌, Bool, true, false, nat_eq, nat_lt, List, [], ◌∷◌, ◌++◌, slice_index_or, slice_set, bit_and, bit_or, Fits, w8, w32, w64, Bor, MutBor}
-use Rattle.lists.specs.Shifts.{moved}
-use Rattle.index.specs.Views.{record_places, leaf_places}
-use Rattle.index.specs.Nearing.{Nearing}
-use Rattle.index.specs.LeafPlaces.{Listed, AtLeaf, Tells, low_place}
-use Rattle.index.specs.LeafColumns.{leaf_at, leaf_put}
+use Rattle.std.proofs.Common.{true, false}
 use Rattle.index.proofs.leaves.probe_two.Goals as goal
 
 pub returns-then-base-middle : goal.returns-then-base-middle
-returns-then-base-middle c = let rs = take c.args.m (lows_of c.args.leaves.now) in
+returns-then-base-middle c =
+    let rs = take c.args.m (lows_of c.args.leaves.now) in
     two_high c.args.base c.args.step (probed_low rs c.args.key c.args.base c.args.step) (λ (x : ℕ). probed_low rs c.args.key x (c.args.step / 2))
     (low_led rs c.args.key c.args.base c.args.step) (subst (λ (x : ℕ). c.args.base < x) c.probe-middle.ensures c.if-base-middle.true) c.probe-high.ensures
 
 pub returns : goal.returns
-returns c = let rs = take c.args.m (lows_of c.args.leaves.now) in
+returns c =
+    let rs = take c.args.m (lows_of c.args.leaves.now) in
     two_low c.args.base c.args.step (probed_low rs c.args.key c.args.base c.args.step) (λ (x : ℕ). probed_low rs c.args.key x (c.args.step / 2)) (omega (arith, c.requires.lt_step.0))
     (low_led rs c.args.key c.args.base c.args.step) (subst (λ (x : ℕ). x ≤ c.args.base) c.probe-middle.ensures c.if-base-middle.false) c.probe-low.ensures

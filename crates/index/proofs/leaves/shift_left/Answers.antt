@@ -1,13 +1,8 @@
-use Prim.Native.Nat.{◌-◌}
 use mathlib.Core.Path.{refl}
 use mathlib.Core.List.{[]}
-use Rattle.lists.specs.Shifts.{Lowering, lowering_start, lowering_on, lowering_end}
-use Rattle.std.proofs.Common.{rules, ◌≡◌, ◌+◌, ◌/◌, ◌<◌, ◌≤◌, length, take, ℕ, ◌*◌, ◌%◌, Bool, true, false, nat_eq, nat_lt, List, ◌∷◌, ◌++◌, slice_index_or, slice_set, bit_and, bit_or, Fits, w8, w32, w64, Bor, MutBor}
-use Rattle.lists.specs.Shifts.{moved}
-use Rattle.index.specs.Views.{record_places, leaf_places}
-use Rattle.index.specs.Nearing.{Nearing}
-use Rattle.index.specs.LeafPlaces.{Listed, AtLeaf, Tells, low_place, probed_low}
-use Rattle.index.specs.LeafColumns.{lows_of, leaf_at, leaf_put}
+use Rattle.lists.specs.Shifts.{lowering_start, lowering_on}
+use Rattle.std.proofs.Common.{true}
+use Rattle.index.specs.Views.{leaf_places}
 use Rattle.index.proofs.leaves.shift_left.Goals as goal
 
 pub loop-i-init : goal.loop-i-init

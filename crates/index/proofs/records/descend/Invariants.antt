@@ -1,3 +1,4 @@
+-- `index::records::descend` meets its contract: two steps at a time, and one at the end.
 use Rattle.lists.specs.Places.{place}
 use Rattle.index.specs.Views.{records_of}
 use Rattle.index.specs.Nearing.{Nearing}

@@ -1,31 +1,27 @@
-use mathlib.Core.Path.{refl}
-use Rattle.index.specs.Views.{row_of}
+use Rattle.index.specs.Views.{row_of, record_places}
 use Rattle.index.specs.RecordLaws.{present_at, absent_at, absent_past, drop_here, drop_none, behind_removed}
-use Rattle.std.proofs.Common.{rules, ◌≡◌, ◌+◌, ◌/◌, ◌<◌, ◌≤◌, ◌∷◌, ◌++◌, length, take, drop, ℕ, ◌-◌, ◌*◌, ◌%◌, Bool, true, false, nat_eq, nat_lt, List, [], slice_index_or, slice_set, bit_and, bit_or, Fits, w8, w32, w64, Bor, MutBor}
-use Rattle.std.proofs.Math.Option.{none, some}
-use Rattle.lists.specs.Rows.{look, assign}
-use Rattle.lists.specs.Places.{place}
-use Rattle.index.specs.Views.{record_places, RecordsSorted, RecordsAre, records_of, record_from, found_of}
-use Rattle.index.specs.Nearing.{Nearing}
-use Rattle.index.specs.RecordPlaces.{AtPlace}
-use Rattle.index.specs.Searches.{probed}
+use Rattle.std.proofs.Common.{true, false}
 use Rattle.index.proofs.records.drop.Goals as goal
 
 pub returns-then-n-p-clause-records_are : goal.returns-then-n-p-clause-records_are
-returns-then-n-p-clause-records_are c = let p = c.locate-p in drop_none c.args.rows.now c.args.n c.args.a p.result c.requires p.ensures
+returns-then-n-p-clause-records_are c =
+    let p = c.locate-p in drop_none c.args.rows.now c.args.n c.args.a p.result c.requires p.ensures
     (absent_past c.args.rows.now c.args.n c.args.a p.result c.requires.room p.ensures c.if-n-p.true)
 
 pub returns-then-there-a-clause-records_are : goal.returns-then-there-a-clause-records_are
-returns-then-there-a-clause-records_are c = let p = c.locate-p in
+returns-then-there-a-clause-records_are c =
+    let p = c.locate-p in
     let g = c.get-there in drop_here c.args.rows.now c.args.n c.args.a p.result c.requires p.ensures c.lower.new.rows c.record_places.ensures
     (present_at c.args.rows.now c.args.n c.args.a p.result c.requires.room p.ensures (row_of g.result) c.if-n-p.false g.ensures c.if-there-a.true)
     c.if-n-p.false c.lower.ensures
 
 pub returns-then-there-a-clause-rows_unchanged : goal.returns-then-there-a-clause-rows_unchanged
-returns-then-there-a-clause-rows_unchanged c = let p = c.locate-p in
+returns-then-there-a-clause-rows_unchanged c =
+    let p = c.locate-p in
     let g = c.get-there in behind_removed c.args.rows.now c.lower.new.rows c.record_places.ensures c.args.n p.result c.if-n-p.false c.requires.room c.lower.ensures
 
 pub returns-clause-records_are : goal.returns-clause-records_are
-returns-clause-records_are c = let p = c.locate-p in
+returns-clause-records_are c =
+    let p = c.locate-p in
     let g = c.get-there in drop_none c.args.rows.now c.args.n c.args.a p.result c.requires p.ensures
     (absent_at c.args.rows.now c.args.n c.args.a p.result c.requires.room p.ensures (row_of g.result) c.if-n-p.false g.ensures c.if-there-a.false)

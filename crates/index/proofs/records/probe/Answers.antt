@@ -1,17 +1,11 @@
 use Rattle.index.specs.Views.{row_of}
 use Rattle.index.specs.Searches.{step_taken, step_passed, step_short}
-use Rattle.std.proofs.Common.{rules, ◌≡◌, ◌+◌, ◌/◌, ◌<◌, ◌≤◌, ◌∷◌, ◌++◌, length, take, drop, ℕ, ◌-◌, ◌*◌, ◌%◌, Bool, true, false, nat_eq, nat_lt, List, [], slice_index_or, slice_set, bit_and, bit_or, Fits, w8, w32, w64, Bor, MutBor}
-use Rattle.std.proofs.Math.Option.{none, some}
-use Rattle.lists.specs.Rows.{look, assign}
-use Rattle.lists.specs.Places.{place}
-use Rattle.index.specs.Views.{record_places, RecordsSorted, RecordsAre, records_of, record_from, found_of}
-use Rattle.index.specs.Nearing.{Nearing}
-use Rattle.index.specs.RecordPlaces.{AtPlace}
-use Rattle.index.specs.Searches.{probed}
+use Rattle.std.proofs.Common.{true, false}
 use Rattle.index.proofs.records.probe.Goals as goal
 
 pub returns-then-end-n : goal.returns-then-end-n
-returns-then-end-n c = let g = c.get-r in
+returns-then-end-n c =
+    let g = c.get-r in
     step_taken c.args.rows.now c.args.n c.args.key c.args.base c.args.step c.requires.n_le_record_places c.requires.step_nonzero.0
     (row_of g.result) c.if-end-n.true g.ensures c.if-r-key.true
 
@@ -19,6 +13,7 @@ pub returns-else-end-n : goal.returns-else-end-n
 returns-else-end-n c = step_short c.args.rows.now c.args.n c.args.key c.args.base c.args.step c.requires.n_le_record_places c.requires.step_nonzero.0 c.if-end-n.false
 
 pub returns-else-r-key : goal.returns-else-r-key
-returns-else-r-key c = let g = c.get-r in
+returns-else-r-key c =
+    let g = c.get-r in
     step_passed c.args.rows.now c.args.n c.args.key c.args.base c.args.step c.requires.n_le_record_places c.requires.step_nonzero.0
     (row_of g.result) g.ensures c.if-r-key.false

@@ -1,34 +1,31 @@
-use Rattle.index.specs.Views.{row_of, record_from}
-use Rattle.index.specs.RecordLaws.{present_at, absent_at, absent_past, put_over, put_room, put_new, behind_written}
-use Rattle.std.proofs.Common.{rules, ◌≡◌, ◌+◌, ◌/◌, ◌<◌, ◌≤◌, ◌∷◌, ◌++◌, length, take, drop, ℕ, ◌-◌, ◌*◌, ◌%◌, Bool, true, false, nat_eq, nat_lt, List, [], slice_index_or, slice_set, bit_and, bit_or, Fits, w8, w32, w64, Bor, MutBor}
-use Rattle.std.proofs.Math.Option.{none, some}
-use Rattle.lists.specs.Rows.{look, assign}
-use Rattle.lists.specs.Places.{place}
-use Rattle.index.specs.Views.{record_places, RecordsSorted, RecordsAre, records_of, found_of}
-use Rattle.index.specs.Nearing.{Nearing}
-use Rattle.index.specs.RecordPlaces.{AtPlace}
-use Rattle.index.specs.Searches.{probed}
+use Rattle.index.specs.Views.{row_of, record_from, record_places}
+use Rattle.index.specs.RecordLaws.{present_at, absent_at, absent_past, put_over, put_room, put_new}
+use Rattle.std.proofs.Common.{true, false}
 use Rattle.index.proofs.records.put.Goals as goal
 
 pub insert-requires : goal.insert-requires
-insert-requires c = let p = c.locate-p in (
-  p.ensures.within,
-  put_room c.args.rows.now c.args.n c.args.a p.result c.requires.records_sorted p.ensures (record_from c.args.payload c.args.commit)
-      (absent_past c.args.rows.now c.args.n c.args.a p.result c.requires.records_sorted.room p.ensures c.if-n-p.true) c.requires.n_len_bound,
-)
+insert-requires c =
+    let p = c.locate-p in (
+      p.ensures.within,
+      put_room c.args.rows.now c.args.n c.args.a p.result c.requires.records_sorted p.ensures (record_from c.args.payload c.args.commit)
+          (absent_past c.args.rows.now c.args.n c.args.a p.result c.requires.records_sorted.room p.ensures c.if-n-p.true) c.requires.n_len_bound,
+    )
 
 pub returns-then-n-p-clause-records_are : goal.returns-then-n-p-clause-records_are
-returns-then-n-p-clause-records_are c = let p = c.locate-p in put_new c.args.rows.now c.args.n c.args.a p.result c.requires.records_sorted p.ensures c.insert.new.rows c.insert.result (record_from c.args.payload c.args.commit)
+returns-then-n-p-clause-records_are c =
+    let p = c.locate-p in put_new c.args.rows.now c.args.n c.args.a p.result c.requires.records_sorted p.ensures c.insert.new.rows c.insert.result (record_from c.args.payload c.args.commit)
     (absent_past c.args.rows.now c.args.n c.args.a p.result c.requires.records_sorted.room p.ensures c.if-n-p.true) c.requires.n_len_bound c.insert.ensures.value
 
 pub returns-then-there-a-clause-records_are : goal.returns-then-there-a-clause-records_are
-returns-then-there-a-clause-records_are c = let p = c.locate-p in
+returns-then-there-a-clause-records_are c =
+    let p = c.locate-p in
     let g = c.get-there in put_over c.args.rows.now c.args.n c.args.a p.result c.requires.records_sorted p.ensures c.store.new.rows c.args.payload c.args.commit c.record_places.ensures
     (present_at c.args.rows.now c.args.n c.args.a p.result c.requires.records_sorted.room p.ensures (row_of g.result) c.if-n-p.false g.ensures c.if-there-a.true)
     c.if-n-p.false c.store.ensures
 
 pub insert-requires-2 : goal.insert-requires-2
-insert-requires-2 c = let p = c.locate-p in
+insert-requires-2 c =
+    let p = c.locate-p in
     let g = c.get-there in (
       p.ensures.within,
       put_room c.args.rows.now c.args.n c.args.a p.result c.requires.records_sorted p.ensures (record_from c.args.payload c.args.commit)
@@ -36,6 +33,7 @@ insert-requires-2 c = let p = c.locate-p in
     )
 
 pub returns-clause-records_are : goal.returns-clause-records_are
-returns-clause-records_are c = let p = c.locate-p in
+returns-clause-records_are c =
+    let p = c.locate-p in
     let g = c.get-there in put_new c.args.rows.now c.args.n c.args.a p.result c.requires.records_sorted p.ensures c.insert-2.new.rows c.insert-2.result (record_from c.args.payload c.args.commit)
     (absent_at c.args.rows.now c.args.n c.args.a p.result c.requires.records_sorted.room p.ensures (row_of g.result) c.if-n-p.false g.ensures c.if-there-a.false) c.requires.n_len_bound c.insert-2.ensures.value

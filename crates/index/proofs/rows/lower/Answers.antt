@@ -1,10 +1,8 @@
-use Prim.Native.Nat.{◌-◌}
 use mathlib.Core.Path.{refl}
 use mathlib.Core.List.{[]}
-use Rattle.lists.specs.Shifts.{Lowering, lowering_start, lowering_on, lowering_end}
-use Rattle.std.proofs.Common.{rules, ◌≡◌, ◌+◌, ◌<◌, ◌≤◌, length, ℕ, ◌*◌, ◌/◌, ◌%◌, Bool, true, false, nat_eq, nat_lt, List, ◌∷◌, ◌++◌, slice_index_or, slice_set, bit_and, bit_or, Fits, w8, w32, w64, Bor, MutBor}
-use Rattle.lists.specs.Shifts.{moved}
-use Rattle.index.specs.Views.{record_places, row_of, row_at, stored}
+use Rattle.lists.specs.Shifts.{lowering_start, lowering_on}
+use Rattle.std.proofs.Common.{true}
+use Rattle.index.specs.Views.{record_places}
 use Rattle.index.proofs.rows.lower.Goals as goal
 
 pub loop-i-init : goal.loop-i-init

@@ -5,23 +5,18 @@ use Rattle.lists.specs.Shifts.{over}
 use Rattle.index.specs.declared.leaves.LeafWords.{LeafWords}
 use Rattle.index.specs.LeafColumns.{LeafRows, leaf_at, leaf_put}
 use Rattle.index.specs.SettleRows.{made_leaf, run_row, made_rows}
-use Rattle.std.proofs.Common.{rules, ◌≡◌, ◌*◌, ◌^◌, ◌<◌, ◌≤◌, ℕ, length, ◌/◌, ◌%◌, Bool, true, false, nat_eq, nat_lt, List, [], ◌∷◌, ◌++◌, slice_index_or, slice_set, bit_and, bit_or, Fits, w8, w32, w64, Bor, MutBor}
-use Rattle.spec.specs.Records.{standard}
-use Rattle.cuts.specs.Making.{most_runs}
-use Rattle.index.specs.Views.{record_places, leaf_places, keys_between}
-use Rattle.index.specs.Settles.{Settling}
-use Rattle.index.specs.SettleRows.{made_row, MadeRuns, kept_rows, joined_rows, cut_rows, SettledRows}
 use Rattle.index.proofs.settles.cut.Goals as goal
 
 pub returns : goal.returns
-returns c = let f = c.fill in (
-  refl,
-  refl,
-  c.put_leaf.ensures
-      ∙ ap (leaf_put f.new.leaves c.args.p) c.made_leaf-l.ensures
-      ∙ ap (λ (l : LeafWords). leaf_put f.new.leaves c.args.p (made_leaf l.low (c.args.v + 1))) c.leaf_at-own.ensures
-      ∙ ap (λ (ls : LeafRows). leaf_put ls c.args.p (made_leaf (leaf_at c.args.leaves.now c.args.p).low (c.args.v + 1)))
-      (f.ensures
-      ∙ ap (over c.shift_right.new.leaves (c.args.p + 1)) (made_rows c.make_all-made.ensures)
-      ∙ ap (λ (ls : LeafRows). over ls (c.args.p + 1) (tab (run_row c.args.rows.now c.args.i (c.args.v + 1)) (c.args.t - 1))) c.shift_right.ensures),
-)
+returns c =
+    let f = c.fill in (
+      refl,
+      refl,
+      c.put_leaf.ensures
+          ∙ ap (leaf_put f.new.leaves c.args.p) c.made_leaf-l.ensures
+          ∙ ap (λ (l : LeafWords). leaf_put f.new.leaves c.args.p (made_leaf l.low (c.args.v + 1))) c.leaf_at-own.ensures
+          ∙ ap (λ (ls : LeafRows). leaf_put ls c.args.p (made_leaf (leaf_at c.args.leaves.now c.args.p).low (c.args.v + 1)))
+          (f.ensures
+          ∙ ap (over c.shift_right.new.leaves (c.args.p + 1)) (made_rows c.make_all-made.ensures)
+          ∙ ap (λ (ls : LeafRows). over ls (c.args.p + 1) (tab (run_row c.args.rows.now c.args.i (c.args.v + 1)) (c.args.t - 1))) c.shift_right.ensures),
+    )

@@ -4,29 +4,26 @@ use mathlib.Core.Logic.{inl, inr}
 use lib.ListN.{length}
 use native.Mathlib.Omega.{arith}
 use Rattle.spec.specs.Records.{standard}
-use Rattle.index.specs.Views.{keys_between}
+use Rattle.index.specs.Views.{keys_between, leaf_places}
 use Rattle.index.specs.ViewLaws.{length_between}
 use Rattle.index.specs.Settles.{settling_next, settling_cut}
 use Rattle.index.specs.SettleRows.{rows_kept, rows_joined, rows_cut}
-use Rattle.std.proofs.Common.{rules, ◌+◌, ◌*◌, ◌^◌, ◌<◌, ◌≤◌, ℕ, ◌%◌, Bool, true, false, nat_eq, nat_lt, List, [], ◌∷◌, ◌++◌, slice_index_or, slice_set, bit_and, bit_or, Fits, w8, w32, w64, Bor, MutBor}
-use Rattle.lists.specs.Tabulation.{tab}
-use Rattle.lists.specs.Shifts.{over}
-use Rattle.cuts.specs.Making.{most_runs}
-use Rattle.index.specs.Views.{record_places, leaf_places}
-use Rattle.index.specs.Settles.{Settling}
-use Rattle.index.specs.SettleRows.{made_leaf, made_row, MadeRuns, kept_rows, joined_rows, cut_rows, SettledRows}
+use Rattle.std.proofs.Common.{◌≤◌, true, false}
 use Rattle.index.proofs.settles.settle.Goals as goal
 
 pub keep-requires : goal.keep-requires
-keep-requires c = let n = settling_next c.requires in
+keep-requires c =
+    let n = settling_next c.requires in
     omega (arith, c.requires.leaf_in_lem, c.requires.leaves_in_lem)
 
 pub join-requires : goal.join-requires
-join-requires c = let n = settling_next c.requires in
+join-requires c =
+    let n = settling_next c.requires in
     omega (arith, c.if-p-eq0.false, c.requires.leaf_in_lem, c.requires.leaves_in_lem)
 
 pub keep-requires-in-1-to-16 : goal.keep-requires-in-1-to-16
-keep-requires-in-1-to-16 c = let n = settling_next c.requires in
+keep-requires-in-1-to-16 c =
+    let n = settling_next c.requires in
     omega (arith, c.requires.leaf_in_lem, c.requires.leaves_in_lem)
 
 pub cut-requires : goal.cut-requires
@@ -36,14 +33,16 @@ cut-requires c =
     omega (arith, c.requires, f)
 
 pub returns-then-p-eq0 : goal.returns-then-p-eq0
-returns-then-p-eq0 c = let k = keys_between c.args.rows.now c.args.i c.args.j in
+returns-then-p-eq0 c =
+    let k = keys_between c.args.rows.now c.args.i c.args.j in
     let e : length k ≡ c.args.j - c.args.i = length_between c.args.rows.now c.args.i c.args.j c.requires.from_to c.requires.rows_in_lem in
     let z : c.args.j - c.args.i ≡ 0 = c.in-0.is in
     rw (c.keep.ensures.0, c.keep.ensures.1)
     (rows_kept c.args.leaves.now c.args.m c.args.p c.args.v k c.leaf_places.ensures c.requires.leaves_in_lem c.requires.leaf_in_lem c.keep.new.leaves (inl c.if-p-eq0.true) (omega arith) c.keep.ensures.2)
 
 pub returns-else-p-eq0 : goal.returns-else-p-eq0
-returns-else-p-eq0 c = let k = keys_between c.args.rows.now c.args.i c.args.j in
+returns-else-p-eq0 c =
+    let k = keys_between c.args.rows.now c.args.i c.args.j in
     let e : length k ≡ c.args.j - c.args.i = length_between c.args.rows.now c.args.i c.args.j c.requires.from_to c.requires.rows_in_lem in
     let z : c.args.j - c.args.i ≡ 0 = c.in-0.is in
     let n = c.if-p-eq0.false in

@@ -1,3 +1,4 @@
+-- `map::entries::adjust` meets its contract: one leaf's numbers change.
 use Prim.Native.Nat.{◌+◌, ◌-◌}
 use native.Mathlib.Omega.{arith}
 use mathlib.Core.Path.{◌≡◌, sym, ap, ◌∙◌}
@@ -6,40 +7,29 @@ use Rattle.index.specs.declared.leaves.LeafWords.{LeafWords}
 use Rattle.index.specs.LeafColumns.{hidden_of, pending_of, leaf_put}
 use Rattle.index.specs.LeafColumnLaws.{column_get_or}
 use Rattle.map.specs.EntryLaws.{adjusts}
-use Rattle.index.proofs.leaves.leaf_at.Reads as leaf-at-reads
-use Rattle.index.proofs.leaves.put_leaf.Reads as put-leaf-reads
-use Rattle.std.proofs.Common.{rules, ℕ, ◌*◌, ◌<◌, ◌≤◌, length, ◌/◌, ◌%◌, Bool, true, false, nat_eq, nat_lt, List, [], ◌∷◌, ◌++◌, slice_index_or, slice_set, bit_and, bit_or, Fits, w8, w32, w64, Bor, MutBor}
-use Rattle.spec.specs.Widths.{address_size}
-use Rattle.spec.specs.Slots.{content_of, enter}
-use Rattle.spec.specs.Maps.{fresh_map}
-use Rattle.laws.specs.SlotLaws.{EntryRoom}
-use Rattle.indexlet.specs.Words.{content_in, slots_of}
-use Rattle.indexlet.specs.Promises as indexlet
-use Rattle.index.specs.Views as index
-use Rattle.index.specs.LeafPlaces.{AtLeaf}
-use Rattle.index.specs.LeafColumns.{lows_of}
-use Rattle.map.specs.Views.{lent}
-use Rattle.map.specs.MapHeld.{Tables}
-use Rattle.map.specs.Entries.{MapBecomes, ContentSet, Adjustable, Adjusts, Terms, hidden_term, outside_term, still_as}
 use Rattle.map.proofs.entries.adjust.Goals as goal
 
 pub overflow_add-changed : goal.overflow_add-changed
-overflow_add-changed c = let e : c.leaf_at-l.result.hidden ≡ get_or (hidden_of c.args.leaves.now) c.args.t.at 0
+overflow_add-changed c =
+    let e : c.leaf_at-l.result.hidden ≡ get_or (hidden_of c.args.leaves.now) c.args.t.at 0
     = ap (λ (l : LeafWords). l.hidden) c.leaf_at-l.ensures ∙ sym (column_get_or 2 c.args.leaves.now c.args.t.at) in
     omega (arith, e, c.requires.adjustable_2.fits)
 
 pub overflow_sub-changed : goal.overflow_sub-changed
-overflow_sub-changed c = let e : c.leaf_at-l.result.hidden ≡ get_or (hidden_of c.args.leaves.now) c.args.t.at 0
+overflow_sub-changed c =
+    let e : c.leaf_at-l.result.hidden ≡ get_or (hidden_of c.args.leaves.now) c.args.t.at 0
     = ap (λ (l : LeafWords). l.hidden) c.leaf_at-l.ensures ∙ sym (column_get_or 2 c.args.leaves.now c.args.t.at) in
     omega (arith, e, c.requires.adjustable_2.enough)
 
 pub overflow_add-changed-2 : goal.overflow_add-changed-2
-overflow_add-changed-2 c = let e : c.leaf_at-l.result.pending ≡ get_or (pending_of c.args.leaves.now) c.args.t.at 0
+overflow_add-changed-2 c =
+    let e : c.leaf_at-l.result.pending ≡ get_or (pending_of c.args.leaves.now) c.args.t.at 0
     = ap (λ (l : LeafWords). l.pending) c.leaf_at-l.ensures ∙ sym (column_get_or 3 c.args.leaves.now c.args.t.at) in
     omega (arith, e, c.requires.adjustable.fits)
 
 pub overflow_sub-changed-2 : goal.overflow_sub-changed-2
-overflow_sub-changed-2 c = let e : c.leaf_at-l.result.pending ≡ get_or (pending_of c.args.leaves.now) c.args.t.at 0
+overflow_sub-changed-2 c =
+    let e : c.leaf_at-l.result.pending ≡ get_or (pending_of c.args.leaves.now) c.args.t.at 0
     = ap (λ (l : LeafWords). l.pending) c.leaf_at-l.ensures ∙ sym (column_get_or 3 c.args.leaves.now c.args.t.at) in
     omega (arith, e, c.requires.adjustable.enough)
 

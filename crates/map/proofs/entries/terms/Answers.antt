@@ -1,25 +1,15 @@
+-- `map::entries::terms` meets its contract: what the callees answer, of what the indexlet says and of c.
 use mathlib.Core.Path.{ap, sym, ◌∙◌}
 use mathlib.Core.Bool.{Bool}
 use Rattle.indexlet.specs.Words.{content_in}
 use Rattle.map.specs.Entries.{hidden_term, outside_term}
 use Rattle.map.specs.EntryLaws.{hide_still, hide_moved, hide_most, balance_still, balance_moved, term_most}
-use Rattle.std.proofs.Common.{rules, ◌≡◌, ℕ, ◌+◌, ◌-◌, ◌*◌, ◌<◌, ◌≤◌, length, ◌/◌, ◌%◌, true, false, nat_eq, nat_lt, List, [], ◌∷◌, ◌++◌, slice_index_or, slice_set, bit_and, bit_or, Fits, w8, w32, w64, Bor, MutBor}
-use Rattle.spec.specs.Widths.{address_size}
-use Rattle.spec.specs.Slots.{content_of, enter}
-use Rattle.spec.specs.Maps.{fresh_map}
-use Rattle.laws.specs.SlotLaws.{EntryRoom}
-use Rattle.indexlet.specs.Words.{slots_of}
-use Rattle.indexlet.specs.Promises as indexlet
-use Rattle.index.specs.Views as index
-use Rattle.index.specs.LeafPlaces.{AtLeaf}
-use Rattle.index.specs.LeafColumns.{lows_of, hidden_of, pending_of}
-use Rattle.map.specs.Views.{lent}
-use Rattle.map.specs.MapHeld.{Tables}
-use Rattle.map.specs.Entries.{MapBecomes, ContentSet, Adjustable, Adjusts, Terms, still_as}
+use Rattle.std.proofs.Common.{rules, true}
 use Rattle.map.proofs.entries.terms.Goals as goal
 
 pub returns-then-still : goal.returns-then-still
-returns-then-still c = let like = sym c.still.ensures ∙ c.if-still.true in
+returns-then-still c =
+    let like = sym c.still.ensures ∙ c.if-still.true in
     record {
       place = c.requires.at_leaf;
       pend = c.waits-pend.ensures;
@@ -31,7 +21,8 @@ returns-then-still c = let like = sym c.still.ensures ∙ c.if-still.true in
     }
 
 pub returns : goal.returns
-returns c = let n = c.lacks-absent.ensures in
+returns c =
+    let n = c.lacks-absent.ensures in
     let hide = c.hidden_term.ensures ∙ ap (λ (b : Bool). hidden_term b (content_in c.args.c)) n in
     let unhide = c.hidden_term-2.ensures ∙ ap (λ (b : Bool). hidden_term b (content_in c.args.old)) n in
     let join = c.outside_term.ensures ∙ ap (λ (b : Bool). outside_term b (content_in c.args.c)) n in

@@ -1,3 +1,4 @@
+-- `map::locks::held` meets its contract: the rows that are left say what all rows say.
 use Prim.Native.Nat.{◌-◌, ◌≤◌}
 use mathlib.Core.Path.{◌≡◌}
 use Rattle.lists.specs.Rows.{any, keys}

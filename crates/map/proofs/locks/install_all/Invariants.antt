@@ -1,3 +1,4 @@
+-- `map::locks::install_all` meets its contract: the map with the rows that are left installed stays the same.
 use Prim.Native.Nat.{◌-◌, ◌≤◌}
 use Rattle.spec.specs.Maps.{install_all}
 use Rattle.map.specs.Views.{lent, map_of}

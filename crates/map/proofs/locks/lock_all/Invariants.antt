@@ -1,3 +1,4 @@
+-- `map::locks::lock_all` meets its contract: the map with the rows that are left locked stays the same.
 use Prim.Native.Nat.{◌-◌, ◌≤◌}
 use Rattle.spec.specs.Maps.{lock_all}
 use Rattle.map.specs.Views.{lent, map_of}

@@ -1,3 +1,4 @@
+-- `map::locks::unlock_all` meets its contract: the map with the rows that are left unlocked stays the same.
 use Prim.Native.Nat.{◌-◌, ◌≤◌}
 use Rattle.lists.specs.Rows.{keys}
 use Rattle.spec.specs.Maps.{unlock_all}

@@ -1,27 +1,8 @@
-use Prim.Native.Nat.{◌+◌, ◌-◌, ◌≤◌, zero-le}
+use Prim.Native.Nat.{zero-le}
 use native.Mathlib.Omega.{arith}
-use lib.ListN.{length}
-use Rattle.lists.specs.Rows.{keys, filter}
-use Rattle.sets.specs.Writes.{writes_of}
-use Rattle.map.specs.AddressCounts.{entryless, Counting, counting_fits, counting_on, counting_end, waits_start, waits}
-use Rattle.std.proofs.Common.{rules, ◌≡◌, false, ℕ, ◌^◌, ◌<◌, ◌*◌, ◌/◌, ◌%◌, Bool, true, nat_eq, nat_lt, List, [], ◌∷◌, ◌++◌, slice_index_or, slice_set, bit_and, bit_or, Fits, w8, w32, w64, Bor, MutBor}
-use Rattle.lists.specs.Tests.{pick}
-use Rattle.lists.specs.Rows.{any, Rising}
-use Rattle.spec.specs.Widths.{address_size}
-use Rattle.spec.specs.Slots.{slot_count, is_idle, entries, content_of}
-use Rattle.spec.specs.Slots as model
-use Rattle.spec.specs.Maps.{held_by_other, lock_row, unlock_key, waiting_since, install_row, lock_all, unlock_all, install_all}
-use Rattle.laws.specs.MapLaws.{Installable, installed_as}
-use Rattle.sets.specs.Writes.{entry_in}
-use Rattle.indexlet.specs.Words.{content_in, slots_of}
-use Rattle.indexlet.specs.Promises as indexlet
-use Rattle.index.specs.Views as index
-use Rattle.map.specs.Views.{lent, map_of}
-use Rattle.map.specs.MapHeld.{Tables, MapHeld}
-use Rattle.map.specs.Entries.{MapBecomes, ContentSet}
-use Rattle.map.specs.WriteWalks.{Writing, write_at}
-use Rattle.map.specs.LockLaws.{held_by, holding, pending_kind, Lockable}
-use Rattle.map.specs.AddressCounts.{unknown, Waits, Addressed, WaitsBeyond, AddressedBeyond, Counted}
+use Rattle.map.specs.AddressCounts.{entryless, counting_fits, counting_on, counting_end, waits_start, waits}
+use Rattle.std.proofs.Common.{false, true}
+use Rattle.spec.specs.Slots.{entries}
 use Rattle.map.proofs.locks.waiting_with.Goals as goal
 
 pub loop-i-init : goal.loop-i-init

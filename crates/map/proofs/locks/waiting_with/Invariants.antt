@@ -1,3 +1,4 @@
+-- `map::locks::waiting_with` meets its contract: the sum and what the rows that are left add stay the same.
 use Prim.Native.Nat.{◌+◌, ◌-◌, ◌≤◌}
 use lib.ListN.{length}
 use Rattle.lists.specs.Rows.{keys, filter}

@@ -1,3 +1,4 @@
+-- `merging::merge::next_reached` meets its contract: words of bits are passed while none of their slots is reached.
 use Prim.Native.Nat.{◌-◌}
 use Rattle.spec.specs.Slots.{slot_count}
 use Rattle.merging.specs.MergeShortcuts.{Skips}

@@ -1,3 +1,4 @@
+-- `merging::merge::reached_in` meets its contract: bits are passed while the keys of their slots lie elsewhere.
 use Rattle.indexlet.specs.Bitmaps.{Unseen}
 use Rattle.merging.specs.MergeShortcuts.{Elsewhere}
 use Rattle.merging.proofs.merge.reached_in.Given as goal

@@ -1,3 +1,4 @@
+-- `merging::merge::take_all` meets its contract: what is left to take in, from the walk's place on, is what there was.
 use Prim.Native.Nat.{◌-◌}
 use Rattle.indexlet.specs.Words.{slots_of}
 use Rattle.index.specs.Views.{records_of}

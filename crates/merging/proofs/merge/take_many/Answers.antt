@@ -1,28 +1,10 @@
+-- `merging::merge::take_many` meets its contract: the walk sees the rows up to the leaf's end, and those behind stay as they are.
 use Prim.Native.Nat.{ℕ, ◌+◌}
 use native.Mathlib.Omega.{arith}
 use mathlib.Core.Path.{ap}
 use Rattle.index.specs.LeafColumns.{lows_of}
 use Rattle.phantomlet.specs.LeafTests.{placed}
 use Rattle.merging.specs.MergeSpans.{span_within, hiders_fit, first_starts, walk_below, took_all}
-use Rattle.std.proofs.Common.{rules, ◌≡◌, true, false, ◌-◌, ◌^◌, ◌<◌, ◌≤◌, length, drop, ◌*◌, ◌/◌, ◌%◌, Bool, nat_eq, nat_lt, List, [], ◌∷◌, ◌++◌, slice_index_or, slice_set, bit_and, bit_or, Fits, w8, w32, w64, Bor, MutBor}
-use Rattle.std.proofs.Math.Option.{some}
-use Rattle.lists.specs.Tests.{pick, present}
-use Rattle.lists.specs.Rows.{assign}
-use Rattle.spec.specs.Records.{standard}
-use Rattle.spec.specs.Slots.{slot_count}
-use Rattle.laws.specs.VersionBounds.{versions_per_merge}
-use Rattle.indexlet.specs.Words.{content_in}
-use Rattle.indexlet.specs.Bitmaps.{BitsFrom}
-use Rattle.indexlet.specs.Promises as indexlet-promises
-use Rattle.index.specs.Views as index-views
-use Rattle.phantomlet.specs.LeafCounts.{OneLeaf}
-use Rattle.phantomlet.specs.LeafRows.{Lows}
-use Rattle.map.specs.Views.{lent}
-use Rattle.map.specs.MapHeld.{MapHeld}
-use Rattle.merging.specs.Merges.{Merges}
-use Rattle.merging.specs.MergeWalks.{leaving, hiders, OutsideFits, OutsideNow, Underway, WalksSlot, Starting, StartingFirst, Took, TookFirst}
-use Rattle.merging.specs.MergeSpans.{LeafSpan, Raised, Lowered}
-use Rattle.merging.specs.MergeShortcuts.{Skips, Alone, Numbered}
 use Rattle.merging.proofs.merge.take_many.Goals as goal
 
 pub overflow_add-top : goal.overflow_add-top

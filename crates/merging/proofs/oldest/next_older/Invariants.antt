@@ -1,3 +1,4 @@
+-- `merging::oldest::next_older` meets its contract: words of bits are passed while none of their slots has anything older.
 use Prim.Native.Nat.{◌-◌}
 use Rattle.spec.specs.Slots.{slot_count}
 use Rattle.indexlet.specs.Words.{slots_of}

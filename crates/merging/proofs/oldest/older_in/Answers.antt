@@ -1,18 +1,9 @@
 use Prim.Native.Nat.{ℕ, ◌+◌, ◌<◌}
 use native.Mathlib.Omega.{arith}
 use mathlib.Core.Path.{subst}
-use Rattle.indexlet.specs.Words.{slots_of}
-use Rattle.indexlet.specs.Bits.{rest_less}
-use Rattle.indexlet.specs.Bitmaps.{Unseen}
 use Rattle.indexlet.specs.BitmapLaws.{unseen_start, unseen_end, unseen_inside, unseen_before, unseen_on}
-use Rattle.merging.specs.OldestWalks.{Younger, younger_empty, younger_read, passes_all}
-use Rattle.std.proofs.Common.{rules, ◌≡◌, true, false, ◌≤◌, ◌-◌, ◌*◌, length, ◌/◌, ◌%◌, Bool, nat_eq, nat_lt, List, [], ◌∷◌, ◌++◌, slice_index_or, slice_set, bit_and, bit_or, Fits, w8, w32, w64, Bor, MutBor}
-use Rattle.spec.specs.Widths.{addresses}
-use Rattle.spec.specs.Slots.{slot_count, entries}
-use Rattle.spec.specs.Maps.{oldest_key, ages}
-use Rattle.indexlet.specs.Bitmaps.{BitsFrom}
-use Rattle.indexlet.specs.Promises as indexlet
-use Rattle.merging.specs.OldestWalks.{elder, Elder, age_in, Passes}
+use Rattle.merging.specs.OldestWalks.{younger_empty, younger_read, passes_all}
+use Rattle.std.proofs.Common.{false}
 use Rattle.merging.proofs.oldest.older_in.Goals as goal
 
 pub loop-w-init : goal.loop-w-init

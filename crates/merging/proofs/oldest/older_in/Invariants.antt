@@ -1,3 +1,4 @@
+-- `merging::oldest::older_in` meets its contract: bits are passed while their slots have nothing older.
 use Rattle.indexlet.specs.Words.{slots_of}
 use Rattle.indexlet.specs.Bitmaps.{Unseen}
 use Rattle.merging.specs.OldestWalks.{Younger}

@@ -1,3 +1,4 @@
+-- `merging::oldest::oldest_waiting` meets its contract: the oldest of the slots walked over and of the rest stays the same.
 use Prim.Native.Nat.{◌-◌}
 use Rattle.spec.specs.Slots.{slot_count}
 use Rattle.indexlet.specs.Words.{slots_of}

@@ -1,3 +1,4 @@
+-- `phantomlet::recount::clear` meets its contract: the places passed are 0.
 use Rattle.std.proofs.Common.{◌-◌, ◌≤◌}
 use Rattle.phantomlet.specs.LeafWrites.{Cleared}
 use Rattle.phantomlet.proofs.recount.clear.Given as goal

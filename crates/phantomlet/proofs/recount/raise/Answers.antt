@@ -1,30 +1,20 @@
-use Rattle.std.proofs.Common.{◌≡◌, ◌+◌, get_or, sym, ap, ◌∙◌, arith, rules}
+-- `phantomlet::recount::raise` meets its contract.
+use Rattle.std.proofs.Common.{◌≡◌, ◌+◌, get_or, sym, ap, ◌∙◌, arith}
 use Rattle.index.specs.declared.leaves.LeafWords.{LeafWords}
 use Rattle.index.specs.LeafColumns.{hidden_of, pending_of, leaf_put}
 use Rattle.index.specs.LeafColumnLaws.{column_get_or}
 use Rattle.phantomlet.specs.LeafWrites.{raised}
-use Rattle.index.proofs.leaves.leaf_at.Reads as leaf-at-reads
-use Rattle.index.proofs.leaves.put_leaf.Reads as put-leaf-reads
-use Rattle.std.proofs.Common.{◌-◌, ◌^◌, ◌<◌, ◌≤◌, not, slice_index, ℕ, ◌*◌, length, ◌/◌, ◌%◌, Bool, true, false, nat_eq, nat_lt, List, [], ◌∷◌, ◌++◌, slice_index_or, slice_set, bit_and, bit_or, Fits, w8, w32, w64, Bor, MutBor}
-use Rattle.lists.specs.Tests.{pick, both, present, same, at_most}
-use Rattle.lists.specs.Rows.{look}
-use Rattle.spec.specs.Slots.{slot_count}
-use Rattle.indexlet.specs.Words.{content_in}
-use Rattle.index.specs.Views.{leaf_places, RecordsSorted, records_of}
-use Rattle.index.specs.LeafColumns.{lows_of}
-use Rattle.phantomlet.specs.Phantoms.{hides_some}
-use Rattle.phantomlet.specs.LeafWrites.{Cleared, Raised}
-use Rattle.phantomlet.specs.LeafCounts.{ReachIs, Ranging, reached}
-use Rattle.phantomlet.specs.MergeCounts.{Recounting, Tallying, Tallied, Numbering}
 use Rattle.phantomlet.proofs.recount.raise.Goals as goal
 
 pub overflow_add-more : goal.overflow_add-more
-overflow_add-more c = let e : c.leaf_at-l.result.hidden ≡ get_or (hidden_of c.args.leaves.now) c.args.at 0
+overflow_add-more c =
+    let e : c.leaf_at-l.result.hidden ≡ get_or (hidden_of c.args.leaves.now) c.args.at 0
     = ap (λ (l : LeafWords). l.hidden) c.leaf_at-l.ensures ∙ sym (column_get_or 2 c.args.leaves.now c.args.at) in
     omega (arith, e, c.requires.x_bound.0)
 
 pub overflow_add-more-2 : goal.overflow_add-more-2
-overflow_add-more-2 c = let e : c.leaf_at-l.result.pending ≡ get_or (pending_of c.args.leaves.now) c.args.at 0
+overflow_add-more-2 c =
+    let e : c.leaf_at-l.result.pending ≡ get_or (pending_of c.args.leaves.now) c.args.at 0
     = ap (λ (l : LeafWords). l.pending) c.leaf_at-l.ensures ∙ sym (column_get_or 3 c.args.leaves.now c.args.at) in
     omega (arith, e, c.requires.x_bound.1)
 

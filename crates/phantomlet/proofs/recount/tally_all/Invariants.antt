@@ -1,3 +1,4 @@
+-- `phantomlet::recount::tally_all` meets its contract.
 use Rattle.std.proofs.Common.{◌-◌}
 use Rattle.spec.specs.Slots.{slot_count}
 use Rattle.phantomlet.specs.MergeCounts.{Tallied}

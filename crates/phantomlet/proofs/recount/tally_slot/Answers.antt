@@ -1,4 +1,5 @@
-use Rattle.std.proofs.Common.{not, sym, ◌∙◌, rules}
+-- `phantomlet::recount::tally_slot` meets its contract: an address in another leaf, no entry, or one that is added at its leaf's place.
+use Rattle.std.proofs.Common.{not, sym, ◌∙◌, true, false}
 use Rattle.lists.specs.Tests.{both, present}
 use Rattle.lists.specs.Rows.{look}
 use Rattle.indexlet.specs.Words.{content_in}
@@ -6,35 +7,22 @@ use Rattle.index.specs.Views.{records_of}
 use Rattle.phantomlet.specs.Phantoms.{hides_some}
 use Rattle.phantomlet.specs.LeafCounts.{reaches_yes, reaches_no}
 use Rattle.phantomlet.specs.MergeCounts.{tallied_same, tally_none, tally_outside, tallied_some, hidden_fits, pending_fits}
-use Rattle.index.proofs.leaves.find_leaf.Reads as find-leaf-reads
-use Rattle.indexlet.proofs.idle.Reads as idle-reads
-use Rattle.indexlet.proofs.slot_at.Reads as slot-at-reads
-use Rattle.std.specs.Prelude.{not}
 use Rattle.std.proofs.Math.Path.{ap}
-use Rattle.phantomlet.proofs.recount.hides_at.Reads as hides-at-reads
-use Rattle.phantomlet.proofs.recount.raise.Reads as raise-reads
-use Rattle.phantomlet.proofs.recount.reaches.Reads as reaches-reads
-use Rattle.phantomlet.proofs.recount.waits.Reads as waits-reads
-use Rattle.std.proofs.Common.{◌≡◌, ◌+◌, ◌-◌, ◌^◌, ◌<◌, ◌≤◌, slice_index, ℕ, ◌*◌, length, ◌/◌, ◌%◌, Bool, true, false, nat_eq, nat_lt, List, [], ◌∷◌, ◌++◌, slice_index_or, slice_set, bit_and, bit_or, Fits, w8, w32, w64, Bor, MutBor}
-use Rattle.lists.specs.Tests.{pick, same, at_most}
-use Rattle.spec.specs.Slots.{slot_count}
-use Rattle.index.specs.Views.{leaf_places, RecordsSorted}
-use Rattle.index.specs.LeafColumns.{lows_of, hidden_of, pending_of}
-use Rattle.phantomlet.specs.LeafWrites.{Cleared, Raised}
-use Rattle.phantomlet.specs.LeafCounts.{ReachIs, Ranging, reached}
-use Rattle.phantomlet.specs.MergeCounts.{Recounting, Tallying, Tallied, Numbering}
 use Rattle.phantomlet.proofs.recount.tally_slot.Goals as goal
 
 pub returns-then-not-reaches : goal.returns-then-not-reaches
-returns-then-not-reaches c = let r = c.slot_at-s in
+returns-then-not-reaches c =
+    let r = c.slot_at-s in
     tallied_same (tally_outside c.requires.tallying c.requires.j_lt_slot_count r.result r.ensures (reaches_no _ c.args.r r.result.key c.reaches.ensures (ap not c.if-not-reaches.true)))
 
 pub returns-then-idle : goal.returns-then-idle
-returns-then-idle c = let r = c.slot_at-s in
+returns-then-idle c =
+    let r = c.slot_at-s in
     tallied_same (tally_none c.requires.tallying c.requires.j_lt_slot_count r.result r.ensures (sym c.idle.ensures ∙ c.if-idle.true))
 
 pub raise-requires-clause-x_bound : goal.raise-requires-clause-x_bound
-raise-requires-clause-x_bound c = let r = c.slot_at-s in
+raise-requires-clause-x_bound c =
+    let r = c.slot_at-s in
     let y = reaches_yes _ c.args.r r.result.key c.reaches.ensures (ap not c.if-not-reaches.false) in
     let l = c.find_leaf-at in
     let a = hidden_fits c.requires.tallying c.requires.j_lt_slot_count l.ensures y.0 y.1 c.hides_at-x.result
@@ -43,7 +31,8 @@ raise-requires-clause-x_bound c = let r = c.slot_at-s in
     (a.1, b.1)
 
 pub returns : goal.returns
-returns c = let r = c.slot_at-s in
+returns c =
+    let r = c.slot_at-s in
     let y = reaches_yes _ c.args.r r.result.key c.reaches.ensures (ap not c.if-not-reaches.false) in
     let l = c.find_leaf-at in
     tallied_some c.requires.tallying c.requires.j_lt_slot_count r.result r.ensures l.result c.hides_at-x.result c.waits-w.result

@@ -1,3 +1,4 @@
+-- `logs::log_leaves` meets its contract. The invariant: those logged and those left are all.
 use Prim.Native.Nat.{◌-◌}
 use Rattle.map.specs.Views.{lows_of, versions_of}
 use Rattle.ranges.specs.Scanning.{LoggingLeaves}

@@ -1,12 +1,5 @@
-use Prim.Native.Nat.{◌-◌}
-use native.Mathlib.Omega.{arith}
-use Rattle.ranges.specs.Scanning.{seen_in, LoggingRows}
-use Rattle.ranges.specs.LogLaws.{rows_start, rows_room, rows_on, rows_end}
-use Rattle.std.proofs.Common.{rules, ◌≡◌, ℕ, ◌+◌, ◌*◌, ◌<◌, ◌≤◌, length, ◌/◌, ◌%◌, Bool, true, false, nat_eq, nat_lt, List, [], ◌∷◌, ◌++◌, slice_index_or, slice_set, bit_and, bit_or, Fits, w8, w32, w64, Bor, MutBor}
-use Rattle.sets.specs.Reads.{ReadSetHeld}
-use Rattle.sets.specs.Leaves.{LeafSetHeld}
-use Rattle.map.specs.Views.{lows_of, versions_of}
-use Rattle.ranges.specs.Scanning.{ReadsRoom, LogsRows, LeavesRoom, LogsLeaves}
+use Rattle.ranges.specs.LogLaws.{rows_on, rows_end}
+use Rattle.std.proofs.Common.{true, false}
 use Rattle.ranges.proofs.logs.log_rows.Goals as goal
 
 pub loop-i-preserved : goal.loop-i-preserved

@@ -1,3 +1,4 @@
+-- `logs::log_rows` meets its contract. The invariant: those logged and those left are all.
 use Prim.Native.Nat.{◌-◌}
 use Rattle.ranges.specs.Scanning.{seen_in, LoggingRows}
 use Rattle.ranges.proofs.logs.log_rows.Given as goal

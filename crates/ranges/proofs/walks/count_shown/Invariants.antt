@@ -1,3 +1,4 @@
+-- `walks::count_shown` meets its contract. The invariant: those counted and those left are all.
 use Prim.Native.Nat.{◌+◌, ◌-◌}
 use Rattle.ranges.specs.Scanning.{seen_in}
 use Rattle.ranges.specs.Walks.{ground, Counting}

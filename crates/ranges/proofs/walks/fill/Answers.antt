@@ -1,23 +1,18 @@
-use Prim.Native.Nat.{◌+◌, ◌-◌}
-use native.Mathlib.Omega.{arith}
-use Rattle.buffers.specs.Buffers.{buffers}
-use Rattle.ranges.specs.Walks.{ground, log_row, Filling}
 use Rattle.ranges.specs.ShowLaws.{filling_start, filling_fits, filling_on, filling_end}
-use Rattle.std.proofs.Common.{rules, ◌≡◌, ◌<◌, length, ℕ, ◌*◌, ◌≤◌, ◌/◌, ◌%◌, Bool, true, false, nat_eq, nat_lt, List, [], ◌∷◌, ◌++◌, slice_index_or, slice_set, bit_and, bit_or, w8, w32, w64, Bor, MutBor}
-use Rattle.lists.specs.Tests.{pick, less}
-use Rattle.ranges.specs.Scanning.{seen_in}
-use Rattle.ranges.specs.Walks.{rest, Walks, Nears, Sees, Keeps, Inside, Stands, GoesOn, index_turn, own_turn, Fits, Shows, RecordsFit, Fills}
+use Rattle.std.proofs.Common.{false}
 use Rattle.ranges.proofs.walks.fill.Goals as goal
 
 pub loop-i-init : goal.loop-i-init
 loop-i-init c = filling_start _ c.requires.walks _ _ _ c.requires.inside
 
 pub show-at-requires : goal.show-at-requires
-show-at-requires c = let w = c.requires.walks in
+show-at-requires c =
+    let w = c.requires.walks in
     filling_fits _ w _ _ _ _ _ _ _ _ c.requires.records_fit c.loop-i.invariant (c.next-x.ensures.comes _ w c.logged-s.ensures)
 
 pub loop-i-preserved : goal.loop-i-preserved
-loop-i-preserved c = let w = c.requires.walks in
+loop-i-preserved c =
+    let w = c.requires.walks in
     filling_on _ w _ _ _ _ _ _ _ _ _ _ c.loop-i.invariant (c.next-x.ensures.comes _ w c.logged-s.ensures) c.show-at.ensures
 
 pub returns : goal.returns

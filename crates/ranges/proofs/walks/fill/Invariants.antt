@@ -1,3 +1,4 @@
+-- `walks::fill` meets its contract. The invariant: those written and those left are all.
 use Prim.Native.Nat.{◌+◌, ◌-◌}
 use Rattle.buffers.specs.Buffers.{buffers}
 use Rattle.ranges.specs.Walks.{ground, log_row, Filling}

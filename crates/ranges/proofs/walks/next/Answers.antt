@@ -1,28 +1,27 @@
-use native.Mathlib.Omega.{arith}
+-- `walks::next` meets its contract: by which of the two addresses is smaller.
 use mathlib.Core.Path.{sym, subst}
 use Rattle.ranges.specs.Walks.{ComesNext}
 use Rattle.ranges.specs.WalkLaws.{step_index_only, step_own_only, step_index, step_own, step_both}
-use Rattle.std.proofs.Common.{rules, ◌≡◌, ◌+◌, ◌<◌, length, ℕ, ◌-◌, ◌*◌, ◌≤◌, ◌/◌, ◌%◌, Bool, true, false, nat_eq, nat_lt, List, [], ◌∷◌, ◌++◌, slice_index_or, slice_set, bit_and, bit_or, w8, w32, w64, Bor, MutBor}
-use Rattle.lists.specs.Tests.{pick, less}
-use Rattle.buffers.specs.Buffers.{buffers}
-use Rattle.ranges.specs.Scanning.{seen_in}
-use Rattle.ranges.specs.Walks.{ground, log_row, rest, Walks, Nears, Sees, Keeps, Inside, Stands, GoesOn, index_turn, own_turn, Fits, Shows, RecordsFit, Fills}
+use Rattle.std.proofs.Common.{true, false}
 use Rattle.ranges.proofs.walks.next.Goals as goal
 
 pub returns-then-b-j : goal.returns-then-b-j
-returns-then-b-j c = let p = c.requires in
+returns-then-b-j c =
+    let p = c.requires in
     let l = c.if-b-j.true in
     record { comes = λ f w a. subst (ComesNext _ _ _) (sym c.of_index.ensures) (step_index_only _ w _ _ p.inside p.j_bound _ l a) }
 
 pub returns-then-b-i : goal.returns-then-b-i
-returns-then-b-i c = let p = c.requires in
+returns-then-b-i c =
+    let p = c.requires in
     let l = c.if-b-j.false in
     let k = c.if-b-i.true in
     let e = c.write_at-e.ensures in
     record { comes = λ f w a. subst (ComesNext _ _ _) (sym c.of_write.ensures) (step_own_only _ w _ _ p.inside p.j_bound _ l k e) }
 
 pub returns-then-s-e : goal.returns-then-s-e
-returns-then-s-e c = let p = c.requires in
+returns-then-s-e c =
+    let p = c.requires in
     let l = c.if-b-i.false in
     let k = c.if-b-j.false in
     let e = c.write_at-e.ensures in
@@ -30,7 +29,8 @@ returns-then-s-e c = let p = c.requires in
     record { comes = λ f w a. subst (ComesNext _ _ _) (sym c.of_index-then-s-e.ensures) (step_index _ w _ _ p.inside p.j_bound _ _ l k a e q) }
 
 pub returns-then-e-s : goal.returns-then-e-s
-returns-then-e-s c = let p = c.requires in
+returns-then-e-s c =
+    let p = c.requires in
     let l = c.if-b-i.false in
     let k = c.if-b-j.false in
     let e = c.write_at-e.ensures in
@@ -38,7 +38,8 @@ returns-then-e-s c = let p = c.requires in
     record { comes = λ f w a. subst (ComesNext _ _ _) (sym c.of_write-then-e-s.ensures) (step_own _ w _ _ p.inside p.j_bound _ _ l k a e q) }
 
 pub returns : goal.returns
-returns c = let p = c.requires in
+returns c =
+    let p = c.requires in
     let l = c.if-b-i.false in
     let k = c.if-b-j.false in
     let e = c.write_at-e.ensures in

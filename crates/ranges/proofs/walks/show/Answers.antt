@@ -1,12 +1,6 @@
-use Prim.Native.Nat.{◌<◌}
-use lib.ListN.{length}
-use borrow.Author.Rules.{rules}
+-- `walks::show` meets its contract.
 use Rattle.ranges.specs.ShowLaws.{show_there, show_none}
-use Rattle.std.proofs.Common.{◌≡◌, ◌+◌, ℕ, ◌-◌, ◌*◌, ◌≤◌, ◌/◌, ◌%◌, Bool, true, false, nat_eq, nat_lt, List, [], ◌∷◌, ◌++◌, slice_index_or, slice_set, bit_and, bit_or, w8, w32, w64, Bor, MutBor}
-use Rattle.lists.specs.Tests.{pick, less}
-use Rattle.buffers.specs.Buffers.{buffers}
-use Rattle.ranges.specs.Scanning.{seen_in}
-use Rattle.ranges.specs.Walks.{ground, log_row, rest, Walks, Nears, Sees, Keeps, Inside, Stands, GoesOn, index_turn, own_turn, Fits, Shows, RecordsFit, Fills}
+use Rattle.std.proofs.Common.{true, false}
 use Rattle.ranges.proofs.walks.show.Goals as goal
 
 pub returns-then-x : goal.returns-then-x

@@ -1,20 +1,8 @@
+-- `exporting::take_export` meets its contract: without meaning, full, or taken.
 use Rattle.codes.specs.ExportCodeLaws.{export_lends}
 use Rattle.replay.specs.FitLaws.{fits_yes, fits_no}
 use Rattle.replay.specs.RunLaws.{export_unmeant, export_full, export_roomy, export_taken}
-use borrow.Author.Rules.{rules}
-use Rattle.std.proofs.Common.{◌≡◌, ◌≤◌, length, ℕ, ◌+◌, ◌-◌, ◌*◌, ◌<◌, ◌/◌, ◌%◌, Bool, true, false, nat_eq, nat_lt, List, [], ◌∷◌, ◌++◌, slice_index_or, slice_set, bit_and, bit_or, Fits, w8, w32, w64, Bor, MutBor}
-use Rattle.spec.specs.Records.{limits}
-use Rattle.spec.specs.Maps.{contents}
-use Rattle.map.specs.Views.{Lent, map_of}
-use Rattle.map.specs.Parts.{RecordsHeld, SlotsHeld}
-use Rattle.queries.specs.Contents.{all_records}
-use Rattle.buffers.specs.Buffers.{buffers}
-use Rattle.exports.specs.Exporting.{ExportHeld, space}
-use Rattle.transactions.specs.Cores.{Core}
-use Rattle.transactions.specs.Views.{Logs}
-use Rattle.transactions.specs.Ready.{Ready}
-use Rattle.replay.specs.Replays.{whole}
-use Rattle.replay.specs.RunLaws.{TakesCode}
+use Rattle.std.proofs.Common.{true, false}
 use Rattle.replay.proofs.exporting.take_export.Goals as goal
 use Rattle.std.specs.Prelude.{not}
 use Rattle.std.proofs.Math.Path.{ap}

@@ -1,17 +1,9 @@
+-- `jobs::take_job` meets its contract: without meaning, full, or taken.
 use Rattle.codes.specs.CodeLaws.{meant_lends}
 use Rattle.replay.specs.FitLaws.{fits_yes, fits_no}
 use Rattle.replay.specs.RunLaws.{job_unmeant, job_full, job_roomy, job_taken}
 use Rattle.engine.specs.Performs.{performed_of}
-use borrow.Author.Rules.{rules}
-use Rattle.std.proofs.Common.{List, ℕ, ◌<◌, ◌≤◌, length, ◌≡◌, ◌+◌, ◌-◌, ◌*◌, ◌/◌, ◌%◌, Bool, true, false, nat_eq, nat_lt, [], ◌∷◌, ◌++◌, slice_index_or, slice_set, bit_and, bit_or, Fits, w8, w32, w64, Bor, MutBor}
-use Rattle.map.specs.Views.{lent}
-use Rattle.transactions.specs.Views.{logs, core_of}
-use Rattle.transactions.specs.Ready.{Ready}
-use Rattle.buffers.specs.Buffers.{buffers}
-use Rattle.exports.specs.declared.Export.{Export}
-use Rattle.exports.specs.Exporting.{ExportedRows, ExportHeld, space}
-use Rattle.replay.specs.Replays.{whole}
-use Rattle.replay.specs.RunLaws.{TakesCode}
+use Rattle.std.proofs.Common.{true, false}
 use Rattle.replay.proofs.jobs.take_job.Goals as goal
 use Rattle.std.specs.Prelude.{not}
 use Rattle.std.proofs.Math.Path.{ap}

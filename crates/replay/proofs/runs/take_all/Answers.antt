@@ -1,24 +1,8 @@
-use Prim.Native.Nat.{◌-◌}
 use native.Mathlib.Omega.{arith}
-use mathlib.Core.Path.{refl, ap, ◌∙◌}
-use borrow.Author.Rules.{rules}
-use Rattle.spec.specs.Steps.{Places}
-use Rattle.map.specs.Views.{lent}
-use Rattle.buffers.specs.Buffers.{buffers}
-use Rattle.exports.specs.Exporting.{space}
-use Rattle.transactions.specs.Views.{logs, core_of, made_of}
+use mathlib.Core.Path.{refl}
 use Rattle.replay.specs.declared.stops.Stop.TheVariants as stop
-use Rattle.replay.specs.Replays.{whole}
-use Rattle.replay.specs.LoopLaws.{Replaying, replaying_start, replaying_on, replaying_at, replaying_out, replaying_places, replaying_bytes, code_out, code_places, code_bytes, takes_as, replays_stop, replays_end}
-use Rattle.std.proofs.Common.{◌≡◌, ◌+◌, ◌*◌, ◌%◌, ◌^◌, ◌<◌, ◌≤◌, length, ℕ, ◌/◌, Bool, true, false, nat_eq, nat_lt, List, [], ◌∷◌, ◌++◌, slice_index_or, slice_set, bit_and, bit_or, Fits, w8, w32, w64, Bor, MutBor}
-use Rattle.std.proofs.Math.Option.{none}
-use Rattle.spec.specs.Records.{standard_map}
-use Rattle.transactions.specs.Ready.{Ready}
-use Rattle.transactions.specs.Starts.{Fresh}
-use Rattle.exports.specs.Exporting.{export_in, ExportHeld}
-use Rattle.replay.specs.Replays.{step_words, replay_end_of, Replays}
-use Rattle.replay.specs.RunLaws.{code_at, TakesCode}
-use Rattle.replay.specs.LoopLaws.{rest_stop}
+use Rattle.replay.specs.LoopLaws.{replaying_start, replaying_on, takes_as, replays_stop, replays_end}
+use Rattle.std.proofs.Common.{true, false}
 use Rattle.replay.proofs.runs.take_all.Goals as goal
 
 pub loop-i-init : goal.loop-i-init

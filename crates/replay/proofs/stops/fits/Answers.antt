@@ -1,8 +1,6 @@
+-- `stops::fits` meets its contract: the places wanted against a third of the room.
 use Rattle.replay.specs.FitLaws.{fits_few, fits_addresses, fits_values, fits_owners}
-use Rattle.std.proofs.Common.{rules, ◌≡◌, not, ℕ, ◌+◌, ◌-◌, ◌*◌, ◌<◌, ◌≤◌, length, ◌/◌, ◌%◌, Bool, true, false, nat_eq, nat_lt, List, [], ◌∷◌, ◌++◌, slice_index_or, slice_set, bit_and, bit_or, Fits, w8, w32, w64, Bor, MutBor}
-use Rattle.lists.specs.Tests.{less}
-use Rattle.spec.specs.Steps.{places}
-use Rattle.replay.specs.Replays.{longest_answer}
+use Rattle.std.proofs.Common.{true, false}
 use Rattle.replay.proofs.stops.fits.Goals as goal
 
 pub returns-then-room-lt5 : goal.returns-then-room-lt5

@@ -1,7 +1,5 @@
-use borrow.Author.Rules.{rules}
+-- `saved::load` meets its contract: the words, one after the other.
 use Rattle.sections.specs.SavedLaws.{globals_read}
-use Rattle.std.proofs.Common.{◌≡◌, ℕ, ◌+◌, ◌-◌, ◌*◌, ◌<◌, ◌≤◌, length, ◌/◌, ◌%◌, Bool, true, false, nat_eq, nat_lt, List, [], ◌∷◌, ◌++◌, slice_index_or, slice_set, bit_and, bit_or, Fits, w8, w32, w64, Bor, MutBor}
-use Rattle.sections.specs.Saved.{saved_globals, saved_export, export_saved}
 use Rattle.sections.proofs.saved.load.Goals as goal
 
 pub returns : goal.returns

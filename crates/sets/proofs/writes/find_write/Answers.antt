@@ -1,15 +1,10 @@
+-- `writes::find_write` meets its contract: what stands at the place of the address, if that is its own.
 use native.Mathlib.Omega.{arith}
 use Rattle.spec.specs.Records.{written, deleted}
 use Rattle.spec.specs.Payloads.{payload_in}
 use Rattle.sets.specs.WriteLaws.{put_kind, deletion_kind, inside, found_here, found_none}
-use Rattle.std.proofs.Common.{rules, ◌≡◌, ◌⊎◌, true, ◌+◌, ◌-◌, ◌<◌, ◌≤◌, set, ℕ, ◌*◌, length, ◌/◌, ◌%◌, Bool, false, nat_eq, nat_lt, List, [], ◌∷◌, ◌++◌, slice_index_or, bit_and, bit_or, Fits, w8, w32, w64, Bor, MutBor}
+use Rattle.std.proofs.Common.{true, false}
 use Rattle.lists.specs.Tests.{present}
-use Rattle.lists.specs.Rows.{look}
-use Rattle.lists.specs.Shifts.{moved}
-use Rattle.spec.specs.Widths.{addresses}
-use Rattle.spec.specs.Records.{limits}
-use Rattle.sets.specs.Writes.{line_at, words_of, writes_of, found_in, WriteSetHeld, WriteSetOrdered, WritesBecome, PutsWrite, GivesWrite}
-use Rattle.sets.specs.WritePlaces.{PlaceOf, WritesHave}
 use Rattle.sets.proofs.writes.find_write.Goals as goal
 
 pub get-r-requires : goal.get-r-requires

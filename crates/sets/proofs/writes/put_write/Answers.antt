@@ -1,13 +1,8 @@
+-- `writes::put_write` meets its contract: over the write that stands at the place, or before it.
 use native.Mathlib.Omega.{arith}
 use Rattle.sets.specs.WriteLaws.{inside, put_room, put_over, put_new}
-use Rattle.std.proofs.Common.{rules, ◌≡◌, ◌⊎◌, true, ◌+◌, ◌-◌, ◌<◌, ◌≤◌, set, ℕ, ◌*◌, length, ◌/◌, ◌%◌, Bool, false, nat_eq, nat_lt, List, [], ◌∷◌, ◌++◌, slice_index_or, bit_and, bit_or, Fits, w8, w32, w64, Bor, MutBor}
+use Rattle.std.proofs.Common.{true, false}
 use Rattle.lists.specs.Tests.{present}
-use Rattle.lists.specs.Rows.{look}
-use Rattle.lists.specs.Shifts.{moved}
-use Rattle.spec.specs.Widths.{addresses}
-use Rattle.spec.specs.Records.{limits}
-use Rattle.sets.specs.Writes.{line_at, words_of, writes_of, found_in, WriteSetHeld, WriteSetOrdered, WritesBecome, PutsWrite, GivesWrite}
-use Rattle.sets.specs.WritePlaces.{PlaceOf, WritesHave}
 use Rattle.sets.proofs.writes.put_write.Goals as goal
 
 pub store-requires : goal.store-requires
@@ -20,5 +15,6 @@ pub insert-requires-clause-p_le_n : goal.insert-requires-clause-p_le_n
 insert-requires-clause-p_le_n c = (c.writes_below-p.ensures.within, put_room c.requires.write_set_ordered c.writes_below-p.ensures (c.stands.ensures.absent c.if-stands.false) c.requires.fact, c.ranges.a.fits)
 
 pub returns : goal.returns
-returns c = let n = c.stands.ensures.absent c.if-stands.false in
+returns c =
+    let n = c.stands.ensures.absent c.if-stands.false in
     put_new c.requires.write_set_ordered c.writes_below-p.ensures c.args.kind c.args.payload n (put_room c.requires.write_set_ordered c.writes_below-p.ensures n c.requires.fact) c.insert.ensures

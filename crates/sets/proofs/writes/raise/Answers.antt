@@ -1,13 +1,5 @@
-use native.Mathlib.Omega.{arith}
-use Rattle.sets.specs.WriteLaws.{Lifting, lifting_start, lifting_on, lifting_end}
-use Rattle.std.proofs.Common.{rules, ◌≡◌, ◌⊎◌, true, ◌+◌, ◌-◌, ◌<◌, ◌≤◌, set, ℕ, ◌*◌, length, ◌/◌, ◌%◌, Bool, false, nat_eq, nat_lt, List, [], ◌∷◌, ◌++◌, slice_index_or, bit_and, bit_or, Fits, w8, w32, w64, Bor, MutBor}
-use Rattle.lists.specs.Tests.{present}
-use Rattle.lists.specs.Rows.{look}
-use Rattle.lists.specs.Shifts.{moved}
-use Rattle.spec.specs.Widths.{addresses}
-use Rattle.spec.specs.Records.{limits}
-use Rattle.sets.specs.Writes.{line_at, words_of, writes_of, found_in, WriteSetHeld, WriteSetOrdered, WritesBecome, PutsWrite, GivesWrite}
-use Rattle.sets.specs.WritePlaces.{PlaceOf, WritesHave}
+use Rattle.sets.specs.WriteLaws.{lifting_start, lifting_on}
+use Rattle.std.proofs.Common.{true}
 use Rattle.sets.proofs.writes.raise.Goals as goal
 
 pub loop-i-init : goal.loop-i-init

@@ -1,3 +1,4 @@
+-- `writes::raise` meets its contract. The invariant: the rows after the first i are up by one.
 use Rattle.sets.specs.WriteLaws.{Lifting}
 use Rattle.sets.proofs.writes.raise.Given as goal
 

@@ -1,18 +1,8 @@
 use native.Mathlib.Omega.{arith}
-use Prim.Native.Nat.{◌-◌, ◌≤◌, zero-le}
 use mathlib.Core.Path.{ap}
-use Rattle.lists.specs.Places.{place}
 use Rattle.sets.specs.declared.writes.WriteRow.{WriteRow}
-use Rattle.sets.specs.Writes.{writes_of}
 use Rattle.sets.specs.WriteLaws.{below_on, below_stop, below_end}
-use Rattle.std.proofs.Common.{rules, ◌≡◌, ◌⊎◌, true, ◌+◌, ◌<◌, set, ℕ, ◌*◌, length, ◌/◌, ◌%◌, Bool, false, nat_eq, nat_lt, List, [], ◌∷◌, ◌++◌, slice_index_or, bit_and, bit_or, Fits, w8, w32, w64, Bor, MutBor}
-use Rattle.lists.specs.Tests.{present}
-use Rattle.lists.specs.Rows.{look}
-use Rattle.lists.specs.Shifts.{moved}
-use Rattle.spec.specs.Widths.{addresses}
-use Rattle.spec.specs.Records.{limits}
-use Rattle.sets.specs.Writes.{line_at, words_of, found_in, WriteSetHeld, WriteSetOrdered, WritesBecome, PutsWrite, GivesWrite}
-use Rattle.sets.specs.WritePlaces.{PlaceOf, WritesHave}
+use Rattle.std.proofs.Common.{true, false}
 use Rattle.sets.proofs.writes.writes_below.Goals as goal
 
 pub returns-then-key-r : goal.returns-then-key-r

@@ -1,3 +1,4 @@
+-- `writes::writes_below` meets its contract. The invariant: the address has no place before i.
 use Prim.Native.Nat.{◌-◌, ◌≤◌}
 use Rattle.lists.specs.Places.{place}
 use Rattle.sets.specs.Writes.{writes_of}

@@ -1,9 +1,5 @@
-use borrow.Author.Rules.{rules}
 use Rattle.transactions.specs.Admits.{rank_is, rank_not, turned_none, turned_free, turned_wrong, admitted}
-use Rattle.std.proofs.Common.{◌≡◌, ℕ, ◌+◌, ◌-◌, ◌*◌, ◌<◌, ◌≤◌, length, ◌/◌, ◌%◌, Bool, true, false, nat_eq, nat_lt, List, [], ◌∷◌, ◌++◌, slice_index_or, slice_set, bit_and, bit_or, Fits, w8, w32, w64, Bor, MutBor}
-use Rattle.spec.specs.Steps.{is_open, is_locked, is_checked}
-use Rattle.workers.specs.Workers.{workers_of}
-use Rattle.transactions.specs.Admits.{is_at, any_stage, Admitted, Begun}
+use Rattle.std.proofs.Common.{true, false}
 use Rattle.transactions.proofs.admits.at_stage.Goals as goal
 
 pub returns-then-i-ge-WORKERS : goal.returns-then-i-ge-WORKERS

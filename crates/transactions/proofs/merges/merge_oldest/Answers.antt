@@ -1,11 +1,6 @@
-use borrow.Author.Rules.{rules}
+-- `merges::merge_oldest` meets its contract: it is a merge at the address of the oldest.
 use Rattle.spec.specs.Maps.{oldest}
 use Rattle.transactions.specs.MergeSteps.{oldest_refines}
-use Rattle.std.proofs.Common.{◌≡◌, ℕ, ◌+◌, ◌-◌, ◌*◌, ◌<◌, ◌≤◌, length, ◌/◌, ◌%◌, Bool, true, false, nat_eq, nat_lt, List, [], ◌∷◌, ◌++◌, slice_index_or, slice_set, bit_and, bit_or, Fits, w8, w32, w64, Bor, MutBor}
-use Rattle.spec.specs.Steps as model
-use Rattle.map.specs.Views.{lent}
-use Rattle.transactions.specs.Views.{logs, core_of}
-use Rattle.transactions.specs.Ready.{Ready, Refines}
 use Rattle.transactions.proofs.merges.merge_oldest.Goals as goal
 
 pub returns : goal.returns

@@ -18,7 +18,7 @@ use Rattle.laws.specs.WorkerLaws.{mild_cause}
 use Rattle.workers.specs.declared.Worker.{Worker}
 use Rattle.sets.specs.declared.writes.FoundWrite.{FoundWrite}
 use Rattle.workers.specs.Workers.{worker_in, with_writes}
-use Rattle.workers.specs.WorkerLaws.{write_in_lem}
+use Rattle.workers.proofs.WorkerLaws.{write_in_lem}
 use Rattle.sets.specs.Reads.{ReadRows}
 use Rattle.sets.specs.Leaves.{LeafSetRows}
 use Rattle.sets.specs.Writes.{WriteRows, write_of, found_in, write_in, writes_of, PutsWrite}

@@ -26,7 +26,7 @@ use Rattle.workers.specs.declared.Worker.{Worker}
 use Rattle.sets.specs.declared.writes.FoundWrite.{FoundWrite}
 use Rattle.sets.specs.declared.writes.FoundWrite.TheVariants.{Put, Deletion, Nothing}
 use Rattle.workers.specs.Workers.{worker_in, with_reads}
-use Rattle.workers.specs.WorkerLaws.{read_in_lem}
+use Rattle.workers.proofs.WorkerLaws.{read_in_lem}
 use Rattle.sets.specs.Reads.{ReadRows, record_in, reads_of, ReadsHeld, LogsRead}
 use Rattle.sets.specs.Reads as reads
 use Rattle.sets.specs.Leaves.{LeafSetRows}

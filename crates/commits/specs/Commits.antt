@@ -13,7 +13,7 @@ use Rattle.spec.specs.Steps.{State, free_worker, worker_of, write_keys, with_wor
 use Rattle.laws.specs.MapLaws.{Installable}
 use Rattle.workers.specs.declared.Worker.{Worker}
 use Rattle.workers.specs.Workers.{worker_in, freed}
-use Rattle.workers.specs.WorkerLaws.{free_in}
+use Rattle.workers.proofs.WorkerLaws.{free_in}
 use Rattle.sets.specs.Reads.{ReadRows}
 use Rattle.sets.specs.Leaves.{LeafSetRows}
 use Rattle.sets.specs.Writes.{WriteRows, writes_of, writes_in, WriteSetOrdered}

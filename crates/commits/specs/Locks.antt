@@ -23,7 +23,7 @@ use Rattle.spec.specs.Steps.{State, worker_of, lock, is_open, locked_by_other, w
 use Rattle.laws.specs.WorkerLaws.{cause_passed}
 use Rattle.workers.specs.declared.Worker.{Worker}
 use Rattle.workers.specs.Workers.{worker_in, at_lock}
-use Rattle.workers.specs.WorkerLaws.{lock_in}
+use Rattle.workers.proofs.WorkerLaws.{lock_in}
 use Rattle.sets.specs.Reads.{ReadRows, reads_in}
 use Rattle.sets.specs.Leaves.{LeafSetRows, scans_in}
 use Rattle.sets.specs.Writes.{WriteRows, writes_of, writes_in}

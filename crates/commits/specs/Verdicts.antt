@@ -20,7 +20,7 @@ use Rattle.spec.specs.Steps.{State, Answer, validate, refused, numbered, is_lock
 use Rattle.laws.specs.WorkerLaws.{mild_cause, has_locks, locked_locks}
 use Rattle.workers.specs.declared.Worker.{Worker}
 use Rattle.workers.specs.Workers.{worker_in, at_check}
-use Rattle.workers.specs.WorkerLaws.{check_in}
+use Rattle.workers.proofs.WorkerLaws.{check_in}
 use Rattle.sets.specs.Reads.{ReadRows, reads_of, reads_in}
 use Rattle.sets.specs.Leaves.{LeafSetRows, versions_of, versions_in}
 use Rattle.sets.specs.Writes.{WriteRows, writes_in}

@@ -12,8 +12,8 @@ use Rattle.spec.specs.Exports.{Exporting, Exchange, starting_at, job_steps, job_
 use Rattle.spec.specs.GoodTuning.{GoodTuning}
 use Rattle.laws.specs.ExportLaws.{jobs_alone}
 use Rattle.limits.specs.WorstLookups.{worst_look_up}
-use Rattle.calls.specs.CallLaws.{map_in, reached_good}
-use Rattle.calls.specs.ExaminedCalls.{reached_some}
+use Rattle.calls.proofs.CallLaws.{map_in, reached_good}
+use Rattle.calls.proofs.ExaminedCalls.{reached_some}
 use Rattle.map.specs.Views.{Lent, map_of}
 use Rattle.exports.specs.Exporting.{ExportedRows, Space}
 use Rattle.transactions.specs.Views.{Logs}

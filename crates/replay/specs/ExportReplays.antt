@@ -10,7 +10,7 @@ use Rattle.lists.specs.Rows.{any}
 use Rattle.spec.specs.Exports.{unstamped, ExportStep, file, declined, opened, given, filed, closed, export_of, Exchange, job_told, export_told}
 use Rattle.spec.specs.GoodTuning.{GoodTuning}
 use Rattle.spec.specs.Records.{Made}
-use Rattle.calls.specs.CallLaws.{reached_good}
+use Rattle.calls.proofs.CallLaws.{reached_good}
 use Rattle.map.specs.Views.{Lent}
 use Rattle.exports.specs.Exporting.{ExportedRows, export_in, Space}
 use Rattle.transactions.specs.Views.{Logs}

@@ -7,7 +7,7 @@ use Rattle.spec.specs.Records.{Made}
 use Rattle.map.specs.Views.{Lent, map_of}
 use Rattle.exports.specs.Exporting.{ExportedRows, Space}
 use Rattle.transactions.specs.Views.{Logs}
-use Rattle.calls.specs.GuardedCalls.{reached_apart}
+use Rattle.calls.proofs.GuardedCalls.{reached_apart}
 use Rattle.replay.specs.Replays.{ReplayEnd, run_of, Replays}
 use Rattle.replay.specs.ToldExports.{requests_of}
 use Rattle.replay.specs.ToldLaws.{tells_state}

@@ -11,7 +11,7 @@ use Rattle.spec.specs.Maps.{MapState, contents}
 use Rattle.spec.specs.Steps.{Places, State, fresh}
 use Rattle.spec.specs.Claim.{SerialRun}
 use Rattle.spec.specs.Exports.{Exporting, Exchange, starting_at, job_events}
-use Rattle.calls.specs.CallLaws.{map_in, reached_good}
+use Rattle.calls.proofs.CallLaws.{map_in, reached_good}
 use Rattle.map.specs.Views.{Lent, map_of}
 use Rattle.buffers.specs.Buffers.{places_of}
 use Rattle.exports.specs.declared.Export.{Export}

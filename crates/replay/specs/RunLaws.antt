@@ -14,7 +14,7 @@ use Rattle.spec.specs.Maps.{MapState, contents}
 use Rattle.spec.specs.Steps.{Places, places, shortest, Answer, answer}
 use Rattle.spec.specs.Files.{parsed}
 use Rattle.spec.specs.Exports.{Export as ModelExport, ExportStep, ExportAnswer as ModelAnswer, filed, export_of, export_answer, export_next, Exporting, job, exporting, Exchange, job_told, export_told, exchange, next_of, contents_now}
-use Rattle.calls.specs.CallLaws.{map_in}
+use Rattle.calls.proofs.CallLaws.{map_in}
 use Rattle.map.specs.Views.{Lent, map_of}
 use Rattle.buffers.specs.Buffers.{Buffers, places_of, Lends}
 use Rattle.buffers.specs.BufferLaws.{unmoved_refl}

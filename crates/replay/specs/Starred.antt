@@ -18,7 +18,7 @@ use Rattle.map.specs.Views.{Lent, map_of}
 use Rattle.buffers.specs.Buffers.{places_of}
 use Rattle.exports.specs.Exporting.{ExportedRows, Space}
 use Rattle.transactions.specs.Views.{Logs, state_of}
-use Rattle.calls.specs.CallLaws.{map_in}
+use Rattle.calls.proofs.CallLaws.{map_in}
 use Rattle.codes.specs.Codes.{places_lent, decoded_scan, decoded_put, decoded_access, decoded, decoded_seat, decoded_merge, decoded_numbered, listed_words, words_of}
 use Rattle.codes.specs.ExportCodes.{decoded_portion, decoded_file, decoded_export, export_words}
 use Rattle.replay.specs.declared.stops.Stop.TheVariants as stop

@@ -9,7 +9,7 @@ use Rattle.spec.specs.Exports.{job_steps}
 use Rattle.map.specs.Views.{Lent, map_of}
 use Rattle.exports.specs.Exporting.{ExportedRows, Space}
 use Rattle.transactions.specs.Views.{Logs, state_of}
-use Rattle.calls.specs.WaitingCalls.{reached_waiting}
+use Rattle.calls.proofs.WaitingCalls.{reached_waiting}
 use Rattle.replay.specs.Replays.{ReplayEnd, run_of, Replays}
 use Rattle.replay.specs.ToldExports.{requests_of}
 use Rattle.replay.specs.ToldLaws.{tells_state}

@@ -20,10 +20,10 @@ use Rattle.buffers.specs.Buffers.{Buffers, places_of}
 use Rattle.exports.specs.Exporting.{ExportedRows, export_in, Space, export_answer_in}
 use Rattle.exports.specs.ReadBacks.{told_read_back}
 use Rattle.transactions.specs.Views.{Logs, state_of}
-use Rattle.calls.specs.CallLaws.{map_in, reached_good}
-use Rattle.calls.specs.WaitingCalls.{reached_waiting}
-use Rattle.calls.specs.GuardedCalls.{reached_apart}
-use Rattle.calls.specs.ExaminedCalls.{reached_some}
+use Rattle.calls.proofs.CallLaws.{map_in, reached_good}
+use Rattle.calls.proofs.WaitingCalls.{reached_waiting}
+use Rattle.calls.proofs.GuardedCalls.{reached_apart}
+use Rattle.calls.proofs.ExaminedCalls.{reached_some}
 use Rattle.engine.specs.declared.steps.Op.{Op}
 use Rattle.engine.specs.Performs.{step_in}
 use Rattle.codes.specs.declared.Code.{Code}

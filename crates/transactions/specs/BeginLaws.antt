@@ -7,7 +7,7 @@ use Rattle.spec.specs.Records.{limits}
 use Rattle.spec.specs.Steps.{begin, granted, effect, with_worker, at_stage, free_worker}
 use Rattle.workers.specs.declared.Worker.{Worker}
 use Rattle.workers.specs.Workers.{begun}
-use Rattle.workers.specs.WorkerLaws.{begin_in}
+use Rattle.workers.proofs.WorkerLaws.{begin_in}
 use Rattle.map.specs.Views.{Lent}
 use Rattle.transactions.specs.Cores.{Core}
 use Rattle.transactions.specs.declared.begins.Plain.TheVariants.{Granted, Refused}

@@ -14,7 +14,7 @@ use Rattle.workers.specs.Workers.{freed}
 use Rattle.sets.specs.ReadLaws.{reads_zero, flag_back}
 use Rattle.sets.specs.LeafLaws.{leaves_zero}
 use Rattle.sets.specs.WriteLaws.{writes_zero}
-use Rattle.workers.specs.WorkerLaws.{free_in}
+use Rattle.workers.proofs.WorkerLaws.{free_in}
 use Rattle.workers.specs.WordLaws.{workers_free}
 use Rattle.map.specs.declared.Sizes.{Sizes}
 use Rattle.map.specs.Views.{Lent}

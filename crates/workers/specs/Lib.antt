@@ -1,3 +1,2 @@
 pub mod Workers
-pub mod WorkerLaws
 pub mod WordLaws

@@ -12,7 +12,7 @@ use Rattle.transactions.specs.Views.{Logs, state_of}
 use Rattle.transactions.specs.Starts.{Fresh}
 use Rattle.transactions.specs.Ready.{Ready}
 use Rattle.calls.specs.Calls.{Calls, SerialCalls}
-use Rattle.calls.specs.CallLaws.{map_in, calls_serial, reached_good}
+use Rattle.calls.proofs.CallLaws.{map_in, calls_serial, reached_good}
 
 -- of arrays that hold the state after some steps from a fresh guarded map
 pub reached_apart : (l : Lent) (g : Logs) (c : Core) (d : Made) (ss : List Step) → state_of l g c ≡ final (fresh d) ss → Ready l g c → d.guarded ≡ true

@@ -14,7 +14,7 @@ use Rattle.transactions.specs.Cores.{Core}
 use Rattle.transactions.specs.Views.{Logs, state_of}
 use Rattle.transactions.specs.Starts.{Fresh}
 use Rattle.calls.specs.Calls.{Calls, SerialCalls}
-use Rattle.calls.specs.CallLaws.{map_in, calls_serial, reached_made, reached_good}
+use Rattle.calls.proofs.CallLaws.{map_in, calls_serial, reached_made, reached_good}
 
 -- some address may wait, in arrays that hold the state after some steps from a fresh map
 pub reached_some : (l : Lent) (g : Logs) (c : Core) (d : Made) (ss : List Step) → state_of l g c ≡ final (fresh d) ss → 0 < d.tuning.waiting_limit

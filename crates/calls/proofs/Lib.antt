@@ -1,0 +1,4 @@
+pub mod CallLaws
+pub mod WaitingCalls
+pub mod GuardedCalls
+pub mod ExaminedCalls

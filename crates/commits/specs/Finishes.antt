@@ -19,7 +19,7 @@ use Rattle.sets.specs.Leaves.{LeafSetRows}
 use Rattle.sets.specs.Writes.{WriteRows, writes_in}
 use Rattle.map.specs.Views.{slots_in, Lent}
 use Rattle.transactions.specs.Cores.{Core}
-use Rattle.transactions.specs.declared.begins.Plain.TheVariants.{Granted, Refused}
+use Rattle.std.specs.Prelude.{Ok, Err}
 use Rattle.transactions.specs.Answering.{front, yields_granted}
 use Rattle.transactions.specs.Admits.{any_stage, Turned, Entered}
 use Rattle.transactions.specs.Views.{Logs, logs, state_of}
@@ -45,14 +45,14 @@ unfolding causes no_worker worker_free any
 abort_mild σ w = refl
 
 module _ {l : Lent} {rs : List ReadRows} {ls : List LeafSetRows} {ws : List WriteRows} {c : Core} (w : ℕ) (k : Ready l (logs rs ls ws) c) where
-  pub abort_refused : (r : Refusal) → Turned any_stage c.workers w r → Refines l (logs rs ls ws) c (abort w) l (logs rs ls ws) c (plain_in (Refused r))
+  pub abort_refused : (r : Refusal) → Turned any_stage c.workers w r → Refines l (logs rs ls ws) c (abort w) l (logs rs ls ws) c (plain_in (Err r))
   abort_refused r t =
       let e : refusal (state_of l (logs rs ls ws) c) (abort w) ≡ some r
       = abort_front (state_of l (logs rs ls ws) c) w ∙ t.front_is l (logs rs ls ws) c refl in
       refines_refused k e (mild (state_of l (logs rs ls ws) c) (abort w) r (abort_mild (state_of l (logs rs ls ws) c) w) e)
 
   pub abort_granted : {l' : Lent} {c' : Core} (x : Worker) → Entered any_stage c.workers w x → Reaches (λ (σ : State). dropped σ w) l ws c l' c'
-      → Refines l (logs rs ls ws) c (abort w) l' (logs rs ls ws) c' (plain_in Granted)
+      → Refines l (logs rs ls ws) c (abort w) l' (logs rs ls ws) c' (plain_in (Ok tt))
   unfolding granted effect
   abort_granted x t q =
       refines k
@@ -86,7 +86,7 @@ unfolding worker_in
 stage_is l g c w h = ap (λ (x : model.Worker). x.stage) (worker_at_lem l g c w h)
 
 module _ {l : Lent} {rs : List ReadRows} {ls : List LeafSetRows} {ws : List WriteRows} {c : Core} (w : ℕ) (k : Ready l (logs rs ls ws) c) where
-  pub install_refused : (r : Refusal) → Turned is_checked c.workers w r → Refines l (logs rs ls ws) c (install w) l (logs rs ls ws) c (plain_in (Refused r))
+  pub install_refused : (r : Refusal) → Turned is_checked c.workers w r → Refines l (logs rs ls ws) c (install w) l (logs rs ls ws) c (plain_in (Err r))
   install_refused r t =
       let e : refusal (state_of l (logs rs ls ws) c) (install w) ≡ some r
       = install_front (state_of l (logs rs ls ws) c) w ∙ t.front_is l (logs rs ls ws) c refl in
@@ -103,7 +103,7 @@ module _ {l : Lent} {rs : List ReadRows} {ls : List LeafSetRows} {ws : List Writ
       inside = worker_inside k.stored w t.inside
 
   pub install_granted : {l' : Lent} {c' : Core} (x : Worker) → Entered is_checked c.workers w x → Reaches (λ (σ : State). effect σ (install w)) l ws c l' c'
-      → Refines l (logs rs ls ws) c (install w) l' (logs rs ls ws) c' (plain_in Granted)
+      → Refines l (logs rs ls ws) c (install w) l' (logs rs ls ws) c' (plain_in (Ok tt))
   unfolding granted
   install_granted x t q =
       refines k

@@ -1,6 +1,6 @@
 -- Lock, as it goes: refused by 1, 2, 4, in a guarded map by 16, 17 or 18, by 9, 10 or 11, or the addresses of the write set are
 -- locked.
-use Rattle.std.specs.Prelude.{ℕ, ◌+◌, ◌^◌, ◌<◌, ◌≡◌, refl, Bool, true, false, get_or, set}
+use Rattle.std.specs.Prelude.{ℕ, Result, Ok, Err, ◌+◌, ◌^◌, ◌<◌, ◌≡◌, refl, Bool, true, false, get_or, set}
 use Rattle.std.proofs.Common.{arith, ◌∙◌, subst, inl}
 use Rattle.std.proofs.Math.Path.{sym, ap}
 use mathlib.Core.List.{List, [], ◌∷◌}
@@ -32,13 +32,8 @@ use Rattle.map.specs.Views.{slots_in, records_in, SlotRows, RecordRows, Lent, ma
 use Rattle.map.specs.Entries.{MapBecomes}
 use Rattle.map.specs.LockLaws.{Lockable}
 use Rattle.map.specs.AddressCounts.{WaitsBeyond, AddressedBeyond}
-use Rattle.guards.specs.declared.Judged.{Judged}
-use Rattle.guards.specs.declared.Judged.TheVariants.{Passed}
-use Rattle.guards.specs.declared.Judged.TheVariants as guarded
-use Rattle.guards.specs.Judging.{judged_in, guard_causes, Guardable}
+use Rattle.guards.specs.Judging.{refusal_in, guard_causes, Guardable}
 use Rattle.transactions.specs.Cores.{Core}
-use Rattle.transactions.specs.declared.begins.Plain.{Plain}
-use Rattle.transactions.specs.declared.begins.Plain.TheVariants.{Granted, Refused}
 use Rattle.transactions.specs.Answering.{front, front_first, cause_holds, cause_fails, yields_granted, yields_refused}
 use Rattle.transactions.specs.Admits.{Turned, Entered}
 use Rattle.transactions.specs.Views.{Logs, logs, guarded_in, state_of}
@@ -49,11 +44,6 @@ use Rattle.transactions.specs.CoreLaws.{worker_is, within, ready_writable, worke
 use Rattle.transactions.specs.Begins.{plain_in}
 use Rattle.commits.specs.Commits.{Reaches, with_workers, reached, worker_inside, writes_are, keys_are}
 use Rattle.commits.specs.Finishes.{mild}
-
--- the refusal that is answered
-abbrev pub refusal_in : Plain → Option Refusal
-refusal_in Granted = none
-refusal_in (Refused r) = some r
 
 -- ---- the tests of the write set
 
@@ -67,19 +57,19 @@ lock_tests m ks w =
     ∷ [])
 
 -- what they answer, of every map with these records and slots
-pub record Tested (rows : RecordRows) (slots : SlotRows) (us : WriteRows) (z : Sizes) (n w : ℕ) (a : Plain) : Type 0 where
+pub record Tested (rows : RecordRows) (slots : SlotRows) (us : WriteRows) (z : Sizes) (n w : ℕ) (a : Result Unit Refusal) : Type 0 where
   pub is : (m : MapState) → m.records ≡ records_in rows z.records → m.slots ≡ slots_in slots → lock_tests m (keys (writes_of us n)) w ≡ refusal_in a
 
 module _ (rows : RecordRows) (slots : SlotRows) (us : WriteRows) (z : Sizes) (n w : ℕ) {b : Bool} (held : b ≡ any (λ (k : ℕ). held_by_other w (content_of (slots_in slots) k)) (keys (writes_of us n))) where
   in_map : (m : MapState) → m.slots ≡ slots_in slots → any (λ (k : ℕ). held_by_other w (content_of m.slots k)) (keys (writes_of us n)) ≡ b
   in_map m s = ap (λ (ss : List Slot). any (λ (k : ℕ). held_by_other w (content_of ss k)) (keys (writes_of us n))) s ∙ sym held
 
-  pub tested_held : b ≡ true → Tested rows slots us z n w (Refused Held)
+  pub tested_held : b ≡ true → Tested rows slots us z n w (Err Held)
   unfolding lock_tests
   tested_held t = record { is = λ m e s. cause_holds _ Held _ (in_map m s ∙ t) }
 
   module _ (free : b ≡ false) {v : Bool} (waits : WaitsBeyond slots us n v) where
-    pub tested_full : v ≡ true → Tested rows slots us z n w (Refused IndexletFull)
+    pub tested_full : v ≡ true → Tested rows slots us z n w (Err IndexletFull)
     unfolding lock_tests
     tested_full l =
         record {
@@ -94,10 +84,10 @@ module _ (rows : RecordRows) (slots : SlotRows) (us : WriteRows) (z : Sizes) (n 
           cause_fails _ Held _ (in_map m s ∙ free)
           ∙ cause_fails _ IndexletFull _ (sym (waits.is m s) ∙ few)
 
-      pub tested_map : u ≡ true → Tested rows slots us z n w (Refused MapFull)
+      pub tested_map : u ≡ true → Tested rows slots us z n w (Err MapFull)
       tested_map l = record { is = λ m e s. past m s ∙ cause_holds _ MapFull [] (sym (all.is m e s) ∙ l) }
 
-      pub tested_passed : u ≡ false → Tested rows slots us z n w Granted
+      pub tested_passed : u ≡ false → Tested rows slots us z n w (Ok tt)
       unfolding first_cause
       tested_passed l = record { is = λ m e s. past m s ∙ cause_fails _ MapFull [] (sym (all.is m e s) ∙ l) }
 
@@ -114,10 +104,9 @@ tested_lockable m us w e f =
       once = rising_different us f;
     }
 
-pub tested_can : (rows : RecordRows) (slots : SlotRows) (us : WriteRows) (z : Sizes) (n w : ℕ) (ls : List Leaf) (a : Plain) → Tested rows slots us z n w a → Rising (writes_of us n)
-    → present (refusal_in a) ≡ false → Lockable (record { records = records_in rows z.records; leaves = ls; slots = slots_in slots }) (writes_of us n)
-tested_can rows slots us z n w ls Granted t f p = tested_lockable _ (writes_of us n) w (t.is _ refl refl) f
-tested_can rows slots us z n w ls (Refused r) t f p = clash refl p
+pub tested_can : (rows : RecordRows) (slots : SlotRows) (us : WriteRows) (z : Sizes) (n w : ℕ) (ls : List Leaf) (u : Unit) → Tested rows slots us z n w (Ok u) → Rising (writes_of us n)
+    → Lockable (record { records = records_in rows z.records; leaves = ls; slots = slots_in slots }) (writes_of us n)
+tested_can rows slots us z n w ls u t f = tested_lockable _ (writes_of us n) w (t.is _ refl refl) f
 
 -- a worker's number and one more is a word
 pub worker_fits : (w : ℕ) → w < limits.workers → w + 1 < 2 ^ 64
@@ -126,21 +115,20 @@ worker_fits w h = omega arith
 -- ---- an open worker's lock
 
 -- What comes of it: the causes after the first three, the state, and the arrays.
-pub record LocksOpen (l : Lent) (ws : List WriteRows) (c : Core) (w : ℕ) (l' : Lent) (c' : Core) (a : Plain) : Type 0 where
+pub record LocksOpen (l : Lent) (ws : List WriteRows) (c : Core) (w : ℕ) (l' : Lent) (c' : Core) (a : Result Unit Refusal) : Type 0 where
   pub tests : lock_tests (map_of l c.sizes) (keys (writes_in ws w (worker_at c w).writes)) w ≡ refusal_in a
   pub reaches : Reaches (λ (σ : State). maybe (refusal_in a) (effect σ (lock w)) (λ (r : Refusal). σ)) l ws c l' c'
 
-same_tests : (l : Lent) (ws : List WriteRows) (c : Core) (w : ℕ) (x : Worker) (a : Plain) → x ≡ worker_at c w
+same_tests : (l : Lent) (ws : List WriteRows) (c : Core) (w : ℕ) (x : Worker) (a : Result Unit Refusal) → x ≡ worker_at c w
     → Tested l.rows l.slots (get_or ws w []) c.sizes x.writes w a
     → lock_tests (map_of l c.sizes) (keys (writes_in ws w (worker_at c w).writes)) w ≡ refusal_in a
 same_tests l ws c w x a e t =
     ap (λ (u : Worker). lock_tests (map_of l c.sizes) (keys (writes_in ws w u.writes)) w) (sym e) ∙ t.is (map_of l c.sizes) refl refl
 
-pub locks_refused : (l : Lent) (ws : List WriteRows) (c : Core) (w : ℕ) (x : Worker) (a : Plain) → x ≡ worker_at c w
-    → Tested l.rows l.slots (get_or ws w []) c.sizes x.writes w a → present (refusal_in a) ≡ true → LocksOpen l ws c w l c a
-locks_refused l ws c w x Granted e t p = clash p refl
-locks_refused l ws c w x (Refused r) e t p =
-    record { tests = same_tests l ws c w x (Refused r) e t; reaches = record { state = λ rs ls s. refl; stored = λ rs ls s. s } }
+pub locks_refused : (l : Lent) (ws : List WriteRows) (c : Core) (w : ℕ) (x : Worker) (r : Refusal) → x ≡ worker_at c w
+    → Tested l.rows l.slots (get_or ws w []) c.sizes x.writes w (Err r) → LocksOpen l ws c w l c (Err r)
+locks_refused l ws c w x r e t =
+    record { tests = same_tests l ws c w x (Err r) e t; reaches = record { state = λ rs ls s. refl; stored = λ rs ls s. s } }
 
 lock_leaves : (w : ℕ) (m : MapState) (us : List (Row Write)) → (lock_all w m us).leaves ≡ m.leaves
 unfolding lock_all with_slots
@@ -167,12 +155,11 @@ locks l l' ws c w x y z h e q b p =
         → worker_in (at_lock (worker_at c w)) rs ls ws w ≡ at_stage Locked (worker_of (state_of l (logs rs ls ws) c) w)
     worker rs ls t = lock_in rs ls ws w (worker_at c w) ∙ ap (at_stage Locked) (sym (worker_at_lem l (logs rs ls ws) c w (worker_inside t w h)))
 
-pub locks_granted : (l l' : Lent) (ws : List WriteRows) (c : Core) {xs : List Worker} (w : ℕ) (x y : Worker) (z : Sizes) (a : Plain) → w < limits.workers
-    → x ≡ worker_at c w → Tested l.rows l.slots (get_or ws w []) c.sizes x.writes w a → present (refusal_in a) ≡ false → y ≡ at_lock x
+pub locks_granted : (l l' : Lent) (ws : List WriteRows) (c : Core) {xs : List Worker} (w : ℕ) (x y : Worker) (z : Sizes) (u : Unit) → w < limits.workers
+    → x ≡ worker_at c w → Tested l.rows l.slots (get_or ws w []) c.sizes x.writes w (Ok u) → y ≡ at_lock x
     → MapBecomes l' z c.counters.version (lock_all w (map_of l c.sizes) (writes_in ws w x.writes))
-    → xs ≡ set c.workers w y → LocksOpen l ws c w l' (with_workers c xs z) a
-locks_granted l l' ws c w x y z Granted h e t p q b u = record { tests = same_tests l ws c w x Granted e t; reaches = locks l l' ws c w x y z h e q b u }
-locks_granted l l' ws c w x y z (Refused r) h e t p q b u = clash refl p
+    → xs ≡ set c.workers w y → LocksOpen l ws c w l' (with_workers c xs z) (Ok u)
+locks_granted l l' ws c w x y z u h e t q b v = record { tests = same_tests l ws c w x (Ok u) e t; reaches = locks l l' ws c w x y z h e q b v }
 
 -- ---- the guard
 
@@ -240,10 +227,10 @@ module _ {l : Lent} {rs : List ReadRows} {ls : List LeafSetRows} {ws : List Writ
   rest_tests = maybe (guarded_by (guarded_in c.guarded) (worker_of (state_of l (logs rs ls ws) c) w)) lock_tests_lem some
 
   refuses : (r : Refusal) → refusal (state_of l (logs rs ls ws) c) (lock w) ≡ some r
-      → Refines l (logs rs ls ws) c (lock w) l (logs rs ls ws) c (plain_in (Refused r))
+      → Refines l (logs rs ls ws) c (lock w) l (logs rs ls ws) c (plain_in (Err r))
   refuses r e = refines_refused k e (mild (state_of l (logs rs ls ws) c) (lock w) r (lock_mild (state_of l (logs rs ls ws) c) w) e)
 
-  pub lock_refused : (r : Refusal) → Turned is_open c.workers w r → Refines l (logs rs ls ws) c (lock w) l (logs rs ls ws) c (plain_in (Refused r))
+  pub lock_refused : (r : Refusal) → Turned is_open c.workers w r → Refines l (logs rs ls ws) c (lock w) l (logs rs ls ws) c (plain_in (Err r))
   unfolding rest_tests lock_tests_lem
   lock_refused r t =
       refuses r
@@ -280,11 +267,10 @@ module _ {l : Lent} {rs : List ReadRows} {ls : List LeafSetRows} {ws : List Writ
         ∙ ap (λ (o : Option Refusal). maybe o lock_tests_lem some) guard_is
 
     -- the guard refuses
-    pub lock_barred : (r : Refusal) (o : Judged) → o ≡ guarded.Refused r
-        → judged_in o ≡ guard_tests (guarded_in c.guarded) (reads_in rs w x.reads) (scans_in ls w x.leaves) (writes_in ws w x.writes)
-        → Refines l (logs rs ls ws) c (lock w) l (logs rs ls ws) c (plain_in (Refused r))
+    pub lock_barred : (r : Refusal) → some r ≡ guard_tests (guarded_in c.guarded) (reads_in rs w x.reads) (scans_in ls w x.leaves) (writes_in ws w x.writes)
+        → Refines l (logs rs ls ws) c (lock w) l (logs rs ls ws) c (plain_in (Err r))
     unfolding told
-    lock_barred r o e q = refuses r (first_is ∙ ap (λ (o : Option Refusal). maybe o lock_tests_lem some) (sym q ∙ ap judged_in e))
+    lock_barred r q = refuses r (first_is ∙ ap (λ (o : Option Refusal). maybe o lock_tests_lem some) (sym q))
 
     -- or it passes
     tests_are : told ≡ none
@@ -296,20 +282,19 @@ module _ {l : Lent} {rs : List ReadRows} {ls : List LeafSetRows} {ws : List Writ
         ∙ ap (λ (ks : List ℕ). lock_tests (map_of l c.sizes) ks w)
         (keys_are l (logs rs ls ws) c w (worker_inside k.stored w t.inside))
 
-    passes : {l' : Lent} {c' : Core} → told ≡ none → (a : Plain) → LocksOpen l ws c w l' c' a
+    passes : {l' : Lent} {c' : Core} → told ≡ none → (a : Result Unit Refusal) → LocksOpen l ws c w l' c' a
         → Refines l (logs rs ls ws) c (lock w) l' (logs rs ls ws) c' (plain_in a)
     unfolding granted
-    passes n Granted q =
+    passes n (Ok u) q =
         refines k (yields_granted (state_of l (logs rs ls ws) c) (lock w) (tests_are n ∙ q.tests))
         (q.reaches.state rs ls k.stored) (q.reaches.stored rs ls k.stored)
-    passes n (Refused r) q =
+    passes n (Err r) q =
         let e : refusal (state_of l (logs rs ls ws) c) (lock w) ≡ some r = tests_are n ∙ q.tests in
         refines k
         (yields_refused (state_of l (logs rs ls ws) c) (lock w) r e (mild (state_of l (logs rs ls ws) c) (lock w) r (lock_mild (state_of l (logs rs ls ws) c) w) e))
         (q.reaches.state rs ls k.stored) (q.reaches.stored rs ls k.stored)
 
-    pub lock_refines : {l' : Lent} {c' : Core} (o : Judged) → o ≡ Passed
-        → judged_in o ≡ guard_tests (guarded_in c.guarded) (reads_in rs w x.reads) (scans_in ls w x.leaves) (writes_in ws w x.writes)
-        → (a : Plain) → LocksOpen l ws c w l' c' a → Refines l (logs rs ls ws) c (lock w) l' (logs rs ls ws) c' (plain_in a)
+    pub lock_refines : {l' : Lent} {c' : Core} → none ≡ guard_tests (guarded_in c.guarded) (reads_in rs w x.reads) (scans_in ls w x.leaves) (writes_in ws w x.writes)
+        → (a : Result Unit Refusal) → LocksOpen l ws c w l' c' a → Refines l (logs rs ls ws) c (lock w) l' (logs rs ls ws) c' (plain_in a)
     unfolding told
-    lock_refines o e q a h = passes (sym q ∙ ap judged_in e) a h
+    lock_refines q a h = passes (sym q) a h

@@ -1,5 +1,5 @@
 -- What validate tests, over the arrays that it looks at.
-use Rattle.std.specs.Prelude.{ℕ, ◌+◌, ◌%◌, ◌<◌, ◌≤◌, ◌≡◌, refl, Bool, true, false, not, List, [], ◌∷◌, eqb, get_or, set}
+use Rattle.std.specs.Prelude.{ℕ, Result, Ok, Err, ◌+◌, ◌%◌, ◌<◌, ◌≤◌, ◌≡◌, refl, Bool, true, false, not, List, [], ◌∷◌, eqb, get_or, set}
 use Rattle.std.proofs.Math.Path.{sym}
 use Rattle.std.proofs.Common.{ap, ◌∙◌, subst}
 use Rattle.std.proofs.Math.Option.{Option, none, some}
@@ -27,13 +27,7 @@ use Rattle.sets.specs.Reads.{ReadRows, record_in, reads_of, no_read, ReadSetHeld
 use Rattle.sets.specs.Leaves.{LeafSetRows, versions_of, lows_of, LeafSetHeld, GivesLeaf}
 use Rattle.sets.specs.Writes.{WriteRows, writes_of, WriteSetOrdered}
 use Rattle.transactions.specs.Cores.{Core}
-use Rattle.commits.specs.declared.validates.Verdict.{Verdict}
-use Rattle.commits.specs.declared.validates.Verdict.TheVariants as verdict
-use Rattle.commits.specs.declared.validates.Verdict.TheVariants.{Passed}
-use Rattle.commits.specs.declared.validates.ValidateAnswer.{ValidateAnswer}
-use Rattle.commits.specs.declared.validates.ValidateAnswer.TheVariants as answer
-use Rattle.commits.specs.declared.validates.ValidateAnswer.TheVariants.{Number}
-use Rattle.commits.specs.declared.validates.ValidateDone.{ValidateDone}
+use Rattle.transactions.specs.declared.Globals.{Globals}
 use Rattle.transactions.specs.Views.{core_of}
 use Rattle.transactions.specs.Ready.{Within}
 use Rattle.map.specs.Parts as map_parts
@@ -79,17 +73,13 @@ judged l reads leaves z x w =
     (any (locked_in l.slots w) (keys (reads_of reads x.reads)))
     (any (phantom_in (map_of l z) w) (versions_of leaves x.leaves))
 
-abbrev pub verdict_in : Verdict → Option Refusal
-verdict_in Passed = none
-verdict_in (verdict.Refused r) = some r
-
 -- The core after a validation, and its answer.
 pub record Validated : Type 0 where
   pub core : Core
-  pub answer : ValidateAnswer
+  pub answer : Result ℕ Refusal
 
-abbrev pub validated_of : List ℕ → ValidateDone → Validated
-validated_of ws d = record { core = core_of ws d.globals; answer = d.answer }
+abbrev pub validated_of : List ℕ → Globals → Result ℕ Refusal → Validated
+validated_of ws c a = record { core = core_of ws c; answer = a }
 
 -- the core after worker w, now y, took commit number n
 abbrev pub with_number : Core → ℕ → Worker → ℕ → Core
@@ -99,8 +89,8 @@ with_number c w y n = record { workers = set c.workers w y; sizes = c.sizes; cou
 abbrev takes : Core → ℕ → Worker → Bool → Validated
 takes c w x left =
     pick left
-    (record { core = with_number c w (at_check x (c.counters.number + 1)) (c.counters.number + 1); answer = Number (c.counters.number + 1) })
-    (record { core = c; answer = answer.Refused Spent })
+    (record { core = with_number c w (at_check x (c.counters.number + 1)) (c.counters.number + 1); answer = Ok (c.counters.number + 1) })
+    (record { core = c; answer = Err Spent })
 
 -- the next commit number, if one is left
 unfoldable pub numbering : Core → ℕ → Worker → Validated
@@ -194,12 +184,12 @@ row_logged {l} {leaves} {z} {i} {m} k h a g =
 -- ---- the next commit number
 
 module _ (c : Core) (w : ℕ) (x : Worker) where
-  pub number_spent : limits.last_number ≤ c.counters.number → record { core = c; answer = answer.Refused Spent } ≡ numbering c w x
+  pub number_spent : limits.last_number ≤ c.counters.number → record { core = c; answer = Err Spent } ≡ numbering c w x
   unfolding numbering
   number_spent h = sym (ap (takes c w x) (less_no {m = c.counters.number} {n = limits.last_number} h))
 
   pub number_left : c.counters.number < limits.last_number
-      → record { core = with_number c w (at_check x (c.counters.number + 1)) (c.counters.number + 1); answer = Number (c.counters.number + 1) } ≡ numbering c w x
+      → record { core = with_number c w (at_check x (c.counters.number + 1)) (c.counters.number + 1); answer = Ok (c.counters.number + 1) } ≡ numbering c w x
   unfolding numbering
   number_left h = sym (ap (takes c w x) (less_yes {m = c.counters.number} {n = limits.last_number} h))
 
@@ -207,7 +197,7 @@ module _ (c : Core) (w : ℕ) (x : Worker) where
   pub number_taken : {xs : List Worker} (k : Counters) (n : ℕ) (y : Worker) → c.counters.number < limits.last_number
       → (n ≡ (map_parts.numbered c.counters).number) × (k ≡ map_parts.numbered c.counters) → y ≡ at_check x n
       → xs ≡ set c.workers w y
-      → record { core = record { workers = xs; sizes = c.sizes; counters = k; guarded = c.guarded }; answer = Number n } ≡ numbering c w x
+      → record { core = record { workers = xs; sizes = c.sizes; counters = k; guarded = c.guarded }; answer = Ok n } ≡ numbering c w x
   number_taken k n y h (p, q) e u =
-      (λ i. record { core = record { workers = (u ∙ ap (set c.workers w) (e ∙ ap (at_check x) p)) i; sizes = c.sizes; counters = q i; guarded = c.guarded }; answer = Number (p i) })
+      (λ i. record { core = record { workers = (u ∙ ap (set c.workers w) (e ∙ ap (at_check x) p)) i; sizes = c.sizes; counters = q i; guarded = c.guarded }; answer = Ok (p i) })
       ∙ number_left h

@@ -28,10 +28,7 @@ use Rattle.map.specs.declared.Sizes.{Sizes}
 use Rattle.map.specs.Views.{slots_in, map_of, Lent}
 use Rattle.queries.specs.PhantomViews.{Owns}
 use Rattle.transactions.specs.Cores.{Core}
-use Rattle.commits.specs.declared.validates.Verdict.{Verdict}
-use Rattle.commits.specs.declared.validates.Verdict.TheVariants as verdict
-use Rattle.commits.specs.declared.validates.Verdict.TheVariants.{Passed}
-use Rattle.commits.specs.declared.validates.ValidateAnswer.TheVariants.{Number, Refused}
+use Rattle.std.specs.Prelude.{Ok, Err}
 use Rattle.transactions.specs.Answering.{Yields, yields_granted, cause_holds, cause_fails, front, front_first}
 use Rattle.transactions.specs.Admits.{Turned, Entered}
 use Rattle.transactions.specs.Views.{logs, model_worker, state_of}
@@ -40,7 +37,7 @@ use Rattle.transactions.specs.Ready.{Within, Stored, Ready, Refines}
 use Rattle.transactions.specs.ReadyLaws.{refines, refines_refused}
 use Rattle.transactions.specs.CoreLaws.{ready_writable, worker_is, within, worker_writable, stored_worker}
 use Rattle.commits.specs.Commits.{Reaches, writing}
-use Rattle.commits.specs.Validates.{changed_in, locked_in, LoggedAll, Examinable, first_of, judged, verdict_in, Validated, with_number, numbering, number_spent, number_left}
+use Rattle.commits.specs.Validates.{changed_in, locked_in, LoggedAll, Examinable, first_of, judged, Validated, with_number, numbering, number_spent, number_left}
 use Rattle.commits.specs.Answers.{validate_in}
 
 -- ---- the tests, in their order
@@ -156,7 +153,7 @@ module _ {l : Lent} {rs : List ReadRows} {ls : List LeafSetRows} {ws : List Writ
   now = state_of l (logs rs ls ws) c
 
   pub validate_refused : (r : Refusal) → Turned is_locked c.workers w r
-      → Refines l (logs rs ls ws) c (validate w) l (logs rs ls ws) c (validate_in (Refused r))
+      → Refines l (logs rs ls ws) c (validate w) l (logs rs ls ws) c (validate_in (Err r))
   validate_refused r t =
       let f : front is_locked now w ≡ some r = t.front_is l (logs rs ls ws) c refl in
       refines_refused k
@@ -241,12 +238,10 @@ module _ {l : Lent} {rs : List ReadRows} {ls : List LeafSetRows} {ws : List Writ
         ∙ ap (λ (p : Option Refusal). maybe p (maybe (tested now w) (spent now) some) some) (t.front_is l (logs rs ls ws) c refl)
         ∙ ap (λ (p : Option Refusal). maybe p (spent now) some) (sym (q ∙ judged_is))
 
-    pub validate_ended : {l' : Lent} {c' : Core} (v : Verdict) (r : Refusal) → v ≡ verdict.Refused r
-        → verdict_in v ≡ judged l (get_or rs w []) (get_or ls w []) c.sizes x w
+    pub validate_ended : {l' : Lent} {c' : Core} (r : Refusal) → some r ≡ judged l (get_or rs w []) (get_or ls w []) c.sizes x w
         → Reaches (λ (σ : State). dropped σ w) l ws c l' c'
-        → Refines l (logs rs ls ws) c (validate w) l' (logs rs ls ws) c' (validate_in (Refused r))
-    validate_ended v r e j d =
-        let q = sym (ap verdict_in e) ∙ j in
+        → Refines l (logs rs ls ws) c (validate w) l' (logs rs ls ws) c' (validate_in (Err r))
+    validate_ended r q d =
         refines k
         (yields_ended now w r (refusal_by (some r) q) (first_ends _ _ _ r (sym (q ∙ judged_is))))
         (d.state rs ls k.stored) (d.stored rs ls k.stored)
@@ -302,20 +297,18 @@ module _ {l : Lent} {rs : List ReadRows} {ls : List LeafSetRows} {ws : List Writ
         (ap (λ (y : Worker). y.leaves) t.is)
 
     numbered_refines : (n : ℕ) → n ≡ suc c.counters.number → refusal now (validate w) ≡ none
-        → Refines l (logs rs ls ws) c (validate w) l (logs rs ls ws) (with_number c w (at_check x n) n) (validate_in (Number n))
+        → Refines l (logs rs ls ws) c (validate w) l (logs rs ls ws) (with_number c w (at_check x n) n) (validate_in (Ok n))
     numbered_refines n e q =
         subst
-        (λ (m : ℕ). Refines l (logs rs ls ws) c (validate w) l (logs rs ls ws) (with_number c w (at_check x m) m) (validate_in (Number m))) (sym e)
+        (λ (m : ℕ). Refines l (logs rs ls ws) c (validate w) l (logs rs ls ws) (with_number c w (at_check x m) m) (validate_in (Ok m))) (sym e)
         (refines k
         (subst (λ (a : Answer). Yields now (validate w) a (effect now (validate w))) granted_is (yields_granted now (validate w) q))
         (checked_state (suc c.counters.number) ∙ effect_is)
         (checked_stored (suc c.counters.number)))
 
-    pub validate_passed : (v : Verdict) (y : Validated) → v ≡ Passed
-        → verdict_in v ≡ judged l (get_or rs w []) (get_or ls w []) c.sizes x w → y ≡ numbering c w x
+    pub validate_passed : (y : Validated) → none ≡ judged l (get_or rs w []) (get_or ls w []) c.sizes x w → y ≡ numbering c w x
         → Refines l (logs rs ls ws) c (validate w) l (logs rs ls ws) y.core (validate_in y.answer)
-    validate_passed v y p j e =
-        let q = sym (ap verdict_in p) ∙ j in
+    validate_passed y q e =
         ⊎_elim
         (λ b. subst Taken (number_left c w x (less_true c.counters.number limits.last_number b) ∙ sym e)
         (numbered_refines (c.counters.number + 1) (add-one c.counters.number)

@@ -5,11 +5,10 @@ ghost use Rattle.transactions.specs.Views.{logs, core_of};
 ghost use Rattle.transactions.specs.Ready.{Ready, Refines};
 ghost use Rattle.transactions.specs.Begins.{plain_in};
 
-use crate::{Done, drops};
+use crate::drops;
 use map::{Leaves, Records, Slots};
 use sets::{LeafSets, ReadSets, WriteSets};
-use transactions::admits::Admit;
-use transactions::begins::Plain;
+use spec::Refusal;
 use transactions::{Globals, admits};
 use workers::Workers;
 
@@ -22,27 +21,15 @@ pub fn abort(
     reads: &ReadSets,
     leafsets: &LeafSets,
     writes: &WriteSets,
-    c: Globals,
+    c: &mut Globals,
     w: u32,
-) -> Done
-    requires { Ready (lent rows.now leaves.old slots.old) (logs reads.now leafsets.now writes.now) (core_of workers.old c) }
+) -> Result<(), Refusal>
+    requires { Ready (lent rows.now leaves.old slots.old) (logs reads.now leafsets.now writes.now) (core_of workers.old c.old) }
     ensures { Refines (lent rows.now leaves.old slots.old)
-        (logs reads.now leafsets.now writes.now) (core_of workers.old c) (model.abort w) (lent rows.now leaves.new slots.new)
-        (logs reads.now leafsets.now writes.now) (core_of workers.new result.globals) (plain_in result.answer) }
+        (logs reads.now leafsets.now writes.now) (core_of workers.old c.old) (model.abort w) (lent rows.now leaves.new slots.new)
+        (logs reads.now leafsets.now writes.now) (core_of workers.new c.new) (plain_in result) }
 {
-    match admits::busy(workers, w) {
-        Admit::Refused(r) => Done {
-            globals: c,
-            answer: Plain::Refused(r),
-        },
-        Admit::Allowed(_) => {
-            let globals = drops::drop_transaction(
-                leaves, slots, workers, rows, writes, c, w as usize,
-            );
-            Done {
-                globals,
-                answer: Plain::Granted,
-            }
-        }
-    }
+    admits::busy(workers, w)?;
+    drops::drop_transaction(leaves, slots, workers, rows, writes, c, w as usize);
+    Ok(())
 }

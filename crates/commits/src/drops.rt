@@ -22,33 +22,25 @@ pub fn drop_transaction(
     workers: &mut Workers,
     rows: &Records,
     writes: &WriteSets,
-    c: Globals,
+    c: &mut Globals,
     w: usize,
-) -> Globals
-    requires map_held { map.MapHeld (lent rows.now leaves.old slots.old) c.sizes c.counters.version }
+)
+    requires map_held { map.MapHeld (lent rows.now leaves.old slots.old) c.old.sizes c.old.counters.version }
     requires w_lt_workers { w < limits.workers }
-    requires write_set_ordered { WriteSetOrdered (get_or writes.now w []) (worker_at (core_of workers.old c) w).writes }
-    ensures { Reaches (λ (σ : State). dropped σ w) (lent rows.now leaves.old slots.old) writes.now (core_of workers.old c) (lent rows.now leaves.new slots.new) (core_of workers.new result) }
+    requires write_set_ordered { WriteSetOrdered (get_or writes.now w []) (worker_at (core_of workers.old c.old) w).writes }
+    ensures { Reaches (λ (σ : State). dropped σ w) (lent rows.now leaves.old slots.old) writes.now (core_of workers.old c.old) (lent rows.now leaves.new slots.new) (core_of workers.new c.new) }
 {
-    let sizes = c.sizes;
-    let counters = c.counters;
     let x = workers::worker_at(workers, w);
-    let own = w as u64;
-    let z = map::locks::unlock_all(
+    c.sizes = map::locks::unlock_all(
         leaves,
         slots,
         rows,
         &writes[w],
-        sizes,
-        counters,
+        c.sizes,
+        c.counters,
         x.writes as usize,
-        own,
+        w as u64,
     );
     let free = x.free();
     workers::put_worker(workers, w, free);
-    Globals {
-        sizes: z,
-        counters,
-        guarded: c.guarded,
-    }
 }

@@ -12,11 +12,9 @@ ghost use Rattle.transactions.specs.Ready.{worker_at, Ready, Refines};
 ghost use Rattle.transactions.specs.Begins.{plain_in};
 ghost use Rattle.commits.specs.Commits.{Reaches};
 
-use crate::Done;
 use map::{Leaves, Records, Slots};
 use sets::{LeafSets, ReadSets, WriteSets};
-use transactions::admits::Admit;
-use transactions::begins::Plain;
+use spec::Refusal;
 use transactions::{Globals, admits};
 use workers;
 use workers::Workers;
@@ -28,38 +26,32 @@ fn install_transaction(
     workers: &mut Workers,
     rows: &Records,
     writes: &WriteSets,
-    c: Globals,
+    c: &mut Globals,
     w: usize,
-) -> Globals
-    requires map_held { map.MapHeld (lent rows.now leaves.old slots.old) c.sizes c.counters.version }
+)
+    requires map_held { map.MapHeld (lent rows.now leaves.old slots.old) c.old.sizes c.old.counters.version }
     requires w_lt_workers { w < limits.workers }
-    requires write_set_ordered { WriteSetOrdered (get_or writes.now w []) (worker_at (core_of workers.old c) w).writes }
-    requires installable { Installable (slots_in slots.old) (writes_in writes.now w (worker_at (core_of workers.old c) w).writes) }
-    requires installs_bound { c.counters.installs + 1 < 2 ^ 64 }
-    ensures { Reaches (λ (σ : State). effect σ (model.install w)) (lent rows.now leaves.old slots.old) writes.now (core_of workers.old c) (lent rows.now leaves.new slots.new) (core_of workers.new result) }
+    requires write_set_ordered { WriteSetOrdered (get_or writes.now w []) (worker_at (core_of workers.old c.old) w).writes }
+    requires installable { Installable (slots_in slots.old) (writes_in writes.now w (worker_at (core_of workers.old c.old) w).writes) }
+    requires installs_bound { c.old.counters.installs + 1 < 2 ^ 64 }
+    ensures { Reaches (λ (σ : State). effect σ (model.install w)) (lent rows.now leaves.old slots.old) writes.now (core_of workers.old c.old) (lent rows.now leaves.new slots.new) (core_of workers.new c.new) }
 {
-    let sizes = c.sizes;
-    let counters = c.counters;
-    let counted = counters::count_install(counters);
+    let counted = counters::count_install(c.counters);
     let x = workers::worker_at(workers, w);
-    let z = map::locks::install_all(
+    c.sizes = map::locks::install_all(
         leaves,
         slots,
         rows,
         &writes[w],
-        sizes,
-        counters,
+        c.sizes,
+        c.counters,
         x.writes as usize,
         x.number as u64,
         counted.installs,
     );
+    c.counters = counted;
     let free = x.free();
     workers::put_worker(workers, w, free);
-    Globals {
-        sizes: z,
-        counters: counted,
-        guarded: c.guarded,
-    }
 }
 
 // Worker w's writes enter the map, under the commit number of its validation.
@@ -71,25 +63,15 @@ pub fn install(
     reads: &ReadSets,
     leafsets: &LeafSets,
     writes: &WriteSets,
-    c: Globals,
+    c: &mut Globals,
     w: u32,
-) -> Done
-    requires { Ready (lent rows.now leaves.old slots.old) (logs reads.now leafsets.now writes.now) (core_of workers.old c) }
+) -> Result<(), Refusal>
+    requires { Ready (lent rows.now leaves.old slots.old) (logs reads.now leafsets.now writes.now) (core_of workers.old c.old) }
     ensures { Refines (lent rows.now leaves.old slots.old)
-        (logs reads.now leafsets.now writes.now) (core_of workers.old c) (model.install w) (lent rows.now leaves.new slots.new)
-        (logs reads.now leafsets.now writes.now) (core_of workers.new result.globals) (plain_in result.answer) }
+        (logs reads.now leafsets.now writes.now) (core_of workers.old c.old) (model.install w) (lent rows.now leaves.new slots.new)
+        (logs reads.now leafsets.now writes.now) (core_of workers.new c.new) (plain_in result) }
 {
-    match admits::checked(workers, w) {
-        Admit::Refused(r) => Done {
-            globals: c,
-            answer: Plain::Refused(r),
-        },
-        Admit::Allowed(_) => {
-            let globals = install_transaction(leaves, slots, workers, rows, writes, c, w as usize);
-            Done {
-                globals,
-                answer: Plain::Granted,
-            }
-        }
-    }
+    admits::checked(workers, w)?;
+    install_transaction(leaves, slots, workers, rows, writes, c, w as usize);
+    Ok(())
 }

@@ -1,59 +1,44 @@
 // Lock: the addresses of a write set, all or none, and the tests before it; in a guarded map first those of its puts.
 ghost use Rattle.std.specs.Prelude.{◌≡◌, [], ◌<◌, length, get_or};
-ghost use Rattle.lists.specs.Tests.{present};
 ghost use Rattle.spec.specs.Records.{limits};
 ghost use Rattle.spec.specs.Slots.{entries};
 ghost use Rattle.spec.specs.Steps as model;
 ghost use Rattle.sets.specs.Reads.{reads_in};
 ghost use Rattle.sets.specs.Leaves.{scans_in};
 ghost use Rattle.sets.specs.Writes.{writes_in, WriteSetOrdered};
-ghost use Rattle.guards.specs.Judging.{judged_in, Guardable};
+ghost use Rattle.guards.specs.Judging.{refusal_in, Guardable};
 ghost use Rattle.map.specs.Views.{lent, slots_in};
 ghost use Rattle.map.specs.MapHeld as map;
 ghost use Rattle.map.specs.AddressCounts.{Counted};
 ghost use Rattle.transactions.specs.Views.{logs, core_of};
 ghost use Rattle.transactions.specs.Ready.{worker_at, Ready, Refines};
 ghost use Rattle.transactions.specs.Begins.{plain_in};
-ghost use Rattle.commits.specs.Locks.{refusal_in, guard_tests, Tested, LocksOpen};
+ghost use Rattle.commits.specs.Locks.{guard_tests, Tested, LocksOpen};
 
-use crate::Done;
-use guards::Judged;
 use map::{Leaves, Records, Sizes, Slots};
 use sets::{LeafSets, ReadSets, WriteSet, WriteSets};
 use spec::Refusal;
-use transactions::admits::Admit;
-use transactions::begins::Plain;
 use transactions::{Globals, admits};
 use workers;
 use workers::{Worker, Workers};
 
 // The tests of a write set before its addresses are locked: refusals 9, 10 and 11.
-fn lock_tests(rows: &Records, slots: &Slots, ws: &WriteSet, z: Sizes, n: usize, w: u64) -> Plain
+fn lock_tests(rows: &Records, slots: &Slots, ws: &WriteSet, z: Sizes, n: usize, w: u64) -> Result<(), Refusal>
     requires counted { Counted rows.now slots.now z }
     requires entries_value { z.entries ≡ length (entries (slots_in slots.now)) }
     requires write_set_ordered { WriteSetOrdered ws.now n }
     ensures { Tested rows.now slots.now ws.now z n w result }
 {
     if map::locks::held(slots, ws, n, w) {
-        return Plain::Refused(Refusal::Held);
+        return Err(Refusal::Held);
     }
     if map::locks::waits_beyond(slots, ws, n, z.entries) {
-        return Plain::Refused(Refusal::IndexletFull);
+        return Err(Refusal::IndexletFull);
     }
     if map::locks::addresses_beyond(rows, slots, ws, n, z) {
-        return Plain::Refused(Refusal::MapFull);
+        return Err(Refusal::MapFull);
     }
-    Plain::Granted
-}
-
-// Whether an answer is a refusal.
-fn refused(a: Plain) -> bool
-    ensures { result ≡ present (refusal_in a) }
-{
-    match a {
-        Plain::Granted => false,
-        Plain::Refused(_) => true,
-    }
+    Ok(())
 }
 
 // The lock of worker w, which is open: all of its addresses, or none.
@@ -63,39 +48,23 @@ fn lock_open(
     workers: &mut Workers,
     rows: &Records,
     writes: &WriteSets,
-    c: Globals,
+    c: &mut Globals,
     w: usize,
-) -> Done
-    requires map_held { map.MapHeld (lent rows.now leaves.old slots.old) c.sizes c.counters.version }
+) -> Result<(), Refusal>
+    requires map_held { map.MapHeld (lent rows.now leaves.old slots.old) c.old.sizes c.old.counters.version }
     requires w_lt_workers { w < limits.workers }
-    requires write_set_ordered { WriteSetOrdered (get_or writes.now w []) (worker_at (core_of workers.old c) w).writes }
-    ensures { LocksOpen (lent rows.now leaves.old slots.old) writes.now (core_of workers.old c) w (lent rows.now leaves.new slots.new) (core_of workers.new result.globals) result.answer }
+    requires write_set_ordered { WriteSetOrdered (get_or writes.now w []) (worker_at (core_of workers.old c.old) w).writes }
+    ensures { LocksOpen (lent rows.now leaves.old slots.old) writes.now (core_of workers.old c.old) w (lent rows.now leaves.new slots.new) (core_of workers.new c.new) result }
 {
-    let sizes = c.sizes;
-    let counters = c.counters;
     let x = workers::worker_at(workers, w);
     let n = x.writes as usize;
-    let tested = lock_tests(rows, slots, &writes[w], sizes, n, w as u64);
-    if refused(tested) {
-        return Done {
-            globals: c,
-            answer: tested,
-        };
-    }
-    let z = map::locks::lock_all(
-        leaves, slots, rows, &writes[w], sizes, counters, n, w as u64,
+    lock_tests(rows, slots, &writes[w], c.sizes, n, w as u64)?;
+    c.sizes = map::locks::lock_all(
+        leaves, slots, rows, &writes[w], c.sizes, c.counters, n, w as u64,
     );
     let locked = x.lock();
     workers::put_worker(workers, w, locked);
-    let globals = Globals {
-        sizes: z,
-        counters,
-        guarded: c.guarded,
-    };
-    Done {
-        globals,
-        answer: tested,
-    }
+    Ok(())
 }
 
 // The guard's tests of worker w's puts, refusals 16, 17 and 18 (request 102). An unguarded map has none.
@@ -106,15 +75,15 @@ fn guard(
     guarded: bool,
     w: usize,
     x: Worker,
-) -> Judged
+) -> Result<(), Refusal>
     requires w_lt_workers { w < limits.workers }
     requires guardable { Guardable (get_or reads.now w []) (get_or leafsets.now w []) (get_or writes.now w []) x }
-    ensures { judged_in result ≡ guard_tests guarded (reads_in reads.now w x.reads) (scans_in leafsets.now w x.leaves) (writes_in writes.now w x.writes) }
+    ensures { refusal_in result ≡ guard_tests guarded (reads_in reads.now w x.reads) (scans_in leafsets.now w x.leaves) (writes_in writes.now w x.writes) }
 {
     if guarded {
         return guards::judge(&reads[w], &leafsets[w], &writes[w], x);
     }
-    Judged::Passed
+    Ok(())
 }
 
 // Worker w locks the addresses of its write set.
@@ -126,28 +95,16 @@ pub fn lock(
     reads: &ReadSets,
     leafsets: &LeafSets,
     writes: &WriteSets,
-    c: Globals,
+    c: &mut Globals,
     w: u32,
-) -> Done
-    requires { Ready (lent rows.now leaves.old slots.old) (logs reads.now leafsets.now writes.now) (core_of workers.old c) }
+) -> Result<(), Refusal>
+    requires { Ready (lent rows.now leaves.old slots.old) (logs reads.now leafsets.now writes.now) (core_of workers.old c.old) }
     ensures { Refines (lent rows.now leaves.old slots.old)
-        (logs reads.now leafsets.now writes.now) (core_of workers.old c) (model.lock w) (lent rows.now leaves.new slots.new)
-        (logs reads.now leafsets.now writes.now) (core_of workers.new result.globals) (plain_in result.answer) }
+        (logs reads.now leafsets.now writes.now) (core_of workers.old c.old) (model.lock w) (lent rows.now leaves.new slots.new)
+        (logs reads.now leafsets.now writes.now) (core_of workers.new c.new) (plain_in result) }
 {
-    match admits::open(workers, w) {
-        Admit::Refused(r) => Done {
-            globals: c,
-            answer: Plain::Refused(r),
-        },
-        Admit::Allowed(x) => {
-            let v = w as usize;
-            match guard(reads, leafsets, writes, c.guarded == 1, v, x) {
-                Judged::Refused(r) => Done {
-                    globals: c,
-                    answer: Plain::Refused(r),
-                },
-                Judged::Passed => lock_open(leaves, slots, workers, rows, writes, c, v),
-            }
-        }
-    }
+    let x = admits::open(workers, w)?;
+    let v = w as usize;
+    guard(reads, leafsets, writes, c.guarded == 1, v, x)?;
+    lock_open(leaves, slots, workers, rows, writes, c, v)
 }

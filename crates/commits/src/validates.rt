@@ -10,40 +10,19 @@ ghost use Rattle.map.specs.Views.{lent, map_of};
 ghost use Rattle.queries.specs.PhantomViews.{Holding, Owns};
 ghost use Rattle.sets.specs.Reads.{record_in, reads_of, ReadSetHeld};
 ghost use Rattle.sets.specs.Leaves.{versions_of, LeafSetHeld};
+ghost use Rattle.guards.specs.Judging.{refusal_in};
 ghost use Rattle.transactions.specs.Views.{logs, core_of};
 ghost use Rattle.transactions.specs.Ready.{Ready, Refines};
-ghost use Rattle.commits.specs.Validates.{changed_in, locked_in, LoggedAll, Examinable, verdict_in, judged, validated_of, numbering};
+ghost use Rattle.commits.specs.Validates.{changed_in, locked_in, LoggedAll, Examinable, judged, validated_of, numbering};
 ghost use Rattle.commits.specs.Answers.{validate_in};
 
 use crate::drops;
 use map::{Leaves, Records, Sizes, Slots, holders};
 use sets::{LeafSet, LeafSets, ReadSet, ReadSets, WriteSet, WriteSets, leaves, reads};
 use spec::{Current, LAST_NUMBER, OWNERS, PayloadWords, Refusal};
-use transactions::admits::Admit;
 use transactions::{Globals, admits};
 use workers;
 use workers::{Worker, Workers};
-
-// A validation's answer: the commit number, or the refusal.
-#[derive(Clone, Copy)]
-pub enum ValidateAnswer {
-    Number(u64),
-    Refused(Refusal),
-}
-
-// The globals after a validation, and its answer.
-#[derive(Clone, Copy)]
-pub struct ValidateDone {
-    pub globals: Globals,
-    pub answer: ValidateAnswer,
-}
-
-// What the comparison of a log with the map says.
-#[derive(Clone, Copy)]
-enum Verdict {
-    Passed,
-    Refused(Refusal),
-}
 
 // Both say the same value and the same owner.
 fn same_payload(p: PayloadWords, q: PayloadWords) -> bool
@@ -153,15 +132,15 @@ fn judge(
     z: Sizes,
     x: Worker,
     w: usize,
-) -> Verdict
+) -> Result<(), Refusal>
     requires { Examinable (lent rows.now leaves.now slots.now) reads.now leafset.now writes.now z x w }
-    ensures { verdict_in result ≡ judged (lent rows.now leaves.now slots.now) reads.now leafset.now z x w }
+    ensures { refusal_in result ≡ judged (lent rows.now leaves.now slots.now) reads.now leafset.now z x w }
 {
     if changed(rows, slots, reads, z.records, x.reads as usize) {
-        return Verdict::Refused(Refusal::Changed);
+        return Err(Refusal::Changed);
     }
     if under_lock(slots, reads, w, x.reads as usize) {
-        return Verdict::Refused(Refusal::UnderLock);
+        return Err(Refusal::UnderLock);
     }
     if phantoms(
         rows,
@@ -174,38 +153,25 @@ fn judge(
         w,
         x.leaves as usize,
     ) {
-        return Verdict::Refused(Refusal::Phantom);
+        return Err(Refusal::Phantom);
     }
-    Verdict::Passed
+    Ok(())
 }
 
 // Worker w, of a valid log, takes the next commit number, if one is left (refusal 15). No array is touched but the workers.
-fn take_number(workers: &mut Workers, c: Globals, w: usize, x: Worker) -> ValidateDone
+fn take_number(workers: &mut Workers, c: &mut Globals, w: usize, x: Worker) -> Result<u64, Refusal>
     requires { w < limits.workers }
-    ensures { validated_of workers.new result ≡ numbering (core_of workers.old c) w x }
+    ensures { validated_of workers.new c.new result ≡ numbering (core_of workers.old c.old) w x }
 {
-    let last = c.counters;
-    if LAST_NUMBER <= last.number {
-        return ValidateDone {
-            globals: c,
-            answer: ValidateAnswer::Refused(Refusal::Spent),
-        };
+    if c.counters.number >= LAST_NUMBER {
+        return Err(Refusal::Spent);
     }
-    let taken = counters::take_number(last);
+    let taken = counters::take_number(c.counters);
+    c.counters = taken.counters;
     let n = taken.last;
     let checked = x.check(n as u32);
     workers::put_worker(workers, w, checked);
-    let counters = taken.counters;
-    let sizes = c.sizes;
-    let globals = Globals {
-        sizes,
-        counters,
-        guarded: c.guarded,
-    };
-    ValidateDone {
-        globals,
-        answer: ValidateAnswer::Number(n),
-    }
+    Ok(n)
 }
 
 // Worker w's log is compared with what stands now. If it holds, the worker has its commit number; if it does not, the
@@ -218,45 +184,30 @@ pub fn validate(
     reads: &ReadSets,
     leafsets: &LeafSets,
     writes: &WriteSets,
-    c: Globals,
+    c: &mut Globals,
     w: u32,
-) -> ValidateDone
-    requires { Ready (lent rows.now leaves.old slots.old) (logs reads.now leafsets.now writes.now) (core_of workers.old c) }
+) -> Result<u64, Refusal>
+    requires { Ready (lent rows.now leaves.old slots.old) (logs reads.now leafsets.now writes.now) (core_of workers.old c.old) }
     ensures { Refines (lent rows.now leaves.old slots.old)
-        (logs reads.now leafsets.now writes.now) (core_of workers.old c) (model.validate w) (lent rows.now leaves.new slots.new)
-        (logs reads.now leafsets.now writes.now) (core_of workers.new result.globals) (validate_in result.answer) }
+        (logs reads.now leafsets.now writes.now) (core_of workers.old c.old) (model.validate w) (lent rows.now leaves.new slots.new)
+        (logs reads.now leafsets.now writes.now) (core_of workers.new c.new) (validate_in result) }
 {
-    let sizes = c.sizes;
-    match admits::locked(workers, w) {
-        Admit::Refused(r) => ValidateDone {
-            globals: c,
-            answer: ValidateAnswer::Refused(r),
-        },
-        Admit::Allowed(x) => {
-            let i = w as usize;
-            let said = judge(
-                rows,
-                leaves,
-                slots,
-                &reads[i],
-                &leafsets[i],
-                &writes[i],
-                sizes,
-                x,
-                i,
-            );
-            match said {
-                Verdict::Refused(r) => {
-                    let globals = drops::drop_transaction(
-                        leaves, slots, workers, rows, writes, c, i,
-                    );
-                    ValidateDone {
-                        globals,
-                        answer: ValidateAnswer::Refused(r),
-                    }
-                }
-                Verdict::Passed => take_number(workers, c, i, x),
-            }
-        }
+    let x = admits::locked(workers, w)?;
+    let i = w as usize;
+    let said = judge(
+        rows,
+        leaves,
+        slots,
+        &reads[i],
+        &leafsets[i],
+        &writes[i],
+        c.sizes,
+        x,
+        i,
+    );
+    if let Err(r) = said {
+        drops::drop_transaction(leaves, slots, workers, rows, writes, c, i);
+        return Err(r);
     }
+    take_number(workers, c, i, x)
 }

@@ -1,5 +1,5 @@
 -- What the first tests of a step tell: the refusal, or the worker, whose stage is right.
-use Rattle.std.specs.Prelude.{ℕ, ◌<◌, ◌≤◌, ◌≡◌, Bool, true, false, length, get_or}
+use Rattle.std.specs.Prelude.{ℕ, Result, Ok, Err, ◌<◌, ◌≤◌, ◌≡◌, Bool, true, false, length, get_or}
 use Rattle.std.proofs.Math.Path.{refl, ap}
 use Rattle.std.proofs.Common.{sym, ◌∙◌, subst}
 use Rattle.std.proofs.Math.Bool.{not}
@@ -18,8 +18,6 @@ use Rattle.workers.specs.declared.Worker.{Worker}
 use Rattle.workers.specs.Workers.{worker_in, freed, rank_of}
 use Rattle.map.specs.Views.{Lent}
 use Rattle.transactions.specs.Cores.{Core}
-use Rattle.transactions.specs.declared.admits.Admit.{Admit}
-use Rattle.transactions.specs.declared.admits.Admit.TheVariants.{Refused, Allowed}
 use Rattle.transactions.specs.Answering.{cause_holds, cause_fails, front, front_none, front_free, front_wrong, front_passed}
 use Rattle.transactions.specs.Views.{Logs, state_of}
 use Rattle.transactions.specs.ViewLaws.{worker_at_lem}
@@ -46,9 +44,9 @@ pub record Entered (right : Stage → Bool) (workers : List Worker) (w : ℕ) (x
   pub stage : right x.stage ≡ true
   pub front_is : (l : Lent) (g : Logs) (c : Core) → c.workers ≡ workers → front right (state_of l g c) w ≡ none
 
-abbrev pub Admitted : (Stage → Bool) → List Worker → ℕ → Admit → Type 0
-Admitted right workers w (Refused r) = Turned right workers w r
-Admitted right workers w (Allowed x) = Entered right workers w x
+abbrev pub Admitted : (Stage → Bool) → List Worker → ℕ → Result Worker Refusal → Type 0
+Admitted right workers w (Err r) = Turned right workers w r
+Admitted right workers w (Ok x) = Entered right workers w x
 
 -- The tests of begin refuse, by r.
 pub record Barred (workers : List Worker) (w : ℕ) (r : Refusal) : Type 0 where
@@ -61,9 +59,9 @@ pub record Vacant (workers : List Worker) (w : ℕ) (x : Worker) : Type 0 where
   pub is : x ≡ get_or workers w freed
   pub passes : (l : Lent) (g : Logs) (c : Core) → c.workers ≡ workers → refusal (state_of l g c) (begin w) ≡ none
 
-abbrev pub Begun : List Worker → ℕ → Admit → Type 0
-Begun workers w (Refused r) = Barred workers w r
-Begun workers w (Allowed x) = Vacant workers w x
+abbrev pub Begun : List Worker → ℕ → Result Worker Refusal → Type 0
+Begun workers w (Err r) = Barred workers w r
+Begun workers w (Ok x) = Vacant workers w x
 
 -- ---- by cases of the tests
 

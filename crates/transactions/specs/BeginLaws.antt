@@ -1,5 +1,5 @@
 -- The laws of begin.
-use Rattle.std.specs.Prelude.{ℕ, ◌<◌, ◌≡◌, refl}
+use Rattle.std.specs.Prelude.{ℕ, ◌<◌, ◌≡◌, refl, Ok, Err}
 use Rattle.std.proofs.Common.{zero-le, sym, ap, ◌∙◌, subst, inr}
 use Rattle.spec.specs.declared.Refusal.{Refusal}
 use Rattle.spec.specs.declared.Stage.TheVariants.{Open}
@@ -10,7 +10,6 @@ use Rattle.workers.specs.Workers.{begun}
 use Rattle.workers.proofs.WorkerLaws.{begin_in}
 use Rattle.map.specs.Views.{Lent}
 use Rattle.transactions.specs.Cores.{Core}
-use Rattle.transactions.specs.declared.begins.Plain.TheVariants.{Granted, Refused}
 use Rattle.transactions.specs.Answering.{yields_granted}
 use Rattle.transactions.specs.Admits.{Barred, Vacant}
 use Rattle.transactions.specs.Views.{Logs, model_worker, state_of, core_with}
@@ -22,7 +21,7 @@ use Rattle.transactions.specs.Begins.{Begins}
 
 -- ---- refused
 
-pub begin_refused : (c : Core) (w : ℕ) (r : Refusal) → Barred c.workers w r → Begins c w c (Refused r)
+pub begin_refused : (c : Core) (w : ℕ) (r : Refusal) → Barred c.workers w r → Begins c w c (Err r)
 begin_refused c w r b = record { refines_so = λ l g k. refines_refused k (b.refuses l g c refl) b.mild }
 
 -- ---- granted
@@ -38,7 +37,7 @@ stored_begun : (l : Lent) (g : Logs) (c : Core) (w : ℕ) → w < limits.workers
 stored_begun l g c w h t =
     stored_put l g w begun c.sizes h t t.map refl t.reads t.leaves t.writes (λ v d. refl) begun_within (lows_kept w begun h t (inr refl))
 
-begins : (c : Core) (w : ℕ) (x : Worker) → Vacant c.workers w x → Begins c w (core_with c w begun) Granted
+begins : (c : Core) (w : ℕ) (x : Worker) → Vacant c.workers w x → Begins c w (core_with c w begun) (Ok tt)
 unfolding granted
 begins c w x v =
     record {
@@ -50,6 +49,6 @@ begins c w x v =
     }
 
 -- y the worker after it
-pub begin_granted : (c : Core) {c' : Core} (w : ℕ) (x y : Worker) → Vacant c.workers w x → y ≡ begun → c' ≡ core_with c w y → Begins c w c' Granted
+pub begin_granted : (c : Core) {c' : Core} (w : ℕ) (x y : Worker) → Vacant c.workers w x → y ≡ begun → c' ≡ core_with c w y → Begins c w c' (Ok tt)
 begin_granted c w x y v e q =
-    subst (λ (d : Core). Begins c w d Granted) (sym q) (subst (λ (z : Worker). Begins c w (core_with c w z) Granted) (sym e) (begins c w x v))
+    subst (λ (d : Core). Begins c w d (Ok tt)) (sym q) (subst (λ (z : Worker). Begins c w (core_with c w z) (Ok tt)) (sym e) (begins c w x v))

@@ -7,82 +7,72 @@ use spec::{Refusal, Stage, WORKERS};
 use workers;
 use workers::{Worker, Workers};
 
-// A worker whose stage is right, or the refusal.
-#[derive(Clone, Copy)]
-pub enum Admit {
-    Refused(Refusal),
-    Allowed(Worker),
-}
-
 // A worker in this stage, which is not the free one.
-fn at_stage(workers: &Workers, w: u32, right: Stage) -> Admit
+fn at_stage(workers: &Workers, w: u32, right: Stage) -> Result<Worker, Refusal>
     ensures { Admitted (is_at right) (workers_of workers.now) w result }
 {
     let i = w as usize;
-    if WORKERS <= i {
-        return Admit::Refused(Refusal::NoWorker);
+    if i >= WORKERS {
+        return Err(Refusal::NoWorker);
     }
     let x = workers::worker_at(workers, i);
-    let s = x.stage;
-    let n = workers::rank(s);
+    let n = workers::rank(x.stage);
     if n == 0 {
-        return Admit::Refused(Refusal::WorkerFree);
+        return Err(Refusal::WorkerFree);
     }
     if n != workers::rank(right) {
-        return Admit::Refused(Refusal::WrongStage);
+        return Err(Refusal::WrongStage);
     }
-    Admit::Allowed(x)
+    Ok(x)
 }
 
 // A worker in the open stage.
-pub fn open(workers: &Workers, w: u32) -> Admit
+pub fn open(workers: &Workers, w: u32) -> Result<Worker, Refusal>
     ensures { Admitted is_open (workers_of workers.now) w result }
 {
     at_stage(workers, w, Stage::Open)
 }
 
 // A worker in the locked stage.
-pub fn locked(workers: &Workers, w: u32) -> Admit
+pub fn locked(workers: &Workers, w: u32) -> Result<Worker, Refusal>
     ensures { Admitted is_locked (workers_of workers.now) w result }
 {
     at_stage(workers, w, Stage::Locked)
 }
 
 // A worker in the checked stage.
-pub fn checked(workers: &Workers, w: u32) -> Admit
+pub fn checked(workers: &Workers, w: u32) -> Result<Worker, Refusal>
     ensures { Admitted is_checked (workers_of workers.now) w result }
 {
     at_stage(workers, w, Stage::Checked)
 }
 
 // A worker in any stage but the free one, for abort.
-pub fn busy(workers: &Workers, w: u32) -> Admit
+pub fn busy(workers: &Workers, w: u32) -> Result<Worker, Refusal>
     ensures { Admitted any_stage (workers_of workers.now) w result }
 {
     let i = w as usize;
-    if WORKERS <= i {
-        return Admit::Refused(Refusal::NoWorker);
+    if i >= WORKERS {
+        return Err(Refusal::NoWorker);
     }
     let x = workers::worker_at(workers, i);
-    let s = x.stage;
-    if workers::rank(s) == 0 {
-        return Admit::Refused(Refusal::WorkerFree);
+    if workers::rank(x.stage) == 0 {
+        return Err(Refusal::WorkerFree);
     }
-    Admit::Allowed(x)
+    Ok(x)
 }
 
 // A free worker, for begin.
-pub fn vacant(workers: &Workers, w: u32) -> Admit
+pub fn vacant(workers: &Workers, w: u32) -> Result<Worker, Refusal>
     ensures { Begun (workers_of workers.now) w result }
 {
     let i = w as usize;
-    if WORKERS <= i {
-        return Admit::Refused(Refusal::NoWorker);
+    if i >= WORKERS {
+        return Err(Refusal::NoWorker);
     }
     let x = workers::worker_at(workers, i);
-    let s = x.stage;
-    if workers::rank(s) != 0 {
-        return Admit::Refused(Refusal::WorkerTaken);
+    if workers::rank(x.stage) != 0 {
+        return Err(Refusal::WorkerTaken);
     }
-    Admit::Allowed(x)
+    Ok(x)
 }

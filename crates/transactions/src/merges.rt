@@ -11,14 +11,7 @@ use sets::{LeafSets, ReadSets, WriteSets};
 use spec::Address;
 use workers::Workers;
 
-// The globals after a merge, and how many pending writes entered the index.
-#[derive(Clone, Copy)]
-pub struct MergeDone {
-    pub globals: Globals,
-    pub count: usize,
-}
-
-// The pending writes of the leaf that holds the address enter the index.
+// The pending writes of the leaf that holds the address enter the index. Answers how many.
 pub fn merge_at(
     rows: &mut Records,
     leaves: &mut Leaves,
@@ -27,32 +20,22 @@ pub fn merge_at(
     leafsets: &LeafSets,
     writes: &WriteSets,
     workers: &Workers,
-    c: Globals,
+    c: &mut Globals,
     a: Address,
-) -> MergeDone
-    requires { Ready (lent rows.old leaves.old slots.old) (logs reads.now leafsets.now writes.now) (core_of workers.now c) }
+) -> usize
+    requires { Ready (lent rows.old leaves.old slots.old) (logs reads.now leafsets.now writes.now) (core_of workers.now c.old) }
     ensures { Refines (lent rows.old leaves.old slots.old)
-        (logs reads.now leafsets.now writes.now) (core_of workers.now c) (model.merge a) (lent rows.new leaves.new slots.new)
-        (logs reads.now leafsets.now writes.now) (core_of workers.now result.globals) (model.counted result.count) }
+        (logs reads.now leafsets.now writes.now) (core_of workers.now c.old) (model.merge a) (lent rows.new leaves.new slots.new)
+        (logs reads.now leafsets.now writes.now) (core_of workers.now c.new) (model.counted result) }
 {
-    let sizes = c.sizes;
-    let counters = c.counters;
-    let r = merge::merge(rows, leaves, slots, sizes, counters, a);
-    let z = r.sizes;
-    let k = r.counters;
-    let globals = Globals {
-        sizes: z,
-        counters: k,
-        guarded: c.guarded,
-    };
-    MergeDone {
-        globals,
-        count: r.count,
-    }
+    let r = merge::merge(rows, leaves, slots, c.sizes, c.counters, a);
+    c.sizes = r.sizes;
+    c.counters = r.counters;
+    r.count
 }
 
 // The pending writes of the leaf of the write that has waited longest enter the index (request 101); none, where nothing is
-// pending.
+// pending. Answers how many.
 pub fn merge_oldest(
     rows: &mut Records,
     leaves: &mut Leaves,
@@ -61,12 +44,12 @@ pub fn merge_oldest(
     leafsets: &LeafSets,
     writes: &WriteSets,
     workers: &Workers,
-    c: Globals,
-) -> MergeDone
-    requires { Ready (lent rows.old leaves.old slots.old) (logs reads.now leafsets.now writes.now) (core_of workers.now c) }
+    c: &mut Globals,
+) -> usize
+    requires { Ready (lent rows.old leaves.old slots.old) (logs reads.now leafsets.now writes.now) (core_of workers.now c.old) }
     ensures { Refines (lent rows.old leaves.old slots.old)
-        (logs reads.now leafsets.now writes.now) (core_of workers.now c) model.merge_oldest (lent rows.new leaves.new slots.new)
-        (logs reads.now leafsets.now writes.now) (core_of workers.now result.globals) (model.counted result.count) }
+        (logs reads.now leafsets.now writes.now) (core_of workers.now c.old) model.merge_oldest (lent rows.new leaves.new slots.new)
+        (logs reads.now leafsets.now writes.now) (core_of workers.now c.new) (model.counted result) }
 {
     let a = oldest::oldest_waiting(slots);
     merge_at(rows, leaves, slots, reads, leafsets, writes, workers, c, a)

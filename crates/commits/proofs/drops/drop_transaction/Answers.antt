@@ -6,4 +6,4 @@ pub returns : goal.returns
 returns c = drops _ _ _ _ _ _ _ _
     c.requires.w_lt_workers
     c.worker_at-x.ensures.value
-    c.free-free.ensures c.unlock_all-z.ensures c.put_worker.ensures
+    c.free-free.ensures c.unlock_all-c.ensures c.put_worker.ensures

@@ -8,4 +8,4 @@ returns c = installs _ _ _ _ _ _ _ _ _
     c.worker_at-x.ensures.value
     c.free-free.ensures
     c.count_install-counted.ensures
-    c.install_all-z.ensures c.put_worker.ensures
+    c.install_all-c.ensures c.put_worker.ensures

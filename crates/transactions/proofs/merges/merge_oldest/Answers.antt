@@ -5,4 +5,4 @@ use Rattle.transactions.proofs.merges.merge_oldest.Goals as goal
 
 pub returns : goal.returns
 unfolding oldest
-returns c = oldest_refines c.oldest_waiting-a.result c.merge_at.result.count c.oldest_waiting-a.ensures c.merge_at.ensures
+returns c = oldest_refines c.oldest_waiting-a.result c.merge_at.result c.oldest_waiting-a.ensures c.merge_at.ensures

@@ -1,5 +1,5 @@
 -- Put and remove, as they go: refused by 1, 2, 4 or 7, or the write stands in the worker's write set.
-use Rattle.std.specs.Prelude.{ℕ, ◌%◌, ◌<◌, ◌≤◌, ◌≡◌, refl, ◌⊎◌, Bool, true, false, not, List, [], ◌∷◌, length, get_or, set}
+use Rattle.std.specs.Prelude.{ℕ, Result, Ok, Err, ◌%◌, ◌<◌, ◌≤◌, ◌≡◌, refl, ◌⊎◌, Bool, true, false, not, List, [], ◌∷◌, length, get_or, set}
 use Rattle.std.proofs.Common.{arith, sym, ◌∙◌, subst}
 use Rattle.std.proofs.Math.Path.{ap}
 use Rattle.std.proofs.Math.Option.{Option, none, some}
@@ -26,8 +26,6 @@ use Rattle.sets.specs.SetLaws.{each_set, other_set, length_rows}
 use Rattle.sets.specs.WriteLaws.{put_kind, deletion_kind, room_found}
 use Rattle.map.specs.Views.{Lent}
 use Rattle.transactions.specs.Cores.{Core}
-use Rattle.transactions.specs.declared.begins.Plain.{Plain}
-use Rattle.transactions.specs.declared.begins.Plain.TheVariants.{Granted, Refused}
 use Rattle.transactions.specs.Answering.{Yields, yields_granted, cause_holds, cause_fails, front, front_first}
 use Rattle.transactions.specs.Admits.{Turned, Entered}
 use Rattle.transactions.specs.Views.{Logs, logs, state_of, core_with}
@@ -47,7 +45,7 @@ abbrev pub full_at : WriteRows → ℕ → ℕ → Bool
 full_at ws n a = both (not (present (look (writes_of ws n) a))) (not (less n limits.write_limit))
 
 -- The step, whatever the other arrays hold: ws are the write sets before it, us those after it, and c' is the core after it.
-pub record Edits (ws : List WriteRows) (c : Core) (w a : ℕ) (e : Write) (us : List WriteRows) (c' : Core) (r : Plain) : Type 0 where
+pub record Edits (ws : List WriteRows) (c : Core) (w a : ℕ) (e : Write) (us : List WriteRows) (c' : Core) (r : Result Unit Refusal) : Type 0 where
   pub refines_so : (l : Lent) (rs : List ReadRows) (ls : List LeafSetRows) → Ready l (logs rs ls ws) c
       → Refines l (logs rs ls ws) c (editing w a e) l (logs rs ls us) c' (plain_in r)
 
@@ -94,7 +92,7 @@ refusal_front σ w a e o q =
     refusal_editing σ w a e ∙ ap (λ (p : Option Refusal). maybe p (first_cause (cause (writes_full σ w a) WritesFull ∷ [])) some) q
 
 pub edit_refused : {ws : List WriteRows} {c : Core} {w a : ℕ} {e : Write} {r : Refusal} → Turned is_open c.workers w r
-    → Edits ws c w a e ws c (Refused r)
+    → Edits ws c w a e ws c (Err r)
 edit_refused {ws} {c} {w} {a} {e} {r} t =
     record {
       refines_so = λ l rs ls k.
@@ -120,7 +118,7 @@ module _ (l : Lent) (g : Logs) (c : Core) (w : ℕ) (x : Worker) (k : Ready l g 
       ∙ ap (λ (d : Bool). first_cause (cause d WritesFull ∷ [])) (full_is a ∙ sym q)
 
 pub edit_full : {ws : List WriteRows} {c : Core} {w a : ℕ} {e : Write} {x : Worker} {b : Bool} → Entered is_open c.workers w x
-    → b ≡ full_at (get_or ws w []) x.writes a → b ≡ true → Edits ws c w a e ws c (Refused WritesFull)
+    → b ≡ full_at (get_or ws w []) x.writes a → b ≡ true → Edits ws c w a e ws c (Err WritesFull)
 edit_full {ws} {c} {w} {a} {e} {x} {b} t q f =
     record {
       refines_so = λ l rs ls k.
@@ -141,12 +139,12 @@ effect_editing σ w a deleted = refl
 
 pub edit_granted : {ws : List WriteRows} {us : WriteRows} {c c' : Core} {w a kind : ℕ} {v : PayloadWords} {x : Worker} {b : Bool} {n : ℕ} → Entered is_open c.workers w x
     → b ≡ full_at (get_or ws w []) x.writes a → b ≡ false → PutsWrite (get_or ws w []) x.writes a kind v us n → c' ≡ core_with c w (with_writes x n)
-    → Edits ws c w a (write_of kind v) (set ws w us) c' Granted
+    → Edits ws c w a (write_of kind v) (set ws w us) c' (Ok tt)
 unfolding first_cause
 edit_granted {ws} {us} {c} {c'} {w} {a} {kind} {v} {x} {b} {n} t q f p s =
     record {
       refines_so = λ l rs ls k.
-          subst (λ (o : Core). Refines l (logs rs ls ws) c (editing w a (write_of kind v)) l (logs rs ls (set ws w us)) o (plain_in Granted)) (sym s)
+          subst (λ (o : Core). Refines l (logs rs ls ws) c (editing w a (write_of kind v)) l (logs rs ls (set ws w us)) o (plain_in (Ok tt))) (sym s)
           (let σ = state_of l (logs rs ls ws) c in
           let e = write_of kind v in
           let g : Yields σ (editing w a e) (granted σ (editing w a e)) (effect σ (editing w a e))
@@ -166,7 +164,7 @@ edit_granted {ws} {us} {c} {c'} {w} {a} {kind} {v} {x} {b} {n} t q f p s =
 
 -- ---- the two steps
 
-pub put_refines : {ws us : List WriteRows} {c c' : Core} {w a : ℕ} {r : Plain} {l : Lent} {rs : List ReadRows} {ls : List LeafSetRows} (value owner : ℕ) → owner < owners
+pub put_refines : {ws us : List WriteRows} {c c' : Core} {w a : ℕ} {r : Result Unit Refusal} {l : Lent} {rs : List ReadRows} {ls : List LeafSetRows} (value owner : ℕ) → owner < owners
     → Edits ws c w a (write_of 1 (record { value = value; owner = owner })) us c' r → Ready l (logs rs ls ws) c
     → Refines l (logs rs ls ws) c (put w a (record { value = value; owner = owner })) l (logs rs ls us) c' (plain_in r)
 put_refines {ws} {us} {c} {c'} {w} {a} {r} {l} {rs} {ls} value owner h e k =
@@ -175,7 +173,7 @@ put_refines {ws} {us} {c} {c'} {w} {a} {r} {l} {rs} {ls} value owner h e k =
     ∙ ap (λ (n : ℕ). written (record { value = value; owner = n })) (let z : owner % owners ≡ owner = omega arith in z))
     (e.refines_so l rs ls k)
 
-pub remove_refines : {ws us : List WriteRows} {c c' : Core} {w a : ℕ} {r : Plain} {l : Lent} {rs : List ReadRows} {ls : List LeafSetRows} → Edits ws c w a (write_of 2 no_payload) us c' r
+pub remove_refines : {ws us : List WriteRows} {c c' : Core} {w a : ℕ} {r : Result Unit Refusal} {l : Lent} {rs : List ReadRows} {ls : List LeafSetRows} → Edits ws c w a (write_of 2 no_payload) us c' r
     → Ready l (logs rs ls ws) c → Refines l (logs rs ls ws) c (remove w a) l (logs rs ls us) c' (plain_in r)
 remove_refines {ws} {us} {c} {c'} {w} {a} {r} {l} {rs} {ls} e k =
     subst (λ (x : Write). Refines l (logs rs ls ws) c (editing w a x) l (logs rs ls us) c' (plain_in r))

@@ -1,5 +1,5 @@
 -- Read, as it goes: refused by 1, 2, 4 or 6, or it tells the worker's own write, or the current record, which is logged.
-use Rattle.std.specs.Prelude.{ℕ, ◌+◌, ◌%◌, ◌<◌, ◌≤◌, ◌≡◌, Bool, true, false, get_or, set}
+use Rattle.std.specs.Prelude.{ℕ, Result, Ok, Err, Some, None, Option as Optional, ◌+◌, ◌%◌, ◌<◌, ◌≤◌, ◌≡◌, Bool, true, false, get_or, set}
 use Rattle.std.proofs.Common.{arith, sym, ◌∙◌}
 use Rattle.std.proofs.Math.Path.{refl, ap, subst}
 use Rattle.std.proofs.Math.Bool.{not}
@@ -16,7 +16,7 @@ use Rattle.spec.specs.declared.Current.{Current}
 use Rattle.spec.specs.declared.Refusal.{Refusal}
 use Rattle.spec.specs.declared.Refusal.TheVariants.{LogFull}
 use Rattle.spec.specs.Refusals.{ends}
-use Rattle.spec.specs.Records.{limits, Record, Write, written, deleted, own_view, payload_of}
+use Rattle.spec.specs.Records.{limits, Payload, Record, Write, written, deleted, own_view, payload_of}
 use Rattle.spec.specs.Slots.{search}
 use Rattle.spec.specs.Maps.{current}
 use Rattle.spec.specs.Steps as model
@@ -35,8 +35,8 @@ use Rattle.sets.specs.SetLaws.{each_set, other_set, length_rows}
 use Rattle.queries.specs.QueryViews.{Examines}
 use Rattle.map.specs.Views.{leaves_in, by_columns, SlotRows, RecordRows, Lent}
 use Rattle.transactions.specs.Cores.{Core}
-use Rattle.accesses.specs.declared.reads.ReadAnswer.{ReadAnswer}
-use Rattle.accesses.specs.declared.reads.ReadAnswer.TheVariants.{Value, Absent, Refused}
+use Rattle.accesses.specs.declared.reads.ReadValue.{ReadValue}
+use Rattle.accesses.specs.declared.reads.Found.{Found}
 use Rattle.accesses.specs.declared.reads.Taken.{Taken}
 use Rattle.transactions.specs.Answering.{Yields, yields_granted, cause_holds, cause_fails, front, front_first}
 use Rattle.transactions.specs.Admits.{Turned, Entered}
@@ -46,7 +46,7 @@ use Rattle.transactions.specs.Ready.{Within, Ready, Refines}
 use Rattle.transactions.specs.ReadyLaws.{refines, refines_refused}
 use Rattle.transactions.specs.CoreLaws.{Writable, ready_writable, worker_is, within, stored_worker}
 use Rattle.map.specs.Parts.{RecordsHeld, SlotsHeld, records_held, slots_held}
-use Rattle.accesses.specs.Answers.{read_answer}
+use Rattle.accesses.specs.Answers.{told, value_in, found_by, read_answer}
 
 -- What the arrays hold for a read that is logged.
 pub record Loggable (rs : List ReadRows) (rows : RecordRows) (slots : SlotRows) (c : Core) : Type 0 where
@@ -73,27 +73,27 @@ pub record LogsCurrent (rs : ReadRows) (rows : RecordRows) (slots : SlotRows) (r
   pub examines : Examines rows records slots a (record { current = r.seen; examined = r.examined })
 
 -- The step, whatever the other arrays hold: rs are the read sets before it, us those after it, and c' is the core after it.
-pub record Tells (rs : List ReadRows) (rows : RecordRows) (slots : SlotRows) (ws : List WriteRows) (c : Core) (w a : ℕ) (us : List ReadRows) (c' : Core) (r : ReadAnswer) : Type 0 where
+pub record Tells (rs : List ReadRows) (rows : RecordRows) (slots : SlotRows) (ws : List WriteRows) (c : Core) (w a : ℕ) (us : List ReadRows) (c' : Core) (r : Result Found Refusal) : Type 0 where
   pub refines_so : (lows versions hidden pending : List ℕ) (ls : List LeafSetRows)
       → Ready (by_columns rows lows versions hidden pending slots) (logs rs ls ws) c
       → Refines (by_columns rows lows versions hidden pending slots) (logs rs ls ws) c (read w a)
       (by_columns rows lows versions hidden pending slots) (logs us ls ws) c' (read_answer r)
 
 -- The step of a worker that has no write at the address.
-pub record TellsCurrent (rs : List ReadRows) (rows : RecordRows) (slots : SlotRows) (c : Core) (w : ℕ) (x : Worker) (a : ℕ) (us : List ReadRows) (c' : Core) (r : ReadAnswer) : Type 0 where
+pub record TellsCurrent (rs : List ReadRows) (rows : RecordRows) (slots : SlotRows) (c : Core) (w : ℕ) (x : Worker) (a : ℕ) (us : List ReadRows) (c' : Core) (r : Result Found Refusal) : Type 0 where
   pub tells : (ws : List WriteRows) → look (writes_in ws w x.writes) a ≡ none → Tells rs rows slots ws c w a us c' r
 
 -- ---- what was seen
 
-pub shown_there : (s : Current) (n : ℕ) → s.there ≡ true → read_answer (Value s.payload.value (s.payload.owner % owners) n) ≡ found (payload_of (record_in s)) n
+pub shown_there : (s : Current) → s.there ≡ true → value_in (Some (told s.payload)) ≡ payload_of (record_in s)
 unfolding payload_of
-shown_there s n e =
-    ap (λ (b : Bool). found (payload_of (pick b (some (record { payload = payload_in s.payload; commit = s.commit })) none)) n) (sym e)
+shown_there s e =
+    ap (λ (b : Bool). payload_of (pick b (some (record { payload = payload_in s.payload; commit = s.commit })) none)) (sym e)
 
-pub shown_none : (s : Current) (n : ℕ) → s.there ≡ false → read_answer (Absent n) ≡ found (payload_of (record_in s)) n
+pub shown_none : (s : Current) → s.there ≡ false → value_in None ≡ payload_of (record_in s)
 unfolding payload_of
-shown_none s n e =
-    ap (λ (b : Bool). found (payload_of (pick b (some (record { payload = payload_in s.payload; commit = s.commit })) none)) n) (sym e)
+shown_none s e =
+    ap (λ (b : Bool). payload_of (pick b (some (record { payload = payload_in s.payload; commit = s.commit })) none)) (sym e)
 
 -- ---- the refusals
 
@@ -109,7 +109,7 @@ unfolding refusal causes access_causes no_worker worker_free wrong_stage any
 mild σ w a r q = mild_cause (causes σ (read w a)) r refl q
 
 pub read_refused : {rs : List ReadRows} {rows : RecordRows} {slots : SlotRows} {ws : List WriteRows} {c : Core} {w a : ℕ} {r : Refusal} → Turned is_open c.workers w r
-    → Tells rs rows slots ws c w a rs c (Refused r)
+    → Tells rs rows slots ws c w a rs c (Err r)
 read_refused {rs} {rows} {slots} {ws} {c} {w} {a} {r} t =
     record {
       refines_so = λ lows versions hidden pending ls k.
@@ -142,7 +142,7 @@ module _ (l : Lent) (g : Logs) (c : Core) (w : ℕ) (x : Worker) (k : Ready l g 
       ∙ ap (λ (d : Bool). first_cause (cause d LogFull ∷ [])) (full_is o q)
 
 pub read_full : {rs : List ReadRows} {rows : RecordRows} {slots : SlotRows} {c : Core} {w a : ℕ} {x : Worker} → Entered is_open c.workers w x → limits.read_limit ≤ x.reads
-    → TellsCurrent rs rows slots c w x a rs c (Refused LogFull)
+    → TellsCurrent rs rows slots c w x a rs c (Err LogFull)
 read_full {rs} {rows} {slots} {c} {w} {a} {x} t h =
     record {
       tells = λ ws q. record {
@@ -197,9 +197,9 @@ yields_read σ w a o q n =
     let k : Yields σ (read w a) (granted σ (read w a)) (effect σ (read w a)) = yields_granted σ (read w a) n in
     record { answers = k.answers ∙ granted_is σ w a o q; leaves = k.leaves ∙ effect_is σ w a o q }
 
-read_own : {rs : List ReadRows} {rows : RecordRows} {slots : SlotRows} {ws : List WriteRows} {c : Core} {w a : ℕ} {x : Worker} (e : Write) (v : ReadAnswer) → Entered is_open c.workers w x
-    → look (writes_in ws w x.writes) a ≡ some e → read_answer v ≡ found (own_view e) 0
-    → Tells rs rows slots ws c w a rs c v
+read_own : {rs : List ReadRows} {rows : RecordRows} {slots : SlotRows} {ws : List WriteRows} {c : Core} {w a : ℕ} {x : Worker} (e : Write) (v : Found) → Entered is_open c.workers w x
+    → look (writes_in ws w x.writes) a ≡ some e → found_by v ≡ found (own_view e) 0
+    → Tells rs rows slots ws c w a rs c (Ok v)
 unfolding first_cause
 read_own {rs} {rows} {slots} {ws} {c} {w} {a} {x} e v t q s =
     record {
@@ -214,31 +214,31 @@ read_own {rs} {rows} {slots} {ws} {c} {w} {a} {x} e v t q s =
 
 pub read_put : {rs : List ReadRows} {rows : RecordRows} {slots : SlotRows} {ws : List WriteRows} {c : Core} {w a : ℕ} {v : PayloadWords} {x : Worker} {f : FoundWrite}
     → Entered is_open c.workers w x → f ≡ Put v → found_in f ≡ look (writes_in ws w x.writes) a
-    → Tells rs rows slots ws c w a rs c (Value v.value (v.owner % owners) 0)
+    → Tells rs rows slots ws c w a rs c (Ok (record { value = Some (told v); examined = 0 }))
 unfolding own_view
 read_put {v} t e q =
-    read_own (written (payload_in v)) (Value v.value (v.owner % owners) 0) t (sym q ∙ ap found_in e) refl
+    read_own (written (payload_in v)) (record { value = Some (told v); examined = 0 }) t (sym q ∙ ap found_in e) refl
 
 pub read_deletion : {rs : List ReadRows} {rows : RecordRows} {slots : SlotRows} {ws : List WriteRows} {c : Core} {w a : ℕ} {x : Worker} {f : FoundWrite}
     → Entered is_open c.workers w x → f ≡ Deletion → found_in f ≡ look (writes_in ws w x.writes) a
-    → Tells rs rows slots ws c w a rs c (Absent 0)
+    → Tells rs rows slots ws c w a rs c (Ok (record { value = None; examined = 0 }))
 unfolding own_view
 read_deletion t e q =
-    read_own deleted (Absent 0) t (sym q ∙ ap found_in e) refl
+    read_own deleted (record { value = None; examined = 0 }) t (sym q ∙ ap found_in e) refl
 
-pub read_nothing : {rs us : List ReadRows} {rows : RecordRows} {slots : SlotRows} {ws : List WriteRows} {c c' : Core} {w a : ℕ} {x : Worker} {f : FoundWrite} {r : ReadAnswer}
+pub read_nothing : {rs us : List ReadRows} {rows : RecordRows} {slots : SlotRows} {ws : List WriteRows} {c c' : Core} {w a : ℕ} {x : Worker} {f : FoundWrite} {r : Result Found Refusal}
     → f ≡ Nothing → found_in f ≡ look (writes_in ws w x.writes) a
     → TellsCurrent rs rows slots c w x a us c' r → Tells rs rows slots ws c w a us c' r
 read_nothing {ws = ws} e q k = k.tells ws (sym q ∙ ap found_in e)
 
 -- ---- the current record
 
-pub read_logged : {rs : List ReadRows} {rows : RecordRows} {slots : SlotRows} {us : ReadRows} {c c' : Core} {w a : ℕ} {x : Worker} {r : Taken} {v : ReadAnswer}
+pub read_logged : {rs : List ReadRows} {rows : RecordRows} {slots : SlotRows} {us : ReadRows} {c c' : Core} {w a : ℕ} {x : Worker} {r : Taken} {o : Optional ReadValue}
     → Entered is_open c.workers w x → x.reads < limits.read_limit → LogsCurrent (get_or rs w []) rows slots c.sizes.records x.reads a us r
-    → c' ≡ core_with c w (with_reads x r.count) → read_answer v ≡ found (payload_of (record_in r.seen)) r.examined
-    → TellsCurrent rs rows slots c w x a (set rs w us) c' v
+    → c' ≡ core_with c w (with_reads x r.count) → value_in o ≡ payload_of (record_in r.seen)
+    → TellsCurrent rs rows slots c w x a (set rs w us) c' (Ok (record { value = o; examined = r.examined }))
 unfolding first_cause
-read_logged {rs} {rows} {slots} {us} {c} {c'} {w} {a} {x} {r} {v} t h p m s =
+read_logged {rs} {rows} {slots} {us} {c} {c'} {w} {a} {x} {r} {o} t h p m s =
     record {
       tells = λ ws q. record {
         refines_so = λ lows versions hidden pending ls k.
@@ -252,9 +252,9 @@ read_logged {rs} {rows} {slots} {us} {c} {c'} {w} {a} {x} {r} {v} t h p m s =
             ∙ cause_fails (not (less x.reads limits.read_limit)) LogFull [] (ap not (less_yes {m = x.reads} {n = limits.read_limit} h)) in
             let count : r.count ≡ x.reads + 1 = p.logs.count in
             let b : Within x = within is_open l g c w x k t in
-            subst (λ (z : Core). Refines l g c (read w a) l (logs (set rs w us) ls ws) z (read_answer v)) (sym m)
+            subst (λ (z : Core). Refines l g c (read w a) l (logs (set rs w us) ls ws) z (found (value_in o) r.examined)) (sym m)
             (subst (Refines l g c (read w a) l (logs (set rs w us) ls ws) (core_with c w (with_reads x r.count)))
-            (sym (s ∙ ap (λ (z : Option Record). found (payload_of z) r.examined) seen ∙ ap (found (payload_of (current σ.map a))) examined))
+            (sym (ap (λ (p : Option Payload). found p r.examined) s ∙ ap (λ (z : Option Record). found (payload_of z) r.examined) seen ∙ ap (found (payload_of (current σ.map a))) examined))
             (refines k (yields_read σ w a none (own_is l g c w x k t a ∙ q) room)
             (state_with l g (logs (set rs w us) ls ws) c w (with_reads x r.count)
             (record { reads = λ u m d. other_set (λ (z : ReadRows). reads_of z m) rs w us u d; leaves = λ u m d. refl; scans = λ u m d. refl; writes = λ u m d. refl })

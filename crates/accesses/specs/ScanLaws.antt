@@ -6,7 +6,7 @@ use Rattle.spec.specs.Steps.{listed, scan, is_open}
 use Rattle.workers.specs.declared.Worker.{Worker}
 use Rattle.map.specs.Views.{Lent}
 use Rattle.transactions.specs.Cores.{Core}
-use Rattle.accesses.specs.declared.scans.ScanAnswer.TheVariants.{Count, Refused}
+use Rattle.std.specs.Prelude.{Ok, Err}
 use Rattle.ranges.specs.declared.plans.Task.{Task}
 use Rattle.ranges.specs.declared.plans.Done.{Done}
 use Rattle.transactions.specs.Admits.{Turned, Entered}
@@ -24,20 +24,20 @@ use Rattle.accesses.specs.Scans.{Scans}
 
 -- refused for the worker
 pub scans_turned : {l : Lent} {g : Logs} {c : Core} {w : ℕ} {r : Refusal} (lo hi : ℕ) (b : Buffers) → Ready l g c → Turned is_open c.workers w r
-    → Scans l g c w lo hi b g b c (Refused r)
+    → Scans l g c w lo hi b g b c (Err r)
 scans_turned lo hi b k t =
     record { refines = scan_turned k t lo hi (places_of b); beyond = beyond_refl 0 b }
 
 -- refused for its range, its log or its buffers
 pub scans_declined : {l : Lent} {g : Logs} {c : Core} {w : ℕ} {x : Worker} {r : Refusal} (lo hi : ℕ) (b : Buffers) → Ready l g c → Entered is_open c.workers w x
-    → DeclinedIn l g c w x lo hi (places_of b) r → Scans l g c w lo hi b g b c (Refused r)
+    → DeclinedIn l g c w x lo hi (places_of b) r → Scans l g c w lo hi b g b c (Err r)
 scans_declined {r} lo hi b k e d =
     record { refines = scan_declined k e lo hi (places_of b) r d; beyond = beyond_refl 0 b }
 
 -- granted
 pub scans_granted : {l : Lent} {g : Logs} {c : Core} {w : ℕ} {x : Worker} {c' : Core} {t : Task} {d : Buffers} {rs : ReadRows} {ls : LeafSetRows} {r : Done} (lo hi : ℕ) (b : Buffers)
     → Ready l g c → Entered is_open c.workers w x → PassedIn l g c w x lo hi (places_of b) t → CarriedIn l g c w x t lo hi b d rs ls r → c' ≡ core_with c w r.worker
-    → Scans l g c w lo hi b (logging g w rs ls) d c' (Count r.count)
+    → Scans l g c w lo hi b (logging g w rs ls) d c' (Ok r.count)
 scans_granted {l} {g} {c} {w} {t = t} {d} {rs} {ls} {r} lo hi b k e p h q =
     record {
       refines =

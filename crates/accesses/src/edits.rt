@@ -15,8 +15,6 @@ use map::{Leaves, Records, Slots};
 use sets::writes::FoundWrite;
 use sets::{LeafSets, ReadSets, WriteSet, WriteSets, writes};
 use spec::{Address, PayloadWords, Refusal, WRITE_LIMIT};
-use transactions::admits::Admit;
-use transactions::begins::Plain;
 use transactions::{Globals, admits};
 use workers;
 use workers::{Worker, Workers};
@@ -44,31 +42,23 @@ fn edit(
     a: Address,
     kind: u64,
     payload: PayloadWords,
-) -> Plain
+) -> Result<(), Refusal>
     requires { Writable writes.old (workers_of workers.old) }
     ensures { (c : global.Globals) → Edits writes.old (core_of workers.old c) w a (write_of kind payload) writes.new (core_of workers.new c) result }
 {
-    match admits::open(workers, w) {
-        Admit::Refused(r) => Plain::Refused(r),
-        Admit::Allowed(x) => {
-            let v = w as usize;
-            let n = x.writes as usize;
-            if full(&writes[v], n, a) {
-                return Plain::Refused(Refusal::WritesFull);
-            }
-            let count = writes::put_write(&mut writes[v], n, a, kind, payload);
-            let stage = x.stage;
-            let y = Worker {
-                stage,
-                number: x.number,
-                reads: x.reads,
-                leaves: x.leaves,
-                writes: count as u8,
-            };
-            workers::put_worker(workers, v, y);
-            Plain::Granted
-        }
+    let x = admits::open(workers, w)?;
+    let v = w as usize;
+    let n = x.writes as usize;
+    if full(&writes[v], n, a) {
+        return Err(Refusal::WritesFull);
     }
+    let count = writes::put_write(&mut writes[v], n, a, kind, payload);
+    let y = Worker {
+        writes: count as u8,
+        ..x
+    };
+    workers::put_worker(workers, v, y);
+    Ok(())
 }
 
 // Worker w puts a value at an address, for an owner.
@@ -85,7 +75,7 @@ pub fn put(
     a: Address,
     value: u64,
     owner: u16,
-) -> Plain
+) -> Result<(), Refusal>
     requires { Ready (lent rows.now leaves.now slots.now) (logs reads.now leafsets.now writes.old) (core_of workers.old c) }
     ensures { Refines (lent rows.now leaves.now slots.now)
         (logs reads.now leafsets.now writes.old) (core_of workers.old c) (put w a (record { value = value; owner = owner }))
@@ -111,7 +101,7 @@ pub fn remove(
     c: Globals,
     w: u32,
     a: Address,
-) -> Plain
+) -> Result<(), Refusal>
     requires { Ready (lent rows.now leaves.now slots.now) (logs reads.now leafsets.now writes.old) (core_of workers.old c) }
     ensures { Refines (lent rows.now leaves.now slots.now)
         (logs reads.now leafsets.now writes.old) (core_of workers.old c) (remove w a)

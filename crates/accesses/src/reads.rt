@@ -1,7 +1,7 @@
 // Read: a worker's own write, or the current record, which its read set takes.
 ghost use Rattle.std.specs.Prelude.{◌≡◌, ◌<◌};
 ghost use Rattle.spec.specs.Records.{limits, payload_of};
-ghost use Rattle.spec.specs.Steps.{read, found, is_open};
+ghost use Rattle.spec.specs.Steps.{read, is_open};
 ghost use Rattle.workers.specs.Workers.{workers_of};
 ghost use Rattle.sets.specs.Reads.{record_in, ReadSetHeld};
 ghost use Rattle.map.specs.Parts.{RecordsHeld, SlotsHeld};
@@ -10,23 +10,28 @@ ghost use Rattle.transactions.specs.Views.{logs, core_of};
 ghost use Rattle.transactions.specs.Ready.{Ready, Refines};
 ghost use Rattle.transactions.specs.Admits.{Entered};
 ghost use Rattle.accesses.specs.ReadSteps.{Loggable, Readable, LogsCurrent, Tells, TellsCurrent};
-ghost use Rattle.accesses.specs.Answers.{read_answer};
+ghost use Rattle.accesses.specs.Answers.{told, value_in, read_answer};
 
 use map::{Leaves, Records, Slots};
 use sets::writes::FoundWrite;
 use sets::{LeafSets, ReadSet, ReadSets, WriteSets, reads, writes};
-use spec::{Address, Current, OWNERS, READ_LIMIT, Refusal};
-use transactions::admits::Admit;
+use spec::{Address, Current, OWNERS, PayloadWords, READ_LIMIT, Refusal};
 use transactions::{Globals, admits};
 use workers;
 use workers::{Worker, Workers};
 
-// The answer of a read: a value and its owner, or none there, each with how many slots the look-up examined, or the refusal.
+// A record's value, and whose section it is.
 #[derive(Clone, Copy)]
-pub enum ReadAnswer {
-    Value(u64, u16, usize),
-    Absent(usize),
-    Refused(Refusal),
+pub struct ReadValue {
+    pub value: u64,
+    pub owner: u16,
+}
+
+// What a read finds: the record there, if there is one, and how many slots the look-up examined.
+#[derive(Clone, Copy)]
+pub struct Found {
+    pub value: Option<ReadValue>,
+    pub examined: usize,
 }
 
 // How many reads are logged now, what the last one saw, and how many slots it examined.
@@ -37,15 +42,31 @@ struct Taken {
     examined: usize,
 }
 
-// The answer that tells a record.
-fn shown(seen: Current, examined: usize) -> ReadAnswer
-    ensures { read_answer result ≡ found (payload_of (record_in seen)) examined }
+// A payload in words, as a read tells it: of the word for the owner, the lowest 16 bits.
+fn told(p: PayloadWords) -> ReadValue
+    ensures { result ≡ told p }
+{
+    ReadValue {
+        value: p.value,
+        owner: (p.owner % OWNERS) as u16,
+    }
+}
+
+// What a read tells of the current record.
+fn shown(seen: Current) -> Option<ReadValue>
+    ensures { value_in result ≡ payload_of (record_in seen) }
 {
     if seen.there {
-        let v = seen.payload;
-        return ReadAnswer::Value(v.value, (v.owner % OWNERS) as u16, examined);
+        return Some(told(seen.payload));
     }
-    ReadAnswer::Absent(examined)
+    None
+}
+
+// What a read tells of the worker's own write, for which no slot is examined.
+fn own(value: Option<ReadValue>) -> Found
+    ensures { result ≡ record { value = value; examined = 0 } }
+{
+    Found { value, examined: 0 }
 }
 
 // Logs the current record of an address, after the n rows of a read set.
@@ -83,29 +104,26 @@ fn read_current(
     w: u32,
     x: Worker,
     a: Address,
-) -> ReadAnswer
+) -> Result<Found, Refusal>
     requires loggable { Loggable reads.old rows.now slots.now (core_of workers.old c) }
     requires entered { Entered is_open (workers_of workers.old) w x }
     ensures { TellsCurrent reads.old rows.now slots.now (core_of workers.old c) w x a reads.new (core_of workers.new c) result }
 {
-    let sizes = c.sizes;
     let v = w as usize;
     let n = x.reads as usize;
-    if READ_LIMIT <= n {
-        return ReadAnswer::Refused(Refusal::LogFull);
+    if n >= READ_LIMIT {
+        return Err(Refusal::LogFull);
     }
-    let taken = take(&mut reads[v], rows, slots, sizes.records, n, a);
-    let stage = x.stage;
+    let taken = take(&mut reads[v], rows, slots, c.sizes.records, n, a);
     let y = Worker {
-        stage,
-        number: x.number,
         reads: taken.count as u8,
-        leaves: x.leaves,
-        writes: x.writes,
+        ..x
     };
     workers::put_worker(workers, v, y);
-    let seen = taken.seen;
-    shown(seen, taken.examined)
+    Ok(Found {
+        value: shown(taken.seen),
+        examined: taken.examined,
+    })
 }
 
 // The step, over the arrays that it looks at.
@@ -118,21 +136,16 @@ fn tell(
     c: Globals,
     w: u32,
     a: Address,
-) -> ReadAnswer
+) -> Result<Found, Refusal>
     requires { Readable reads.old rows.now slots.now writes.now (core_of workers.old c) }
     ensures { Tells reads.old rows.now slots.now writes.now (core_of workers.old c) w a reads.new (core_of workers.new c) result }
 {
-    match admits::open(workers, w) {
-        Admit::Refused(r) => ReadAnswer::Refused(r),
-        Admit::Allowed(x) => {
-            let v = w as usize;
-            let own = writes::find_write(&writes[v], x.writes as usize, a);
-            match own {
-                FoundWrite::Put(p) => ReadAnswer::Value(p.value, (p.owner % OWNERS) as u16, 0),
-                FoundWrite::Deletion => ReadAnswer::Absent(0),
-                FoundWrite::Nothing => read_current(reads, workers, rows, slots, c, w, x, a),
-            }
-        }
+    let x = admits::open(workers, w)?;
+    let v = w as usize;
+    match writes::find_write(&writes[v], x.writes as usize, a) {
+        FoundWrite::Put(p) => Ok(own(Some(told(p)))),
+        FoundWrite::Deletion => Ok(own(None)),
+        FoundWrite::Nothing => read_current(reads, workers, rows, slots, c, w, x, a),
     }
 }
 
@@ -149,7 +162,7 @@ pub fn read(
     c: Globals,
     w: u32,
     a: Address,
-) -> ReadAnswer
+) -> Result<Found, Refusal>
     requires { Ready (lent rows.now leaves.now slots.now) (logs reads.old leafsets.now writes.now) (core_of workers.old c) }
     ensures { Refines (lent rows.now leaves.now slots.now)
         (logs reads.old leafsets.now writes.now) (core_of workers.old c) (read w a)

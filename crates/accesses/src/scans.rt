@@ -7,23 +7,14 @@ ghost use Rattle.accesses.specs.Scans.{Scans};
 
 use map::{Leaves, Records, Slots};
 use ranges::plans;
-use ranges::plans::Plan;
 use sets::{LeafSets, ReadSets, WriteSets};
 use spec::{Address, Refusal};
-use transactions::admits::Admit;
 use transactions::{Globals, admits};
 use workers;
 use workers::Workers;
 
-// The answer: how many records are shown, or the refusal.
-#[derive(Clone, Copy)]
-pub enum ScanAnswer {
-    Count(usize),
-    Refused(Refusal),
-}
-
 // Worker w reads the records from lo to hi into the buffers: its own writes, and for all else the present records of the
-// index's addresses. What it passed is logged, and the scan is remembered. A refused scan writes nothing.
+// index's addresses. What it passed is logged, and the scan is remembered. Answers how many are shown. A refused scan writes nothing.
 pub fn scan(
     addresses: &mut [Address],
     values: &mut [u64],
@@ -39,7 +30,7 @@ pub fn scan(
     w: u32,
     lo: Address,
     hi: Address,
-) -> ScanAnswer
+) -> Result<usize, Refusal>
     requires { Ready (lent rows.now leaves.now slots.now) (logs reads.old leafsets.old writes.now) (core_of workers.old c) }
     ensures { Scans (lent rows.now leaves.now slots.now)
         (logs reads.old leafsets.old writes.now) (core_of workers.old c) w lo hi
@@ -47,37 +38,28 @@ pub fn scan(
         (logs reads.new leafsets.new writes.now)
         (buffers addresses.new values.new owners.new) (core_of workers.new c) result }
 {
-    let sizes = c.sizes;
-    match admits::open(workers, w) {
-        Admit::Refused(r) => ScanAnswer::Refused(r),
-        Admit::Allowed(x) => {
-            let v = w as usize;
-            let k = addresses.len();
-            let m = values.len();
-            let n = owners.len();
-            match plans::measure(rows, leaves, slots, &writes[v], sizes, x, lo, hi, k, m, n) {
-                Plan::Refused(r) => ScanAnswer::Refused(r),
-                Plan::Go(t) => {
-                    let done = plans::carry_out(
-                        addresses,
-                        values,
-                        owners,
-                        &mut reads[v],
-                        &mut leafsets[v],
-                        rows,
-                        leaves,
-                        slots,
-                        &writes[v],
-                        sizes,
-                        x,
-                        t,
-                        lo,
-                        hi,
-                    );
-                    workers::put_worker(workers, v, done.worker);
-                    ScanAnswer::Count(done.count)
-                }
-            }
-        }
-    }
+    let x = admits::open(workers, w)?;
+    let v = w as usize;
+    let k = addresses.len();
+    let m = values.len();
+    let n = owners.len();
+    let t = plans::measure(rows, leaves, slots, &writes[v], c.sizes, x, lo, hi, k, m, n)?;
+    let done = plans::carry_out(
+        addresses,
+        values,
+        owners,
+        &mut reads[v],
+        &mut leafsets[v],
+        rows,
+        leaves,
+        slots,
+        &writes[v],
+        c.sizes,
+        x,
+        t,
+        lo,
+        hi,
+    );
+    workers::put_worker(workers, v, done.worker);
+    Ok(done.count)
 }

@@ -1,5 +1,5 @@
 -- A step lists no more records than the shortest of its buffers has places.
-use Rattle.std.specs.Prelude.{ℕ, ◌≤◌, ◌≡◌, refl, length}
+use Rattle.std.specs.Prelude.{ℕ, ◌≤◌, ◌≡◌, refl, length, Result, Ok, Err}
 use Rattle.std.proofs.Common.{arith, sym, ap, ◌∙◌, subst}
 use Rattle.std.proofs.Math.Option.{Option, none, some}
 use Rattle.lists.specs.Tests.{maybe}
@@ -14,8 +14,8 @@ use Rattle.engine.specs.declared.steps.Access.TheVariants as access
 use Rattle.engine.specs.declared.steps.Ending.TheVariants as ending
 use Rattle.engine.specs.declared.steps.Op.{Op}
 use Rattle.engine.specs.declared.steps.Op.TheVariants as op
-use Rattle.engine.specs.declared.steps.Reply.{Reply}
-use Rattle.engine.specs.declared.steps.Reply.TheVariants as reply
+use Rattle.engine.specs.declared.steps.Told.{Told}
+use Rattle.engine.specs.declared.steps.Told.TheVariants as told
 use Rattle.engine.specs.Performs.{step_in, reply_in, places_in}
 
 -- how many records an answer lists
@@ -69,15 +69,14 @@ listed_fits σ (op.Ending w ending.Abort) b = none_listed σ (model.abort w) (sh
 listed_fits σ (op.Merge a) b = none_listed σ (model.merge a) (shortest b) refl
 listed_fits σ op.MergeOldest b = none_listed σ model.merge_oldest (shortest b) refl
 
-places_count : (p : Reply) (d : Buffers) → places_in p ≡ count_in (reply_in p d)
-places_count reply.Granted d = refl
-places_count (reply.Value v o n) d = refl
-places_count (reply.Absent n) d = refl
-places_count (reply.Listed n) d = sym (length_rows n d)
-places_count (reply.Numbered n) d = refl
-places_count (reply.Counted n) d = refl
-places_count (reply.Refused r) d = refl
+places_count : (p : Result Told Refusal) (d : Buffers) → places_in p ≡ count_in (reply_in p d)
+places_count (Ok told.Nothing) d = refl
+places_count (Ok (told.Found f)) d = refl
+places_count (Ok (told.Listed n)) d = sym (length_rows n d)
+places_count (Ok (told.Numbered n)) d = refl
+places_count (Ok (told.Counted n)) d = refl
+places_count (Err r) d = refl
 
-pub places_fit : (σ : State) (o : Op) (b : Places) (p : Reply) (d : Buffers) → reply_in p d ≡ answer σ (step_in o b) → places_in p ≤ shortest b
+pub places_fit : (σ : State) (o : Op) (b : Places) (p : Result Told Refusal) (d : Buffers) → reply_in p d ≡ answer σ (step_in o b) → places_in p ≤ shortest b
 places_fit σ o b p d e =
     subst (λ (x : ℕ). x ≤ shortest b) (sym (places_count p d ∙ ap count_in e)) (listed_fits σ o b)

@@ -1,5 +1,5 @@
 -- What a scan's tests tell: the refusal, or what the scan has to do; and what carrying it out leaves.
-use Rattle.std.specs.Prelude.{ℕ, ◌+◌, ◌<◌, ◌≤◌, ◌≡◌, ◌⊎◌, List, length}
+use Rattle.std.specs.Prelude.{ℕ, Result, Ok, Err, ◌+◌, ◌<◌, ◌≤◌, ◌≡◌, ◌⊎◌, List, length}
 use Rattle.lists.specs.Rows.{Row}
 use Rattle.spec.specs.Records.{limits, Payload}
 use Rattle.spec.specs.Steps.{Places, shortest}
@@ -15,8 +15,6 @@ use Rattle.queries.specs.declared.Range.{Range}
 use Rattle.queries.specs.QueryViews.{Spans, Meets}
 use Rattle.ranges.specs.declared.plans.Task.{Task}
 use Rattle.ranges.specs.declared.plans.Done.{Done}
-use Rattle.ranges.specs.declared.plans.Plan.{Plan}
-use Rattle.ranges.specs.declared.plans.Plan.TheVariants.{Refused, Go}
 use Rattle.buffers.specs.Buffers.{Buffers}
 use Rattle.ranges.specs.Walks.{Ground, ground, rest, Fills}
 use Rattle.ranges.specs.Scanning.{OwnSpans, span, seen_in, LogsRows, LogsLeaves}
@@ -63,9 +61,9 @@ pub record Passed (rows : RecordRows) (lows : List ℕ) (slots : SlotRows) (ws :
   pub measured : Measured rows lows slots ws z x lo hi t
   pub fits : length (shown_of rows slots ws z t) ≤ shortest b
 
-abbrev pub Plans : RecordRows → List ℕ → SlotRows → WriteRows → Sizes → Worker → ℕ → ℕ → Places → Plan → Type 0
-Plans rows lows slots ws z x lo hi b (Refused r) = Declined rows lows slots ws z x lo hi b r
-Plans rows lows slots ws z x lo hi b (Go t) = Passed rows lows slots ws z x lo hi b t
+abbrev pub Plans : RecordRows → List ℕ → SlotRows → WriteRows → Sizes → Worker → ℕ → ℕ → Places → Result Task Refusal → Type 0
+Plans rows lows slots ws z x lo hi b (Err r) = Declined rows lows slots ws z x lo hi b r
+Plans rows lows slots ws z x lo hi b (Ok t) = Passed rows lows slots ws z x lo hi b t
 
 -- the same, whatever the range was
 pub record Planned (rows : RecordRows) (lows : List ℕ) (slots : SlotRows) (ws : WriteRows) (z : Sizes) (x : Worker) (t : Task) (b : Places) : Type 0 where

@@ -33,13 +33,6 @@ pub struct Done {
     pub count: usize,
 }
 
-// What the tests of a scan tell: the refusal, or what to do.
-#[derive(Clone, Copy)]
-pub enum Plan {
-    Refused(Refusal),
-    Go(Task),
-}
-
 // The places of the worker's n writes from lo to hi.
 fn writes_between(writes: &WriteSet, n: usize, lo: Address, hi: Address) -> Range
     requires write_set_ordered { WriteSetOrdered writes.now n }
@@ -71,33 +64,33 @@ pub fn measure(
     k: usize,
     m: usize,
     n: usize,
-) -> Plan
+) -> Result<Task, Refusal>
     requires { Planning rows.now (lows_of leaves.now) slots.now writes.now z x }
     ensures { Plans rows.now (lows_of leaves.now) slots.now writes.now z x lo hi (places k m n) result }
 {
     if hi < lo {
-        return Plan::Refused(Refusal::Backward);
+        return Err(Refusal::Backward);
     }
     let index = queries::records_between(rows, z.records, lo, hi);
     let met = queries::leaves_meeting(leaves, z.leaves, lo, hi);
     if READ_LIMIT < x.reads as usize + (index.to - index.from) {
-        return Plan::Refused(Refusal::LogFull);
+        return Err(Refusal::LogFull);
     }
     if LEAF_SET_LIMIT < x.leaves as usize + (met.to - met.from) {
-        return Plan::Refused(Refusal::LogFull);
+        return Err(Refusal::LogFull);
     }
     let own = writes_between(writes, x.writes as usize, lo, hi);
     let b = Bounds {
         to: index.to,
         end: own.to,
     };
-    let shortest = buffers::lesser(buffers::lesser(k, m), n);
+    let shortest = k.min(m).min(n);
     if walks::exceeds(
         rows, slots, writes, z.records, b, index.from, own.from, shortest,
     ) {
-        return Plan::Refused(Refusal::ShortBuffer);
+        return Err(Refusal::ShortBuffer);
     }
-    Plan::Go(Task { index, met, own })
+    Ok(Task { index, met, own })
 }
 
 // Logs what the scan from lo to hi passed, writes the records shown, and remembers the scan.
@@ -126,30 +119,25 @@ pub fn carry_out(
         (buffers addresses.new values.new owners.new) reads.new leafset.new result }
 {
     let index = t.index;
-    let met = t.met;
-    let own = t.own;
-    let stage = x.stage;
     let first = x.reads as usize;
     let passed = index.to - index.from;
     let logged = logs::log_rows(reads, rows, slots, z.records, first, index);
     let b = Bounds {
         to: passed,
-        end: own.to,
+        end: t.own.to,
     };
-    let count = walks::fill(addresses, values, owners, reads, writes, first, b, own.from);
+    let count = walks::fill(addresses, values, owners, reads, writes, first, b, t.own.from);
     let scan = Scanned {
         lo: lo as u64,
         hi: hi as u64,
         from: x.reads as u64,
         count: passed as u64,
     };
-    let logged_leaves = logs::log_leaves(leafset, leaves, x.leaves as usize, met, scan);
+    let logged_leaves = logs::log_leaves(leafset, leaves, x.leaves as usize, t.met, scan);
     let worker = Worker {
-        stage,
-        number: x.number,
         reads: logged as u8,
         leaves: logged_leaves as u8,
-        writes: x.writes,
+        ..x
     };
     Done { worker, count }
 }

@@ -1,15 +1,15 @@
 -- `reads::tell` meets its contract: by the tests, and by the worker's own write.
-use mathlib.Core.Path.{subst}
-use Rattle.spec.specs.Steps.{is_open}
-use Rattle.transactions.specs.Admits.{Admitted}
-use Rattle.accesses.specs.ReadSteps.{read_refused, read_put, read_deletion}
+use Rattle.std.proofs.lemmas.Result.{err_from_is_err_and}
+use Rattle.accesses.specs.ReadSteps.{read_refused, read_put, read_deletion, read_nothing}
 use Rattle.accesses.proofs.reads.tell.Goals as goal
 
-pub returns-in-Refused : goal.returns-in-Refused
-returns-in-Refused c = read_refused (subst (Admitted is_open _ _) c.in-Refused.is c.«open».ensures)
+pub returns-in_err-x : goal.returns-in_err-x
+returns-in_err-x c =
+    let p = err_from_is_err_and c.from_residual.result c.from_residual.ensures.1 in
+    rw (p.1, p.2) (read_refused c.in_err-x.ensures)
 
 pub returns-in-Put : goal.returns-in-Put
-returns-in-Put c = read_put (subst (Admitted is_open _ _) c.in-Allowed.is c.«open».ensures) c.in-Put.is c.find_write-own.ensures
+returns-in-Put c = rw (c.own.ensures, c.told.ensures) (read_put c.in_ok-x.ensures c.in-Put.is c.find_write.ensures)
 
 pub returns-in-Deletion : goal.returns-in-Deletion
-returns-in-Deletion c = read_deletion (subst (Admitted is_open _ _) c.in-Allowed.is c.«open».ensures) c.in-Deletion.is c.find_write-own.ensures
+returns-in-Deletion c = rw c.own-in-Deletion.ensures (read_deletion c.in_ok-x.ensures c.in-Deletion.is c.find_write.ensures)

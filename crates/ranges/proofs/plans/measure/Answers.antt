@@ -29,7 +29,7 @@ returns-then-exceeds c = short refl _
       reads_fit = c.if-x-index-gt-READ_LIMIT.false;
       leaves_fit = c.if-x-met-gt-LEAF_SET_LIMIT.false;
     })
-    (short_told _ _ _ c.lesser.ensures c.lesser-shortest.ensures c.exceeds.ensures c.if-exceeds.true)
+    (short_told _ _ _ c.min.ensures c.min-shortest.ensures c.exceeds.ensures c.if-exceeds.true)
 
 pub returns : goal.returns
 returns c = record {
@@ -42,5 +42,5 @@ returns c = record {
         reads_fit = c.if-x-index-gt-READ_LIMIT.false;
         leaves_fit = c.if-x-met-gt-LEAF_SET_LIMIT.false;
       };
-  fits = fits_told _ _ _ c.lesser.ensures c.lesser-shortest.ensures c.exceeds.ensures c.if-exceeds.false;
+  fits = fits_told _ _ _ c.min.ensures c.min-shortest.ensures c.exceeds.ensures c.if-exceeds.false;
 }

@@ -1,5 +1,5 @@
 -- Codes by the tests that the code makes.
-use Rattle.std.specs.Prelude.{ℕ, ◌^◌, ◌<◌, ◌≤◌, ◌≡◌, Bool, false, leb}
+use Rattle.std.specs.Prelude.{ℕ, Result, ◌^◌, ◌<◌, ◌≤◌, ◌≡◌, Bool, false, leb}
 use Rattle.std.proofs.Common.{zero-le, ap, ◌∙◌, subst}
 use Rattle.std.proofs.Math.Path.{refl, sym}
 use Rattle.std.proofs.Math.Bool.{true}
@@ -12,7 +12,8 @@ use Rattle.engine.specs.declared.steps.Access.TheVariants as access
 use Rattle.engine.specs.declared.steps.Ending.TheVariants as ending
 use Rattle.engine.specs.declared.steps.Op.{Op}
 use Rattle.engine.specs.declared.steps.Op.TheVariants as op
-use Rattle.engine.specs.declared.steps.Reply.{Reply}
+use Rattle.spec.specs.declared.Refusal.{Refusal}
+use Rattle.engine.specs.declared.steps.Told.{Told}
 use Rattle.codes.specs.declared.Code.{Code}
 use Rattle.codes.specs.declared.decodes.Decoded.{Decoded}
 use Rattle.codes.specs.declared.decodes.Decoded.TheVariants.{Meant, Meaningless}
@@ -137,7 +138,7 @@ module _ (m : Places) (k : Code) where
 
 -- ---- replies
 
-pub reply_is : {p q : Reply} → p ≡ q → coded_of q ≡ coded_of p
+pub reply_is : {p q : Result Told Refusal} → p ≡ q → coded_of q ≡ coded_of p
 reply_is e = ap coded_of (sym e)
 
 -- ---- the places that a code wants are lent

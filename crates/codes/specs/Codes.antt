@@ -1,5 +1,5 @@
 -- Steps and answers in numbers: what a code means, and which numbers an answer is.
-use Rattle.std.specs.Prelude.{ℕ, ◌^◌, Bool, List, [], ◌∷◌, length}
+use Rattle.std.specs.Prelude.{ℕ, Result, Ok, Err, Some, None, Option as Optional, ◌^◌, Bool, List, [], ◌∷◌, length}
 use Rattle.std.proofs.Math.Option.{none, some}
 use Rattle.lists.specs.Tests.{pick, both, same, less, at_most}
 use Rattle.lists.specs.Rows.{Row}
@@ -11,8 +11,10 @@ use Rattle.engine.specs.declared.steps.Access.TheVariants as access
 use Rattle.engine.specs.declared.steps.Ending.TheVariants as ending
 use Rattle.engine.specs.declared.steps.Op.{Op}
 use Rattle.engine.specs.declared.steps.Op.TheVariants as op
-use Rattle.engine.specs.declared.steps.Reply.{Reply}
-use Rattle.engine.specs.declared.steps.Reply.TheVariants as reply
+use Rattle.spec.specs.declared.Refusal.{Refusal}
+use Rattle.accesses.specs.declared.reads.ReadValue.{ReadValue}
+use Rattle.engine.specs.declared.steps.Told.{Told}
+use Rattle.engine.specs.declared.steps.Told.TheVariants as told
 use Rattle.codes.specs.declared.Code.{Code}
 use Rattle.codes.specs.declared.decodes.Decoded.{Decoded}
 use Rattle.codes.specs.declared.decodes.Decoded.TheVariants.{Meant, Meaningless}
@@ -82,15 +84,19 @@ decoded m k = pick (same k.kind 10) (meant_alone op.MergeOldest) (decoded_number
 abbrev pub coded_as : ℕ → ℕ → ℕ → ℕ → ℕ → Coded
 coded_as n t v o x = record { number = n; told = t; value = v; beside = o; examined = x }
 
+-- what a read finds, if anything, and how many slots it examined
+abbrev pub coded_found : Optional ReadValue → ℕ → Coded
+coded_found (Some v) x = coded_as 0 1 v.value v.owner x
+coded_found None x = coded_as 0 2 0 0 x
+
 -- a reply in numbers; the places of a scan stand in its buffers
-abbrev pub coded_of : Reply → Coded
-coded_of reply.Granted = coded_as 0 0 0 0 0
-coded_of (reply.Value v o x) = coded_as 0 1 v o x
-coded_of (reply.Absent x) = coded_as 0 2 0 0 x
-coded_of (reply.Listed n) = coded_as 0 3 n 0 0
-coded_of (reply.Numbered n) = coded_as 0 4 n 0 0
-coded_of (reply.Counted n) = coded_as 0 5 n 0 0
-coded_of (reply.Refused r) = coded_as (number_of r) 0 0 0 0
+abbrev pub coded_of : Result Told Refusal → Coded
+coded_of (Ok told.Nothing) = coded_as 0 0 0 0 0
+coded_of (Ok (told.Found f)) = coded_found f.value f.examined
+coded_of (Ok (told.Listed n)) = coded_as 0 3 n 0 0
+coded_of (Ok (told.Numbered n)) = coded_as 0 4 n 0 0
+coded_of (Ok (told.Counted n)) = coded_as 0 5 n 0 0
+coded_of (Err r) = coded_as (number_of r) 0 0 0 0
 
 -- the answer to a code with no meaning
 abbrev pub no_meaning : Coded

@@ -1,5 +1,5 @@
 -- Answers put into words, word by word.
-use Rattle.std.specs.Prelude.{ℕ, suc, ◌+◌, ◌*◌, ◌<◌, ◌≤◌, ◌≡◌, refl, List, [], ◌∷◌, ◌++◌, length, get_or, set}
+use Rattle.std.specs.Prelude.{ℕ, Result, Ok, Err, Some, None, Option as Optional, suc, ◌+◌, ◌*◌, ◌<◌, ◌≤◌, ◌≡◌, refl, List, [], ◌∷◌, ◌++◌, length, get_or, set}
 use Rattle.std.proofs.Common.{le_antisymm, add-one, arith, sym, ap, ◌∙◌, subst, append-nil}
 use Rattle.lists.specs.Shifts.{tab_snoc}
 use Rattle.lists.specs.Tabulation.{tab, tab_from}
@@ -9,12 +9,16 @@ use Rattle.lists.specs.TextLaws.{wrote_join, wrote_length, wrote_byte}
 use Rattle.spec.specs.Records.{Payload}
 use Rattle.buffers.specs.Buffers.{Buffers, row_in, rows_in}
 use Rattle.buffers.specs.BufferLaws.{length_rows}
-use Rattle.engine.specs.declared.steps.Reply.{Reply}
-use Rattle.engine.specs.declared.steps.Reply.TheVariants as reply
-use Rattle.engine.specs.Performs.{reply_in}
+use Rattle.spec.specs.declared.Refusal.{Refusal}
+use Rattle.engine.specs.declared.steps.Told.{Told}
+use Rattle.engine.specs.declared.steps.Told.TheVariants as told
+use Rattle.accesses.specs.declared.reads.ReadValue.{ReadValue}
+use Rattle.accesses.specs.Answers.{value_in}
+use Rattle.spec.specs.Steps.{found}
+use Rattle.engine.specs.Performs.{reply_in, places_in}
 use Rattle.codes.specs.declared.Coded.{Coded}
-use Rattle.codes.specs.Codes.{coded_of, listed_words, words_of}
-use Rattle.codes.specs.Words.{head_words, row_words, Roomy}
+use Rattle.codes.specs.Codes.{coded_found, coded_of, listed_words, words_of}
+use Rattle.codes.specs.Words.{head_words}
 
 -- ---- some words
 
@@ -79,38 +83,34 @@ putting_end {b} {l} {m} {at} {j} i n p h k =
 
 -- ---- a reply
 
--- its words are its five and its records'
-reply_words : (p : Reply) (b : Buffers) → words_of (reply_in p b) ≡ head_words (coded_of p) ++ row_words p b
+found_words : (o : Optional ReadValue) (x : ℕ) → words_of (found (value_in o) x) ≡ head_words (coded_found o x)
 unfolding words_of
-reply_words reply.Granted b = refl
-reply_words (reply.Value v o x) b = refl
-reply_words (reply.Absent x) b = refl
-reply_words (reply.Listed n) b = ap (λ (m : ℕ). 0 ∷ 3 ∷ m ∷ 0 ∷ 0 ∷ listed_words (rows_in n b)) (length_rows n b)
-reply_words (reply.Numbered n) b = refl
-reply_words (reply.Counted n) b = refl
-reply_words (reply.Refused r) b = refl
+found_words (Some v) x = refl
+found_words None x = refl
 
--- five words, and no records
-pub wrote_short : {l m : List ℕ} {at j : ℕ} {a : Coded} (b : Buffers) (p q : Reply) → p ≡ q → row_words q b ≡ [] → a ≡ coded_of p → Wrote l at (head_words a) m j
-    → Wrote l at (words_of (reply_in p b)) m j
-wrote_short {l} {m} {at} {j} {a} b p q e z f w =
-    subst (λ (t : List ℕ). Wrote l at t m j)
-    (ap head_words f
-    ∙ sym (append-nil (head_words (coded_of p)))
-    ∙ ap (λ (t : List ℕ). head_words (coded_of p) ++ t) (sym (ap (λ (x : Reply). row_words x b) e ∙ z))
-    ∙ sym (reply_words p b))
-    w
+-- none but a scan's answer has records
+alone : (p : Result Told Refusal) (b : Buffers) → places_in p ≡ 0 → words_of (reply_in p b) ≡ head_words (coded_of p)
+    → words_of (reply_in p b) ≡ head_words (coded_of p) ++ listed_words (rows_in (places_in p) b)
+unfolding rows_in tab tab_from listed_words
+alone p b z e =
+    e ∙ sym (append-nil (head_words (coded_of p))) ∙ ap (λ (n : ℕ). head_words (coded_of p) ++ listed_words (rows_in n b)) (sym z)
 
--- five words, and records
-pub wrote_long : {l m n : List ℕ} {at j k i : ℕ} {a : Coded} (b : Buffers) (p : Reply) → p ≡ reply.Listed i → a ≡ coded_of p → Wrote l at (head_words a) m j
+-- its words are its five and its records'
+reply_words : (p : Result Told Refusal) (b : Buffers) → words_of (reply_in p b) ≡ head_words (coded_of p) ++ listed_words (rows_in (places_in p) b)
+unfolding words_of
+reply_words (Ok told.Nothing) b = alone (Ok told.Nothing) b refl refl
+reply_words (Ok (told.Found f)) b = alone (Ok (told.Found f)) b refl (found_words f.value f.examined)
+reply_words (Ok (told.Listed n)) b = ap (λ (m : ℕ). 0 ∷ 3 ∷ m ∷ 0 ∷ 0 ∷ listed_words (rows_in n b)) (length_rows n b)
+reply_words (Ok (told.Numbered n)) b = alone (Ok (told.Numbered n)) b refl refl
+reply_words (Ok (told.Counted n)) b = alone (Ok (told.Counted n)) b refl refl
+reply_words (Err r) b = alone (Err r) b refl refl
+
+-- five words, and the records of as many places as it filled
+pub wrote_reply : {l m n : List ℕ} {at j k i : ℕ} {a : Coded} (b : Buffers) (p : Result Told Refusal) → a ≡ coded_of p → i ≡ places_in p → Wrote l at (head_words a) m j
     → Wrote m j (listed_words (rows_in i b)) n k → Wrote l at (words_of (reply_in p b)) n k
-wrote_long {l} {m} {n} {at} {j} {k} {i} {a} b p e f w u =
+wrote_reply {l} {m} {n} {at} {j} {k} {i} {a} b p f e w u =
     subst (λ (t : List ℕ). Wrote l at t n k)
     (ap (λ (x : Coded). head_words x ++ listed_words (rows_in i b)) f
-    ∙ ap (λ (t : List ℕ). head_words (coded_of p) ++ t) (sym (ap (λ (x : Reply). row_words x b) e))
+    ∙ ap (λ (x : ℕ). head_words (coded_of p) ++ listed_words (rows_in x b)) e
     ∙ sym (reply_words p b))
     (wrote_join w u)
-
--- the room that a scan's records need
-pub roomy_listed : {p : Reply} {b : Buffers} {out : List ℕ} {at n : ℕ} → Roomy p b out at → p ≡ reply.Listed n → Roomy (reply.Listed n) b out at
-roomy_listed {b = b} {out} {at} h e = subst (λ (q : Reply). Roomy q b out at) e h

@@ -1,12 +1,12 @@
 -- What is asked and promised of putting an answer into words: its five, and the records of a scan or a portion.
-use Rattle.std.specs.Prelude.{ℕ, ◌+◌, ◌*◌, ◌≤◌, List, [], ◌∷◌, length}
+use Rattle.std.specs.Prelude.{ℕ, Result, Ok, Err, ◌+◌, ◌*◌, ◌≤◌, List, [], ◌∷◌, length}
 use Rattle.spec.specs.Steps.{shortest}
 use Rattle.buffers.specs.Buffers.{Buffers, places_of, rows_in}
 use Rattle.exports.specs.declared.ExportAnswer.{ExportAnswer}
 use Rattle.exports.specs.declared.ExportAnswer.TheVariants as export
 use Rattle.exports.specs.Exporting.{places_written}
-use Rattle.engine.specs.declared.steps.Reply.{Reply}
-use Rattle.engine.specs.declared.steps.Reply.TheVariants as reply
+use Rattle.spec.specs.declared.Refusal.{Refusal}
+use Rattle.engine.specs.declared.steps.Told.{Told}
 use Rattle.engine.specs.Performs.{places_in}
 use Rattle.codes.specs.declared.Coded.{Coded}
 use Rattle.codes.specs.Codes.{listed_words}
@@ -15,17 +15,7 @@ use Rattle.codes.specs.Codes.{listed_words}
 abbrev pub head_words : Coded → List ℕ
 head_words a = a.number ∷ a.told ∷ a.value ∷ a.beside ∷ a.examined ∷ []
 
--- the words of a scan's records
-abbrev pub row_words : Reply → Buffers → List ℕ
-row_words reply.Granted b = []
-row_words (reply.Value v o x) b = []
-row_words (reply.Absent x) b = []
-row_words (reply.Listed n) b = listed_words (rows_in n b)
-row_words (reply.Numbered n) b = []
-row_words (reply.Counted n) b = []
-row_words (reply.Refused r) b = []
-
--- ... and of a portion's
+-- the words of a portion's records
 abbrev pub export_row_words : ExportAnswer → Buffers → List ℕ
 export_row_words (export.Opened n) b = []
 export_row_words (export.Given n left) b = listed_words (rows_in n b)
@@ -34,7 +24,7 @@ export_row_words export.Closed b = []
 export_row_words (export.Refused r) b = []
 
 -- There is room for a reply: a scan's places are in the buffers, and its words in the answer buffer.
-pub record Roomy (p : Reply) (b : Buffers) (out : List ℕ) (at : ℕ) : Type 0 where
+pub record Roomy (p : Result Told Refusal) (b : Buffers) (out : List ℕ) (at : ℕ) : Type 0 where
   pub places : places_in p ≤ shortest (places_of b)
   pub words : at + 5 + 3 * places_in p ≤ length out
 

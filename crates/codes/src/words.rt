@@ -4,69 +4,72 @@ ghost use Rattle.lists.specs.Texts.{Wrote};
 ghost use Rattle.spec.specs.Steps.{shortest};
 ghost use Rattle.buffers.specs.Buffers.{buffers, places_of, rows_in};
 ghost use Rattle.exports.specs.Exporting.{space, export_answer_in, bytes_written};
-ghost use Rattle.engine.specs.Performs.{reply_in};
-ghost use Rattle.codes.specs.Codes.{coded_of, no_meaning, listed_words, words_of};
+ghost use Rattle.engine.specs.Performs.{reply_in, places_in};
+ghost use Rattle.codes.specs.Codes.{coded_found, coded_of, no_meaning, listed_words, words_of};
 ghost use Rattle.codes.specs.ExportCodes.{export_coded_of, export_words};
 ghost use Rattle.codes.specs.Words.{head_words, Roomy, ExportRoomy};
 
 use crate::{Coded, MEANINGLESS};
-use engine::steps::Reply;
+use accesses::reads::Found;
+use engine::steps::{Reply, Told};
 use exports::ExportAnswer;
 use spec::{Address, number_of};
+
+// The answer of a granted step that tells nothing.
+const GRANTED: Coded = Coded {
+    number: 0,
+    told: 0,
+    value: 0,
+    beside: 0,
+    examined: 0,
+};
+
+// What a read finds.
+fn encode_found(f: Found) -> Coded
+    ensures { result ≡ coded_found f.value f.examined }
+{
+    let examined = f.examined as u64;
+    match f.value {
+        Some(v) => Coded {
+            told: 1,
+            value: v.value,
+            beside: v.owner as u64,
+            examined,
+            ..GRANTED
+        },
+        None => Coded {
+            told: 2,
+            examined,
+            ..GRANTED
+        },
+    }
+}
 
 // A reply in numbers.
 pub fn encode(p: Reply) -> Coded
     ensures { result ≡ coded_of p }
 {
     match p {
-        Reply::Granted => Coded {
-            number: 0,
-            told: 0,
-            value: 0,
-            beside: 0,
-            examined: 0,
-        },
-        Reply::Value(v, o, x) => Coded {
-            number: 0,
-            told: 1,
-            value: v,
-            beside: o as u64,
-            examined: x as u64,
-        },
-        Reply::Absent(x) => Coded {
-            number: 0,
-            told: 2,
-            value: 0,
-            beside: 0,
-            examined: x as u64,
-        },
-        Reply::Listed(n) => Coded {
-            number: 0,
+        Ok(Told::Nothing) => GRANTED,
+        Ok(Told::Found(f)) => encode_found(f),
+        Ok(Told::Listed(n)) => Coded {
             told: 3,
             value: n as u64,
-            beside: 0,
-            examined: 0,
+            ..GRANTED
         },
-        Reply::Numbered(n) => Coded {
-            number: 0,
+        Ok(Told::Numbered(n)) => Coded {
             told: 4,
             value: n,
-            beside: 0,
-            examined: 0,
+            ..GRANTED
         },
-        Reply::Counted(n) => Coded {
-            number: 0,
+        Ok(Told::Counted(n)) => Coded {
             told: 5,
             value: n as u64,
-            beside: 0,
-            examined: 0,
+            ..GRANTED
         },
-        Reply::Refused(r) => Coded {
+        Err(r) => Coded {
             number: number_of(r),
-            told: 0,
-            value: 0,
-            beside: 0,
-            examined: 0,
+            ..GRANTED
         },
     }
 }
@@ -120,10 +123,7 @@ pub fn no_meaning() -> Coded
 {
     Coded {
         number: MEANINGLESS,
-        told: 0,
-        value: 0,
-        beside: 0,
-        examined: 0,
+        ..GRANTED
     }
 }
 
@@ -177,6 +177,16 @@ fn put_rows(
     next
 }
 
+// How many places of the buffers a step filled.
+fn listed(p: Reply) -> usize
+    ensures { result ≡ places_in p }
+{
+    match p {
+        Ok(Told::Listed(n)) => n,
+        _ => 0,
+    }
+}
+
 // The words of an answer: its five, and a scan's records.
 pub fn put_answer_words(
     out: &mut [u64],
@@ -190,17 +200,8 @@ pub fn put_answer_words(
     ensures { Wrote out.old at
         (words_of (reply_in p (buffers addresses.now values.now owners.now))) out.new result }
 {
-    let a = encode(p);
-    let next = put_head(out, at, a);
-    match p {
-        Reply::Granted => next,
-        Reply::Value(_, _, _) => next,
-        Reply::Absent(_) => next,
-        Reply::Listed(n) => put_rows(out, next, addresses, values, owners, n),
-        Reply::Numbered(_) => next,
-        Reply::Counted(_) => next,
-        Reply::Refused(_) => next,
-    }
+    let next = put_head(out, at, encode(p));
+    put_rows(out, next, addresses, values, owners, listed(p))
 }
 
 // The words of an export step's answer: its five, and a portion's records.

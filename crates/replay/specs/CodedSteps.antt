@@ -1,5 +1,5 @@
 -- What a step in numbers promises: what its code means is done with the first places of the buffers, or nothing.
-use Rattle.std.specs.Prelude.{ℕ, ◌≡◌, List}
+use Rattle.std.specs.Prelude.{ℕ, Result, ◌≡◌, List}
 use Rattle.spec.specs.Steps.{Places}
 use Rattle.map.specs.Views.{Lent}
 use Rattle.buffers.specs.Buffers.{Buffers, places_of, first_of, others_of}
@@ -7,13 +7,14 @@ use Rattle.transactions.specs.Cores.{Core}
 use Rattle.transactions.specs.Views.{Logs, core_of}
 use Rattle.engine.specs.declared.steps.Op.{Op}
 use Rattle.engine.specs.Performs.{Performed}
-use Rattle.engine.specs.declared.steps.Reply.{Reply}
+use Rattle.spec.specs.declared.Refusal.{Refusal}
+use Rattle.engine.specs.declared.steps.Told.{Told}
+use Rattle.transactions.specs.declared.Globals.{Globals}
 use Rattle.engine.specs.Performs.{Performs}
 use Rattle.codes.specs.declared.Code.{Code}
 use Rattle.codes.specs.declared.Coded.{Coded}
 use Rattle.codes.specs.declared.decodes.Decoded.TheVariants.{Meaningless}
 use Rattle.codes.specs.Codes.{meant_with, decoded, coded_of, no_meaning}
-use Rattle.replay.specs.declared.steps.Stepped.{Stepped}
 
 -- A step performed with the first places of the buffers, as many of each as it wants; the others are as they were.
 pub record PerformsFirst (l : Lent) (g : Logs) (c : Core) (o : Op) (w : Places) (b : Buffers) (l' : Lent) (g' : Logs) (b' : Buffers) (r : Performed) : Type 0 where
@@ -25,12 +26,12 @@ pub record StepEnd : Type 0 where
   pub core : Core
   pub answer : Coded
 
-abbrev pub step_end_of : List ℕ → Stepped → StepEnd
-step_end_of ws r = record { core = core_of ws r.globals; answer = r.answer }
+abbrev pub step_end_of : List ℕ → Globals → Coded → StepEnd
+step_end_of ws c a = record { core = core_of ws c; answer = a }
 
 -- a step that was taken, and its answer in numbers
 pub record CodeTaken (l : Lent) (g : Logs) (c : Core) (o : Op) (w : Places) (b : Buffers) (l' : Lent) (g' : Logs) (b' : Buffers) (r : StepEnd) : Type 0 where
-  pub reply : Reply
+  pub reply : Result Told Refusal
   pub performs : PerformsFirst l g c o w b l' g' b' (record { core = r.core; reply = reply })
   pub answer : r.answer ≡ coded_of reply
 

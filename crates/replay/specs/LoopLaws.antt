@@ -1,6 +1,6 @@
 -- The loop over all codes: what stands after i of them, and the promise at its end.
-use Rattle.std.specs.Prelude.{ℕ, ◌+◌, ◌-◌, ◌*◌, ◌/◌, ◌%◌, ◌<◌, ◌≤◌, ◌≡◌, refl, List, [], ◌∷◌, ◌++◌, length, drop}
-use Rattle.std.proofs.Common.{zero-le, arith, sym, ap, ◌∙◌, subst, append-nil, append_assoc, length-append, length-drop}
+use Rattle.std.specs.Prelude.{◌⊎◌, ℕ, ◌+◌, ◌-◌, ◌*◌, ◌/◌, ◌%◌, ◌<◌, ◌≤◌, ◌≡◌, refl, List, [], ◌∷◌, ◌++◌, length, drop}
+use Rattle.std.proofs.Common.{le_antisymm, ⊎_elim, zero-le, arith, sym, ap, ◌∙◌, subst, append-nil, append_assoc, length-append, length-drop}
 use Rattle.std.proofs.Math.Option.{none}
 use Rattle.std.proofs.Math.Seq.{length-sets}
 use Rattle.lists.specs.Tests.{pick, same}
@@ -240,7 +240,7 @@ module _ {x : Made} {words : List ℕ} {s₀ : Space} {out₀ : List ℕ} {h h' 
     stopped : (y : Stop) → t ≡ y → tally y ≡ 0 → u.told ≡ []
     stopped y e z = no_steps u.told (u.count ∙ ap tally e ∙ z)
 
-    pub replays_stop : (y : Stop) → t ≡ y → tally y ≡ 0 → ((r : Ran) (ξ : Exporting) → chained [] y ξ r ≡ ended y ξ)
+    replays_stop : (y : Stop) → t ≡ y → tally y ≡ 0 → ((r : Ran) (ξ : Exporting) → chained [] y ξ r ≡ ended y ξ)
         → Replays x words s₀ out₀ h'.map h'.logs h'.exported s' out' (record { core = h'.core; export = h'.export; taken = i; written = next; stop = y })
     replays_stop y e z q =
         let none : u.told ≡ [] = stopped y e z in
@@ -256,11 +256,24 @@ module _ {x : Made} {words : List ℕ} {s₀ : Space} {out₀ : List ℕ} {h h' 
         (subst (λ (es : List Exchange). SpaceBecomes es s₀ s') all (left_on p.space u.space))
         (subst (λ (es : List Exchange). Tells (starting_at (fresh x)) es (exporting_in h')) all (tells_join p.tells u.tells))
 
+    -- it has no meaning, or no room for its answer
+    pub replays_halt : (t ≡ stop.Meaningless) ⊎ (t ≡ stop.Full)
+        → Replays x words s₀ out₀ h'.map h'.logs h'.exported s' out' (record { core = h'.core; export = h'.export; taken = i; written = next; stop = t })
+    replays_halt = ⊎_elim (λ e. told e (replays_stop stop.Meaningless e refl (λ r ξ. refl))) (λ e. told e (replays_stop stop.Full e refl (λ r ξ. refl)))
+      where
+        Halts : Stop → Type 0
+        Halts y = Replays x words s₀ out₀ h'.map h'.logs h'.exported s' out' (record { core = h'.core; export = h'.export; taken = i; written = next; stop = y })
+
+        told : {y : Stop} → t ≡ y → Halts y → Halts t
+        told e = subst Halts (sym e)
+
 -- no code is left
 pub replays_end : {x : Made} {words : List ℕ} {s₀ : Space} {out₀ : List ℕ} {h : Whole} {s : Space} {out : List ℕ} {at : ℕ} {y : Stop} (i : ℕ)
     → Replaying x words s₀ out₀ h s out at i → length words / step_words ≤ i → y ≡ rest_stop (length words % step_words)
-    → Replays x words s₀ out₀ h.map h.logs h.exported s out (record { core = h.core; export = h.export; taken = i; written = at; stop = y })
-replays_end {x} {words} {s₀} {out₀} {h} {at = at} {y = y} i p z e =
+    → Replays x words s₀ out₀ h.map h.logs h.exported s out (record { core = h.core; export = h.export; taken = length words / step_words; written = at; stop = y })
+replays_end {x} {words} {s₀} {out₀} {h} {s} {out} {at} {y} i p z e =
+    subst (λ (j : ℕ). Replays x words s₀ out₀ h.map h.logs h.exported s out (record { core = h.core; export = h.export; taken = j; written = at; stop = y }))
+    (le_antisymm p.inside z) (
     let a : i ≤ length words / step_words = p.inside in
     let d : length (drop (step_words * i) words) ≡ length words - step_words * i = length-drop (step_words * i) words in
     let n : length (drop (step_words * i) words) ≡ length words % step_words = d ∙ (let z : length words - step_words * i ≡ length words % step_words = omega arith in z) in
@@ -272,4 +285,4 @@ replays_end {x} {words} {s₀} {out₀} {h} {at = at} {y = y} i p z e =
     ∙ ap (λ (k : ℕ). ended (rest_stop k) ξ) n
     ∙ ap (λ (s : Stop). ended s ξ) (sym e))
     ∙ ap (λ (es : List Exchange). record { told = es; stop = y; after = ξ }) (append-nil p.told))
-    p.count p.wrote p.space p.tells
+    p.count p.wrote p.space p.tells)

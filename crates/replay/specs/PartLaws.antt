@@ -1,5 +1,5 @@
 -- A step with the first places of the lent buffers: what it makes of the whole ones.
-use Rattle.std.specs.Prelude.{◌≡◌, refl, ◌≤◌}
+use Rattle.std.specs.Prelude.{◌≡◌, refl, ◌≤◌, Result, Ok, Err}
 use Rattle.std.proofs.Common.{sym, ap, subst}
 use Rattle.spec.specs.Steps.{Places, shortest, listed, Answer}
 use Rattle.map.specs.Views.{Lent}
@@ -10,8 +10,9 @@ use Rattle.transactions.specs.Views.{Logs, state_of}
 use Rattle.transactions.specs.Ready.{Refines}
 use Rattle.engine.specs.declared.steps.Op.{Op}
 use Rattle.engine.specs.Performs.{Performed}
-use Rattle.engine.specs.declared.steps.Reply.{Reply}
-use Rattle.engine.specs.declared.steps.Reply.TheVariants as reply
+use Rattle.spec.specs.declared.Refusal.{Refusal}
+use Rattle.engine.specs.declared.steps.Told.{Told}
+use Rattle.engine.specs.declared.steps.Told.TheVariants as told
 use Rattle.engine.specs.Listings.{places_fit}
 use Rattle.engine.specs.Performs.{step_in, reply_in, places_in, Performs}
 use Rattle.replay.specs.CodedSteps.{PerformsFirst}
@@ -28,14 +29,13 @@ performs_first {l} {l'} {g} {g'} {c} {o} {r} w b n h =
 
 -- ---- to the whole
 
-reply_part : (p : Reply) (w : Places) (b : Buffers) → places_in p ≤ shortest w → reply_in p (first_of w b) ≡ reply_in p b
-reply_part reply.Granted w b h = refl
-reply_part (reply.Value v o x) w b h = refl
-reply_part (reply.Absent x) w b h = refl
-reply_part (reply.Listed n) w b h = ap listed (rows_part n w b h)
-reply_part (reply.Numbered n) w b h = refl
-reply_part (reply.Counted n) w b h = refl
-reply_part (reply.Refused r) w b h = refl
+reply_part : (p : Result Told Refusal) (w : Places) (b : Buffers) → places_in p ≤ shortest w → reply_in p (first_of w b) ≡ reply_in p b
+reply_part (Ok told.Nothing) w b h = refl
+reply_part (Ok (told.Found f)) w b h = refl
+reply_part (Ok (told.Listed n)) w b h = ap listed (rows_part n w b h)
+reply_part (Ok (told.Numbered n)) w b h = refl
+reply_part (Ok (told.Counted n)) w b h = refl
+reply_part (Err r) w b h = refl
 
 -- A step that wants these places, of the whole buffers: `Performs` with these numbers for the lengths, and no more places filled.
 pub record PerformsWith (l : Lent) (g : Logs) (c : Core) (o : Op) (w : Places) (b : Buffers) (l' : Lent) (g' : Logs) (b' : Buffers) (r : Performed) : Type 0 where

@@ -1,5 +1,5 @@
 -- The lent buffers and bytes after a step: what it wrote in the first places, and the rest as it was.
-use Rattle.std.specs.Prelude.{ℕ, zero, suc, ◌+◌, ◌-◌, ◌*◌, ◌<◌, ◌≤◌, ◌≡◌, refl, List, [], ◌∷◌, ◌++◌, map, length, get_or, take, drop}
+use Rattle.std.specs.Prelude.{ℕ, Result, Ok, Err, Some, None, Option as Optional, zero, suc, ◌+◌, ◌-◌, ◌*◌, ◌<◌, ◌≤◌, ◌≡◌, refl, List, [], ◌∷◌, ◌++◌, map, length, get_or, take, drop}
 use Rattle.std.proofs.Common.{zero-le, zero-add, arith, sym, ap, ◌∙◌, take-append-drop, length-drop, ext_get_or, get_or-drop, length-take-le, drop-cons}
 use Rattle.std.proofs.lemmas.List.Edits.{sets, sets-eq}
 use Rattle.lists.specs.Tabulation.{tab, tab_from}
@@ -11,8 +11,12 @@ use Rattle.buffers.specs.Buffers.{Buffers, places_of, row_in, rows_in, Unmoved, 
 use Rattle.exports.specs.declared.ExportAnswer.{ExportAnswer}
 use Rattle.exports.specs.declared.ExportAnswer.TheVariants as export
 use Rattle.exports.specs.Exporting.{Space, export_answer_in, places_written, bytes_written}
-use Rattle.engine.specs.declared.steps.Reply.{Reply}
-use Rattle.engine.specs.declared.steps.Reply.TheVariants as reply
+use Rattle.spec.specs.declared.Refusal.{Refusal}
+use Rattle.engine.specs.declared.steps.Told.{Told}
+use Rattle.engine.specs.declared.steps.Told.TheVariants as told
+use Rattle.accesses.specs.declared.reads.ReadValue.{ReadValue}
+use Rattle.accesses.specs.Answers.{value_in}
+use Rattle.spec.specs.Steps.{found}
 use Rattle.engine.specs.Performs.{reply_in, places_in}
 use Rattle.replay.specs.Replays.{longest_answer, scanned, shown_by, bytes_of, filed_by, left_in, FilesFit, SpaceBecomes}
 
@@ -111,15 +115,14 @@ space_shown e s s' n k q p h y i u =
 
 -- ---- what a step shows
 
-pub reply_shown : (p : Reply) (b : Buffers) → scanned (reply_in p b) ≡ rows_in (places_in p) b
+pub reply_shown : (p : Result Told Refusal) (b : Buffers) → scanned (reply_in p b) ≡ rows_in (places_in p) b
 unfolding scanned rows_in tab tab_from
-reply_shown reply.Granted b = refl
-reply_shown (reply.Value v o x) b = refl
-reply_shown (reply.Absent x) b = refl
-reply_shown (reply.Listed n) b = refl
-reply_shown (reply.Numbered n) b = refl
-reply_shown (reply.Counted n) b = refl
-reply_shown (reply.Refused r) b = refl
+reply_shown (Ok told.Nothing) b = refl
+reply_shown (Ok (told.Found f)) b = refl
+reply_shown (Ok (told.Listed n)) b = refl
+reply_shown (Ok (told.Numbered n)) b = refl
+reply_shown (Ok (told.Counted n)) b = refl
+reply_shown (Err r) b = refl
 
 pub export_shown : (a : ExportAnswer) (s : Space) → records_given (export_answer_in a s) ≡ rows_in (places_written a) s.portion
 unfolding records_given export_answer_in places_written rows_in tab tab_from

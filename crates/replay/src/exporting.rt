@@ -14,20 +14,12 @@ ghost use Rattle.replay.specs.Replays.{whole};
 ghost use Rattle.replay.specs.RunLaws.{TakesCode};
 
 use crate::stops;
-use crate::stops::Stop;
+use crate::stops::{After, Stop};
 use codes::decodes::DecodedExport;
 use codes::{Code, decodes, words};
 use exports::{Export, Exported, ops};
 use map::{Records, Slots};
 use spec::Address;
-
-// After the code: the export's numbers, the place after the answers, and whether it was taken (complete).
-#[derive(Clone, Copy)]
-pub struct AfterExport {
-    pub export: Export,
-    pub at: usize,
-    pub stop: Stop,
-}
 
 // Takes the step and writes the answer, or says why not. Of the map it is handed what opening reads, and changes nothing.
 pub fn take_export(
@@ -40,45 +32,40 @@ pub fn take_export(
     rows: &Records,
     slots: &Slots,
     count: usize,
-    x: Export,
+    x: &mut Export,
     k: Code,
     at: usize,
-) -> AfterExport
+) -> After
     requires records_held { RecordsHeld rows.now count }
     requires slots_held { SlotsHeld slots.now }
-    requires slots_len_bound { (length (all_records rows.now count slots.now) ≤ limits.map_limit) × ExportHeld x }
+    requires slots_len_bound { (length (all_records rows.now count slots.now) ≤ limits.map_limit) × ExportHeld x.old }
     requires at_in_bounds { (at ≤ length out.old) × (11 ≤ k.kind) }
     ensures { (l : Lent) (g : Logs) (c : Core) → Ready l g c
         → contents (map_of l c.sizes) ≡ all_records rows.now count slots.now → TakesCode
-        (whole l g c exported.old x) k
+        (whole l g c exported.old x.old) k
         (space (buffers addresses.old values.old owners.old) bytes.old) out.old at
-        (whole l g c exported.new result.export)
+        (whole l g c exported.new x.new)
         (space (buffers addresses.new values.new owners.new) bytes.new) out.new result.at result.stop }
 {
     let d = decodes::decode_export(k, addresses.len(), values.len(), owners.len(), bytes.len());
     match d {
         DecodedExport::Meant(op, m, n, q) => {
             if !stops::fits(out.len() - at, m, n, q) {
-                return AfterExport {
-                    export: x,
+                return After {
                     at,
                     stop: Stop::Full,
                 };
             }
             let p = ops::perform_export(
-                addresses, values, owners, bytes, exported, rows, slots, count, x, op, m, n, q,
+                addresses, values, owners, bytes, exported, rows, slots, count, *x, op, m, n, q,
             );
-            let export = p.export;
-            let answer = p.answer;
-            let next = words::put_export_words(out, at, addresses, values, owners, answer);
-            AfterExport {
-                export,
-                at: next,
+            *x = p.export;
+            After {
+                at: words::put_export_words(out, at, addresses, values, owners, p.answer),
                 stop: Stop::Complete,
             }
         }
-        DecodedExport::Meaningless => AfterExport {
-            export: x,
+        DecodedExport::Meaningless => After {
             at,
             stop: Stop::Meaningless,
         },

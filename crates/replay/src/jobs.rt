@@ -9,7 +9,7 @@ ghost use Rattle.exports.specs.Exporting.{ExportedRows, ExportHeld, space};
 ghost use Rattle.replay.specs.Replays.{whole};
 ghost use Rattle.replay.specs.RunLaws.{TakesCode};
 
-use crate::stops::Stop;
+use crate::stops::{After, Stop};
 use crate::{parts, stops};
 use codes::decodes::Decoded;
 use codes::{Code, decodes, words};
@@ -18,14 +18,6 @@ use sets::{LeafSets, ReadSets, WriteSets};
 use spec::Address;
 use transactions::Globals;
 use workers::Workers;
-
-// After the code: the globals, the place after the answers, and whether it was taken (complete).
-#[derive(Clone, Copy)]
-pub struct AfterJob {
-    pub globals: Globals,
-    pub at: usize,
-    pub stop: Stop,
-}
 
 // Takes the step and writes the answer, or says why not. It is not handed the export, whatever that is.
 pub fn take_job(
@@ -40,45 +32,39 @@ pub fn take_job(
     leafsets: &mut LeafSets,
     writes: &mut WriteSets,
     workers: &mut Workers,
-    c: Globals,
+    c: &mut Globals,
     k: Code,
     at: usize,
-) -> AfterJob
-    requires ready { Ready (lent rows.old leaves.old slots.old) (logs reads.old leafsets.old writes.old) (core_of workers.old c) }
+) -> After
+    requires ready { Ready (lent rows.old leaves.old slots.old) (logs reads.old leafsets.old writes.old) (core_of workers.old c.old) }
     requires at_in_bounds { (at ≤ length out.old) × (k.kind < 11) }
     ensures { (xs : ExportedRows) (x : Export) (bs : List ℕ) → ExportHeld x → TakesCode
         (whole (lent rows.old leaves.old slots.old)
-        (logs reads.old leafsets.old writes.old) (core_of workers.old c) xs x) k
+        (logs reads.old leafsets.old writes.old) (core_of workers.old c.old) xs x) k
         (space (buffers addresses.old values.old owners.old) bs) out.old at
         (whole (lent rows.new leaves.new slots.new)
-        (logs reads.new leafsets.new writes.new) (core_of workers.new result.globals) xs x)
+        (logs reads.new leafsets.new writes.new) (core_of workers.new c.new) xs x)
         (space (buffers addresses.new values.new owners.new) bs) out.new result.at result.stop }
 {
     let d = decodes::decode(k, addresses.len(), values.len(), owners.len());
     match d {
         Decoded::Meant(op, m, n, q) => {
             if !stops::fits(out.len() - at, m, n, q) {
-                return AfterJob {
-                    globals: c,
+                return After {
                     at,
                     stop: Stop::Full,
                 };
             }
-            let p = parts::perform_first(
+            let reply = parts::perform_first(
                 addresses, values, owners, rows, leaves, slots, reads, leafsets, writes, workers,
                 c, op, m, n, q,
             );
-            let globals = p.globals;
-            let reply = p.reply;
-            let next = words::put_answer_words(out, at, addresses, values, owners, reply);
-            AfterJob {
-                globals,
-                at: next,
+            After {
+                at: words::put_answer_words(out, at, addresses, values, owners, reply),
                 stop: Stop::Complete,
             }
         }
-        Decoded::Meaningless => AfterJob {
-            globals: c,
+        Decoded::Meaningless => After {
             at,
             stop: Stop::Meaningless,
         },

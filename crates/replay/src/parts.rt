@@ -8,7 +8,7 @@ ghost use Rattle.engine.specs.Performs.{performed_of};
 ghost use Rattle.replay.specs.CodedSteps.{PerformsFirst};
 
 use engine::steps;
-use engine::steps::{Op, Outcome};
+use engine::steps::{Op, Reply};
 use map::{Leaves, Records, Slots};
 use sets::{LeafSets, ReadSets, WriteSets};
 use spec::Address;
@@ -28,19 +28,19 @@ pub fn perform_first(
     leafsets: &mut LeafSets,
     writes: &mut WriteSets,
     workers: &mut Workers,
-    c: Globals,
+    c: &mut Globals,
     op: Op,
     m: usize,
     n: usize,
     q: usize,
-) -> Outcome
-    requires ready { Ready (lent rows.old leaves.old slots.old) (logs reads.old leafsets.old writes.old) (core_of workers.old c) }
+) -> Reply
+    requires ready { Ready (lent rows.old leaves.old slots.old) (logs reads.old leafsets.old writes.old) (core_of workers.old c.old) }
     requires lends { Lends (places_of (buffers addresses.old values.old owners.old)) (places m n q) }
     ensures { PerformsFirst (lent rows.old leaves.old slots.old)
-        (logs reads.old leafsets.old writes.old) (core_of workers.old c) op (places m n q)
+        (logs reads.old leafsets.old writes.old) (core_of workers.old c.old) op (places m n q)
         (buffers addresses.old values.old owners.old)
         (lent rows.new leaves.new slots.new) (logs reads.new leafsets.new writes.new)
-        (buffers addresses.new values.new owners.new) (performed_of workers.new result) }
+        (buffers addresses.new values.new owners.new) (performed_of workers.new c.new result) }
 {
     steps::perform(
         &mut addresses[..m],

@@ -12,7 +12,7 @@ ghost use Rattle.replay.specs.Replays.{step_words, whole, replay_end_of, Replays
 ghost use Rattle.replay.specs.RunLaws.{code_at, TakesCode};
 ghost use Rattle.replay.specs.LoopLaws.{rest_stop};
 
-use crate::stops::Stop;
+use crate::stops::{After, Stop};
 use crate::{exporting, jobs};
 use codes::{Code, FIRST_EXPORT, STEP_WORDS};
 use exports::{Export, Exported};
@@ -31,15 +31,6 @@ pub struct Replayed {
     pub taken: usize,
     pub written: usize,
     pub stop: Stop,
-}
-
-// After one code: the globals and the export's numbers, the place after the answers, and whether it was taken (complete).
-#[derive(Clone, Copy)]
-struct AfterCode {
-    globals: Globals,
-    export: Export,
-    at: usize,
-    stop: Stop,
 }
 
 // The code at place i, which is not the largest number.
@@ -74,36 +65,27 @@ fn take_code(
     writes: &mut WriteSets,
     workers: &mut Workers,
     exported: &mut Exported,
-    c: Globals,
-    x: Export,
+    c: &mut Globals,
+    x: &mut Export,
     k: Code,
     at: usize,
-) -> AfterCode
-    requires ready { Ready (lent rows.old leaves.old slots.old) (logs reads.old leafsets.old writes.old) (core_of workers.old c) }
-    requires at_in_bounds { (at ≤ length out.old) × ExportHeld x }
+) -> After
+    requires ready { Ready (lent rows.old leaves.old slots.old) (logs reads.old leafsets.old writes.old) (core_of workers.old c.old) }
+    requires at_in_bounds { (at ≤ length out.old) × ExportHeld x.old }
     ensures { TakesCode (whole (lent rows.old leaves.old slots.old)
-        (logs reads.old leafsets.old writes.old) (core_of workers.old c) exported.old x) k
+        (logs reads.old leafsets.old writes.old) (core_of workers.old c.old) exported.old x.old) k
         (space (buffers addresses.old values.old owners.old) bytes.old) out.old at
         (whole (lent rows.new leaves.new slots.new)
-        (logs reads.new leafsets.new writes.new) (core_of workers.new result.globals) exported.new result.export)
+        (logs reads.new leafsets.new writes.new) (core_of workers.new c.new) exported.new x.new)
         (space (buffers addresses.new values.new owners.new) bytes.new) out.new result.at result.stop }
 {
     if k.kind < FIRST_EXPORT {
-        let t = jobs::take_job(
+        return jobs::take_job(
             out, addresses, values, owners, rows, leaves, slots, reads, leafsets, writes, workers,
             c, k, at,
         );
-        let globals = t.globals;
-        let stop = t.stop;
-        return AfterCode {
-            globals,
-            export: x,
-            at: t.at,
-            stop,
-        };
     }
-    let sizes = c.sizes;
-    let t = exporting::take_export(
+    exporting::take_export(
         out,
         addresses,
         values,
@@ -112,19 +94,11 @@ fn take_code(
         exported,
         rows,
         slots,
-        sizes.records,
+        c.sizes.records,
         x,
         k,
         at,
-    );
-    let export = t.export;
-    let stop = t.stop;
-    AfterCode {
-        globals: c,
-        export,
-        at: t.at,
-        stop,
-    }
+    )
 }
 
 // Words past the last whole code have no meaning.
@@ -167,50 +141,46 @@ fn take_all(
     let mut globals = start;
     let mut export = first;
     let mut at = 0;
-    let mut i = 0;
-    while i < count {
+    for i in 0..count {
         let k = code_at(steps, i);
         let t = take_code(
-            out, addresses, values, owners, bytes, rows, leaves, slots, reads, leafsets, writes,
-            workers, exported, globals, export, k, at,
+            out,
+            addresses,
+            values,
+            owners,
+            bytes,
+            rows,
+            leaves,
+            slots,
+            reads,
+            leafsets,
+            writes,
+            workers,
+            exported,
+            &mut globals,
+            &mut export,
+            k,
+            at,
         );
-        let stop = t.stop;
-        let after = t.globals;
-        let exporting = t.export;
-        match stop {
-            Stop::Complete => {
-                globals = after;
-                export = exporting;
-                at = t.at;
-                i += 1;
-            }
-            Stop::Meaningless => {
+        match t.stop {
+            Stop::Complete => at = t.at,
+            Stop::Meaningless | Stop::Full => {
                 return Replayed {
-                    globals: after,
-                    export: exporting,
+                    globals,
+                    export,
                     taken: i,
                     written: t.at,
-                    stop: Stop::Meaningless,
-                };
-            }
-            Stop::Full => {
-                return Replayed {
-                    globals: after,
-                    export: exporting,
-                    taken: i,
-                    written: t.at,
-                    stop: Stop::Full,
+                    stop: t.stop,
                 };
             }
         }
     }
-    let stop = last_stop(steps);
     Replayed {
         globals,
         export,
-        taken: i,
+        taken: count,
         written: at,
-        stop,
+        stop: last_stop(steps),
     }
 }
 

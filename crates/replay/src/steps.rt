@@ -14,13 +14,6 @@ use spec::Address;
 use transactions::Globals;
 use workers::Workers;
 
-// The globals after a step, and its answer.
-#[derive(Clone, Copy)]
-pub struct Stepped {
-    pub globals: Globals,
-    pub answer: Coded,
-}
-
 // One step in coded form. A scan's buffers are the first places of the lent ones, as many as it wants. A code with no meaning,
 // one that wants more than are lent among them, is refused, and changes nothing.
 pub fn step(
@@ -34,31 +27,25 @@ pub fn step(
     leafsets: &mut LeafSets,
     writes: &mut WriteSets,
     workers: &mut Workers,
-    c: Globals,
+    c: &mut Globals,
     k: Code,
-) -> Stepped
-    requires { Ready (lent rows.old leaves.old slots.old) (logs reads.old leafsets.old writes.old) (core_of workers.old c) }
+) -> Coded
+    requires { Ready (lent rows.old leaves.old slots.old) (logs reads.old leafsets.old writes.old) (core_of workers.old c.old) }
     ensures { CodedStep (lent rows.old leaves.old slots.old)
-        (logs reads.old leafsets.old writes.old) (core_of workers.old c) k
+        (logs reads.old leafsets.old writes.old) (core_of workers.old c.old) k
         (buffers addresses.old values.old owners.old)
         (lent rows.new leaves.new slots.new) (logs reads.new leafsets.new writes.new)
-        (buffers addresses.new values.new owners.new) (step_end_of workers.new result) }
+        (buffers addresses.new values.new owners.new) (step_end_of workers.new c.new result) }
 {
     let d = decodes::decode(k, addresses.len(), values.len(), owners.len());
     match d {
         Decoded::Meant(op, m, n, q) => {
-            let p = parts::perform_first(
+            let reply = parts::perform_first(
                 addresses, values, owners, rows, leaves, slots, reads, leafsets, writes, workers,
                 c, op, m, n, q,
             );
-            let globals = p.globals;
-            let reply = p.reply;
-            let answer = words::encode(reply);
-            Stepped { globals, answer }
+            words::encode(reply)
         }
-        Decoded::Meaningless => {
-            let answer = words::no_meaning();
-            Stepped { globals: c, answer }
-        }
+        Decoded::Meaningless => words::no_meaning(),
     }
 }

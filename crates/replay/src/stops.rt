@@ -12,6 +12,13 @@ pub enum Stop {
     Full,
 }
 
+// After one code: the place after the answers, and whether it was taken (complete).
+#[derive(Clone, Copy)]
+pub struct After {
+    pub at: usize,
+    pub stop: Stop,
+}
+
 // There is room for the longest answer of a step that wants m, n and q places: one of these numbers is small enough.
 pub fn fits(room: usize, m: usize, n: usize, q: usize) -> bool
     ensures { result ≡ not (less room (longest_answer (places m n q))) }

@@ -1,7 +1,5 @@
 use native.Mathlib.Omega.{arith}
-use mathlib.Core.Path.{refl}
-use Rattle.replay.specs.declared.stops.Stop.TheVariants as stop
-use Rattle.replay.specs.LoopLaws.{replaying_start, replaying_on, takes_as, replays_stop, replays_end}
+use Rattle.replay.specs.LoopLaws.{replaying_start, replaying_on, takes_as, replays_halt, replays_end}
 use Rattle.std.proofs.Common.{true, false}
 use Rattle.replay.proofs.runs.take_all.Goals as goal
 
@@ -12,10 +10,7 @@ pub loop-i-preserved : goal.loop-i-preserved
 loop-i-preserved c = replaying_on c.loop-i.invariant (takes_as c.take_code-t.ensures c.code_at-k.ensures.value) (omega (arith, c.loop-i-test.true)) c.in-Complete.is
 
 pub returns-in-Meaningless : goal.returns-in-Meaningless
-returns-in-Meaningless c = replays_stop c.loop-i.invariant (takes_as c.take_code-t.ensures c.code_at-k.ensures.value) (omega (arith, c.loop-i-test.true)) stop.Meaningless c.in-Meaningless.is refl (λ r ξ. refl)
-
-pub returns-in-Full : goal.returns-in-Full
-returns-in-Full c = replays_stop c.loop-i.invariant (takes_as c.take_code-t.ensures c.code_at-k.ensures.value) (omega (arith, c.loop-i-test.true)) stop.Full c.in-Full.is refl (λ r ξ. refl)
+returns-in-Meaningless c = replays_halt c.loop-i.invariant (takes_as c.take_code-t.ensures c.code_at-k.ensures.value) (omega (arith, c.loop-i-test.true)) c.in-Meaningless.is
 
 pub returns : goal.returns
-returns c = replays_end _ c.loop-i.invariant c.loop-i-test.false c.last_stop-stop.ensures
+returns c = replays_end _ c.loop-i.invariant c.loop-i-test.false c.last_stop.ensures

@@ -11,7 +11,3 @@ use Rattle.replay.proofs.runs.take_all.Given as goal
 abbrev pub invariant-loop-i : goal.invariant-loop-i
 invariant-loop-i l =
     Replaying (made_of (core_of l.initial.workers l.initial.globals)) l.steps (space (buffers l.initial.addresses l.initial.values l.initial.owners) l.initial.bytes) l.initial.out (whole (lent l.rows l.leaves l.slots) (logs l.reads l.leafsets l.writes) (core_of l.workers l.globals) l.exported l.export) (space (buffers l.addresses l.values l.owners) l.bytes) l.out l.at l.i
-
-abbrev pub decreases-loop-i : goal.decreases-loop-i
-decreases-loop-i l =
-    l.count - l.i

@@ -2,5 +2,5 @@
 use Rattle.codes.specs.CodeLaws.{meant_lends}
 use Rattle.replay.proofs.steps.step.Goals as goal
 
-pub perform_first-p-requires-clause-lends : goal.perform_first-p-requires-clause-lends
-perform_first-p-requires-clause-lends c = meant_lends _ _ c.decode-d.ensures c.in-Meant.is
+pub perform_first-reply-requires-clause-lends : goal.perform_first-reply-requires-clause-lends
+perform_first-reply-requires-clause-lends c = meant_lends _ _ c.decode-d.ensures c.in-Meant.is

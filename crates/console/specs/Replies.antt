@@ -1,5 +1,5 @@
 -- A line as an operation of the engine, and the line that is written for its reply.
-use Rattle.std.specs.Prelude.{ℕ, zero, suc, ◌+◌, ◌*◌, ◌^◌, ◌<◌, ◌≤◌, ◌≡◌, length, take, get_or}
+use Rattle.std.specs.Prelude.{ℕ, Result, Ok, Err, Some, None, Option as Optional, zero, suc, ◌+◌, ◌*◌, ◌^◌, ◌<◌, ◌≤◌, ◌≡◌, length, take, get_or}
 use Rattle.std.proofs.Common.{not-suc-le-zero, le_of_suc-le-suc, arith, sym, ◌∙◌, subst, length-append}
 use Rattle.std.proofs.Math.Path.{refl, ap}
 use mathlib.Core.List.{List, [], ◌∷◌, ◌++◌}
@@ -22,8 +22,10 @@ use Rattle.engine.specs.declared.steps.Access.TheVariants as access
 use Rattle.engine.specs.declared.steps.Ending.TheVariants as ending
 use Rattle.engine.specs.declared.steps.Op.{Op}
 use Rattle.engine.specs.declared.steps.Op.TheVariants as op
-use Rattle.engine.specs.declared.steps.Reply.{Reply}
-use Rattle.engine.specs.declared.steps.Reply.TheVariants as reply
+use Rattle.accesses.specs.declared.reads.ReadValue.{ReadValue}
+use Rattle.accesses.specs.declared.reads.Found.{Found}
+use Rattle.engine.specs.declared.steps.Told.{Told}
+use Rattle.engine.specs.declared.steps.Told.TheVariants as told
 use Rattle.engine.specs.Performs.{step_in, reply_in}
 
 -- o is the operation that a line asks for, whatever the places of a scan's three buffers
@@ -60,11 +62,11 @@ pub asks : {l s : Line} {o : Op} → l ≡ s → o ≡ op_of s → Asks l o
 asks {l} {s} {o} e f = subst (λ (x : Op). Asks l x) (sym f) (subst (λ (x : Line). Asks x (op_of s)) (sym e) (of_line s))
 
 -- the line that is written for a reply to a line with the letter c, with a scan's buffers
-unfoldable pub reply_text : ℕ → Reply → Buffers → List ℕ
+unfoldable pub reply_text : ℕ → Result Told Refusal → Buffers → List ℕ
 reply_text c p b = c ∷ answer_text (reply_in p b) ++ (10 ∷ [])
 
 -- it stands in the bytes from a place on, all others are as before, and next is the place after it
-pub record Replies (c : ℕ) (p : Reply) (b : Buffers) (old : List ℕ) (at : ℕ) (new : List ℕ) (next : ℕ) : Type 0 where
+pub record Replies (c : ℕ) (p : Result Told Refusal) (b : Buffers) (old : List ℕ) (at : ℕ) (new : List ℕ) (next : ℕ) : Type 0 where
   pub wrote : Wrote old at (reply_text c p b) new next
 
 -- ---- a scan's buffers
@@ -92,45 +94,63 @@ rows_triples (suc n) (k ∷ ks) (v ∷ vs) (o ∷ os) h g f =
 
 -- ---- the line of each reply, as the functions write it
 
-module _ {c at j : ℕ} {p : Reply} {ks vs os l m : List ℕ} where
-  named : (q : Reply) (t : List ℕ) → p ≡ q → reply_text c q (buffers ks vs os) ≡ t → Wrote l at t m j → Replies c p (buffers ks vs os) l at m j
-  named q t e f w =
+module _ {c at j : ℕ} {l m : List ℕ} {f : Found} (b : Buffers) where
+  found_line : (o : Optional ReadValue) → f.value ≡ o → Wrote l at (reply_text c (Ok (told.Found (record { value = o; examined = f.examined }))) b) m j
+      → Replies c (Ok (told.Found f)) b l at m j
+  found_line o e w =
       record {
-        wrote = subst (λ (x : Reply). Wrote l at (reply_text c x (buffers ks vs os)) m j) (sym e) (subst (λ (x : List ℕ). Wrote l at x m j) (sym f) w);
+        wrote = subst (λ (o : Optional ReadValue). Wrote l at (reply_text c (Ok (told.Found (record { value = o; examined = f.examined }))) b) m j) (sym e) w;
       }
 
-  pub wrote_granted : p ≡ reply.Granted → Wrote l at ((c ∷ field 0) ++ (10 ∷ [])) m j → Replies c p (buffers ks vs os) l at m j
+  pub wrote_value : {v : ReadValue} → f.value ≡ Some v
+      → Wrote l at ((c ∷ field 0 ++ field v.value ++ field v.owner ++ field f.examined) ++ (10 ∷ [])) m j → Replies c (Ok (told.Found f)) b l at m j
   unfolding reply_text answer_text
-  wrote_granted e w = named reply.Granted _ e refl w
+  wrote_value {v} e w = found_line (Some v) e w
 
-  pub wrote_value : (v o x : ℕ) → p ≡ reply.Value v o x → Wrote l at ((c ∷ field 0 ++ field v ++ field o ++ field x) ++ (10 ∷ [])) m j
+  pub wrote_absent : f.value ≡ None → Wrote l at ((c ∷ field 0 ++ absent ++ field f.examined) ++ (10 ∷ [])) m j → Replies c (Ok (told.Found f)) b l at m j
+  unfolding reply_text answer_text
+  wrote_absent e w = found_line None e w
+
+module _ {c at j : ℕ} {ks vs os l m : List ℕ} where
+  named : {p : Result Told Refusal} (q : Result Told Refusal) (t : List ℕ) → p ≡ q → reply_text c q (buffers ks vs os) ≡ t → Wrote l at t m j
+      → Replies c p (buffers ks vs os) l at m j
+  named q t e f w =
+      record {
+        wrote = subst (λ (x : Result Told Refusal). Wrote l at (reply_text c x (buffers ks vs os)) m j) (sym e) (subst (λ (x : List ℕ). Wrote l at x m j) (sym f) w);
+      }
+
+  -- a reply by its other name
+  pub replies_as : {p q : Result Told Refusal} → p ≡ q → Replies c q (buffers ks vs os) l at m j → Replies c p (buffers ks vs os) l at m j
+  replies_as e w = subst (λ (x : Result Told Refusal). Replies c x (buffers ks vs os) l at m j) (sym e) w
+
+  pub wrote_refused : {p : Result Told Refusal} (r : Refusal) (n : ℕ) → p ≡ Err r → n ≡ number_of r → Wrote l at ((c ∷ field n) ++ (10 ∷ [])) m j
       → Replies c p (buffers ks vs os) l at m j
   unfolding reply_text answer_text
-  wrote_value v o x e w = named (reply.Value v o x) _ e refl w
+  wrote_refused r n e f w = named (Err r) _ e refl (subst (λ (x : ℕ). Wrote l at ((c ∷ field x) ++ (10 ∷ [])) m j) f w)
 
-  pub wrote_absent : (x : ℕ) → p ≡ reply.Absent x → Wrote l at ((c ∷ field 0 ++ absent ++ field x) ++ (10 ∷ [])) m j → Replies c p (buffers ks vs os) l at m j
-  unfolding reply_text answer_text
-  wrote_absent x e w = named (reply.Absent x) _ e refl w
+  module _ {t : Told} where
+    pub wrote_granted : t ≡ told.Nothing → Wrote l at ((c ∷ field 0) ++ (10 ∷ [])) m j → Replies c (Ok t) (buffers ks vs os) l at m j
+    unfolding reply_text answer_text
+    wrote_granted e w = named (Ok told.Nothing) _ (ap Ok e) refl w
 
-  pub wrote_numbered : (n : ℕ) → p ≡ reply.Numbered n → Wrote l at ((c ∷ field 0 ++ field n) ++ (10 ∷ [])) m j → Replies c p (buffers ks vs os) l at m j
-  unfolding reply_text answer_text
-  wrote_numbered n e w = named (reply.Numbered n) _ e refl w
+    pub wrote_found : (f : Found) → t ≡ told.Found f → Replies c (Ok (told.Found f)) (buffers ks vs os) l at m j → Replies c (Ok t) (buffers ks vs os) l at m j
+    wrote_found f e w = replies_as (ap Ok e) w
 
-  pub wrote_counted : (n : ℕ) → p ≡ reply.Counted n → Wrote l at ((c ∷ field 0 ++ field n) ++ (10 ∷ [])) m j → Replies c p (buffers ks vs os) l at m j
-  unfolding reply_text answer_text
-  wrote_counted n e w = named (reply.Counted n) _ e refl w
+    pub wrote_numbered : (n : ℕ) → t ≡ told.Numbered n → Wrote l at ((c ∷ field 0 ++ field n) ++ (10 ∷ [])) m j → Replies c (Ok t) (buffers ks vs os) l at m j
+    unfolding reply_text answer_text
+    wrote_numbered n e w = named (Ok (told.Numbered n)) _ (ap Ok e) refl w
 
-  pub wrote_refused : (r : Refusal) (n : ℕ) → p ≡ reply.Refused r → n ≡ number_of r → Wrote l at ((c ∷ field n) ++ (10 ∷ [])) m j → Replies c p (buffers ks vs os) l at m j
-  unfolding reply_text answer_text
-  wrote_refused r n e f w = named (reply.Refused r) _ e refl (subst (λ (x : ℕ). Wrote l at ((c ∷ field x) ++ (10 ∷ [])) m j) f w)
+    pub wrote_counted : (n : ℕ) → t ≡ told.Counted n → Wrote l at ((c ∷ field 0 ++ field n) ++ (10 ∷ [])) m j → Replies c (Ok t) (buffers ks vs os) l at m j
+    unfolding reply_text answer_text
+    wrote_counted n e w = named (Ok (told.Counted n)) _ (ap Ok e) refl w
 
-  pub wrote_listed : (n : ℕ) → p ≡ reply.Listed n → n ≤ length ks → n ≤ length vs → n ≤ length os
-      → Wrote l at ((c ∷ field 0 ++ field n ++ triples_of (take n ks) (take n vs) (take n os)) ++ (10 ∷ [])) m j → Replies c p (buffers ks vs os) l at m j
-  unfolding reply_text answer_text
-  wrote_listed n e h g f w =
-      named (reply.Listed n) _ e
-      (ap (λ (x : ℕ). c ∷ (field 0 ++ field x ++ triples (λ (q : Payload). q) (rows_in n (buffers ks vs os))) ++ (10 ∷ [])) (length_rows n (buffers ks vs os))
-      ∙ ap (λ (x : List ℕ). c ∷ (field 0 ++ field n ++ x) ++ (10 ∷ [])) (rows_triples n ks vs os h g f)) w
+    pub wrote_listed : (n : ℕ) → t ≡ told.Listed n → n ≤ length ks → n ≤ length vs → n ≤ length os
+        → Wrote l at ((c ∷ field 0 ++ field n ++ triples_of (take n ks) (take n vs) (take n os)) ++ (10 ∷ [])) m j → Replies c (Ok t) (buffers ks vs os) l at m j
+    unfolding reply_text answer_text
+    wrote_listed n e h g f w =
+        named (Ok (told.Listed n)) _ (ap Ok e)
+        (ap (λ (x : ℕ). c ∷ (field 0 ++ field x ++ triples (λ (q : Payload). q) (rows_in n (buffers ks vs os))) ++ (10 ∷ [])) (length_rows n (buffers ks vs os))
+        ∙ ap (λ (x : List ℕ). c ∷ (field 0 ++ field n ++ x) ++ (10 ∷ [])) (rows_triples n ks vs os h g f)) w
 
 -- ---- how long triples are
 

@@ -2,13 +2,14 @@
 ghost use Rattle.std.specs.Prelude.{[], ◌∷◌, ◌++◌, ◌+◌, ◌*◌, ◌≤◌, length, take};
 ghost use Rattle.lists.specs.Texts.{Wrote};
 ghost use Rattle.answers.specs.Output.{field, absent, triples_of};
-ghost use Rattle.buffers.specs.Buffers.{buffers};
+ghost use Rattle.buffers.specs.Buffers.{Buffers, buffers};
 ghost use Rattle.engine.specs.Performs.{places_in};
 ghost use Rattle.console.specs.Program.{places, longest_line};
 ghost use Rattle.console.specs.Replies.{Replies};
 
 use crate::SCAN_PLACES;
-use engine::steps::Reply;
+use accesses::reads::Found;
+use engine::steps::{Reply, Told};
 use spec::Address;
 
 // A read that finds a value: the value, its owner, and the slots examined.
@@ -61,6 +62,40 @@ fn put_listed_line(
     answers::put_byte(out, last, b'\n')
 }
 
+// What a read finds.
+fn write_found(out: &mut [u8], at: usize, letter: u8, f: Found) -> usize
+    requires { at + 86 ≤ length out.old }
+    ensures { (b : Buffers) → Replies letter (Ok (Told.Found f)) b out.old at out.new result }
+{
+    match f.value {
+        Some(v) => put_value_line(out, at, letter, v.value, v.owner, f.examined),
+        None => put_absent_line(out, at, letter, f.examined),
+    }
+}
+
+// What a granted step tells.
+fn write_told(
+    out: &mut [u8],
+    at: usize,
+    addresses: &[Address; SCAN_PLACES],
+    values: &[u64; SCAN_PLACES],
+    owners: &[u16; SCAN_PLACES],
+    letter: u8,
+    told: Told,
+) -> usize
+    requires longest_line_in_bounds { at + longest_line ≤ length out.old }
+    requires told_bound { places_in (Ok told) ≤ places }
+    ensures { Replies letter (Ok told) (buffers addresses.now values.now owners.now) out.old at out.new result }
+{
+    match told {
+        Told::Nothing => answers::put_line(out, at, letter, 0),
+        Told::Found(f) => write_found(out, at, letter, f),
+        Told::Listed(n) => put_listed_line(out, at, addresses, values, owners, letter, n),
+        Told::Numbered(n) => answers::put_granted_line(out, at, letter, n),
+        Told::Counted(n) => answers::put_granted_line(out, at, letter, n as u64),
+    }
+}
+
 // Any reply; a scan's addresses, values and owners stand in the first places of the buffers.
 pub fn write_reply(
     out: &mut [u8],
@@ -76,12 +111,7 @@ pub fn write_reply(
     ensures { Replies letter reply (buffers addresses.now values.now owners.now) out.old at out.new result }
 {
     match reply {
-        Reply::Granted => answers::put_line(out, at, letter, 0),
-        Reply::Value(v, o, x) => put_value_line(out, at, letter, v, o, x),
-        Reply::Absent(x) => put_absent_line(out, at, letter, x),
-        Reply::Listed(n) => put_listed_line(out, at, addresses, values, owners, letter, n),
-        Reply::Numbered(n) => answers::put_granted_line(out, at, letter, n),
-        Reply::Counted(n) => answers::put_granted_line(out, at, letter, n as u64),
-        Reply::Refused(r) => answers::put_line(out, at, letter, spec::number_of(r)),
+        Ok(told) => write_told(out, at, addresses, values, owners, letter, told),
+        Err(r) => answers::put_line(out, at, letter, spec::number_of(r)),
     }
 }

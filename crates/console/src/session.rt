@@ -60,16 +60,7 @@ pub fn fresh_session(
 pub fn at_places(x: Session, next: usize, at: usize) -> Session
     ensures { result ≡ with_places x next at }
 {
-    let globals = x.globals;
-    let parser = x.parser;
-    Session {
-        globals,
-        parser,
-        next,
-        at,
-        stopped: x.stopped,
-        first: x.first,
-    }
+    Session { next, at, ..x }
 }
 
 // There is input to read, and room for the longest line.
@@ -95,13 +86,7 @@ fn can_go_on(stopped: bool, next: usize, size: usize, at: usize, room: usize) ->
 fn guarded(c: Globals) -> Globals
     ensures { result ≡ guarded_globals c }
 {
-    let sizes = c.sizes;
-    let counters = c.counters;
-    Globals {
-        sizes,
-        counters,
-        guarded: 1,
-    }
+    Globals { guarded: 1, ..c }
 }
 
 // A malformed line ends the script.
@@ -109,15 +94,14 @@ fn end_malformed(out: &mut [u8], x: Session, parser: Parser, next: usize) -> Ses
     requires { x.at + 2 ≤ length out.old }
     ensures { (ws : List ℕ) → EndsMalformed (session_of ws x) parser next out.old out.new (session_of ws result) }
 {
-    let globals = x.globals;
     let at = answers::put_malformed(out, x.at);
     Session {
-        globals,
         parser,
         next,
         at,
         stopped: true,
         first: false,
+        ..x
     }
 }
 
@@ -165,15 +149,11 @@ fn run_line(
         (logs reads.old leafsets.old writes.old) (session_of workers.old x) input.now out.old
         (lent rows.new leaves.new slots.new) (logs reads.new leafsets.new writes.new) (session_of workers.new result) out.new }
 {
-    let globals = x.globals;
-    let parser = x.parser;
-    let t = script::parse(input, x.next, parser);
-    let after = t.parser;
-    let next = t.next;
-    let event = t.event;
-    match event {
+    let t = script::parse(input, x.next, x.parser);
+    match t.event {
         Event::Line(l) => {
-            let done = steps::perform(
+            let mut globals = x.globals;
+            let reply = steps::perform(
                 addresses,
                 values,
                 owners,
@@ -184,31 +164,27 @@ fn run_line(
                 leafsets,
                 writes,
                 workers,
-                globals,
+                &mut globals,
                 lines::op_of(l),
             );
-            let reply = done.reply;
-            let then = done.globals;
             let letter = lines::letter_of(l);
             let at = replies::write_reply(out, x.at, addresses, values, owners, letter, reply);
             Session {
-                globals: then,
-                parser: after,
-                next,
+                globals,
+                parser: t.parser,
+                next: t.next,
                 at,
                 stopped: false,
                 first: false,
             }
         }
-        Event::Guard => run_guard(out, x, after, next),
-        Event::Malformed => end_malformed(out, x, after, next),
+        Event::Guard => run_guard(out, x, t.parser, t.next),
+        Event::Malformed => end_malformed(out, x, t.parser, t.next),
         Event::SliceEnd => Session {
-            globals,
-            parser: after,
-            next,
-            at: x.at,
+            parser: t.parser,
+            next: t.next,
             stopped: false,
-            first: x.first,
+            ..x
         },
     }
 }

@@ -62,10 +62,10 @@ module _ {l l' : Lent} {g g' : Logs} {c : Core} {k : Code} {b b' : Buffers} {r :
   steps_ready : Ready l' g' r.core
   steps_ready = ready_by (decoded (places_of b) k) refl
 
-pub step_entry : {l l' : Lent} {g g' : Logs} {c : Globals} {j k : Code} {b b' : Buffers} (workers globals workers' globals' answer : List ℕ) (r : Stepped)
-    → c ≡ saved_globals globals → j ≡ k → Ready l g (saved_core workers globals) → CodedStep l g (core_of workers c) j b l' g' b' (step_end_of workers' r)
-    → saved_globals globals' ≡ r.globals → coded_in answer ≡ r.answer → StepEntry l g workers globals k b l' g' workers' globals' b' answer
-step_entry {l} {l'} {g} {g'} {c} {j} {k} {b} {b'} workers globals workers' globals' answer r e f h s p q =
+pub step_entry : {l l' : Lent} {g g' : Logs} {c : Globals} {j k : Code} {b b' : Buffers} (workers globals workers' globals' answer : List ℕ) (d : Globals) (a : Coded)
+    → c ≡ saved_globals globals → j ≡ k → Ready l g (saved_core workers globals) → CodedStep l g (core_of workers c) j b l' g' b' (step_end_of workers' d a)
+    → saved_globals globals' ≡ d → coded_in answer ≡ a → StepEntry l g workers globals k b l' g' workers' globals' b' answer
+step_entry {l} {l'} {g} {g'} {c} {j} {k} {b} {b'} workers globals workers' globals' answer d a e f h s p q =
     record {
       ready = subst (λ (x : Globals). Ready l' g' (core_of workers' x)) (sym p) (steps_ready (ready_loaded workers globals e h) s);
       step =

@@ -12,7 +12,8 @@ use Rattle.exports.specs.Exporting.{ExportedRows, Space, export_answer_in}
 use Rattle.transactions.specs.Views.{Logs}
 use Rattle.transactions.specs.Starts.{Fresh}
 use Rattle.engine.specs.declared.steps.Op.{Op}
-use Rattle.engine.specs.declared.steps.Reply.{Reply}
+use Rattle.spec.specs.declared.Refusal.{Refusal}
+use Rattle.engine.specs.declared.steps.Told.{Told}
 use Rattle.engine.specs.Performs.{step_in, reply_in}
 use Rattle.codes.specs.declared.Code.{Code}
 use Rattle.codes.specs.declared.decodes.Decoded.TheVariants.{Meaningless}
@@ -52,7 +53,7 @@ pub data Begun : Made → List Exchange → Library → Type 0 where
 -- ---- calls
 
 -- the step that a call takes, and the answer that it gives, with what it left in the buffers
-abbrev pub step_told : Op → Places → Buffers → Reply → Exchange
+abbrev pub step_told : Op → Places → Buffers → Result Told Refusal → Exchange
 step_told o w b r = job_told (record { step = step_in o w; answer = reply_in r b })
 
 -- What is kept before the calls, their history, and what is kept after them.

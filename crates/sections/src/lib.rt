@@ -115,14 +115,13 @@ pub extern "C" fn sections_step(
         (lent rows.new leaves.new slots.new) (logs reads.new leafsets.new writes.new) workers.new globals.new
         (buffers addresses.new values.new owners.new) answer.new }
 {
-    let c = saved::load(globals);
+    let mut after = saved::load(globals);
     let k = code_in(step);
-    let s = steps::step(
-        addresses, values, owners, rows, leaves, slots, reads, leafsets, writes, workers, c, k,
+    let told = steps::step(
+        addresses, values, owners, rows, leaves, slots, reads, leafsets, writes, workers,
+        &mut after, k,
     );
-    let next = s.globals;
-    let told = s.answer;
-    saved::store(globals, next);
+    saved::store(globals, after);
     put_answer(answer, told);
 }
 
@@ -177,13 +176,10 @@ pub extern "C" fn sections_replay(
         out, addresses, values, owners, bytes, rows, leaves, slots, reads, leafsets, writes,
         workers, exported, steps, guarded,
     );
-    let c = p.globals;
-    let x = p.export;
-    let stop = p.stop;
-    saved::store(globals, c);
-    saved::store_export(export, x);
+    saved::store(globals, p.globals);
+    saved::store_export(export, p.export);
     put_counts(counts, p.taken, p.written);
-    stop_number(stop)
+    stop_number(p.stop)
 }
 
 // The first record of the contents from an address on: its address, value, owner and serial number, and true. If there is

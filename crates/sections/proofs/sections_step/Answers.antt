@@ -3,5 +3,5 @@ use Rattle.sections.specs.EntryLaws.{step_entry}
 use Rattle.sections.proofs.sections_step.Goals as goal
 
 pub returns : goal.returns
-returns c = step_entry _ _ _ _ _ c.step-s.result c.load-c.ensures c.code_in-k.ensures c.requires c.step-s.ensures
+returns c = step_entry _ _ _ _ _ _ c.step-told.result c.load-after.ensures c.code_in-k.ensures c.requires c.step-told.ensures
     c.store.ensures c.put_answer.ensures

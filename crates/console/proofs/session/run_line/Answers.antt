@@ -14,7 +14,7 @@ write_reply-at-requires-clause-longest_line_in_bounds c =
 pub write_reply-at-requires-clause-reply_bound : goal.write_reply-at-requires-clause-reply_bound
 write_reply-at-requires-clause-reply_bound c =
     let g = goes_true _ _ _ _ _ c.requires.out_value in
-    places_fit c.op_of.ensures c.told-addresses c.told-values c.told-owners c.perform-done.ensures
+    places_fit c.op_of.ensures c.told-addresses c.told-values c.told-owners c.perform-reply.ensures
 
 pub run_guard-requires : goal.run_guard-requires
 run_guard-requires c = (goes_true _ _ _ _ _ c.requires.out_value).2
@@ -27,7 +27,7 @@ end_malformed-requires c =
 pub returns-in-Line : goal.returns-in-Line
 returns-in-Line c =
     let g = goes_true _ _ _ _ _ c.requires.out_value in
-    turn_line _ _ _ _ _ _ g.0 g.1 c.requires.started c.parse-t.ensures c.in-Line.is c.op_of.ensures c.told-addresses c.told-values c.told-owners c.perform-done.ensures
+    turn_line _ _ _ _ _ _ g.0 g.1 c.requires.started c.parse-t.ensures c.in-Line.is c.op_of.ensures c.told-addresses c.told-values c.told-owners c.perform-reply.ensures
     c.letter_of-letter.ensures c.write_reply-at.ensures
 
 pub returns-in-Guard : goal.returns-in-Guard

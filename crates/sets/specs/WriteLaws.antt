@@ -19,7 +19,7 @@ use Rattle.spec.specs.Payloads.{payload_in}
 use Rattle.spec.specs.declared.PayloadWords.{PayloadWords}
 use Rattle.sets.specs.declared.writes.Write.{Write as WriteWords}
 use Rattle.sets.specs.declared.writes.Write.TheVariants.{Put, Deletion}
-use Rattle.sets.specs.Writes.{WriteRows, write_words, edit_in, write_of, row_words, no_write, line_at, words_of, write_in, writes_of, WriteSetHeld, WritesHeld, WriteSetOrdered, WritesBecome, PutsWrite, GivesWrite}
+use Rattle.sets.specs.Writes.{WriteRows, write_words, edit_in, kind_of, given_by, write_of, row_words, no_write, line_at, words_of, write_in, writes_of, WriteSetHeld, WritesHeld, WriteSetOrdered, WritesBecome, PutsWrite, GivesWrite}
 use Rattle.sets.specs.WritePlaces.{PlaceOf, WritesHave}
 use Rattle.sets.specs.SetLaws.{each_set, each_alike, length_rows, row_at, row_replaced, row_put_lem}
 
@@ -33,15 +33,11 @@ pub deletion_kind : (kind : ℕ) (v : PayloadWords) → (kind ≡ 1 → ⊥) →
 unfolding write_of
 deletion_kind kind v n = rw (same_no {m = kind} {n = 1} n)
 
--- the row that a write becomes: its address, and what it says
-pub row_address : (a : ℕ) (w : WriteWords) → (row_words a w).address ≡ a
-row_address a (Put v) = refl
-row_address a Deletion = refl
-
-row_back : (a : ℕ) (w : WriteWords) → write_in (words_of (row_words a w)) ≡ row a (edit_in w)
+-- what the words of a write say
+pub kind_back : (w : WriteWords) → write_of (kind_of w) (given_by w) ≡ edit_in w
 unfolding write_of same
-row_back a (Put v) = refl
-row_back a Deletion = refl
+kind_back (Put v) = refl
+kind_back Deletion = refl
 
 -- ---- rows moved up, and one put in
 
@@ -168,10 +164,10 @@ module _ {rs : WriteRows} {n a p : ℕ} (given : WriteSetOrdered rs n) (at : Pla
   put_over {us} w s h e =
       let z : length rs ≡ limits.write_limit = given.held.size in
       let m : n ≤ limits.write_limit = given.room in
-      puts w n m (subst WriteSetHeld (sym e) (each_set p (words_of (row_words a w)) given.held (subst (λ (k : ℕ). k < addresses) (sym (row_address a w)) h)))
+      puts w n m (subst WriteSetHeld (sym e) (each_set p (words_of (row_words a w)) given.held h))
       (ap (λ (l : WriteRows). writes_of l n) e
       ∙ row_replaced write_in rs n p (words_of (row_words a w)) (inside s) (omega arith)
-      ∙ (λ i. set (writes_of rs n) (at.is i) (row_back a w i))
+      ∙ (λ i. set (writes_of rs n) (at.is i) (row a (kind_back w i)))
       ∙ sym (insert_present a (edit_in w) (writes_of rs n) no_write s))
 
   pub put_new : {us : WriteRows} (w : WriteWords) → Absent a (writes_of rs n) no_write → n < limits.write_limit
@@ -181,7 +177,7 @@ module _ {rs : WriteRows} {n a p : ℕ} (given : WriteSetOrdered rs n) (at : Pla
       puts w (n + 1) (omega arith) b.held
       (ap (λ (l : WriteRows). writes_of l (n + 1)) b.rows
       ∙ row_put_lem write_in rs n p (words_of (row_words a w)) at.within (omega arith)
-      ∙ (λ i. take (at.is i) (writes_of rs n) ++ (row_back a w i ∷ drop (at.is i) (writes_of rs n)))
+      ∙ (λ i. take (at.is i) (writes_of rs n) ++ (row a (kind_back w i) ∷ drop (at.is i) (writes_of rs n)))
       ∙ sym (insert_absent a (edit_in w) (writes_of rs n) no_write s))
 
 -- ---- a row read

@@ -31,6 +31,15 @@ abbrev pub edit_in : WriteWords → Write
 edit_in (Put v) = written (payload_in v)
 edit_in Deletion = deleted
 
+-- its kind as a word, and what it gives
+abbrev pub kind_of : WriteWords → ℕ
+kind_of (Put v) = 1
+kind_of Deletion = 2
+
+abbrev pub given_by : WriteWords → PayloadWords
+given_by (Put v) = v
+given_by Deletion = no_payload
+
 abbrev pub entry_in : Entry → Row Write
 entry_in e = row e.address (edit_in e.write)
 
@@ -53,8 +62,7 @@ line_at rs i =
 
 -- the row that a write at an address becomes
 abbrev pub row_words : ℕ → WriteWords → WriteRow
-row_words a (Put v) = record { address = a; kind = 1; payload = v }
-row_words a Deletion = record { address = a; kind = 2; payload = no_payload }
+row_words a w = record { address = a; kind = kind_of w; payload = given_by w }
 
 -- the words of a row
 abbrev pub words_of : WriteRow → List ℕ

@@ -6,7 +6,7 @@ ghost use Rattle.lists.specs.Rows.{look};
 ghost use Rattle.lists.specs.Shifts.{moved};
 ghost use Rattle.spec.specs.Widths.{addresses};
 ghost use Rattle.spec.specs.Records.{limits};
-ghost use Rattle.sets.specs.Writes.{edit_in, write_of, row_words, line_at, words_of, writes_of, found_in, WriteSetHeld, WriteSetOrdered, WritesBecome, PutsWrite, GivesWrite};
+ghost use Rattle.sets.specs.Writes.{edit_in, kind_of, given_by, write_of, row_words, line_at, words_of, writes_of, found_in, WriteSetHeld, WriteSetOrdered, WritesBecome, PutsWrite, GivesWrite};
 ghost use Rattle.sets.specs.WritePlaces.{PlaceOf, WritesHave};
 
 use crate::WriteSet;
@@ -34,19 +34,37 @@ struct WriteRow {
     payload: PayloadWords,
 }
 
+impl Write {
+    // Its kind as a word.
+    pub fn kind(self) -> u64
+        ensures { result ≡ kind_of self }
+    {
+        match self {
+            Write::Put(_) => 1,
+            Write::Deletion => 2,
+        }
+    }
+
+    // What it gives: a deletion gives nothing.
+    pub fn payload(self) -> PayloadWords
+        ensures { result ≡ given_by self }
+    {
+        match self {
+            Write::Put(payload) => payload,
+            Write::Deletion => PayloadWords { value: 0, owner: 0 },
+        }
+    }
+}
+
 impl WriteRow {
     // The words of a write at an address.
     fn of(a: Address, write: Write) -> WriteRow
         ensures { result ≡ row_words a write }
     {
-        let (kind, payload) = match write {
-            Write::Put(payload) => (1, payload),
-            Write::Deletion => (2, PayloadWords { value: 0, owner: 0 }),
-        };
         WriteRow {
             address: a as u64,
-            kind,
-            payload,
+            kind: write.kind(),
+            payload: write.payload(),
         }
     }
 

@@ -1,5 +1,5 @@
 -- The laws of the guard's verdict: the first of the three causes that holds.
-use Rattle.std.specs.Prelude.{◌≡◌, Bool}
+use Rattle.std.specs.Prelude.{◌≡◌, Bool, Result}
 use Rattle.std.proofs.Common.{sym, ◌∙◌}
 use Rattle.std.proofs.Math.Option.{none, some}
 use Rattle.lists.specs.Tests.{pick}
@@ -10,7 +10,7 @@ use Rattle.workers.specs.declared.Worker.{Worker}
 use Rattle.sets.specs.Reads.{ReadRows, reads_of}
 use Rattle.sets.specs.Leaves.{LeafSetRows, scans_of}
 use Rattle.sets.specs.Writes.{WriteRows, writes_of}
-use Rattle.guards.specs.declared.Judged.{Judged}
+use Rattle.spec.specs.declared.Refusal.{Refusal}
 use Rattle.guards.specs.Judging.{judged_in, Judges}
 
 module _ (rs : ReadRows) (ls : LeafSetRows) (ws : WriteRows) (x : Worker) where
@@ -24,7 +24,7 @@ module _ (rs : ReadRows) (ls : LeafSetRows) (ws : WriteRows) (x : Worker) where
   overlapped_put = any_put (overlapped (reads_of rs x.reads) (scans_of ls x.leaves) (writes_of ws x.writes)) (writes_of ws x.writes)
 
   -- the tests p, q and s say a, b and c
-  pub judged : (a b c : Bool) (r : Judged) {p q s : Bool} → p ≡ unfit_put → p ≡ a → q ≡ uncovered_put → q ≡ b → s ≡ overlapped_put → s ≡ c
+  pub judged : (a b c : Bool) (r : Result (Unit {0}) Refusal) {p q s : Bool} → p ≡ unfit_put → p ≡ a → q ≡ uncovered_put → q ≡ b → s ≡ overlapped_put → s ≡ c
       → judged_in r ≡ pick a (some Unfit) (pick b (some Uncovered) (pick c (some Overlap) none)) → Judges rs ls ws x r
   unfolding first_cause
   judged a b c r e ea f fb g gc h =

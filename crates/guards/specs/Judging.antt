@@ -1,5 +1,5 @@
 -- Request 102, the guard of a guarded map: what is promised of the tests of one worker's puts at lock.
-use Rattle.std.specs.Prelude.{◌≤◌, ◌≡◌, List, [], ◌∷◌}
+use Rattle.std.specs.Prelude.{◌≤◌, ◌≡◌, List, [], ◌∷◌, Result, Ok, Err}
 use Rattle.std.proofs.Math.Option.{Option, none, some}
 use Rattle.lists.specs.Rows.{Row}
 use Rattle.spec.specs.declared.Refusal.{Refusal}
@@ -11,12 +11,10 @@ use Rattle.workers.specs.declared.Worker.{Worker}
 use Rattle.sets.specs.Reads.{ReadRows, reads_of, ReadSetHeld}
 use Rattle.sets.specs.Leaves.{LeafSetRows, scans_of, LeafSetHeld}
 use Rattle.sets.specs.Writes.{WriteRows, writes_of, WriteSetOrdered}
-use Rattle.guards.specs.declared.Judged.{Judged}
-use Rattle.guards.specs.declared.Judged.TheVariants.{Passed, Refused}
 
-abbrev pub judged_in : Judged → Option Refusal
-judged_in Passed = none
-judged_in (Refused r) = some r
+abbrev pub judged_in : Result (Unit {0}) Refusal → Option Refusal
+judged_in (Ok u) = none
+judged_in (Err r) = some r
 
 -- the guard's causes, in the order in which they are answered
 abbrev pub guard_causes : List (Row (Option Record)) → List Scan → List (Row Write) → List Cause
@@ -35,5 +33,5 @@ pub record Guardable (rs : ReadRows) (ls : LeafSetRows) (ws : WriteRows) (x : Wo
   pub leaves : x.leaves ≤ limits.leaf_set_limit
 
 -- the verdict is the first cause that holds
-pub record Judges (rs : ReadRows) (ls : LeafSetRows) (ws : WriteRows) (x : Worker) (r : Judged) : Type 0 where
+pub record Judges (rs : ReadRows) (ls : LeafSetRows) (ws : WriteRows) (x : Worker) (r : Result (Unit {0}) Refusal) : Type 0 where
   pub first : judged_in r ≡ first_cause (guard_causes (reads_of rs x.reads) (scans_of ls x.leaves) (writes_of ws x.writes))

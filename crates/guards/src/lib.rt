@@ -11,15 +11,13 @@ mod lengths;
 mod overlaps;
 mod scans;
 
-// What the guard tells.
-#[derive(Clone, Copy)]
-pub enum Judged {
-    Passed,
-    Refused(Refusal),
-}
-
 // Tests the puts of worker x: lengths and ends, then scans that cover them, then overlaps, each over all puts.
-pub fn judge(reads: &ReadSet, leafset: &LeafSet, writes: &WriteSet, x: Worker) -> Judged
+pub fn judge(
+    reads: &ReadSet,
+    leafset: &LeafSet,
+    writes: &WriteSet,
+    x: Worker,
+) -> Result<(), Refusal>
     requires { Guardable reads.now leafset.now writes.now x }
     ensures { Judges reads.now leafset.now writes.now x result }
 {
@@ -27,13 +25,13 @@ pub fn judge(reads: &ReadSet, leafset: &LeafSet, writes: &WriteSet, x: Worker) -
     let m = x.leaves as usize;
     let n = x.writes as usize;
     if lengths::unfit_put(writes, n) {
-        return Judged::Refused(Refusal::Unfit);
+        return Err(Refusal::Unfit);
     }
     if scans::uncovered_put(leafset, m, writes, n) {
-        return Judged::Refused(Refusal::Uncovered);
+        return Err(Refusal::Uncovered);
     }
     if overlaps::overlapped_put(reads, k, leafset, m, writes, n) {
-        return Judged::Refused(Refusal::Overlap);
+        return Err(Refusal::Overlap);
     }
-    Judged::Passed
+    Ok(())
 }

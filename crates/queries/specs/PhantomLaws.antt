@@ -3,7 +3,7 @@ use Prim.Native.Nat.{ℕ, zero, suc, ◌+◌, ◌<◌, ◌≤◌, zero-le}
 use Rattle.std.proofs.Common.{not-suc-le-zero, ◌∙◌, subst, inl, inr, length-take-le, ne_eqb}
 use native.Mathlib.Omega.{arith}
 use mir.Val.{bool_byte}
-use Rattle.std.specs.Prelude.{◌≡◌, ◌⊎◌, Bool, true, not, ltb, take, get_or, Option as Optional, Some, None, is_some}
+use Rattle.std.specs.Prelude.{◌≡◌, ◌⊎◌, Bool, true, not, ltb, take, get_or, Option as Optional, is_some}
 use Rattle.std.proofs.Math.Path.{refl, sym, ap}
 use Rattle.std.proofs.Math.Logic.{⊎_elim}
 use Rattle.std.proofs.Math.Bool.{false}
@@ -19,7 +19,7 @@ use Rattle.lists.specs.Counting.{has_nil, has_cons}
 use Rattle.lists.specs.Options.{both_options, some_same}
 use Rattle.spec.specs.declared.PayloadWords.{PayloadWords}
 use Rattle.spec.specs.declared.RecordWords.{RecordWords}
-use Rattle.spec.specs.Payloads.{record_in}
+use Rattle.spec.specs.Payloads.{record_of_words, record_in}
 use Rattle.spec.specs.Leaves.{Leaf, first_leaf, version_at, live}
 use Rattle.spec.specs.Records.{Write, is_put}
 use Rattle.spec.specs.Slots.{Pending, Content, content_of}
@@ -42,6 +42,7 @@ use Rattle.map.specs.WriteWalks.{write_at, rest, rest_all, rest_cons, rest_none}
 use Rattle.sets.specs.declared.writes.Entry.{Entry}
 use Rattle.sets.specs.declared.writes.Write.{Write as WriteWords}
 use Rattle.sets.specs.declared.writes.Write.TheVariants.{Put, Deletion}
+use Rattle.sets.specs.SetLaws.{absent_is}
 use Rattle.sets.specs.Writes.{WriteRows, edit_in, entry_in, writes_of}
 use Rattle.map.specs.MapHeld.{Tables}
 use Rattle.queries.specs.QueryViews.{LeafAt}
@@ -87,16 +88,10 @@ module _ (rows : RecordRows) (lows : List ℕ) (slots : SlotRows) (n m i a : ℕ
   pub lock_only_here : (p : ℕ) (c : ContentWords) (f : Optional RecordWords) (b : Bool) → AtLeaf lows m a p → p ≡ i → content_of (slots_of slots) a ≡ content_in c
       → (c.kind ≡ 1 → ⊥) → record_in f ≡ look (records_of rows n) a → is_some f ≡ not b → b ≡ lock_only_in rows lows slots n m i a
   lock_only_here p c f b at q e k g h =
-      here f b h
+      absent_is record_of_words f h
       ∙ sym
       (by_parts false (present (record_in f)) (put_kind c e false (ne_eqb c.kind 1 k)) (ap present (sym g))
       ∙ ap (λ (x : Bool). both x (not (present (record_in f)))) (same_yes {m = low_place a (take m lows)} {n = i} (sym at.is ∙ q)))
-    where
-      here : (o : Optional RecordWords) (x : Bool) → is_some o ≡ not x → x ≡ not (present (record_in o))
-      here None true h = refl
-      here None false h = h
-      here (Some r) true h = h
-      here (Some r) false h = refl
 
 -- a test as a number
 pub byte_pick : {b : Bool} (c : Bool) → b ≡ c → bool_byte b ≡ pick c 1 0

@@ -11,7 +11,6 @@ ghost use Rattle.queries.specs.Contents.{all_records};
 ghost use Rattle.contents.specs.Copies.{Copied};
 
 use map::{Records, Slots};
-use queries::Next;
 use rows::CopiedRecord;
 use spec::{Address, HIGHEST, MAP_LIMIT, OWNERS};
 
@@ -30,30 +29,21 @@ pub fn copy_contents(copied: &mut CopyRows, rows: &Records, slots: &Slots, n: us
     requires slots_len_bound { length (all_records rows.now n slots.now) ≤ limits.map_limit }
     ensures { Copied (all_records rows.now n slots.now) copied.new result }
 {
-    rows::places(copied);
     let mut count = 0;
     let mut from: Address = 0;
-    loop {
-        let next = queries::next_record(rows, slots, n, from);
-        match next {
-            Next::At {
-                address,
-                payload,
-                commit: _,
-            } => {
-                let record = CopiedRecord {
-                    address,
-                    value: payload.value,
-                    owner: (payload.owner % OWNERS) as u16,
-                };
-                rows::store(copied, count, record);
-                if address == HIGHEST {
-                    return count + 1;
-                }
-                count += 1;
-                from = address + 1;
-            }
-            Next::Done => return count,
+    while let Some(next) = queries::next_record(rows, slots, n, from) {
+        let payload = next.record.payload;
+        let record = CopiedRecord {
+            address: next.address,
+            value: payload.value,
+            owner: (payload.owner % OWNERS) as u16,
+        };
+        rows::store(copied, count, record);
+        count += 1;
+        if next.address == HIGHEST {
+            return count;
         }
+        from = next.address + 1;
     }
+    count
 }

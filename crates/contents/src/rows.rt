@@ -1,10 +1,10 @@
 // Rows of words: all that touches the words of a copy.
-ghost use Rattle.std.specs.Prelude.{◌≡◌, [], ◌∷◌, ◌<◌, length, get_or, set};
+ghost use Rattle.std.specs.Prelude.{◌≡◌, [], ◌∷◌, ◌<◌, get_or, set};
 ghost use Rattle.spec.specs.Records.{limits};
 ghost use Rattle.contents.specs.Copies.{copy_row};
 ghost use Rattle.contents.specs.RowLaws.{row_of, copy_words};
 
-use crate::{COPY_WORDS, CopyRows};
+use crate::CopyRows;
 use spec::{ADDRESSES, Address, OWNERS};
 
 // A record of a copy.
@@ -13,19 +13,6 @@ pub struct CopiedRecord {
     pub address: Address,
     pub value: u64,
     pub owner: u16,
-}
-
-// An array has as many rows as its type says.
-fn count(copied: &[[u64; COPY_WORDS]]) -> usize
-    ensures { result ≡ length copied.now }
-{
-    copied.len()
-}
-
-pub fn places(copied: &CopyRows)
-    ensures { length copied.now ≡ limits.map_limit }
-{
-    count(copied);
 }
 
 // What the words of a row say.

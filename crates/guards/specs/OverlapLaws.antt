@@ -1,5 +1,5 @@
 -- The laws of overlaps: when two sections share a byte; a test of what is laid over, part by part; the rows of a scan.
-use Rattle.std.specs.Prelude.{ℕ, ◌+◌, ◌-◌, ◌<◌, ◌≤◌, min, ◌≡◌, Bool, not, List, [], ◌∷◌, ◌++◌, ltb, length, drop, get_or}
+use Rattle.std.specs.Prelude.{ℕ, ◌+◌, ◌-◌, ◌<◌, ◌≤◌, min, ◌≡◌, Bool, not, List, [], ◌∷◌, ◌++◌, ltb, length, drop, get_or, Option as Optional, Some, None, is_some}
 use native.Mathlib.Omega.{arith}
 use Rattle.std.proofs.Math.Path.{refl, sym, ap}
 use Rattle.std.proofs.Common.{◌∙◌, length-drop, length-take-le, get_or-take, get_or-drop}
@@ -16,13 +16,13 @@ use Rattle.spec.specs.Records.{Payload, Record, Write, written, deleted, own_vie
 use Rattle.spec.specs.Guards.{Scan, stretch, last_byte, share, deciding, standing, untouched, laid_over, overlaps, overlapped, of_put, any_put}
 use Rattle.sets.specs.declared.leaves.Scanned.{Scanned}
 use Rattle.sets.specs.declared.reads.Observed.{Observed}
-use Rattle.sets.specs.declared.writes.FoundWrite.{FoundWrite}
-use Rattle.sets.specs.Reads.{ReadRows, record_of, observed_in, no_read, read_in, reads_of, GivesRead}
+use Rattle.sets.specs.declared.writes.Write.{Write as WriteWords}
+use Rattle.sets.specs.Reads.{ReadRows, observed_in, no_read, read_in, reads_of, GivesRead}
 use Rattle.sets.specs.Leaves.{scanned_in}
-use Rattle.sets.specs.SetLaws.{length_rows}
-use Rattle.sets.specs.Writes.{found_in}
-use Rattle.guards.specs.declared.scans.Decision.{Decision}
-use Rattle.guards.specs.declared.scans.Decision.TheVariants.{By, Nothing}
+use Rattle.sets.specs.SetLaws.{length_rows, absent_is}
+use Rattle.sets.specs.Writes.{edit_in, found_in}
+use Rattle.spec.specs.declared.RecordWords.{RecordWords}
+use Rattle.spec.specs.Payloads.{record_in}
 use Rattle.guards.specs.Promises.{decision_in, overlaps_at, overlaps_logged}
 
 with_true : (b : Bool) → both b true ≡ b
@@ -114,17 +114,17 @@ any_laid k n ws rs =
 
 module _ (reads : List (Row (Option Record))) (cs : List Scan) (ws : List (Row Write)) (k n : ℕ) where
   -- by what decides
-  by_decision : {d g : Decision} → d ≡ g → decision_in d ≡ deciding cs k n
+  by_decision : {d g : Optional Scanned} → d ≡ g → decision_in d ≡ deciding cs k n
       → overlapped reads cs ws k n ≡ maybe (decision_in g) false (λ (c : Scan). any (overlaps k n) (laid_over ws (stretch reads c)))
   unfolding overlapped
   by_decision q e =
       ap (λ (o : Option Scan). maybe o false (λ (c : Scan). any (overlaps k n) (laid_over ws (stretch reads c)))) (sym e ∙ ap decision_in q)
 
-  pub overlapped_none : {d : Decision} → d ≡ Nothing → decision_in d ≡ deciding cs k n → false ≡ overlapped reads cs ws k n
+  pub overlapped_none : {d : Optional Scanned} → d ≡ None → decision_in d ≡ deciding cs k n → false ≡ overlapped reads cs ws k n
   overlapped_none q e = sym (by_decision q e)
 
   -- of a scan: by whether an own put overlaps the section
-  by_own : {d : Decision} {s : Scanned} {a c : Bool} → d ≡ By s → decision_in d ≡ deciding cs k n → a ≡ any_put (overlaps_at k n) ws → a ≡ c
+  by_own : {d : Optional Scanned} {s : Scanned} {a c : Bool} → d ≡ Some s → decision_in d ≡ deciding cs k n → a ≡ any_put (overlaps_at k n) ws → a ≡ c
       → either c (any (overlaps_logged ws k n) (stretch reads (scanned_in s))) ≡ overlapped reads cs ws k n
   by_own {s = s} q e f t =
       sym
@@ -132,11 +132,11 @@ module _ (reads : List (Row (Option Record))) (cs : List Scan) (ws : List (Row W
       ∙ any_laid k n ws (stretch reads (scanned_in s))
       ∙ ap (λ (b : Bool). either b (any (overlaps_logged ws k n) (stretch reads (scanned_in s)))) (sym f ∙ t))
 
-  pub overlapped_own : {d : Decision} {s : Scanned} {a : Bool} → d ≡ By s → decision_in d ≡ deciding cs k n → a ≡ any_put (overlaps_at k n) ws → a ≡ true
+  pub overlapped_own : {d : Optional Scanned} {s : Scanned} {a : Bool} → d ≡ Some s → decision_in d ≡ deciding cs k n → a ≡ any_put (overlaps_at k n) ws → a ≡ true
       → true ≡ overlapped reads cs ws k n
   overlapped_own q e f t = by_own q e f t
 
-  pub overlapped_logged : {d : Decision} {s : Scanned} {a b : Bool} → d ≡ By s → decision_in d ≡ deciding cs k n → a ≡ any_put (overlaps_at k n) ws → a ≡ false
+  pub overlapped_logged : {d : Optional Scanned} {s : Scanned} {a b : Bool} → d ≡ Some s → decision_in d ≡ deciding cs k n → a ≡ any_put (overlaps_at k n) ws → a ≡ false
       → b ≡ any (overlaps_logged ws k n) (stretch reads (scanned_in s)) → b ≡ overlapped reads cs ws k n
   overlapped_logged q e f t g = g ∙ by_own q e f t
 
@@ -170,29 +170,31 @@ module _ (rs : ReadRows) (k : ℕ) {m : ℕ} (s : Scanned) (e : m ≡ min s.coun
 -- ---- one of them
 
 module _ (ws : List (Row Write)) (k n : ℕ) (o : Observed) where
-  -- by whether a record is present, and whether it overlaps
-  by_parts : (t m : Bool) → o.current.there ≡ t → overlaps_at k n o.address o.current.payload.value ≡ m
-      → both (not (present (look ws o.address))) (both t m) ≡ overlaps_logged ws k n (observed_in o)
+  -- no record is present
+  pub read_absent : o.current ≡ None → false ≡ overlaps_logged ws k n (observed_in o)
+  unfolding overlaps_logged payload_of
+  read_absent e =
+      sym
+      (ap (λ (c : Optional RecordWords). overlaps_logged ws k n (row o.address (record_in c))) e
+      ∙ with_false (untouched ws (row o.address none)))
+
+  -- one is: by whether it overlaps
+  by_parts : {r : RecordWords} (m : Bool) → o.current ≡ Some r → overlaps_at k n o.address r.payload.value ≡ m
+      → both (not (present (look ws o.address))) m ≡ overlaps_logged ws k n (observed_in o)
   unfolding overlaps_logged untouched payload_of overlaps
-  by_parts t m e f =
-      sym (whole o.current.there ∙ (λ i. both (not (present (look ws o.address))) (both (e i) (f i))))
-    where
-      whole : (t : Bool)
-          → both (not (present (look ws o.address))) (maybe (payload_of (record_of t o.current.payload o.current.commit)) false (λ (p : Payload). overlaps k n (row o.address p)))
-          ≡ both (not (present (look ws o.address))) (both t (overlaps_at k n o.address o.current.payload.value))
-      whole true = refl
-      whole false = refl
+  by_parts m e f =
+      sym
+      (ap (λ (c : Optional RecordWords). overlaps_logged ws k n (row o.address (record_in c))) e
+      ∙ ap (both (not (present (look ws o.address)))) f)
 
-  pub read_absent : o.current.there ≡ false → false ≡ overlaps_logged ws k n (observed_in o)
-  read_absent e = sym (with_false (not (present (look ws o.address)))) ∙ by_parts false _ e refl
+  pub read_apart : {r : RecordWords} {b : Bool} → o.current ≡ Some r → b ≡ overlaps_at k n o.address r.payload.value → b ≡ false → b ≡ overlaps_logged ws k n (observed_in o)
+  read_apart e f g = g ∙ sym (with_false (not (present (look ws o.address)))) ∙ by_parts false e (sym f ∙ g)
 
-  pub read_apart : {b : Bool} → o.current.there ≡ true → b ≡ overlaps_at k n o.address o.current.payload.value → b ≡ false → false ≡ overlaps_logged ws k n (observed_in o)
-  read_apart e f g = sym (with_false (not (present (look ws o.address)))) ∙ by_parts true false e (sym f ∙ g)
-
-  -- by what a look-up of the own write finds
-  pub read_found : {b : Bool} {f g : FoundWrite} → o.current.there ≡ true → b ≡ overlaps_at k n o.address o.current.payload.value → b ≡ true
-      → f ≡ g → found_in f ≡ look ws o.address → not (present (found_in g)) ≡ overlaps_logged ws k n (observed_in o)
-  read_found {g = g} e m t q h =
-      sym (with_true (not (present (found_in g))))
-      ∙ ap (λ (w : Option Write). both (not (present w)) true) (sym (ap found_in q) ∙ h)
-      ∙ by_parts true true e (sym m ∙ t)
+  -- and by what a look-up of the own write finds
+  pub read_found : {r : RecordWords} {b c : Bool} (f : Optional WriteWords) → o.current ≡ Some r → b ≡ overlaps_at k n o.address r.payload.value → b ≡ true
+      → found_in f ≡ look ws o.address → is_some f ≡ not c → c ≡ overlaps_logged ws k n (observed_in o)
+  read_found f e m t h q =
+      absent_is edit_in f q
+      ∙ sym (with_true (not (present (found_in f))))
+      ∙ ap (λ (w : Option Write). both (not (present w)) true) h
+      ∙ by_parts true e (sym m ∙ t)

@@ -1,6 +1,6 @@
 -- What the functions inside the guard promise.
-use Rattle.std.specs.Prelude.{ℕ, ◌≤◌, Bool, false, List}
-use Rattle.std.proofs.Math.Option.{Option, none, some}
+use Rattle.std.specs.Prelude.{ℕ, ◌≤◌, Bool, false, List, Option as Optional}
+use Rattle.std.proofs.Math.Option.{Option}
 use Rattle.lists.specs.Tests.{both, maybe}
 use Rattle.lists.specs.Rows.{Row, row}
 use Rattle.spec.specs.Records.{limits, Payload, Record, Write, payload_of}
@@ -8,18 +8,17 @@ use Rattle.spec.specs.Guards.{Scan, untouched, overlaps, of_put}
 use Rattle.sets.specs.declared.writes.Entry.{Entry}
 use Rattle.sets.specs.Reads.{ReadRows, ReadSetHeld}
 use Rattle.sets.specs.Leaves.{LeafSetRows, scanned_in, LeafSetHeld}
-use Rattle.sets.specs.Writes.{WriteRows, write_of, WriteSetOrdered}
-use Rattle.guards.specs.declared.scans.Decision.{Decision}
-use Rattle.guards.specs.declared.scans.Decision.TheVariants.{By, Nothing}
+use Rattle.sets.specs.Writes.{WriteRows, edit_in, WriteSetOrdered}
+use Rattle.sets.specs.declared.leaves.Scanned.{Scanned}
+use Rattle.spec.specs.Payloads.{option_in}
 
 -- what a test of addresses and lengths says of a row of a write set
 abbrev pub of_entry : (ℕ → ℕ → Bool) → Entry → Bool
-of_entry f e = of_put f e.address (write_of e.kind e.payload)
+of_entry f e = of_put f e.address (edit_in e.write)
 
 -- the scan that decides, or none
-abbrev pub decision_in : Decision → Option Scan
-decision_in (By s) = some (scanned_in s)
-decision_in Nothing = none
+abbrev pub decision_in : Optional Scanned → Option Scan
+decision_in o = option_in scanned_in o
 
 -- the section of m bytes at j overlaps the one of n bytes at k, whoever owns them
 abbrev pub overlaps_at : ℕ → ℕ → ℕ → ℕ → Bool

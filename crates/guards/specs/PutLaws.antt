@@ -6,25 +6,27 @@ use Rattle.lists.specs.Rows.{Row}
 use Rattle.spec.specs.Records.{Write}
 use Rattle.spec.specs.Guards.{of_put, any_put}
 use Rattle.sets.specs.declared.writes.Entry.{Entry}
-use Rattle.sets.specs.Writes.{WriteRows, no_write, write_in, writes_of, GivesWrite}
+use Rattle.sets.specs.Writes.{WriteRows, edit_in, no_write, write_in, writes_of, GivesWrite}
 use Rattle.sets.specs.SetLaws.{length_rows}
-use Rattle.sets.specs.WriteLaws.{put_kind, deletion_kind}
+use Rattle.spec.specs.declared.PayloadWords.{PayloadWords}
+use Rattle.sets.specs.declared.writes.Write.{Write as WriteWords}
+use Rattle.sets.specs.declared.writes.Write.TheVariants.{Put, Deletion}
 use Rattle.guards.specs.Promises.{of_entry}
 use Rattle.guards.specs.SearchLaws.{Searching, search_start, search_on, search_hit, search_end, none_passes}
 
 -- ---- one write
 
 module _ (f : ℕ → ℕ → Bool) (e : Entry) where
-  pub of_put_lem : e.kind ≡ 1 → of_entry f e ≡ f e.address e.payload.value
+  pub of_put_lem : {v : PayloadWords} → e.write ≡ Put v → of_entry f e ≡ f e.address v.value
   unfolding of_put
-  of_put_lem h = ap (of_put f e.address) (put_kind e.kind e.payload h)
+  of_put_lem h = ap (λ (w : WriteWords). of_put f e.address (edit_in w)) h
 
-  pub entry_put : {b : Bool} → e.kind ≡ 1 → b ≡ f e.address e.payload.value → b ≡ of_entry f e
+  pub entry_put : {v : PayloadWords} {b : Bool} → e.write ≡ Put v → b ≡ f e.address v.value → b ≡ of_entry f e
   entry_put h q = q ∙ sym (of_put_lem h)
 
-  pub entry_deletion : (e.kind ≡ 1 → ⊥) → false ≡ of_entry f e
+  pub entry_deletion : e.write ≡ Deletion → false ≡ of_entry f e
   unfolding of_put
-  entry_deletion h = sym (ap (of_put f e.address) (deletion_kind e.kind e.payload h))
+  entry_deletion h = sym (ap (λ (w : WriteWords). of_put f e.address (edit_in w)) h)
 
 -- ---- all writes
 

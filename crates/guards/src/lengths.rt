@@ -4,7 +4,7 @@ ghost use Rattle.spec.specs.Guards.{unfit, any_put};
 ghost use Rattle.sets.specs.Writes.{writes_of, WriteSetOrdered};
 ghost use Rattle.guards.specs.Promises.{of_entry};
 
-use sets::writes::Entry;
+use sets::writes::{Entry, Write};
 use sets::{WriteSet, writes};
 use spec::{Address, HIGHEST, LONGEST};
 
@@ -12,10 +12,7 @@ use spec::{Address, HIGHEST, LONGEST};
 fn unfit(a: Address, len: u64) -> bool
     ensures { result ≡ unfit a len }
 {
-    if len == 0 {
-        return true;
-    }
-    if LONGEST < len {
+    if len == 0 || LONGEST < len {
         return true;
     }
     ((HIGHEST - a) as u64) < len - 1
@@ -25,11 +22,10 @@ fn unfit(a: Address, len: u64) -> bool
 fn unfit_write(e: Entry) -> bool
     ensures { result ≡ of_entry unfit e }
 {
-    if e.kind == 1 {
-        let v = e.payload;
-        return unfit(e.address, v.value);
+    match e.write {
+        Write::Put(p) => unfit(e.address, p.value),
+        Write::Deletion => false,
     }
-    false
 }
 
 // One of the n writes is a put of an unfit section.
@@ -37,13 +33,11 @@ pub fn unfit_put(writes: &WriteSet, n: usize) -> bool
     requires { WriteSetOrdered writes.now n }
     ensures { result ≡ any_put unfit (writes_of writes.now n) }
 {
-    let mut i = 0;
-    while i < n {
+    for i in 0..n {
         let e = writes::write_at(writes, i);
         if unfit_write(e) {
             return true;
         }
-        i += 1;
     }
     false
 }

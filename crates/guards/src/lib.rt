@@ -12,7 +12,12 @@ mod overlaps;
 mod scans;
 
 // Tests the puts of worker x: lengths and ends, then scans that cover them, then overlaps, each over all puts.
-pub fn judge(reads: &ReadSet, leafset: &LeafSet, writes: &WriteSet, x: Worker) -> Result<(), Refusal>
+pub fn judge(
+    reads: &ReadSet,
+    leafset: &LeafSet,
+    writes: &WriteSet,
+    x: Worker,
+) -> Result<(), Refusal>
     requires { Guardable reads.now leafset.now writes.now x }
     ensures { Judges reads.now leafset.now writes.now x result }
 {

@@ -10,10 +10,9 @@ ghost use Rattle.sets.specs.Writes.{writes_of, WriteSetOrdered};
 ghost use Rattle.guards.specs.Promises.{of_entry, overlaps_at, overlaps_logged, RowsHeld};
 
 use crate::scans;
-use crate::scans::Decision;
 use sets::leaves::Scanned;
 use sets::reads::Observed;
-use sets::writes::{Entry, FoundWrite};
+use sets::writes::{Entry, Write};
 use sets::{LeafSet, ReadSet, WriteSet, reads, writes};
 use spec::Address;
 
@@ -34,11 +33,10 @@ fn overlaps(a: Address, len: u64, j: Address, m: u64) -> bool
 fn write_overlaps(e: Entry, a: Address, len: u64) -> bool
     ensures { result ≡ of_entry (overlaps_at a len) e }
 {
-    if e.kind == 1 {
-        let v = e.payload;
-        return overlaps(a, len, e.address, v.value);
+    match e.write {
+        Write::Put(p) => overlaps(a, len, e.address, p.value),
+        Write::Deletion => false,
     }
-    false
 }
 
 // One of the n writes is a put that overlaps the section.
@@ -46,13 +44,11 @@ fn own_overlap(writes: &WriteSet, n: usize, a: Address, len: u64) -> bool
     requires { WriteSetOrdered writes.now n }
     ensures { result ≡ any_put (overlaps_at a len) (writes_of writes.now n) }
 {
-    let mut i = 0;
-    while i < n {
+    for i in 0..n {
         let e = writes::write_at(writes, i);
         if write_overlaps(e, a, len) {
             return true;
         }
-        i += 1;
     }
     false
 }
@@ -63,32 +59,20 @@ fn read_overlaps(writes: &WriteSet, n: usize, o: Observed, a: Address, len: u64)
     requires { WriteSetOrdered writes.now n }
     ensures { result ≡ overlaps_logged (writes_of writes.now n) a len (observed_in o) }
 {
-    let c = o.current;
-    if c.there {
-        let v = c.payload;
-        if overlaps(a, len, o.address, v.value) {
-            return match writes::find_write(writes, n, o.address) {
-                FoundWrite::Put(_) => false,
-                FoundWrite::Deletion => false,
-                FoundWrite::Nothing => true,
-            };
+    match o.current {
+        Some(r) => {
+            overlaps(a, len, o.address, r.payload.value)
+                && writes::find_write(writes, n, o.address).is_none()
         }
-        return false;
+        None => false,
     }
-    false
 }
 
 // How many of the first k rows of the read set the scan logged.
 fn logged_rows(s: Scanned, k: u64) -> u64
     ensures { result ≡ min s.count (k - s.from) }
 {
-    if k <= s.from {
-        return 0;
-    }
-    if k - s.from < s.count {
-        return k - s.from;
-    }
-    s.count
+    s.count.min(k.saturating_sub(s.from))
 }
 
 // One of the records that the scan logged overlaps the section, and the worker does not write at its address.
@@ -108,13 +92,11 @@ fn logged_overlap(
 {
     let from = s.from as usize;
     let count = logged_rows(s, k as u64) as usize;
-    let mut i = 0;
-    while i < count {
+    for i in 0..count {
         let o = reads::read_at(reads, from + i);
         if read_overlaps(writes, n, o, a, len) {
             return true;
         }
-        i += 1;
     }
     false
 }
@@ -133,19 +115,16 @@ fn overlapped_write(
     requires e_value { of_entry unfit e ≡ false }
     ensures { result ≡ of_entry (overlapped (reads_of reads.now k) (scans_of leafset.now m) (writes_of writes.now n)) e }
 {
-    if e.kind == 1 {
-        let v = e.payload;
-        return match scans::deciding(leafset, m, e.address, v.value) {
-            Decision::By(s) => {
-                if own_overlap(writes, n, e.address, v.value) {
-                    return true;
-                }
-                logged_overlap(reads, k, writes, n, s, e.address, v.value)
-            }
-            Decision::Nothing => false,
-        };
+    let Write::Put(p) = e.write else {
+        return false;
+    };
+    match scans::deciding(leafset, m, e.address, p.value) {
+        Some(s) => {
+            own_overlap(writes, n, e.address, p.value)
+                || logged_overlap(reads, k, writes, n, s, e.address, p.value)
+        }
+        None => false,
     }
-    false
 }
 
 // One of the n writes is a put that another section overlaps. No put is unfit.
@@ -161,13 +140,11 @@ pub fn overlapped_put(
     requires n_value { any_put unfit (writes_of writes.now n) ≡ false }
     ensures { result ≡ any_put (overlapped (reads_of reads.now k) (scans_of leafset.now m) (writes_of writes.now n)) (writes_of writes.now n) }
 {
-    let mut i = 0;
-    while i < n {
+    for i in 0..n {
         let e = writes::write_at(writes, i);
         if overlapped_write(reads, k, leafset, m, writes, n, e) {
             return true;
         }
-        i += 1;
     }
     false
 }

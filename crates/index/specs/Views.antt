@@ -8,8 +8,6 @@ use Rattle.spec.specs.Payloads.{payload_in, no_payload}
 use Rattle.spec.specs.declared.PayloadWords.{PayloadWords}
 use Rattle.spec.specs.Leaves.{Leaf}
 use Rattle.index.specs.declared.rows.RecordRow.{RecordRow}
-use Rattle.index.specs.declared.records.FoundRecord.{FoundRecord}
-use Rattle.index.specs.declared.records.FoundRecord.TheVariants.{At, Nothing}
 
 -- how many records there is room for
 abbrev pub record_places : ℕ
@@ -76,11 +74,6 @@ leaves_of lows versions m = paired (take m lows) (take m versions)
 pub record RecordsSorted (rows : RecordRows) (n : ℕ) : Type 0 where
   pub room : n ≤ record_places
   pub rising : Rising (records_of rows n)
-
--- the record found, or none
-abbrev pub found_of : FoundRecord → Option Record
-found_of (At v commit) = some (record_from v commit)
-found_of Nothing = none
 
 -- Rows that hold exactly these records.
 pub record RecordsAre (rows : RecordRows) (n : ℕ) (rs : List (Row Record)) : Type 0 where

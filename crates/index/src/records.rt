@@ -3,21 +3,15 @@ ghost use Rattle.std.specs.Prelude.{◌≡◌, ◌+◌, ◌/◌, ◌<◌, ◌≤
 ghost use Rattle.std.proofs.Math.Option.{none, some};
 ghost use Rattle.lists.specs.Rows.{look, assign};
 ghost use Rattle.lists.specs.Places.{place};
-ghost use Rattle.index.specs.Views.{record_places, RecordsSorted, RecordsAre, records_of, record_from, row_of, found_of};
+ghost use Rattle.spec.specs.Payloads.{record_in};
+ghost use Rattle.index.specs.Views.{record_places, RecordsSorted, RecordsAre, records_of, record_from, row_of};
 ghost use Rattle.index.specs.Nearing.{Nearing};
 ghost use Rattle.index.specs.RecordPlaces.{AtPlace};
 ghost use Rattle.index.specs.Searches.{probed};
 
 use crate::rows::RecordRow;
 use crate::{FEW, FEWER, HALF, Records, rows};
-use spec::{Address, MAP_LIMIT, PayloadWords};
-
-// What a look-up finds.
-#[derive(Clone, Copy)]
-pub enum FoundRecord {
-    At { payload: PayloadWords, commit: u64 },
-    Nothing,
-}
+use spec::{Address, MAP_LIMIT, PayloadWords, RecordWords};
 
 // One step of the search: past `step` more records, if they are there and have smaller addresses. The row is read
 // first, whether it holds a record or not, so that no branch depends on what it holds.
@@ -94,24 +88,23 @@ pub fn locate(rows: &Records, n: usize, a: Address) -> usize
     descend(rows, n, key, MAP_LIMIT / 2)
 }
 
-// The record at an address.
-pub fn find(rows: &Records, n: usize, a: Address) -> FoundRecord
+// The record at an address, if there is one.
+pub fn find(rows: &Records, n: usize, a: Address) -> Option<RecordWords>
     requires { RecordsSorted rows.now n }
-    ensures { found_of result ≡ look (records_of rows.now n) a }
+    ensures { record_in result ≡ look (records_of rows.now n) a }
 {
     let p = locate(rows, n, a);
     if n <= p {
-        return FoundRecord::Nothing;
+        return None;
     }
     let r = rows::get(rows, p);
-    if r.address == a as u64 {
-        let payload = r.payload;
-        return FoundRecord::At {
-            payload,
-            commit: r.commit,
-        };
+    if r.address != a as u64 {
+        return None;
     }
-    FoundRecord::Nothing
+    Some(RecordWords {
+        payload: r.payload,
+        commit: r.commit,
+    })
 }
 
 // Puts a row in at place p, before the records that stand there and after it. Answers how many records there are now.

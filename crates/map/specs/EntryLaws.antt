@@ -25,7 +25,6 @@ use Rattle.laws.specs.RecordLaws.{both_left, both_right}
 use Rattle.laws.specs.MapLaws.{idle_holder, idle_pending}
 use Rattle.indexlet.specs.declared.Content.{Content as ContentWords}
 use Rattle.indexlet.specs.Words.{content_in, slots_of}
-use Rattle.indexlet.specs.Words as words
 use Rattle.indexlet.specs.Promises as indexlet
 use Rattle.index.specs.Views.{leaves_of}
 use Rattle.index.specs.LeafPlaces.{AtLeaf, low_place}

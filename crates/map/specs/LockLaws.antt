@@ -11,9 +11,8 @@ use Rattle.lists.specs.Tests.{pick, maybe, present, same}
 use Rattle.lists.specs.Rows.{Row, look, keys, any, Different}
 use Rattle.lists.specs.RowLaws.{look_here}
 use Rattle.spec.specs.Widths.{address_size}
-use Rattle.spec.specs.Payloads.{payload_in}
 use Rattle.spec.specs.declared.PayloadWords.{PayloadWords}
-use Rattle.spec.specs.Records.{limits, standard, Write, written, deleted, is_put}
+use Rattle.spec.specs.Records.{limits, standard, Write, is_put}
 use Rattle.spec.specs.Slots.{slot_count, Pending, Content, is_idle, Slot, entries, content_of, enter}
 use Rattle.spec.specs.Maps.{MapState, held_by_other, waiting_with, addresses_with, locked_for, lock_row, without_lock, unlock_key, waiting_since, install_row, each, with_slots, lock_all, unlock_all, install_all}
 use Rattle.laws.specs.SlotCounts.{Good}
@@ -25,8 +24,9 @@ use Rattle.indexlet.specs.Words.{content_in, holder_in, slots_of}
 use Rattle.indexlet.specs.Words as words
 use Rattle.map.specs.declared.Sizes.{Sizes}
 use Rattle.sets.specs.declared.writes.Entry.{Entry}
-use Rattle.sets.specs.Writes.{WriteRows, write_of, entry_in, writes_of}
-use Rattle.sets.specs.WriteLaws.{put_kind, deletion_kind}
+use Rattle.sets.specs.declared.writes.Write.{Write as WriteWords}
+use Rattle.sets.specs.declared.writes.Write.TheVariants.{Put, Deletion}
+use Rattle.sets.specs.Writes.{WriteRows, edit_in, kind_of, given_by, entry_in, writes_of}
 use Rattle.map.specs.Views.{SlotRows, Lent, map_of}
 use Rattle.map.specs.MapHeld.{Tables, MapHeld}
 use Rattle.map.specs.Entries.{MapBecomes, ContentSet}
@@ -79,18 +79,14 @@ unfolding content_in holding
 holding_words c lock kind = refl
 
 -- a write of kind 1 is a put
-put_is : (kind : ℕ) (v : PayloadWords) → eqb kind 1 ≡ is_put (write_of kind v)
-unfolding write_of same is_put
-put_is kind v = go (eqb kind 1)
-  where
-    go : (b : Bool) → b ≡ is_put (pick b (written (payload_in v)) deleted)
-    go true = refl
-    go false = refl
+put_is : (w : WriteWords) → eqb (kind_of w) 1 ≡ is_put (edit_in w)
+unfolding is_put
+put_is (Put v) = refl
+put_is Deletion = refl
 
-holding_own : (c : Content) (w kind : ℕ) (v : PayloadWords) → holding (w + 1) kind c ≡ locked_for w (write_of kind v) c
+holding_own : (c : Content) (w : ℕ) (x : WriteWords) → holding (w + 1) (kind_of x) c ≡ locked_for w (edit_in x) c
 unfolding holding holder_in
-holding_own c w kind v =
-    λ i. record { pending = c.pending; holder = ap holder_in (add-one w) i; for_put = put_is kind v i }
+holding_own c w x = λ i. record { pending = c.pending; holder = ap holder_in (add-one w) i; for_put = put_is x i }
 
 holding_none : (c : Content) → holding 0 0 c ≡ without_lock c
 unfolding holding holder_in
@@ -159,11 +155,11 @@ module _ (ss : List Slot) (a b : ℕ) (old c : Content) (e : a ≡ b) (o : conte
       (λ t. ap is_idle (q ∙ holding_none old ∙ ap without_lock (sym o)) ∙ (unfold is_idle in rw (idle_pending (content_of ss a) t)))
 
 pub lock_said : (ss : List Slot) (w : ℕ) (x : Row Write) (r : Entry) (old c : Content) → entry_in r ≡ x → content_of ss r.address ≡ old
-    → c ≡ holding (w + 1) r.kind old → enter address_size ss r.address c ≡ lock_row address_size w ss x
+    → c ≡ holding (w + 1) (kind_of r.write) old → enter address_size ss r.address c ≡ lock_row address_size w ss x
 unfolding lock_row
 lock_said ss w x r old c e o q =
     entered_as ss (ap (λ (y : Row Write). y.key) e)
-    (q ∙ holding_own old w r.kind r.payload ∙ ap (locked_for w (entry_in r).item) (sym o)
+    (q ∙ holding_own old w r.write ∙ ap (locked_for w (entry_in r).item) (sym o)
     ∙ ap (λ (y : Row Write). locked_for w y.item (content_of ss y.key)) e)
 
 pub install_said : (ss : List Slot) (n t : ℕ) (x : Row Write) (r : Entry) (old c : Content) → entry_in r ≡ x → content_of ss r.address ≡ old
@@ -176,27 +172,11 @@ install_said ss n t x r old c e o q =
 pub install_room : (ss : List Slot) (x : Row Write) (r : Entry) (c : Content) → Good address_size ss → entry_in r ≡ x → is_idle (content_of ss x.key) ≡ false → EntryRoom ss r.address c
 install_room ss x r c g e b = stands (has_entry g r.address (ap (λ (y : Row Write). is_idle (content_of ss y.key)) e ∙ b))
 
--- the kind of the pending write that a write of this kind leaves
-unfoldable pub pending_kind : ℕ → ℕ
-pending_kind zero = 2
-pending_kind (suc zero) = 1
-pending_kind (suc (suc k)) = 2
-
-pub kind_put : (k : ℕ) → k ≡ 1 → 1 ≡ pending_kind k
-unfolding pending_kind
-kind_put k e = sym (ap pending_kind e)
-
-pub kind_delete : (k : ℕ) → (k ≡ 1 → ⊥) → 2 ≡ pending_kind k
-unfolding pending_kind
-kind_delete zero e = refl
-kind_delete (suc zero) e = absurd (e refl)
-kind_delete (suc (suc k)) e = refl
-
-pending_write : (k : ℕ) (v : PayloadWords) (n t : ℕ) → words.pending_in (pending_kind k) v n t ≡ some (record { write = write_of k v; commit = n; since = t })
-unfolding pending_kind words.pending_in
-pending_write zero v n t = ap (λ (x : Write). some (record { write = x; commit = n; since = t })) (sym (deletion_kind 0 v (λ e. absurd (omega arith))))
-pending_write (suc zero) v n t = ap (λ (x : Write). some (record { write = x; commit = n; since = t })) (sym (put_kind 1 v refl))
-pending_write (suc (suc k)) v n t = ap (λ (x : Write). some (record { write = x; commit = n; since = t })) (sym (deletion_kind (suc (suc k)) v (λ e. absurd (omega arith))))
+-- the pending write that a write leaves
+pending_write : (x : WriteWords) (n t : ℕ) → words.pending_in (kind_of x) (given_by x) n t ≡ some (record { write = edit_in x; commit = n; since = t })
+unfolding words.pending_in
+pending_write (Put v) n t = refl
+pending_write Deletion n t = refl
 
 -- the install since which an address waits, once install t has left a write
 module _ (c : ContentWords) (t : ℕ) where
@@ -213,14 +193,12 @@ module _ (c : ContentWords) (t : ℕ) where
       go (suc zero) n = refl
       go (suc (suc k)) n = refl
 
-pub installs : (r : Entry) (n t : ℕ) (old : Content) (k u : ℕ) → k ≡ pending_kind r.kind → u ≡ waiting_since t old.pending
-    → content_in (record { kind = k; payload = r.payload; commit = n; since = u; lock = 0; forput = 0 }) ≡ installed_as n t (entry_in r) old
+pub installs : (r : Entry) (n t : ℕ) (old : Content) (k u : ℕ) (v : PayloadWords) → k ≡ kind_of r.write → v ≡ given_by r.write → u ≡ waiting_since t old.pending
+    → content_in (record { kind = k; payload = v; commit = n; since = u; lock = 0; forput = 0 }) ≡ installed_as n t (entry_in r) old
 unfolding content_in holder_in
-installs r n t old k u e f =
+installs r n t old k u v e g f =
     ap (λ (o : Option Pending). record { pending = o; holder = none; for_put = false })
-    (ap (λ (x : ℕ). words.pending_in x r.payload n u) e
-    ∙ ap (words.pending_in (pending_kind r.kind) r.payload n) f
-    ∙ pending_write r.kind r.payload n (waiting_since t old.pending))
+    ((λ i. words.pending_in (e i) (g i) n (f i)) ∙ pending_write r.write n (waiting_since t old.pending))
 
 -- ---- the whole write set
 

@@ -15,7 +15,7 @@ ghost use Rattle.map.specs.Views.{lent, map_of};
 ghost use Rattle.map.specs.MapHeld.{Tables, MapHeld};
 ghost use Rattle.map.specs.Entries.{MapBecomes, ContentSet};
 ghost use Rattle.map.specs.WriteWalks.{Writing, write_at};
-ghost use Rattle.map.specs.LockLaws.{held_by, holding, pending_kind, Lockable};
+ghost use Rattle.map.specs.LockLaws.{held_by, holding, Lockable};
 ghost use Rattle.map.specs.AddressCounts.{entryless, unknown, Waits, Addressed, WaitsBeyond, AddressedBeyond, Counted};
 
 use crate::entries::Placed;
@@ -79,14 +79,10 @@ pub fn held(slots: &Slots, ws: &WriteSet, n: usize, w: u64) -> bool
 fn with_lock(c: indexlet::Content, lock: u64, kind: u64) -> indexlet::Content
     ensures { content_in result ≡ holding lock kind (content_in c) }
 {
-    let payload = c.payload;
     indexlet::Content {
-        kind: c.kind,
-        payload,
-        commit: c.commit,
-        since: c.since,
         lock,
         forput: kind,
+        ..c
     }
 }
 
@@ -112,7 +108,7 @@ fn lock_one(
     let a = row.address;
     let at = indexlet::find(slots, a);
     let old = indexlet::content_at(slots, at);
-    let c = with_lock(old, w + 1, row.kind);
+    let c = with_lock(old, w + 1, row.write.kind());
     let leaf = leaves::find_near(leaves, z.leaves, a, near);
     let t = entries::terms(rows, leaves, z, a, old, c, leaf);
     entries::set_content(leaves, slots, rows, z, k, a, at, c, t)
@@ -148,16 +144,6 @@ fn unlock_one(
     Placed { sizes: z, at: near }
 }
 
-// The kind of a pending write: a put or a deletion.
-fn pending_kind(kind: u64) -> u64
-    ensures { result ≡ pending_kind kind }
-{
-    if kind == 1 {
-        return 1;
-    }
-    2
-}
-
 // The install since which an address waits, once install t has left a write there: where one waits, its waiting goes on.
 fn waiting_since(t: u64, old: indexlet::Content) -> u64
     ensures { result ≡ waiting_since t (content_in old).pending }
@@ -173,10 +159,9 @@ fn waiting_since(t: u64, old: indexlet::Content) -> u64
 fn installed(r: Entry, number: u64, t: u64, old: indexlet::Content) -> indexlet::Content
     ensures { content_in result ≡ installed_as number t (entry_in r) (content_in old) }
 {
-    let payload = r.payload;
     indexlet::Content {
-        kind: pending_kind(r.kind),
-        payload,
+        kind: r.write.kind(),
+        payload: r.write.payload(),
         commit: number,
         since: waiting_since(t, old),
         lock: 0,

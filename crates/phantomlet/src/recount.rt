@@ -15,7 +15,7 @@ ghost use Rattle.phantomlet.specs.LeafCounts.{ReachIs, Ranging, reached};
 ghost use Rattle.phantomlet.specs.MergeCounts.{Recounting, Tallying, Tallied, Numbering};
 
 use index::leaves::LeafWords;
-use index::{Leaves, Records, leaves};
+use index::{Leaves, Records, leaves, records};
 use indexlet::{SLOTS, Slots};
 use spec::{Address, HIGHEST};
 
@@ -118,11 +118,7 @@ pub fn lacks(rows: &Records, n: usize, a: Address) -> bool
     requires { RecordsSorted rows.now n }
     ensures { result ≡ not (present (look (records_of rows.now n) a)) }
 {
-    let there = index::records::find(rows, n, a);
-    match there {
-        index::records::FoundRecord::At { payload, commit } => false,
-        index::records::FoundRecord::Nothing => true,
-    }
+    records::find(rows, n, a).is_none()
 }
 
 // What is said hides its address from somebody: a put is pending, or somebody has a lock for a put.

@@ -1,5 +1,5 @@
 -- The laws of the contents: how many records there can be, those from an address on, and the next of them.
-use Rattle.std.specs.Prelude.{ℕ, suc, ◌+◌, ◌<◌, ◌≤◌, ◌≡◌, true, length}
+use Rattle.std.specs.Prelude.{ℕ, suc, ◌<◌, ◌≤◌, ◌≡◌, true, length, Option as Optional, Some, None}
 use Rattle.std.proofs.Common.{le_trans, le_of_eq, arith, sym, ◌∙◌, subst}
 use Rattle.std.proofs.Math.Path.{refl, ap}
 use Rattle.std.proofs.Math.Logic.{⊎_elim}
@@ -8,11 +8,10 @@ use mathlib.Core.List.{List, [], ◌∷◌, ◌++◌}
 use Rattle.std.proofs.Math.Option.{Option, none, some}
 use Rattle.lists.specs.Tests.{maybe, present, less}
 use Rattle.lists.specs.TestLaws.{cases, clash, less_true, less_false, less_yes, less_no}
-use Rattle.lists.specs.Rows.{Row, row, keys, has, look, From, Rising}
+use Rattle.lists.specs.Rows.{Row, keys, has, look, From, Rising}
 use Rattle.lists.specs.RowLaws.{has_keys, length_keys, rising_different}
 use Rattle.lists.specs.Counting.{has_append, different_within}
 use Rattle.lists.specs.Options.{both_options, some_same}
-use Rattle.spec.specs.declared.PayloadWords.{PayloadWords}
 use Rattle.spec.specs.Records.{limits, Tuning, Record}
 use Rattle.spec.specs.Slots.{Content, entries}
 use Rattle.spec.specs.Maps.{MapState, outcome_of, current, contents}
@@ -20,13 +19,12 @@ use Rattle.laws.specs.SlotLaws.{content_none}
 use Rattle.laws.specs.MapBounds.{Bounded}
 use Rattle.laws.specs.ContentLaws.{look_contents, rising_contents}
 use Rattle.map.specs.declared.Sizes.{Sizes}
-use Rattle.map.specs.Views.{record_from, SlotRows, RecordRows, Lent, map_of}
+use Rattle.map.specs.Views.{SlotRows, RecordRows, Lent, map_of}
 use Rattle.map.specs.MapHeld.{MapHeld}
 use Rattle.map.specs.Parts.{RecordsHeld}
-use Rattle.queries.specs.declared.Next.{Next}
-use Rattle.queries.specs.declared.Next.TheVariants.{At, Done}
+use Rattle.queries.specs.declared.NextRecord.{NextRecord}
 use Rattle.queries.specs.QueryViews.{map_with}
-use Rattle.queries.specs.NextViews.{rows_from, next_in, Follows}
+use Rattle.queries.specs.NextViews.{rows_from, row_in, next_in, Follows}
 use Rattle.queries.specs.Contents.{first_from, all_records}
 
 -- ---- how many records there can be
@@ -126,9 +124,10 @@ module _ {A : Type 0} where
 pub rising_all : (rows : RecordRows) (n : ℕ) (slots : SlotRows) → RecordsHeld rows n → Rising (all_records rows n slots)
 rising_all rows n slots h = rising_contents (map_with rows n slots []) h.held.rising
 
-pub next_at : {rows : RecordRows} {slots : SlotRows} {n k : ℕ} {r : Next} {a : ℕ} {v : PayloadWords} {u : ℕ} → Follows rows n slots k r → r ≡ At a v u
-    → first_from k (all_records rows n slots) ≡ some (row a (record_from v u))
+pub next_at : {rows : RecordRows} {slots : SlotRows} {n k : ℕ} {r : Optional NextRecord} {x : NextRecord} → Follows rows n slots k r → r ≡ Some x
+    → first_from k (all_records rows n slots) ≡ some (row_in x)
 next_at f e = sym (f.next_is []) ∙ ap next_in e
 
-pub next_done : {rows : RecordRows} {slots : SlotRows} {n k : ℕ} {r : Next} → Follows rows n slots k r → r ≡ Done → first_from k (all_records rows n slots) ≡ none
+pub next_done : {rows : RecordRows} {slots : SlotRows} {n k : ℕ} {r : Optional NextRecord} → Follows rows n slots k r → r ≡ None
+    → first_from k (all_records rows n slots) ≡ none
 next_done f e = sym (f.next_is []) ∙ ap next_in e

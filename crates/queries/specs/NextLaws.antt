@@ -1,7 +1,7 @@
 -- The contents one after the other: what no candidate holds, and what the first candidate holds.
 use Prim.Native.Nat.{ℕ, suc, ◌+◌, ◌^◌, ◌<◌, ◌≤◌, zero-le, suc-le-suc}
 use Rattle.std.proofs.Common.{le_refl, le_trans, not-suc-le-zero, arith, ◌∙◌, subst, inl, inr}
-use Rattle.std.specs.Prelude.{◌≡◌, Bool, true, false, get_or}
+use Rattle.std.specs.Prelude.{◌≡◌, Bool, true, false, get_or, Option as Optional, Some, None}
 use Rattle.std.proofs.Math.Path.{refl, sym, ap}
 use Rattle.std.proofs.Math.Logic.{⊎_elim}
 use Rattle.std.proofs.Math.Bool.{not}
@@ -9,7 +9,6 @@ use mathlib.Core.List.{List, [], ◌∷◌}
 use Rattle.std.proofs.Math.Option.{Option, none, some}
 use Rattle.std.proofs.Math.ListN.{length}
 use Rattle.std.specs.Int.Count.{count_trailing_zeros}
-use Rattle.std.proofs.lemmas.Bool.{not-true, not-false}
 use Rattle.lists.specs.Tests.{pick, maybe, present, same, less}
 use Rattle.lists.specs.TestLaws.{cases, clash, same_true, same_false, less_true, less_false}
 use Rattle.lists.specs.Rows.{Row, row, look, From, Rising}
@@ -18,6 +17,7 @@ use Rattle.lists.specs.Options.{both_options, some_same}
 use Rattle.lists.specs.Places.{place}
 use Rattle.spec.specs.Widths.{address_size, addresses}
 use Rattle.spec.specs.Records.{Record}
+use Rattle.spec.specs.Payloads.{record_of_words}
 use Rattle.spec.specs.Leaves.{Leaf}
 use Rattle.spec.specs.Slots.{slot_count, Content, is_idle, Slot, empty_slot, vacant, entries, kept}
 use Rattle.spec.specs.Maps.{outcome_of, current, contents}
@@ -33,12 +33,10 @@ use Rattle.indexlet.specs.Bitmaps.{word_end, BitsFrom, Unseen}
 use Rattle.indexlet.specs.BitmapLaws.{unseen_start, unseen_end, unseen_on}
 use Rattle.indexlet.specs.Promises as indexlet
 use Rattle.index.specs.declared.rows.RecordRow.{RecordRow}
-use Rattle.index.specs.Views.{record_from, row_of, no_row, row_at, records_of}
+use Rattle.index.specs.Views.{row_of, no_row, row_at, records_of}
 use Rattle.index.specs.RecordPlaces.{AtPlace}
 use Rattle.index.specs.ViewLaws.{length_records, record_at}
-use Rattle.spec.specs.declared.Current.{Current}
-use Rattle.queries.specs.declared.Candidate.{Candidate}
-use Rattle.queries.specs.declared.Next.TheVariants.{At, Done}
+use Rattle.spec.specs.declared.RecordWords.{RecordWords}
 use Rattle.queries.specs.QueryViews.{map_with, Sees}
 use Rattle.queries.specs.NextViews.{Follows, Before, NotBelow, IndexFrom, SlotFrom, Nearer, NoNearer, Walked, Walking, CandidateFrom, Passed}
 use Rattle.queries.specs.Contents.{first_from}
@@ -121,17 +119,17 @@ module _ {A : Type 0} where
 -- ---- candidates of the index
 
 module _ (rows : RecordRows) (n from p : ℕ) (whole : RecordsHeld rows n) (at : AtPlace rows n from p) where
-  pub index_none : (c : Candidate) → n ≤ p → c.there ≡ false → IndexFrom rows n from c
+  pub index_none : n ≤ p → IndexFrom rows n from None
   unfolding Rising
-  index_none c h t =
+  index_none h =
       let e : p ≡ place from (records_of rows n) = at.is in
       let m : length (records_of rows n) ≡ n = length_records rows n whole.held.room in
       record {
-        low = λ u. clash u t;
+        low = tt;
         clear = λ k g b. place_clear from 0 (records_of rows n) no_row k whole.held.rising g (λ q. absurd (omega arith));
       }
 
-  pub index_here : (r : RecordRow) → p < n → row_of r ≡ row_at rows p → IndexFrom rows n from (record { there = true; address = r.address })
+  pub index_here : (r : RecordRow) → p < n → row_of r ≡ row_at rows p → IndexFrom rows n from (Some r.address)
   unfolding Rising
   index_here r h g =
       let e : p ≡ place from (records_of rows n) = at.is in
@@ -140,35 +138,40 @@ module _ (rows : RecordRows) (n from p : ℕ) (whole : RecordsHeld rows n) (at :
       = ap (λ (x : Row Record). x.key) (g ∙ sym (record_at rows n p whole.held.room h)) ∙ ap (λ (i : ℕ). (get_or (records_of rows n) i no_row).key) e in
       let l : from ≤ (get_or (records_of rows n) (place from (records_of rows n)) no_row).key = place_key from (records_of rows n) no_row (omega arith) in
       record {
-        low = λ u. omega arith;
+        low = omega arith;
         clear = λ k i b.
-            let z : k < r.address = b refl in
+            let z : k < r.address = b in
             place_clear from 0 (records_of rows n) no_row k whole.held.rising i (λ q. omega arith);
       }
 
 -- ---- the nearer candidate
 
-module _ (key from : ℕ) (best : Candidate) where
+-- what lies below an address from which the candidate is on lies before the candidate, and what lies below such an address too
+before_low : (k key : ℕ) (c : Optional ℕ) → k < key → NotBelow key c → Before k c
+before_low k key None h l = tt
+before_low k key (Some a) h l = omega arith
+
+before_less : (k j : ℕ) (c : Optional ℕ) → k ≤ j → Before j c → Before k c
+before_less k j None h b = tt
+before_less k j (Some a) h b = omega arith
+
+module _ (key from : ℕ) where
   -- the key lies below
-  pub nearer_below : key < from → Nearer key from best best
-  nearer_below h = record { most = λ k b. b; low = λ l. l; clear = λ g b. omega arith }
+  pub nearer_below : (best : Optional ℕ) → key < from → Nearer key from best best
+  nearer_below best h = record { most = λ k b. b; low = λ l. l; clear = λ g b. omega arith }
 
-  pub nearer_best : best.there ≡ true → best.address ≤ key → Nearer key from best best
-  nearer_best t h = record { most = λ k b. b; low = λ l. l; clear = λ g b. let z : key < best.address = b t in omega arith }
+  pub nearer_best : (a : ℕ) → a ≤ key → Nearer key from (Some a) (Some a)
+  nearer_best a h = record { most = λ k b. b; low = λ l. l; clear = λ g b. let z : key < a = b in omega arith }
 
-  nearer_key : from ≤ key → NotBelow key best → Nearer key from best (record { there = true; address = key })
-  nearer_key h g =
-      record {
-        most = λ k b t. let z : k < key = b refl in let y : key ≤ best.address = g t in omega arith;
-        low = λ l t. h;
-        clear = λ a b. let z : key < key = b refl in omega arith;
-      }
+  nearer_key : (best : Optional ℕ) → from ≤ key → NotBelow key best → Nearer key from best (Some key)
+  nearer_key best h g =
+      record { most = λ k b. before_low k key best b g; low = λ l. h; clear = λ a b. let z : key < key = b in omega arith }
 
-  pub nearer_first : from ≤ key → best.there ≡ false → Nearer key from best (record { there = true; address = key })
-  nearer_first h f = nearer_key h (λ t. clash t f)
+  pub nearer_first : from ≤ key → Nearer key from None (Some key)
+  nearer_first h = nearer_key None h tt
 
-  pub nearer_before : from ≤ key → key < best.address → Nearer key from best (record { there = true; address = key })
-  nearer_before h g = nearer_key h (λ t. let z : key < best.address = g in omega arith)
+  pub nearer_before : (a : ℕ) → from ≤ key → key < a → Nearer key from (Some a) (Some key)
+  nearer_before a h g = nearer_key (Some a) h (omega arith)
 
 -- ---- candidates of the indexlet
 
@@ -192,21 +195,21 @@ filled_row s f =
     (cases (is_idle (content_in s.content)))
 
 module _ (slots : SlotRows) (from : ℕ) where
-  pub walked_start : (c : Candidate) → c.there ≡ false → Walked slots from 0 c
-  walked_start c f = record { low = λ t. clash t f; clear = λ j q. absurd (not-suc-le-zero q) }
+  pub walked_start : Walked slots from 0 None
+  walked_start = record { low = tt; clear = λ j q. absurd (not-suc-le-zero q) }
 
   -- an empty slot has no entry
-  empty_none : (best : Candidate) (j : ℕ) → vacant (get_or (slots_of slots) j empty_slot) ≡ true → NoNearer slots from best j
+  empty_none : (best : Optional ℕ) (j : ℕ) → vacant (get_or (slots_of slots) j empty_slot) ≡ true → NoNearer slots from best j
   unfolding vacant
   empty_none best j t = record { clear = λ e q h b. clash t (ap (λ (o : Option (Row Content)). not (present o)) q) }
 
   -- the slots of a word: those whose bits are left, and the others, which have no nearer entry
-  pub walking_start : (best : Candidate) (next w : ℕ) → Walked slots from next best → BitsFrom false slots next w → next < slot_count → w < 2 ^ 64
+  pub walking_start : (best : Optional ℕ) (next w : ℕ) → Walked slots from next best → BitsFrom false slots next w → next < slot_count → w < 2 ^ 64
       → Walking slots from next best w
   walking_start best next w k b h f =
       record { passed = k; left = unseen_start w b h f (λ i l t. empty_none best i t); filled = λ i t. (b.own i t).1 }
 
-  module _ (next : ℕ) (best : Candidate) (w : ℕ) (s : SlotWords) (k : Walking slots from next best w) (any : 0 < w) where
+  module _ (next : ℕ) (best : Optional ℕ) (w : ℕ) (s : SlotWords) (k : Walking slots from next best w) (any : 0 < w) where
     lowest : bit (count_trailing_zeros 64 w) w ≡ 1
     lowest = lowest_set 64 w any k.left.fits
 
@@ -215,7 +218,7 @@ module _ (slots : SlotRows) (from : ℕ) where
     walking_narrow j q d =
         d.narrow (filled_row s (ap vacant d.slot ∙ ap (λ (i : ℕ). vacant (get_or (slots_of slots) i empty_slot)) q ∙ k.filled (count_trailing_zeros 64 w) lowest))
 
-    module _ (r : Candidate) (x : Nearer s.key from best r) where
+    module _ (r : Optional ℕ) (x : Nearer s.key from best r) where
       -- what was nearer is nearer than the one before
       on : (j : ℕ) → NoNearer slots from best j → NoNearer slots from r j
       on j f = record { clear = λ e q h b. f.clear e q h (x.most e.key b) }
@@ -239,19 +242,19 @@ module _ (slots : SlotRows) (from : ℕ) where
           own : (e : Row Content) → entry_at (slots_of slots) j ≡ some e → from ≤ e.key → Before e.key r → ⊥
           own e g h b =
               let a : s.key ≡ e.key = (of_row_lem s e (ap (λ (y : Slot). y.entry) d.slot ∙ g)).1 in
-              x.clear (omega arith) (λ t. let z : e.key < r.address = b t in omega arith)
+              x.clear (omega arith) (subst (λ (k : ℕ). Before k r) (sym a) b)
 
-  pub walking_end : (next : ℕ) (best : Candidate) (w : ℕ) → w ≡ 0 → Walking slots from next best w → Walked slots from (word_end next) best
+  pub walking_end : (next : ℕ) (best : Optional ℕ) (w : ℕ) → w ≡ 0 → Walking slots from next best w → Walked slots from (word_end next) best
   walking_end next best w e k =
       record {
         low = k.passed.low;
         clear = λ j q. ⊎_elim (λ t. k.passed.clear j (less_true j next t)) (λ t. unseen_end w e k.left j (less_false j next t) q) (cases (less j next));
       }
 
-  pub walked_as : {i j : ℕ} {best : Candidate} → j ≡ i → Walked slots from i best → Walked slots from j best
+  pub walked_as : {i j : ℕ} {best : Optional ℕ} → j ≡ i → Walked slots from i best → Walked slots from j best
   walked_as {i} {j} {best} e k = subst (λ (n : ℕ). Walked slots from n best) (sym e) k
 
-  pub walked_end : (best : Candidate) (i : ℕ) → indexlet.SlotsHeld slots → slot_count ≤ i → Walked slots from i best → SlotFrom slots from best
+  pub walked_end : (best : Optional ℕ) (i : ℕ) → indexlet.SlotsHeld slots → slot_count ≤ i → Walked slots from i best → SlotFrom slots from best
   walked_end best i held l w =
       record {
         low = w.low;
@@ -267,7 +270,7 @@ module _ (slots : SlotRows) (from : ℕ) where
           let z : length (slots_of slots) ≡ slot_count = held.good.size in
           let a : p.at < length (slots_of slots) = p.inside in
           let o : p.content.key ≡ k = p.own in
-          (w.clear p.at (omega arith)).clear p.content p.here (omega arith) (λ t. let y : k < best.address = b t in omega arith)
+          (w.clear p.at (omega arith)).clear p.content p.here (omega arith) (subst (λ (j : ℕ). Before j best) (sym o) b)
 
 -- ---- what the map has
 
@@ -283,34 +286,32 @@ module _ (rows : RecordRows) (n : ℕ) (slots : SlotRows) where
   passed_start from = record { low = le_refl from; clear = λ j g h. absurd (let z : from ≤ j = g in omega arith) }
 
   -- the indexlet has no candidate, or one, and then it is the nearer of both
-  pub candidate_index : (from : ℕ) (a b : Candidate) → IndexFrom rows n from a → SlotFrom slots from b → b.there ≡ false → CandidateFrom rows n slots from a
-  candidate_index from a b x y f =
-      record { low = x.low; clear = λ j g h ls. current_none j (x.clear j g h) (y.clear j g (λ t. clash t f)) ls }
+  pub candidate_index : (from : ℕ) (a : Optional ℕ) → IndexFrom rows n from a → SlotFrom slots from None → CandidateFrom rows n slots from a
+  candidate_index from a x y = record { low = x.low; clear = λ j g h ls. current_none j (x.clear j g h) (y.clear j g tt) ls }
 
-  pub candidate_nearer : (from : ℕ) (a b c : Candidate) → IndexFrom rows n from a → SlotFrom slots from b → b.there ≡ true → Nearer b.address from a c
+  pub candidate_nearer : (from : ℕ) (a : Optional ℕ) (b : ℕ) (c : Optional ℕ) → IndexFrom rows n from a → SlotFrom slots from (Some b) → Nearer b from a c
       → CandidateFrom rows n slots from c
-  candidate_nearer from a b c x y e z =
-      record { low = z.low x.low; clear = λ j g h ls. current_none j (x.clear j g (z.most j h)) (y.clear j g (λ t. before j h)) ls }
+  candidate_nearer from a b c x y z =
+      record { low = z.low x.low; clear = λ j g h ls. current_none j (x.clear j g (z.most j h)) (y.clear j g (before j h)) ls }
     where
-      before : (j : ℕ) → Before j c → j < b.address
+      before : (j : ℕ) → Before j c → j < b
       before j h =
           ⊎_elim
-          (λ t. less_true j b.address t)
-          (λ t. let l : b.address ≤ j = less_false j b.address t in absurd (z.clear (y.low e) (λ u. let v : j < c.address = h u in omega arith)))
-          (cases (less j b.address))
+          (λ t. less_true j b t)
+          (λ t. absurd (z.clear y.low (before_less b j c (less_false j b t) h)))
+          (cases (less j b))
 
   -- up to the candidate there is nothing
-  passed_before : (from k : ℕ) (c : Candidate) → Passed rows n slots from k → CandidateFrom rows n slots k c → (j : ℕ) → from ≤ j → Before j c → (ls : List Leaf)
+  passed_before : (from k : ℕ) (c : Optional ℕ) → Passed rows n slots from k → CandidateFrom rows n slots k c → (j : ℕ) → from ≤ j → Before j c → (ls : List Leaf)
       → current (map_with rows n slots ls) j ≡ none
   passed_before from k c p x j g h ls =
       ⊎_elim (λ t. p.clear j g (less_true j k t) ls) (λ t. x.clear j (less_false j k t) h ls) (cases (less j k))
 
-  pub passed_over : (from k : ℕ) (c : Candidate) → Passed rows n slots from k → CandidateFrom rows n slots k c → not c.there ≡ false
-      → Passed rows n slots from c.address
-  passed_over from k c p x e =
+  pub passed_over : (from k a : ℕ) → Passed rows n slots from k → CandidateFrom rows n slots k (Some a) → Passed rows n slots from a
+  passed_over from k a p x =
       let l : from ≤ k = p.low in
-      let u : k ≤ c.address = x.low (not-false c.there e) in
-      record { low = omega arith; clear = λ j g h ls. passed_before from k c p x j g (λ t. h) ls }
+      let u : k ≤ a = x.low in
+      record { low = omega arith; clear = λ j g h ls. passed_before from k (Some a) p x j g h ls }
 
   module _ (whole : RecordsHeld rows n) (sound : indexlet.SlotsHeld slots) where
     -- no record has a key past all addresses
@@ -337,15 +338,14 @@ module _ (rows : RecordRows) (n : ℕ) (slots : SlotRows) where
     beyond : (k : ℕ) → addresses ≤ k → (ls : List Leaf) → current (map_with rows n slots ls) k ≡ none
     beyond k h ls = current_none k (beyond_index k h) (beyond_slots k h) ls
 
-    pub passed_on : (from c : ℕ) (r : Current) → Passed rows n slots from c → Sees rows n slots c r → r.there ≡ false → Passed rows n slots from (c + 1)
-    passed_on from c r p s e =
+    pub passed_on : (from c : ℕ) → Passed rows n slots from c → Sees rows n slots c None → Passed rows n slots from (c + 1)
+    passed_on from c p s =
         let l : from ≤ c = p.low in
         record {
           low = omega arith;
           clear = λ j g h ls.
               ⊎_elim
-              (λ t. ap (current (map_with rows n slots ls)) (same_true j c t) ∙ sym (s.record_is ls)
-              ∙ ap (λ (b : Bool). pick b (some (record_from r.payload r.commit)) none) e)
+              (λ t. ap (current (map_with rows n slots ls)) (same_true j c t) ∙ sym (s.record_is ls))
               (λ t. let d : j ≡ c → ⊥ = same_false j c t in p.clear j g (omega arith) ls)
               (cases (same j c));
         }
@@ -357,27 +357,27 @@ module _ (rows : RecordRows) (n : ℕ) (slots : SlotRows) where
     unfolding Rising
     rising_all ls = rising_contents (map_with rows n slots ls) whole.held.rising
 
-    follows_none : (from : ℕ) → ((j : ℕ) → from ≤ j → (ls : List Leaf) → current (map_with rows n slots ls) j ≡ none) → Follows rows n slots from Done
+    follows_none : (from : ℕ) → ((j : ℕ) → from ≤ j → (ls : List Leaf) → current (map_with rows n slots ls) j ≡ none) → Follows rows n slots from None
     follows_none from h =
         record { next_is = λ ls. sym (first_none from 0 (contents (map_with rows n slots ls)) (rising_all ls) (λ j g. look_all ls j ∙ h j g ls)) }
 
     -- there is no candidate
-    pub follows_end : (from k : ℕ) (c : Candidate) → Passed rows n slots from k → CandidateFrom rows n slots k c → not c.there ≡ true → Follows rows n slots from Done
-    follows_end from k c p x f = follows_none from (λ j g ls. passed_before from k c p x j g (λ t. clash t (not-true c.there f)) ls)
+    pub follows_end : (from k : ℕ) → Passed rows n slots from k → CandidateFrom rows n slots k None → Follows rows n slots from None
+    follows_end from k p x = follows_none from (λ j g ls. passed_before from k None p x j g tt ls)
 
     -- all addresses are passed
-    pub follows_done : (from k : ℕ) → Passed rows n slots from k → addresses ≤ k → Follows rows n slots from Done
+    pub follows_done : (from k : ℕ) → Passed rows n slots from k → addresses ≤ k → Follows rows n slots from None
     follows_done from k p h =
         follows_none from
         (λ j g ls. ⊎_elim (λ t. p.clear j g (less_true j k t) ls) (λ t. beyond j (le_trans h (less_false j k t)) ls) (cases (less j k)))
 
-    pub follows_at : (from c : ℕ) (r : Current) → Passed rows n slots from c → Sees rows n slots c r → r.there ≡ true
-        → Follows rows n slots from (At c r.payload r.commit)
-    follows_at from c r p s e =
+    pub follows_at : (from c : ℕ) (r : RecordWords) → Passed rows n slots from c → Sees rows n slots c (Some r)
+        → Follows rows n slots from (Some (record { address = c; «record» = r }))
+    follows_at from c r p s =
         record {
           next_is = λ ls.
               sym
-              (first_some from 0 (contents (map_with rows n slots ls)) c (record_from r.payload r.commit) (rising_all ls) p.low
-              (look_all ls c ∙ sym (s.record_is ls) ∙ ap (λ (b : Bool). pick b (some (record_from r.payload r.commit)) none) e)
+              (first_some from 0 (contents (map_with rows n slots ls)) c (record_of_words r) (rising_all ls) p.low
+              (look_all ls c ∙ sym (s.record_is ls))
               (λ i g h. look_all ls i ∙ p.clear i g h ls));
         }

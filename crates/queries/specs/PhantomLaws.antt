@@ -2,7 +2,8 @@
 use Prim.Native.Nat.{ℕ, zero, suc, ◌+◌, ◌<◌, ◌≤◌, zero-le}
 use Rattle.std.proofs.Common.{not-suc-le-zero, ◌∙◌, subst, inl, inr, length-take-le, ne_eqb}
 use native.Mathlib.Omega.{arith}
-use Rattle.std.specs.Prelude.{◌≡◌, ◌⊎◌, Bool, true, not, ltb, take, get_or}
+use mir.Val.{bool_byte}
+use Rattle.std.specs.Prelude.{◌≡◌, ◌⊎◌, Bool, true, not, ltb, take, get_or, Option as Optional, is_some}
 use Rattle.std.proofs.Math.Path.{refl, sym, ap}
 use Rattle.std.proofs.Math.Logic.{⊎_elim}
 use Rattle.std.proofs.Math.Bool.{false}
@@ -17,6 +18,8 @@ use Rattle.lists.specs.RowLaws.{has_keys, look_here, look_there, rising_differen
 use Rattle.lists.specs.Counting.{has_nil, has_cons}
 use Rattle.lists.specs.Options.{both_options, some_same}
 use Rattle.spec.specs.declared.PayloadWords.{PayloadWords}
+use Rattle.spec.specs.declared.RecordWords.{RecordWords}
+use Rattle.spec.specs.Payloads.{record_of_words, record_in}
 use Rattle.spec.specs.Leaves.{Leaf, first_leaf, version_at, live}
 use Rattle.spec.specs.Records.{Write, is_put}
 use Rattle.spec.specs.Slots.{Pending, Content, content_of}
@@ -25,9 +28,7 @@ use Rattle.laws.specs.LeafParts.{Apart, live_head, live_later}
 use Rattle.laws.specs.LeafVersions.{version_live}
 use Rattle.indexlet.specs.declared.Content.{Content as ContentWords}
 use Rattle.indexlet.specs.Words.{pending_in, content_in, slots_of}
-use Rattle.index.specs.declared.records.FoundRecord.{FoundRecord}
-use Rattle.index.specs.declared.records.FoundRecord.TheVariants.{At, Nothing}
-use Rattle.index.specs.Views.{found_of, records_of, leaves_of}
+use Rattle.index.specs.Views.{records_of, leaves_of}
 use Rattle.index.specs.LeafPlaces.{low_place, place_inside, AtLeaf}
 use Rattle.map.specs.declared.Sizes.{Sizes}
 use Rattle.phantomlet.specs.LeafTests.{filter_same}
@@ -39,9 +40,10 @@ use Rattle.index.specs.LeafColumnLaws.{column_get_or}
 use Rattle.index.specs.declared.leaves.LeafWords.{LeafWords}
 use Rattle.map.specs.WriteWalks.{write_at, rest, rest_all, rest_cons, rest_none}
 use Rattle.sets.specs.declared.writes.Entry.{Entry}
-use Rattle.sets.specs.Writes.{WriteRows, entry_in, writes_of}
-use Rattle.sets.specs.WriteLaws as sets
-use Rattle.sets.specs.WriteLaws.{deletion_kind}
+use Rattle.sets.specs.declared.writes.Write.{Write as WriteWords}
+use Rattle.sets.specs.declared.writes.Write.TheVariants.{Put, Deletion}
+use Rattle.sets.specs.SetLaws.{absent_is}
+use Rattle.sets.specs.Writes.{WriteRows, edit_in, entry_in, writes_of}
 use Rattle.map.specs.MapHeld.{Tables}
 use Rattle.queries.specs.QueryViews.{LeafAt}
 use Rattle.queries.specs.ScanLaws.{length_leaves, leaf_read, leaf_found}
@@ -77,46 +79,39 @@ module _ (rows : RecordRows) (lows : List ℕ) (slots : SlotRows) (n m i a : ℕ
   none_of true = refl
   none_of false = refl
 
-  number : (b : Bool) (r : ℕ) → lock_only_in rows lows slots n m i a ≡ b → r ≡ pick b 1 0 → r ≡ pick (lock_only_in rows lows slots n m i a) 1 0
-  number b r e f = f ∙ sym (ap (λ (x : Bool). pick x 1 0) e)
+  pub lock_only_elsewhere : (p : ℕ) → AtLeaf lows m a p → (p ≡ i → ⊥) → false ≡ lock_only_in rows lows slots n m i a
+  lock_only_elsewhere p at d = sym (place_other p at d)
 
-  pub lock_only_elsewhere : (p : ℕ) → AtLeaf lows m a p → (p ≡ i → ⊥) → ◌≡◌ {A = ℕ} 0 (pick (lock_only_in rows lows slots n m i a) 1 0)
-  lock_only_elsewhere p at d = number false 0 (place_other p at d) refl
+  pub lock_only_pending : (c : ContentWords) → content_of (slots_of slots) a ≡ content_in c → c.kind ≡ 1 → false ≡ lock_only_in rows lows slots n m i a
+  lock_only_pending c e h = sym (by_parts true _ (put_kind c e true (ap (λ (k : ℕ). eqb k 1) h)) refl ∙ none_of (same (low_place a (take m lows)) i))
 
-  pub lock_only_pending : (c : ContentWords) → content_of (slots_of slots) a ≡ content_in c → c.kind ≡ 1 → ◌≡◌ {A = ℕ} 0 (pick (lock_only_in rows lows slots n m i a) 1 0)
-  lock_only_pending c e h =
-      number false 0
-      (by_parts true _ (put_kind c e true (ap (λ (k : ℕ). eqb k 1) h)) refl ∙ none_of (same (low_place a (take m lows)) i)) refl
+  pub lock_only_here : (p : ℕ) (c : ContentWords) (f : Optional RecordWords) (b : Bool) → AtLeaf lows m a p → p ≡ i → content_of (slots_of slots) a ≡ content_in c
+      → (c.kind ≡ 1 → ⊥) → record_in f ≡ look (records_of rows n) a → is_some f ≡ not b → b ≡ lock_only_in rows lows slots n m i a
+  lock_only_here p c f b at q e k g h =
+      absent_is record_of_words f h
+      ∙ sym
+      (by_parts false (present (record_in f)) (put_kind c e false (ne_eqb c.kind 1 k)) (ap present (sym g))
+      ∙ ap (λ (x : Bool). both x (not (present (record_in f)))) (same_yes {m = low_place a (take m lows)} {n = i} (sym at.is ∙ q)))
 
-  pub lock_only_found : (f : FoundRecord) (v : PayloadWords) (u : ℕ) → f ≡ At v u → found_of f ≡ look (records_of rows n) a → ◌≡◌ {A = ℕ} 0 (pick (lock_only_in rows lows slots n m i a) 1 0)
-  lock_only_found f v u e g =
-      number false 0
-      (by_parts _ true refl (ap present (sym g ∙ ap found_of e)) ∙ ends (put_pending (content_of (slots_of slots) a))) refl
-    where
-      ends : (b : Bool) → both (same (low_place a (take m lows)) i) (both (not b) false) ≡ false
-      ends true = none_of (same (low_place a (take m lows)) i)
-      ends false = none_of (same (low_place a (take m lows)) i)
-
-  pub lock_only_yes : (p : ℕ) (c : ContentWords) (f : FoundRecord) → AtLeaf lows m a p → p ≡ i → content_of (slots_of slots) a ≡ content_in c → (c.kind ≡ 1 → ⊥)
-      → f ≡ Nothing → found_of f ≡ look (records_of rows n) a → ◌≡◌ {A = ℕ} 1 (pick (lock_only_in rows lows slots n m i a) 1 0)
-  lock_only_yes p c f at q e k d g =
-      number true 1
-      (by_parts false false (put_kind c e false (ne_eqb c.kind 1 k)) (ap present (sym g ∙ ap found_of d))
-      ∙ ap (λ (b : Bool). both b true) (same_yes {m = low_place a (take m lows)} {n = i} (sym at.is ∙ q))) refl
+-- a test as a number
+pub byte_pick : {b : Bool} (c : Bool) → b ≡ c → bool_byte b ≡ pick c 1 0
+byte_pick {b} c e = ap bool_byte e ∙ go c
+  where
+    go : (x : Bool) → bool_byte x ≡ pick x 1 0
+    go true = refl
+    go false = refl
 
 -- ---- the writes of a write set
 
 module _ (rows : RecordRows) (lows : List ℕ) (slots : SlotRows) (n m i : ℕ) (e : Entry) where
   -- a removal does not count, and a put counts if its address does
-  pub own_removal : (e.kind ≡ 1 → ⊥) → ◌≡◌ {A = ℕ} 0 (pick (own_put rows lows slots n m i (entry_in e)) 1 0)
+  pub own_removal : e.write ≡ Deletion → false ≡ own_put rows lows slots n m i (entry_in e)
   unfolding own_put is_put
-  own_removal k =
-      sym (ap (λ (x : Write). pick {A = ℕ} (both (is_put x) (lock_only_in rows lows slots n m i e.address)) 1 0) (deletion_kind e.kind e.payload k))
+  own_removal k = sym (ap (λ (x : WriteWords). both (is_put (edit_in x)) (lock_only_in rows lows slots n m i e.address)) k)
 
-  pub own_put_lem : {x : ℕ} → e.kind ≡ 1 → x ≡ pick (lock_only_in rows lows slots n m i e.address) 1 0 → x ≡ pick (own_put rows lows slots n m i (entry_in e)) 1 0
+  pub own_put_lem : {v : PayloadWords} {b : Bool} → e.write ≡ Put v → b ≡ lock_only_in rows lows slots n m i e.address → b ≡ own_put rows lows slots n m i (entry_in e)
   unfolding own_put is_put
-  own_put_lem k q =
-      q ∙ sym (ap (λ (x : Write). pick {A = ℕ} (both (is_put x) (lock_only_in rows lows slots n m i e.address)) 1 0) (sets.put_kind e.kind e.payload k))
+  own_put_lem k q = q ∙ sym (ap (λ (x : WriteWords). both (is_put (edit_in x)) (lock_only_in rows lows slots n m i e.address)) k)
 
 module _ (rows : RecordRows) (lows : List ℕ) (slots : SlotRows) (n m i : ℕ) (ws : WriteRows) (count : ℕ) where
   pub counting_start : Counting rows lows slots n m i ws count 0 0

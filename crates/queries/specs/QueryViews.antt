@@ -1,5 +1,5 @@
 -- What the functions that look promise: of a map whose leaves may be any, since a record does not depend on them.
-use Rattle.std.specs.Prelude.{ℕ, zero, suc, ◌-◌, ◌<◌, ◌≤◌, ◌≡◌, List, [], ◌∷◌, length, take, drop, get_or}
+use Rattle.std.specs.Prelude.{ℕ, zero, suc, ◌-◌, ◌<◌, ◌≤◌, ◌≡◌, List, [], ◌∷◌, length, take, drop, get_or, Option as Optional}
 use Rattle.std.proofs.Math.Option.{Option}
 use Rattle.lists.specs.Rows.{Row, row, between}
 use Rattle.spec.specs.Records.{limits, Record}
@@ -10,8 +10,9 @@ use Rattle.laws.specs.LeafVersions.{GoodLeaves}
 use Rattle.indexlet.specs.declared.Content.{Content as ContentWords}
 use Rattle.indexlet.specs.Words.{content_in, slots_of}
 use Rattle.index.specs.Views.{no_row, records_of}
-use Rattle.sets.specs.Reads.{record_in, observed_in}
-use Rattle.spec.specs.declared.Current.{Current}
+use Rattle.spec.specs.Payloads.{record_in}
+use Rattle.sets.specs.Reads.{observed_in}
+use Rattle.spec.specs.declared.RecordWords.{RecordWords}
 use Rattle.queries.specs.declared.Range.{Range}
 use Rattle.queries.specs.declared.Seen.{Seen}
 use Rattle.sets.specs.declared.reads.Observed.{Observed}
@@ -24,11 +25,11 @@ abbrev pub map_with : RecordRows → ℕ → SlotRows → List Leaf → MapState
 map_with rows n slots ls = record { records = records_of rows n; leaves = ls; slots = slots_of slots }
 
 -- r is the current record of a
-pub record Sees (rows : RecordRows) (n : ℕ) (slots : SlotRows) (a : ℕ) (r : Current) : Type 0 where
+pub record Sees (rows : RecordRows) (n : ℕ) (slots : SlotRows) (a : ℕ) (r : Optional RecordWords) : Type 0 where
   pub record_is : (ls : List Leaf) → record_in r ≡ current (map_with rows n slots ls) a
 
 -- r is the current record of a, whatever slots say c of it
-pub record SeesUnder (rows : RecordRows) (n a : ℕ) (c : ContentWords) (r : Current) : Type 0 where
+pub record SeesUnder (rows : RecordRows) (n a : ℕ) (c : ContentWords) (r : Optional RecordWords) : Type 0 where
   pub sees : (slots : SlotRows) → content_of (slots_in slots) a ≡ content_in c → Sees rows n slots a r
 
 -- and so many slots are examined to find it

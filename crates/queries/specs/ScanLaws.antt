@@ -1,5 +1,5 @@
 -- What a scan walks over, on words: the places of a range's records and of the leaves that meet it.
-use Rattle.std.specs.Prelude.{ℕ, zero, suc, ◌+◌, ◌-◌, ◌<◌, ◌≤◌, ◌≡◌, refl, drop}
+use Rattle.std.specs.Prelude.{ℕ, zero, suc, ◌+◌, ◌-◌, ◌<◌, ◌≤◌, ◌≡◌, refl, drop, Option as Optional}
 use Rattle.std.proofs.Common.{zero-le, suc-le-suc, le_refl, arith, sym, ◌∙◌, subst, drop-cons, get_or-take}
 use Rattle.std.proofs.Math.Path.{ap}
 use mathlib.Core.List.{List, [], ◌∷◌, map}
@@ -18,18 +18,16 @@ use Rattle.spec.specs.Maps.{current, indexed_between}
 use Rattle.laws.specs.LeafParts.{LowsFrom, Covers}
 use Rattle.laws.specs.LeafVersions.{GoodLeaves}
 use Rattle.index.specs.declared.rows.RecordRow.{RecordRow}
-use Rattle.index.specs.declared.records.FoundRecord.TheVariants.{At}
 use Rattle.index.specs.declared.leaves.LeafWords.{LeafWords}
 use Rattle.index.specs.LeafColumns.{LeafRows, lows_of, versions_of, leaf_at}
 use Rattle.index.specs.LeafColumnLaws.{column_get_or, column_places}
-use Rattle.index.specs.Views.{leaf_places, found_of, row_of, no_row, row_at, records_of, leaves_of, RecordsSorted}
+use Rattle.index.specs.Views.{leaf_places, record_from, row_of, no_row, row_at, records_of, leaves_of, RecordsSorted}
 use Rattle.index.specs.RecordPlaces.{AtPlace}
 use Rattle.index.specs.ViewLaws.{length_records, record_at}
 use Rattle.index.specs.RecordLaws.{present_at, absent_at, absent_past}
 use Rattle.index.specs.LeafPlaces.{up_to, low_place, place_inside, AtLeaf}
 use Rattle.index.specs.LeafViews.{paired_length, paired_get_or, paired_lows, parted, parted_leaf}
-use Rattle.spec.specs.declared.Current.{Current}
-use Rattle.sets.specs.Reads.{observed_in}
+use Rattle.spec.specs.declared.RecordWords.{RecordWords}
 use Rattle.queries.specs.QueryViews.{map_with, Sees, walk, indexed_at, Spans, SeenAt, version_in, Meets, LeafAt, logged_in, LoggedAt}
 use Rattle.queries.specs.RangeLaws.{leaf_lows, walk_map, place_mono, place_next, between_places, up_mono, starts_before, starts_places}
 use Rattle.map.specs.Views.{SlotRows, RecordRows}
@@ -98,7 +96,7 @@ module _ (rows : RecordRows) (n lo hi p : ℕ) (held : RecordsSorted rows n) (fi
 pub narrow_address : (rows : RecordRows) (n i : ℕ) (r : RecordRow) → RecordsHeld rows n → i < n → row_of r ≡ row_at rows i → r.address < addresses
 narrow_address rows n i r f h e = subst (λ (x : Row Record). x.key < addresses) (sym e) (f.narrow i h)
 
-pub seen_there : (rows : RecordRows) (n : ℕ) (slots : SlotRows) (i : ℕ) (r : RecordRow) (s : Current) → RecordsSorted rows n → i < n → row_of r ≡ row_at rows i
+pub seen_there : (rows : RecordRows) (n : ℕ) (slots : SlotRows) (i : ℕ) (r : RecordRow) (s : Optional RecordWords) → RecordsSorted rows n → i < n → row_of r ≡ row_at rows i
     → Sees rows n slots r.address s → SeenAt rows n slots i (record { address = r.address; current = s })
 unfolding indexed_at
 seen_there rows n slots i r s g h e f =
@@ -122,7 +120,7 @@ look_from lo (r ∷ rs) (suc i) d f h =
 
 -- what the index has at the address of its row
 pub row_found : (rows : RecordRows) (n i : ℕ) (r : RecordRow) → RecordsSorted rows n → i < n → row_of r ≡ row_at rows i
-    → found_of (At r.payload r.commit) ≡ look (records_of rows n) r.address
+    → some (record_from r.payload r.commit) ≡ look (records_of rows n) r.address
 unfolding Rising
 row_found rows n i r g h e =
     let q : row_of r ≡ get_or (records_of rows n) i no_row = e ∙ sym (record_at rows n i g.room h) in

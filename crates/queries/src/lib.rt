@@ -17,15 +17,14 @@ ghost use Rattle.queries.specs.QueryViews.{Sees, SeesUnder, Examines, Spans, See
 ghost use Rattle.queries.specs.NextViews.{IndexFrom, Nearer, Walked, SlotFrom, CandidateFrom, Follows};
 ghost use Rattle.queries.specs.PhantomViews.{Holding, Owns, Logged, own_put, lock_only_count};
 
-use index::records::FoundRecord;
 use index::{leaves, records, rows};
 use indexlet::SLOTS;
 use map::{Leaves, Records, Sizes, Slots};
 use sets::leaves::LoggedLeaf;
 use sets::reads::Observed;
-use sets::writes::Entry;
+use sets::writes::{Entry, Write};
 use sets::{WriteSet, writes};
-use spec::{Address, Current, HIGHEST, PayloadWords};
+use spec::{Address, RecordWords};
 
 // Places from one up to, not including, another.
 #[derive(Clone, Copy)]
@@ -34,61 +33,32 @@ pub struct Range {
     pub to: usize,
 }
 
-// The current record of an address, and how many slots of the indexlet the look-up examined (request 103).
+// The current record of an address, if it has one, and how many slots of the indexlet the look-up examined (request 103).
 #[derive(Clone, Copy)]
 pub struct Seen {
-    pub current: Current,
+    pub current: Option<RecordWords>,
     pub examined: usize,
 }
 
-// The next record of the contents.
+// A record of the contents.
 #[derive(Clone, Copy)]
-pub enum Next {
-    At {
-        address: Address,
-        payload: PayloadWords,
-        commit: u64,
-    },
-    Done,
-}
-
-// An address at which the next record may stand, if there is one: the index has it, or the indexlet says something of it.
-#[derive(Clone, Copy)]
-struct Candidate {
-    there: bool,
-    address: Address,
+pub struct NextRecord {
+    pub address: Address,
+    pub record: RecordWords,
 }
 
 // The current record of an address of which the indexlet says c: what a pending write leaves there, else what the index has.
-fn under(rows: &Records, n: usize, a: Address, c: indexlet::Content) -> Current
+fn under(rows: &Records, n: usize, a: Address, c: indexlet::Content) -> Option<RecordWords>
     requires { RecordsHeld rows.now n }
     ensures { SeesUnder rows.now n a c result }
 {
-    if c.kind == 0 {
-        let found = records::find(rows, n, a);
-        match found {
-            FoundRecord::At { payload, commit } => {
-                return Current {
-                    there: true,
-                    payload,
-                    commit,
-                };
-            }
-            FoundRecord::Nothing => {
-                let payload = PayloadWords { value: 0, owner: 0 };
-                return Current {
-                    there: false,
-                    payload,
-                    commit: 0,
-                };
-            }
-        }
-    }
-    let payload = c.payload;
-    Current {
-        there: c.kind == 1,
-        payload,
-        commit: c.commit,
+    match c.kind {
+        0 => records::find(rows, n, a),
+        1 => Some(RecordWords {
+            payload: c.payload,
+            commit: c.commit,
+        }),
+        _ => None,
     }
 }
 
@@ -108,7 +78,7 @@ pub fn see(rows: &Records, slots: &Slots, n: usize, a: Address) -> Seen
 }
 
 // The current record alone: nothing is counted.
-pub fn current_record(rows: &Records, slots: &Slots, n: usize, a: Address) -> Current
+pub fn current_record(rows: &Records, slots: &Slots, n: usize, a: Address) -> Option<RecordWords>
     requires records_held { RecordsHeld rows.now n }
     requires slots_held { SlotsHeld slots.now }
     ensures { Sees rows.now n slots.now a result }
@@ -148,20 +118,16 @@ pub fn seen_at(rows: &Records, slots: &Slots, n: usize, i: usize) -> Observed
     let address = there.address as Address;
     let at = indexlet::find(slots, address);
     let c = indexlet::content_at(slots, at);
-    if c.kind == 0 {
-        let payload = there.payload;
-        let current = Current {
-            there: true,
-            payload,
+    let current = match c.kind {
+        0 => Some(RecordWords {
+            payload: there.payload,
             commit: there.commit,
-        };
-        return Observed { address, current };
-    }
-    let payload = c.payload;
-    let current = Current {
-        there: c.kind == 1,
-        payload,
-        commit: c.commit,
+        }),
+        1 => Some(RecordWords {
+            payload: c.payload,
+            commit: c.commit,
+        }),
+        _ => None,
     };
     Observed { address, current }
 }
@@ -172,7 +138,6 @@ pub fn leaves_meeting(leaves: &Leaves, m: usize, lo: Address, hi: Address) -> Ra
     requires lo_le_hi { lo ≤ hi }
     ensures { Meets (lows_of leaves.now) m lo hi result }
 {
-    leaves::leaf_places(leaves);
     let from = leaves::find_leaf(leaves, m, lo);
     let last = leaves::find_leaf(leaves, m, hi);
     Range { from, to: last + 1 }
@@ -183,7 +148,6 @@ fn place_of(leaves: &Leaves, m: usize, a: Address) -> usize
     requires { Listed (lows_of leaves.now) m }
     ensures { LeafAt (lows_of leaves.now) m a result }
 {
-    leaves::leaf_places(leaves);
     leaves::find_leaf(leaves, m, a)
 }
 
@@ -192,7 +156,6 @@ pub fn leaf(leaves: &Leaves, i: usize) -> LoggedLeaf
     requires { LeafListed (lows_of leaves.now) i }
     ensures { LoggedAt (lows_of leaves.now) (versions_of leaves.now) i result }
 {
-    leaves::leaf_places(leaves);
     let l = leaves::leaf_at(leaves, i);
     LoggedLeaf {
         version: l.version,
@@ -200,7 +163,7 @@ pub fn leaf(leaves: &Leaves, i: usize) -> LoggedLeaf
     }
 }
 
-// 1 if the write is a put in the leaf at place i, at an address that the index lacks and at which no put is pending; else 0.
+// The write is a put in the leaf at place i, at an address that the index lacks and at which no put is pending.
 fn lock_only_at(
     rows: &Records,
     leaves: &Leaves,
@@ -209,33 +172,22 @@ fn lock_only_at(
     m: usize,
     i: usize,
     e: Entry,
-) -> usize
+) -> bool
     requires records_sorted { index.RecordsSorted rows.now n }
     requires listed { Listed (lows_of leaves.now) m }
     requires slots_held { indexlet.SlotsHeld slots.now }
-    ensures { result ≡ pick (own_put rows.now (lows_of leaves.now) slots.now n m i (entry_in e)) 1 0 }
+    ensures { result ≡ own_put rows.now (lows_of leaves.now) slots.now n m i (entry_in e) }
 {
-    if e.kind != 1 {
-        return 0;
-    }
-    let a = e.address;
-    let p = leaves::find_leaf(leaves, m, a);
+    let Write::Put(_) = e.write else {
+        return false;
+    };
+    let p = leaves::find_leaf(leaves, m, e.address);
     if p != i {
-        return 0;
+        return false;
     }
-    let at = indexlet::find(slots, a);
+    let at = indexlet::find(slots, e.address);
     let c = indexlet::content_at(slots, at);
-    if c.kind == 1 {
-        return 0;
-    }
-    let found = records::find(rows, n, a);
-    match found {
-        FoundRecord::At {
-            payload: _,
-            commit: _,
-        } => 0,
-        FoundRecord::Nothing => 1,
-    }
+    c.kind != 1 && records::find(rows, n, e.address).is_none()
 }
 
 // How many of a write set are so.
@@ -255,13 +207,10 @@ fn count_lock_only(
     requires writing { Writing ws.now count }
     ensures { result ≡ lock_only_count rows.now (lows_of leaves.now) slots.now n m i ws.now count }
 {
-    let mut x = 0;
     let mut own = 0;
-    while x < count {
+    for x in 0..count {
         let e = writes::write_at(ws, x);
-        let one = lock_only_at(rows, leaves, slots, n, m, i, e);
-        own = own + one;
-        x += 1;
+        own += usize::from(lock_only_at(rows, leaves, slots, n, m, i, e));
     }
     own
 }
@@ -297,47 +246,42 @@ pub fn phantom(
     (own as u64) < out
 }
 
+// The candidates below are addresses at which the next record may stand: the index has them, or the indexlet says something of
+// them.
+
 // The first address of the index from an address on.
-fn index_from(rows: &Records, n: usize, from: Address) -> Candidate
+fn index_from(rows: &Records, n: usize, from: Address) -> Option<Address>
     requires { RecordsHeld rows.now n }
     ensures { IndexFrom rows.now n from result }
 {
     let p = records::locate(rows, n, from);
     if n <= p {
-        return Candidate {
-            there: false,
-            address: 0,
-        };
+        return None;
     }
     let r = rows::get(rows, p);
-    let address = r.address as Address;
-    Candidate {
-        there: true,
-        address,
-    }
+    Some(r.address as Address)
 }
 
 // The key, if it lies from `from` on and before the candidate; else the candidate.
-fn nearer(key: Address, from: Address, best: Candidate) -> Candidate
+fn nearer(key: Address, from: Address, best: Option<Address>) -> Option<Address>
     ensures { Nearer key from best result }
 {
-    if key < from {
-        return best;
-    }
-    if best.there {
-        if best.address <= key {
-            return best;
-        }
-    }
-    Candidate {
-        there: true,
-        address: key,
+    match best {
+        _ if key < from => best,
+        Some(a) if a <= key => best,
+        _ => Some(key),
     }
 }
 
 // The nearest key from `from` on: `best` is that of the slots before `next`, and from there on to the end of the word the slots
 // whose bits these are have an entry.
-fn nearest_in(slots: &Slots, from: Address, best: Candidate, next: usize, bits: u64) -> Candidate
+fn nearest_in(
+    slots: &Slots,
+    from: Address,
+    best: Option<Address>,
+    next: usize,
+    bits: u64,
+) -> Option<Address>
     requires slots_held { indexlet.SlotsHeld slots.now }
     requires next_lt_slot_count { (next < slot_count) × (BitsFrom false slots.now next bits) × (Walked slots.now from next best) }
     ensures { Walked slots.now from (word_end next) result }
@@ -354,14 +298,11 @@ fn nearest_in(slots: &Slots, from: Address, best: Candidate, next: usize, bits: 
 }
 
 // The first address from an address on of which the indexlet says something. Slots without an entry are not looked at.
-fn slot_from(slots: &Slots, from: Address) -> Candidate
+fn slot_from(slots: &Slots, from: Address) -> Option<Address>
     requires { indexlet.SlotsHeld slots.now }
     ensures { SlotFrom slots.now from result }
 {
-    let mut best = Candidate {
-        there: false,
-        address: 0,
-    };
+    let mut best = None;
     let mut next = 0;
     while next < SLOTS {
         let w = indexlet::bits_from(slots, next);
@@ -372,44 +313,30 @@ fn slot_from(slots: &Slots, from: Address) -> Candidate
 }
 
 // The first candidate from an address on.
-fn candidate_from(rows: &Records, slots: &Slots, n: usize, from: Address) -> Candidate
+fn candidate_from(rows: &Records, slots: &Slots, n: usize, from: Address) -> Option<Address>
     requires records_held { RecordsHeld rows.now n }
     requires slots_held { SlotsHeld slots.now }
     ensures { CandidateFrom rows.now n slots.now from result }
 {
     let a = index_from(rows, n, from);
-    let b = slot_from(slots, from);
-    if b.there {
-        return nearer(b.address, from, a);
+    match slot_from(slots, from) {
+        Some(b) => nearer(b, from, a),
+        None => a,
     }
-    a
 }
 
 // The first record of the contents from an address on. A candidate without a current record is passed over.
-pub fn next_record(rows: &Records, slots: &Slots, n: usize, from: Address) -> Next
+pub fn next_record(rows: &Records, slots: &Slots, n: usize, from: Address) -> Option<NextRecord>
     requires records_held { RecordsHeld rows.now n }
     requires slots_held { SlotsHeld slots.now }
     ensures { Follows rows.now n slots.now from result }
 {
     let mut at = from;
-    loop {
-        let c = candidate_from(rows, slots, n, at);
-        if !c.there {
-            return Next::Done;
+    while let Some(address) = candidate_from(rows, slots, n, at) {
+        if let Some(record) = current_record(rows, slots, n, address) {
+            return Some(NextRecord { address, record });
         }
-        let address = c.address;
-        let r = current_record(rows, slots, n, address);
-        if r.there {
-            let payload = r.payload;
-            return Next::At {
-                address,
-                payload,
-                commit: r.commit,
-            };
-        }
-        if address == HIGHEST {
-            return Next::Done;
-        }
-        at = address + 1;
+        at = address.checked_add(1)?;
     }
+    None
 }

@@ -1,6 +1,6 @@
 -- The laws of leaf sets: a row appended, a row read, the start; the scans that rows remember.
-use Rattle.std.specs.Prelude.{ℕ, suc, ◌+◌, ◌<◌, ◌≡◌, refl, Bool, length, get_or, set, replicate}
-use Rattle.std.proofs.Common.{arith, ◌∙◌}
+use Rattle.std.specs.Prelude.{ℕ, suc, ◌+◌, ◌<◌, ◌≡◌, refl, Bool, length, get_or, set, replicate, eqb, Some, None}
+use Rattle.std.proofs.Common.{arith, ne_eqb, ◌∙◌}
 use Rattle.std.proofs.Math.Path.{sym, ap}
 use mathlib.Core.List.{List, [], ◌∷◌, ◌++◌, append_assoc, append-nil}
 use mir.Val.{bool_byte}
@@ -9,8 +9,7 @@ use Rattle.spec.specs.Records.{limits}
 use Rattle.spec.specs.Guards.{Scan}
 use Rattle.sets.specs.declared.leaves.LoggedLeaf.{LoggedLeaf}
 use Rattle.sets.specs.declared.leaves.Scanned.{Scanned}
-use Rattle.sets.specs.declared.leaves.ScanNote.{ScanNote}
-use Rattle.sets.specs.Leaves.{LeafSetRows, leaf_set_words, version_in, low_in, scanned_in, remembered_if, note_in, scans_at, notes_of, joined, scans_of, LeafSetHeld, LeavesHeld, LogsLeaf, GivesLeaf, GivesNote}
+use Rattle.sets.specs.Leaves.{LeafSetRows, leaf_set_words, version_in, low_in, scanned_in, remembered_if, scans_at, notes_of, joined, scans_of, LeafSetHeld, LeavesHeld, LogsLeaf, GivesLeaf, GivesNote}
 use Rattle.sets.specs.ReadLaws.{flag_back}
 use Rattle.sets.specs.SetLaws.{each_set, each_alike, row_at, rows_snoc, row_appended}
 
@@ -39,8 +38,24 @@ leaf_given rs i r e f =
 pub leaves_zero : LeavesHeld (replicate limits.workers (replicate limits.leaf_set_limit (replicate leaf_set_words 0)))
 leaves_zero = each_alike limits.workers _ (each_alike limits.leaf_set_limit _ (omega arith))
 
-pub note_given : (rs : LeafSetRows) (i : ℕ) (r : ScanNote) → note_in r ≡ scans_at (get_or rs i []) → GivesNote rs i r
-note_given rs i r e = record { mark = λ n l. e ∙ sym (row_at scans_at rs n i [] l) }
+-- the words of the scan in a row
+abbrev scan_words : List ℕ → Scanned
+scan_words r = record { lo = get_or r 3 0; hi = get_or r 4 0; from = get_or r 5 0; count = get_or r 6 0 }
+
+-- a row remembers no scan, or one
+pub note_none : (rs : LeafSetRows) (i : ℕ) → (get_or (get_or rs i []) 2 0 ≡ 1 → ⊥) → GivesNote rs i None
+note_none rs i h =
+    record {
+      mark = λ n l.
+          sym (row_at scans_at rs n i [] l ∙ ap (λ (b : Bool). remembered_if b (scanned_in (scan_words (get_or rs i [])))) (ne_eqb (get_or (get_or rs i []) 2 0) 1 h));
+    }
+
+pub note_some : (rs : LeafSetRows) (i : ℕ) → get_or (get_or rs i []) 2 0 ≡ 1 → GivesNote rs i (Some (scan_words (get_or rs i [])))
+note_some rs i e =
+    record {
+      mark = λ n l.
+          sym (row_at scans_at rs n i [] l ∙ ap (λ (k : ℕ). remembered_if (eqb k 1) (scanned_in (scan_words (get_or rs i [])))) e);
+    }
 
 -- ---- lists joined
 

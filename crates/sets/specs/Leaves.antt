@@ -1,12 +1,11 @@
 -- Leaf sets (document 01: the log's marks): how their rows read, and what the functions over one promise. A granted scan logs
 -- at least one leaf; the first row that it logs also remembers the scan (request 102).
-use Rattle.std.specs.Prelude.{ℕ, ◌+◌, ◌<◌, ◌≡◌, Bool, List, [], ◌∷◌, ◌++◌, get_or, eqb}
+use Rattle.std.specs.Prelude.{ℕ, ◌+◌, ◌<◌, ◌≡◌, Bool, List, [], ◌∷◌, ◌++◌, get_or, eqb, Option as Optional, Some, None}
 use Rattle.lists.specs.Tests.{pick}
 use Rattle.spec.specs.Records.{limits}
 use Rattle.spec.specs.Guards.{Scan}
 use Rattle.sets.specs.declared.leaves.LoggedLeaf.{LoggedLeaf}
 use Rattle.sets.specs.declared.leaves.Scanned.{Scanned}
-use Rattle.sets.specs.declared.leaves.ScanNote.{ScanNote}
 use Rattle.sets.specs.Sets.{AddressAt, Each, first_rows}
 
 -- one worker's rows, as lists of words
@@ -41,8 +40,9 @@ scanned_in s = record { lo = s.lo; hi = s.hi; from = s.from; count = s.count }
 abbrev pub remembered_if : Bool → Scan → List Scan
 remembered_if first s = pick first (s ∷ []) []
 
-abbrev pub note_in : ScanNote → List Scan
-note_in m = remembered_if m.first (scanned_in m.scan)
+abbrev pub note_in : Optional Scanned → List Scan
+note_in None = []
+note_in (Some s) = scanned_in s ∷ []
 
 -- what a row says
 abbrev pub scans_at : List ℕ → List Scan
@@ -97,5 +97,5 @@ pub record GivesLeaf (rs : LeafSetRows) (i : ℕ) (r : LoggedLeaf) : Type 0 wher
   pub low : (n : ℕ) → i < n → r.low ≡ get_or (lows_of rs n) i 0
 
 -- what row i remembers, in a set of any number of rows that has it
-pub record GivesNote (rs : LeafSetRows) (i : ℕ) (r : ScanNote) : Type 0 where
+pub record GivesNote (rs : LeafSetRows) (i : ℕ) (r : Optional Scanned) : Type 0 where
   pub mark : (n : ℕ) → i < n → note_in r ≡ get_or (notes_of rs n) i []

@@ -1,12 +1,12 @@
 -- Read sets (document 01: the log's record entries): how their rows read, and what the functions over one promise.
-use Rattle.std.specs.Prelude.{ℕ, ◌+◌, ◌<◌, ◌≡◌, Bool, List, [], ◌∷◌, ◌++◌, eqb, get_or}
+use Rattle.std.specs.Prelude.{ℕ, ◌+◌, ◌<◌, ◌≡◌, Bool, List, [], ◌∷◌, ◌++◌, eqb, get_or, Option as Optional}
 use Rattle.std.proofs.Math.Option.{Option, none, some}
 use Rattle.lists.specs.Tests.{pick}
 use Rattle.lists.specs.Rows.{Row, row}
 use Rattle.spec.specs.Records.{limits, Record}
-use Rattle.spec.specs.Payloads.{payload_in}
+use Rattle.spec.specs.Payloads.{payload_in, record_in}
 use Rattle.spec.specs.declared.PayloadWords.{PayloadWords}
-use Rattle.spec.specs.declared.Current.{Current}
+use Rattle.spec.specs.declared.RecordWords.{RecordWords}
 use Rattle.sets.specs.declared.reads.Observed.{Observed}
 use Rattle.sets.specs.Sets.{AddressAt, Each, first_rows}
 
@@ -23,9 +23,6 @@ read_words = 5
 -- the record with this payload and commit number, if one is present
 abbrev pub record_of : Bool → PayloadWords → ℕ → Option Record
 record_of there v commit = pick there (some (record { payload = payload_in v; commit = commit })) none
-
-abbrev pub record_in : Current → Option Record
-record_in c = record_of c.there c.payload c.commit
 
 abbrev pub observed_in : Observed → Row (Option Record)
 observed_in o = row o.address (record_in o.current)
@@ -59,7 +56,7 @@ ReadsHeld gs = Each ReadSetHeld limits.workers gs
 -- ---- promises
 
 -- the rows after one was appended to the first n, and how many there are now
-pub record LogsRead (rs : ReadRows) (n a : ℕ) (seen : Current) (us : ReadRows) (r : ℕ) : Type 0 where
+pub record LogsRead (rs : ReadRows) (n a : ℕ) (seen : Optional RecordWords) (us : ReadRows) (r : ℕ) : Type 0 where
   pub held : ReadSetHeld us
   pub count : r ≡ n + 1
   pub view : reads_of us r ≡ reads_of rs n ++ (row a (record_in seen) ∷ [])

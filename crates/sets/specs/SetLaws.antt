@@ -1,11 +1,12 @@
 -- The laws that the three sets share: a change of one worker's set among all, and of one row of a set.
-use Rattle.std.specs.Prelude.{ℕ, suc, zero, ◌+◌, ◌-◌, ◌<◌, ◌≤◌, ◌≡◌, List, [], ◌∷◌, ◌++◌, map, length, take, drop, get_or, set, replicate}
+use Rattle.std.specs.Prelude.{ℕ, suc, zero, ◌+◌, ◌-◌, ◌<◌, ◌≤◌, ◌≡◌, List, [], ◌∷◌, ◌++◌, map, length, take, drop, get_or, set, replicate, Bool, true, false, not, Option as Optional, Some, None, is_some}
 use Rattle.std.proofs.Common.{arith, sym, ap, ◌∙◌, subst, ⊎_elim, length-set, length-take-le, get_or-take, get_or-set_same, get_or-set_other, take-suc-set, ext_get_or}
 use Rattle.std.proofs.Math.Path.{refl}
 use Rattle.std.proofs.lemmas.List.{map-append, length-map, length-replicate, get_or-replicate}
 use Rattle.std.proofs.Math.ListN.{get_or-map}
 use Rattle.std.proofs.Math.Seq.{take-set-lt}
-use Rattle.lists.specs.Tests.{same}
+use Rattle.lists.specs.Tests.{present, same}
+use Rattle.spec.specs.Payloads.{option_in}
 use Rattle.lists.specs.TestLaws.{cases, same_true, same_false}
 use Rattle.lists.specs.Tabulation.{tab, tab_from}
 use Rattle.lists.specs.Shifts.{moved, length_moved, length_tab, get_or_tab, tab_snoc, put_in}
@@ -120,3 +121,15 @@ module _ {A : Type 0} (f : List ℕ → A) (rs : List (List ℕ)) (n : ℕ) wher
       ∙ map-append f (take p (take n rs)) (r ∷ drop p (take n rs))
       ∙ (λ i. map_take f p (take n rs) i ++ (f r ∷ map_drop f p (take n rs) i))
       ∙ ap (λ (xs : List A). take p xs ++ (f r ∷ drop p xs)) (sym (taken f rs n (omega arith)))
+
+-- ---- options
+
+-- a test that an option is empty
+pub absent_is : {A B : Type 0} (f : A → B) (o : Optional A) {b : Bool} → is_some o ≡ not b → b ≡ not (present (option_in f o))
+absent_is {A} f o {b} e = go o b e
+  where
+    go : (x : Optional A) (c : Bool) → is_some x ≡ not c → c ≡ not (present (option_in f x))
+    go None true e = refl
+    go None false e = e
+    go (Some a) true e = e
+    go (Some a) false e = refl

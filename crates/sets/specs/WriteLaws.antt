@@ -6,7 +6,7 @@ use Rattle.std.proofs.Common.{◌∙◌, inl, inr, ⊎_elim, eqb-true}
 use Rattle.std.proofs.Math.Option.{none, some}
 use Rattle.std.proofs.Math.ListN.{length, set}
 use Rattle.std.proofs.lemmas.Bool.{eqb-false}
-use Rattle.lists.specs.Tests.{both, present, less}
+use Rattle.lists.specs.Tests.{both, present, same, less}
 use Rattle.lists.specs.TestLaws.{cases, clash, same_yes, same_no, less_true}
 use Rattle.lists.specs.Rows.{Row, row, look, insert, assign, Rising}
 use Rattle.lists.specs.RowLaws.{rising_assign}
@@ -15,10 +15,11 @@ use Rattle.lists.specs.Places.{place, place_most, place_below, place_above, Pres
 use Rattle.spec.specs.Widths.{addresses}
 use Rattle.spec.specs.Records.{limits, Write, written, deleted}
 use Rattle.sets.specs.declared.writes.WriteRow.{WriteRow}
-use Rattle.sets.specs.declared.writes.Entry.{Entry}
 use Rattle.spec.specs.Payloads.{payload_in}
 use Rattle.spec.specs.declared.PayloadWords.{PayloadWords}
-use Rattle.sets.specs.Writes.{WriteRows, write_words, write_of, no_write, line_at, words_of, write_in, writes_of, WriteSetHeld, WritesHeld, WriteSetOrdered, WritesBecome, PutsWrite, GivesWrite}
+use Rattle.sets.specs.declared.writes.Write.{Write as WriteWords}
+use Rattle.sets.specs.declared.writes.Write.TheVariants.{Put, Deletion}
+use Rattle.sets.specs.Writes.{WriteRows, write_words, edit_in, kind_of, given_by, write_of, row_words, no_write, line_at, words_of, write_in, writes_of, WriteSetHeld, WritesHeld, WriteSetOrdered, WritesBecome, PutsWrite, GivesWrite}
 use Rattle.sets.specs.WritePlaces.{PlaceOf, WritesHave}
 use Rattle.sets.specs.SetLaws.{each_set, each_alike, length_rows, row_at, row_replaced, row_put_lem}
 
@@ -31,6 +32,12 @@ put_kind kind v e = rw (same_yes {m = kind} {n = 1} e)
 pub deletion_kind : (kind : ℕ) (v : PayloadWords) → (kind ≡ 1 → ⊥) → write_of kind v ≡ deleted
 unfolding write_of
 deletion_kind kind v n = rw (same_no {m = kind} {n = 1} n)
+
+-- what the words of a write say
+pub kind_back : (w : WriteWords) → write_of (kind_of w) (given_by w) ≡ edit_in w
+unfolding write_of same
+kind_back (Put v) = refl
+kind_back Deletion = refl
 
 -- ---- rows moved up, and one put in
 
@@ -137,48 +144,48 @@ module _ {rs : WriteRows} {n a p : ℕ} (given : WriteSetOrdered rs n) (at : Pla
   pub put_room : Absent a (writes_of rs n) no_write → (n < limits.write_limit) ⊎ (present (look (writes_of rs n) a) ≡ true) → n < limits.write_limit
   put_room s h = ⊎_elim (λ l. l) (λ e. clash e (ap present (sym (found_none s)))) h
 
-  puts : {us : WriteRows} (kind : ℕ) (v : PayloadWords) (m : ℕ) → m ≤ limits.write_limit → WriteSetHeld us
-      → writes_of us m ≡ insert a (write_of kind v) (writes_of rs n) → PutsWrite rs n a kind v us m
+  puts : {us : WriteRows} (w : WriteWords) (m : ℕ) → m ≤ limits.write_limit → WriteSetHeld us
+      → writes_of us m ≡ insert a (edit_in w) (writes_of rs n) → PutsWrite rs n a w us m
   unfolding assign
-  puts {us} kind v m h held e =
+  puts {us} w m h held e =
       record {
         set =
             record {
               held = held;
               room = h;
-              rising = subst (Rising {A = Write}) (sym e) (rising_assign a (some (write_of kind v)) (writes_of rs n) given.rising);
+              rising = subst (Rising {A = Write}) (sym e) (rising_assign a (some (edit_in w)) (writes_of rs n) given.rising);
             };
         view = e;
         count = sym (length_rows write_in us m) ∙ ap length e;
       }
 
-  pub put_over : {us : WriteRows} (kind : ℕ) (v : PayloadWords) → Present a (writes_of rs n) no_write → a < addresses → us ≡ set rs p (a ∷ kind ∷ v.value ∷ v.owner ∷ [])
-      → PutsWrite rs n a kind v us n
-  put_over {us} kind v s h e =
+  pub put_over : {us : WriteRows} (w : WriteWords) → Present a (writes_of rs n) no_write → a < addresses → us ≡ set rs p (words_of (row_words a w))
+      → PutsWrite rs n a w us n
+  put_over {us} w s h e =
       let z : length rs ≡ limits.write_limit = given.held.size in
       let m : n ≤ limits.write_limit = given.room in
-      puts kind v n m (subst WriteSetHeld (sym e) (each_set p (a ∷ kind ∷ v.value ∷ v.owner ∷ []) given.held h))
+      puts w n m (subst WriteSetHeld (sym e) (each_set p (words_of (row_words a w)) given.held h))
       (ap (λ (l : WriteRows). writes_of l n) e
-      ∙ row_replaced write_in rs n p (a ∷ kind ∷ v.value ∷ v.owner ∷ []) (inside s) (omega arith)
-      ∙ ap (λ (i : ℕ). set (writes_of rs n) i (row a (write_of kind v))) at.is
-      ∙ sym (insert_present a (write_of kind v) (writes_of rs n) no_write s))
+      ∙ row_replaced write_in rs n p (words_of (row_words a w)) (inside s) (omega arith)
+      ∙ (λ i. set (writes_of rs n) (at.is i) (row a (kind_back w i)))
+      ∙ sym (insert_present a (edit_in w) (writes_of rs n) no_write s))
 
-  pub put_new : {us : WriteRows} (kind : ℕ) (v : PayloadWords) → Absent a (writes_of rs n) no_write → n < limits.write_limit
-      → WritesBecome (set (moved rs p (p + 1) (n - p)) p (a ∷ kind ∷ v.value ∷ v.owner ∷ [])) us → PutsWrite rs n a kind v us (n + 1)
-  put_new {us} kind v s h b =
+  pub put_new : {us : WriteRows} (w : WriteWords) → Absent a (writes_of rs n) no_write → n < limits.write_limit
+      → WritesBecome (set (moved rs p (p + 1) (n - p)) p (words_of (row_words a w))) us → PutsWrite rs n a w us (n + 1)
+  put_new {us} w s h b =
       let z : length rs ≡ limits.write_limit = given.held.size in
-      puts kind v (n + 1) (omega arith) b.held
+      puts w (n + 1) (omega arith) b.held
       (ap (λ (l : WriteRows). writes_of l (n + 1)) b.rows
-      ∙ row_put_lem write_in rs n p (a ∷ kind ∷ v.value ∷ v.owner ∷ []) at.within (omega arith)
-      ∙ ap (λ (i : ℕ). take i (writes_of rs n) ++ (row a (write_of kind v) ∷ drop i (writes_of rs n))) at.is
-      ∙ sym (insert_absent a (write_of kind v) (writes_of rs n) no_write s))
+      ∙ row_put_lem write_in rs n p (words_of (row_words a w)) at.within (omega arith)
+      ∙ (λ i. take (at.is i) (writes_of rs n) ++ (row a (kind_back w i) ∷ drop (at.is i) (writes_of rs n)))
+      ∙ sym (insert_absent a (edit_in w) (writes_of rs n) no_write s))
 
 -- ---- a row read
 
-pub write_given : {rs : WriteRows} {i : ℕ} (r : WriteRow) → r ≡ line_at rs i → (e : Entry) → e.address ≡ r.address
-    → write_of e.kind e.payload ≡ write_of r.kind r.payload → (e.kind ≡ 1) ⊎ (e.kind ≡ 2) → GivesWrite rs i e
-write_given {rs} {i} r g e p q k =
-    record { at = λ n l. (λ j. row (p j) (q j)) ∙ ap (λ (x : WriteRow). write_in (words_of x)) g ∙ sym (row_at write_in rs n i no_write l); kind = k }
+pub write_given : {rs : WriteRows} {i : ℕ} (r : WriteRow) → r ≡ line_at rs i → (w : WriteWords) → edit_in w ≡ write_of r.kind r.payload
+    → GivesWrite rs i (record { address = r.address; write = w })
+write_given {rs} {i} r g w q =
+    record { at = λ n l. ap (row r.address) q ∙ ap (λ (x : WriteRow). write_in (words_of x)) g ∙ sym (row_at write_in rs n i no_write l) }
 
 -- ---- laws for callers
 

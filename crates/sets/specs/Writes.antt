@@ -1,15 +1,15 @@
 -- Write sets (document 01: the edits): how their rows read, and what the functions over one promise.
-use Rattle.std.specs.Prelude.{ℕ, ◌<◌, ◌≤◌, ◌≡◌, ◌⊎◌, List, [], ◌∷◌, length, get_or}
-use Rattle.std.proofs.Math.Option.{Option, none, some}
+use Rattle.std.specs.Prelude.{ℕ, ◌<◌, ◌≤◌, ◌≡◌, List, [], ◌∷◌, length, get_or, Option as Optional}
+use Rattle.std.proofs.Math.Option.{Option}
 use Rattle.lists.specs.Tests.{pick, same}
 use Rattle.lists.specs.Rows.{Row, row, insert, Rising}
 use Rattle.spec.specs.Records.{limits, Write, written, deleted}
-use Rattle.spec.specs.Payloads.{payload_in}
+use Rattle.spec.specs.Payloads.{payload_in, no_payload, option_in}
 use Rattle.spec.specs.declared.PayloadWords.{PayloadWords}
 use Rattle.sets.specs.declared.writes.Entry.{Entry}
 use Rattle.sets.specs.declared.writes.WriteRow.{WriteRow}
-use Rattle.sets.specs.declared.writes.FoundWrite.{FoundWrite}
-use Rattle.sets.specs.declared.writes.FoundWrite.TheVariants.{Put, Deletion, Nothing}
+use Rattle.sets.specs.declared.writes.Write.{Write as WriteWords}
+use Rattle.sets.specs.declared.writes.Write.TheVariants.{Put, Deletion}
 use Rattle.sets.specs.Sets.{AddressAt, Each, first_rows}
 
 -- one worker's rows, as lists of words
@@ -26,14 +26,26 @@ write_words = 4
 unfoldable pub write_of : ℕ → PayloadWords → Write
 write_of kind v = pick (same kind 1) (written (payload_in v)) deleted
 
+-- the write that the code has
+abbrev pub edit_in : WriteWords → Write
+edit_in (Put v) = written (payload_in v)
+edit_in Deletion = deleted
+
+-- its kind as a word, and what it gives
+abbrev pub kind_of : WriteWords → ℕ
+kind_of (Put v) = 1
+kind_of Deletion = 2
+
+abbrev pub given_by : WriteWords → PayloadWords
+given_by (Put v) = v
+given_by Deletion = no_payload
+
 abbrev pub entry_in : Entry → Row Write
-entry_in e = row e.address (write_of e.kind e.payload)
+entry_in e = row e.address (edit_in e.write)
 
 -- the write found, or none
-abbrev pub found_in : FoundWrite → Option Write
-found_in (Put v) = some (written (payload_in v))
-found_in Deletion = some deleted
-found_in Nothing = none
+abbrev pub found_in : Optional WriteWords → Option Write
+found_in o = option_in edit_in o
 
 -- what is read past the end
 abbrev pub no_write : Row Write
@@ -47,6 +59,10 @@ line_at rs i =
       kind = get_or (get_or rs i []) 1 0;
       payload = record { value = get_or (get_or rs i []) 2 0; owner = get_or (get_or rs i []) 3 0 };
     }
+
+-- the row that a write at an address becomes
+abbrev pub row_words : ℕ → WriteWords → WriteRow
+row_words a w = record { address = a; kind = kind_of w; payload = given_by w }
 
 -- the words of a row
 abbrev pub words_of : WriteRow → List ℕ
@@ -88,12 +104,11 @@ pub record WritesBecome (rs us : WriteRows) : Type 0 where
   pub rows : us ≡ rs
 
 -- the rows after a write was put among the n writes, and how many there are now
-pub record PutsWrite (rs : WriteRows) (n a kind : ℕ) (v : PayloadWords) (us : WriteRows) (r : ℕ) : Type 0 where
+pub record PutsWrite (rs : WriteRows) (n a : ℕ) (w : WriteWords) (us : WriteRows) (r : ℕ) : Type 0 where
   pub set : WriteSetOrdered us r
-  pub view : writes_of us r ≡ insert a (write_of kind v) (writes_of rs n)
-  pub count : r ≡ length (insert a (write_of kind v) (writes_of rs n))
+  pub view : writes_of us r ≡ insert a (edit_in w) (writes_of rs n)
+  pub count : r ≡ length (insert a (edit_in w) (writes_of rs n))
 
--- row i, in a set of any number of rows that has it; its kind is 1 or 2
+-- row i, in a set of any number of rows that has it
 pub record GivesWrite (rs : WriteRows) (i : ℕ) (r : Entry) : Type 0 where
   pub at : (n : ℕ) → i < n → entry_in r ≡ get_or (writes_of rs n) i no_write
-  pub kind : (r.kind ≡ 1) ⊎ (r.kind ≡ 2)

@@ -23,14 +23,7 @@ pub struct Scanned {
     pub count: u64,
 }
 
-// What a row remembers: a scan, if it is the first row of one.
-#[derive(Clone, Copy)]
-pub struct ScanNote {
-    pub first: bool,
-    pub scan: Scanned,
-}
-
-// Appends a row of a scan to the first n. Answers how many there are now.
+// Appends a row of a scan to the first n. Answers how many there are now. The scan is no option: its words stand in each of its rows.
 pub fn log_leaf(leaves: &mut LeafSet, n: usize, leaf: LoggedLeaf, first: bool, s: Scanned) -> usize
     requires leaf_set_held { LeafSetHeld leaves.old }
     requires n_lt_leaf_set_limit { n < limits.leaf_set_limit }
@@ -62,21 +55,20 @@ pub fn logged_leaf_at(leaves: &LeafSet, i: usize) -> LoggedLeaf
     }
 }
 
-// What row i remembers.
-pub fn note_at(leaves: &LeafSet, i: usize) -> ScanNote
+// The scan that row i remembers, if it is the first row of one.
+pub fn note_at(leaves: &LeafSet, i: usize) -> Option<Scanned>
     requires leaf_set_held { LeafSetHeld leaves.now }
     requires i_lt_leaf_set_limit { i < limits.leaf_set_limit }
     ensures { GivesNote leaves.now i result }
 {
     let row = leaves[i];
-    let scan = Scanned {
+    if row[2] != 1 {
+        return None;
+    }
+    Some(Scanned {
         lo: row[3],
         hi: row[4],
         from: row[5],
         count: row[6],
-    };
-    ScanNote {
-        first: row[2] == 1,
-        scan,
-    }
+    })
 }

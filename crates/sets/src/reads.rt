@@ -5,23 +5,25 @@ ghost use Rattle.spec.specs.Records.{limits};
 ghost use Rattle.sets.specs.Reads.{ReadSetHeld, LogsRead, GivesRead};
 
 use crate::ReadSet;
-use spec::{Address, Current, PayloadWords};
+use spec::{Address, PayloadWords, RecordWords};
 
 // A row of a read set: an address, with the record that a read or a scan found there.
 #[derive(Clone, Copy)]
 pub struct Observed {
     pub address: Address,
-    pub current: Current,
+    pub current: Option<RecordWords>,
 }
 
 // Appends a row to the first n. Answers how many there are now.
-pub fn log_read(reads: &mut ReadSet, n: usize, a: Address, seen: Current) -> usize
+pub fn log_read(reads: &mut ReadSet, n: usize, a: Address, seen: Option<RecordWords>) -> usize
     requires read_set_held { ReadSetHeld reads.old }
     requires n_lt_read_limit { n < limits.read_limit }
     ensures { LogsRead reads.old n a seen reads.new result }
 {
-    let v = seen.payload;
-    let row = [a as u64, seen.there as u64, v.value, v.owner, seen.commit];
+    let row = match seen {
+        Some(r) => [a as u64, 1, r.payload.value, r.payload.owner, r.commit],
+        None => [a as u64, 0, 0, 0, 0],
+    };
     reads[n] = row;
     n + 1
 }
@@ -33,17 +35,20 @@ pub fn read_at(reads: &ReadSet, i: usize) -> Observed
     ensures { GivesRead reads.now i result }
 {
     let row = reads[i];
+    let address = row[0] as Address;
+    if row[1] != 1 {
+        return Observed {
+            address,
+            current: None,
+        };
+    }
     let payload = PayloadWords {
         value: row[2],
         owner: row[3],
     };
-    let current = Current {
-        there: row[1] == 1,
+    let current = Some(RecordWords {
         payload,
         commit: row[4],
-    };
-    Observed {
-        address: row[0] as Address,
-        current,
-    }
+    });
+    Observed { address, current }
 }

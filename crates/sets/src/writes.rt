@@ -6,21 +6,27 @@ ghost use Rattle.lists.specs.Rows.{look};
 ghost use Rattle.lists.specs.Shifts.{moved};
 ghost use Rattle.spec.specs.Widths.{addresses};
 ghost use Rattle.spec.specs.Records.{limits};
-ghost use Rattle.sets.specs.Writes.{line_at, words_of, writes_of, found_in, WriteSetHeld, WriteSetOrdered, WritesBecome, PutsWrite, GivesWrite};
+ghost use Rattle.sets.specs.Writes.{edit_in, kind_of, given_by, write_of, row_words, line_at, words_of, writes_of, found_in, WriteSetHeld, WriteSetOrdered, WritesBecome, PutsWrite, GivesWrite};
 ghost use Rattle.sets.specs.WritePlaces.{PlaceOf, WritesHave};
 
 use crate::WriteSet;
 use spec::{Address, PayloadWords};
 
-// A row of a write set: the kind is 1 (a put) or 2 (a deletion).
+// A write: a put with what it gives, or a deletion.
+#[derive(Clone, Copy)]
+pub enum Write {
+    Put(PayloadWords),
+    Deletion,
+}
+
+// A row of a write set.
 #[derive(Clone, Copy)]
 pub struct Entry {
     pub address: Address,
-    pub kind: u64,
-    pub payload: PayloadWords,
+    pub write: Write,
 }
 
-// A row as it stands in words.
+// A row as it stands in words: the kind is 1 (a put) or 2 (a deletion).
 #[derive(Clone, Copy)]
 struct WriteRow {
     address: u64,
@@ -28,12 +34,50 @@ struct WriteRow {
     payload: PayloadWords,
 }
 
-// What a look-up finds: a put with what it gives, a deletion, or no write.
-#[derive(Clone, Copy)]
-pub enum FoundWrite {
-    Put(PayloadWords),
-    Deletion,
-    Nothing,
+impl Write {
+    // Its kind as a word.
+    pub fn kind(self) -> u64
+        ensures { result ≡ kind_of self }
+    {
+        match self {
+            Write::Put(_) => 1,
+            Write::Deletion => 2,
+        }
+    }
+
+    // What it gives: a deletion gives nothing.
+    pub fn payload(self) -> PayloadWords
+        ensures { result ≡ given_by self }
+    {
+        match self {
+            Write::Put(payload) => payload,
+            Write::Deletion => PayloadWords { value: 0, owner: 0 },
+        }
+    }
+}
+
+impl WriteRow {
+    // The words of a write at an address.
+    fn of(a: Address, write: Write) -> WriteRow
+        ensures { result ≡ row_words a write }
+    {
+        WriteRow {
+            address: a as u64,
+            kind: write.kind(),
+            payload: write.payload(),
+        }
+    }
+
+    // The write that the words say.
+    fn write(self) -> Write
+        ensures { edit_in result ≡ write_of self.kind self.payload }
+    {
+        if self.kind == 1 {
+            Write::Put(self.payload)
+        } else {
+            Write::Deletion
+        }
+    }
 }
 
 // Row i. Only this function and the next touch words.
@@ -117,41 +161,28 @@ fn stands(writes: &WriteSet, n: usize, a: Address, p: usize) -> bool
     r.address == a as u64
 }
 
-// The worker's own write at an address.
-pub fn find_write(writes: &WriteSet, n: usize, a: Address) -> FoundWrite
+// The worker's own write at an address, if there is one.
+pub fn find_write(writes: &WriteSet, n: usize, a: Address) -> Option<Write>
     requires { WriteSetOrdered writes.now n }
     ensures { found_in result ≡ look (writes_of writes.now n) a }
 {
     let p = writes_below(writes, n, a);
     if stands(writes, n, a, p) {
         let r = get(writes, p);
-        if r.kind == 1 {
-            let payload = r.payload;
-            return FoundWrite::Put(payload);
-        }
-        return FoundWrite::Deletion;
+        Some(r.write())
+    } else {
+        None
     }
-    FoundWrite::Nothing
 }
 
 // Puts a write among the n writes, in place of one at the same address. Answers how many there are now.
-pub fn put_write(
-    writes: &mut WriteSet,
-    n: usize,
-    a: Address,
-    kind: u64,
-    payload: PayloadWords,
-) -> usize
+pub fn put_write(writes: &mut WriteSet, n: usize, a: Address, write: Write) -> usize
     requires write_set_ordered { WriteSetOrdered writes.old n }
     requires fact { (n < limits.write_limit) ⊎ (present (look (writes_of writes.old n) a) ≡ true) }
-    ensures { PutsWrite writes.old n a kind payload writes.new result }
+    ensures { PutsWrite writes.old n a write writes.new result }
 {
     let p = writes_below(writes, n, a);
-    let line = WriteRow {
-        address: a as u64,
-        kind,
-        payload,
-    };
+    let line = WriteRow::of(a, write);
     if stands(writes, n, a, p) {
         store(writes, p, line);
         return n;
@@ -167,18 +198,8 @@ pub fn write_at(writes: &WriteSet, i: usize) -> Entry
     ensures { GivesWrite writes.now i result }
 {
     let r = get(writes, i);
-    let address = r.address as Address;
-    let payload = r.payload;
-    if r.kind == 1 {
-        return Entry {
-            address,
-            kind: 1,
-            payload,
-        };
-    }
     Entry {
-        address,
-        kind: 2,
-        payload,
+        address: r.address as Address,
+        write: r.write(),
     }
 }

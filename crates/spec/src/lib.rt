@@ -55,11 +55,9 @@ pub struct PayloadWords {
     pub owner: u64,
 }
 
-// The current record of an address, or none there (document 01: present record): what a put gave it, and its commit number
-// (stamp).
+// A record as it stands in words (document 01: present record): what a put gave it, and its commit number (stamp).
 #[derive(Clone, Copy)]
-pub struct Current {
-    pub there: bool,
+pub struct RecordWords {
     pub payload: PayloadWords,
     pub commit: u64,
 }
@@ -92,7 +90,7 @@ pub enum Refusal {
 }
 
 // The stage of a worker's transaction (document 01: a job's stage).
-#[derive(Clone, Copy)]
+#[derive(Clone, Copy, PartialEq, Eq)]
 pub enum Stage {
     Free,
     Open,

@@ -1,21 +1,22 @@
 -- The laws of workers: what each method and each change of a set is to the model's worker.
-use Rattle.std.specs.Prelude.{ℕ, ◌<◌, ◌≡◌, get_or, set}
+use Rattle.std.specs.Prelude.{ℕ, ◌<◌, ◌≡◌, get_or, set, Option as Optional}
 use Rattle.std.proofs.Math.Path.{refl, ap}
 use Rattle.std.proofs.Common.{sym, ◌∙◌}
 use mathlib.Core.List.{List, [], ◌∷◌, append-nil}
 use Rattle.std.proofs.Math.Option.{Option}
 use Rattle.lists.specs.Rows.{Row, row}
-use Rattle.spec.specs.declared.Current.{Current}
+use Rattle.spec.specs.declared.RecordWords.{RecordWords}
+use Rattle.spec.specs.Payloads.{record_in}
 use Rattle.spec.specs.declared.Stage.TheVariants.{Open, Locked}
 use Rattle.spec.specs.Records.{limits, Record, Write}
 use Rattle.spec.specs.Guards.{Scan}
 use Rattle.spec.specs.Steps as model
 use Rattle.spec.specs.Steps.{free_worker, at_stage, logged, writing, checked_as}
 use Rattle.workers.specs.declared.Worker.{Worker}
-use Rattle.sets.specs.Reads.{ReadRows, record_in, read_in, reads_of, reads_in, ReadsHeld, LogsRead}
+use Rattle.sets.specs.Reads.{ReadRows, read_in, reads_of, reads_in, ReadsHeld, LogsRead}
 use Rattle.sets.specs.Leaves.{LeafSetRows, version_in, scans_at, joined, versions_in, scans_in}
-use Rattle.spec.specs.declared.PayloadWords.{PayloadWords}
-use Rattle.sets.specs.Writes.{WriteRows, write_of, write_in, writes_of, writes_in, WritesHeld, PutsWrite}
+use Rattle.sets.specs.declared.writes.Write.{Write as WriteWords}
+use Rattle.sets.specs.Writes.{WriteRows, edit_in, write_in, writes_of, writes_in, WritesHeld, PutsWrite}
 use Rattle.workers.specs.Workers.{worker_in, begun, at_lock, at_check, freed, with_reads, with_writes}
 use Rattle.sets.specs.SetLaws.{own_set, rows_none}
 
@@ -52,15 +53,15 @@ module _ (rs : List ReadRows) (ls : List LeafSetRows) (ws : List WriteRows) (w :
 
   -- ---- the sets
 
-  pub read_in_lem : (x : Worker) (us : ReadRows) (r a : ℕ) (s : Current) → ReadsHeld rs → w < limits.workers → LogsRead (get_or rs w []) x.reads a s us r
+  pub read_in_lem : (x : Worker) (us : ReadRows) (r a : ℕ) (s : Optional RecordWords) → ReadsHeld rs → w < limits.workers → LogsRead (get_or rs w []) x.reads a s us r
       → worker_in (with_reads x r) (set rs w us) ls ws w ≡ logged (row a (record_in s) ∷ []) [] [] (worker_in x rs ls ws w)
   unfolding worker_in logged made
   read_in_lem x us r a s held h l =
       λ i. made x ((own_set (λ (g : ReadRows). reads_of g r) rs w us held h ∙ l.view) i) (sym (append-nil (versions_in ls w x.leaves)) i) (sym (append-nil (scans_in ls w x.leaves)) i) (writes_in ws w x.writes)
 
-  pub write_in_lem : (x : Worker) (us : WriteRows) (r a kind : ℕ) (v : PayloadWords) → WritesHeld ws → w < limits.workers
-      → PutsWrite (get_or ws w []) x.writes a kind v us r
-      → worker_in (with_writes x r) rs ls (set ws w us) w ≡ writing a (write_of kind v) (worker_in x rs ls ws w)
+  pub write_in_lem : (x : Worker) (us : WriteRows) (r a : ℕ) (e : WriteWords) → WritesHeld ws → w < limits.workers
+      → PutsWrite (get_or ws w []) x.writes a e us r
+      → worker_in (with_writes x r) rs ls (set ws w us) w ≡ writing a (edit_in e) (worker_in x rs ls ws w)
   unfolding worker_in writing made
-  write_in_lem x us r a kind v held h p =
+  write_in_lem x us r a e held h p =
       λ i. made x (reads_in rs w x.reads) (versions_in ls w x.leaves) (scans_in ls w x.leaves) ((own_set (λ (g : WriteRows). writes_of g r) ws w us held h ∙ p.view) i)

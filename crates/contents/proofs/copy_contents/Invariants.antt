@@ -5,8 +5,8 @@ use Rattle.queries.specs.Contents.{all_records}
 use Rattle.contents.specs.CopyLaws.{Copying}
 use Rattle.contents.proofs.copy_contents.Given as goal
 
-abbrev pub invariant-loop-address : goal.invariant-loop-address
-invariant-loop-address l = Copying (all_records l.rows l.n l.slots) l.copied l.count l.from
+abbrev pub invariant-loop-next : goal.invariant-loop-next
+invariant-loop-next l = Copying (all_records l.rows l.n l.slots) l.copied l.count l.from
 
-abbrev pub decreases-loop-address : goal.decreases-loop-address
-decreases-loop-address l = addresses - l.from
+abbrev pub decreases-loop-next : goal.decreases-loop-next
+decreases-loop-next l = addresses - l.from

@@ -1,11 +1,7 @@
 -- `queries::count_lock_only` meets its contract. The invariant: those counted and those left are all.
-use Prim.Native.Nat.{◌-◌}
 use Rattle.index.specs.LeafColumns.{lows_of}
 use Rattle.queries.specs.PhantomViews.{Counting}
 use Rattle.queries.proofs.count_lock_only.Given as goal
 
 abbrev pub invariant-loop-x : goal.invariant-loop-x
 invariant-loop-x l = Counting l.rows (lows_of l.leaves) l.slots l.n l.m l.i l.ws l.count l.x l.own
-
-abbrev pub decreases-loop-x : goal.decreases-loop-x
-decreases-loop-x l = l.count - l.x

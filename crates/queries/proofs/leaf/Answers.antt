@@ -12,4 +12,4 @@ overflow_cast-result c = record { fits = subst (λ (x : ℕ). x < addresses) (sy
 pub returns : goal.returns
 returns c =
     let ls = c.args.leaves.now in
-    logged_at ls _ _ c.leaf_places.ensures c.leaf_at-l.ensures
+    logged_at ls _ _ c.told-leaves c.leaf_at-l.ensures

@@ -1,13 +1,20 @@
+-- `queries::next_record` meets its contract: at each candidate either there is a record, or the walk is past it.
 use native.Mathlib.Omega.{arith}
+use Rattle.std.proofs.Common.{sym, subst}
+use Rattle.queries.specs.NextViews.{Follows}
 use Rattle.queries.specs.NextLaws.{passed_over, passed_on, follows_end, follows_done, follows_at}
-use Rattle.std.proofs.Common.{false, true}
 use Rattle.queries.proofs.next_record.Goals as goal
 
-pub returns-then-not-c : goal.returns-then-not-c
-returns-then-not-c c = follows_end _ _ _ c.requires.records_held c.requires.slots_held _ _ _ c.loop-c.invariant c.candidate_from-c.ensures c.if-not-c.true
+pub returns-in-Some-current_record : goal.returns-in-Some-current_record
+returns-in-Some-current_record c =
+    follows_at _ _ _ c.requires.records_held c.requires.slots_held _ _ _ (passed_over _ _ _ _ _ _ c.loop-address.invariant c.in-Some.ensures) c.in-Some-current_record.ensures
 
-pub returns-then-r : goal.returns-then-r
-returns-then-r c = follows_at _ _ _ c.requires.records_held c.requires.slots_held _ _ c.current_record-r.result (passed_over _ _ _ _ _ _ c.loop-c.invariant c.candidate_from-c.ensures c.if-not-c.false) c.current_record-r.ensures c.if-r.true
+pub returns-in_err-at : goal.returns-in_err-at
+returns-in_err-at c =
+    subst (Follows c.args.rows.now c.args.n c.args.slots.now c.args.from) (sym c.from_residual.ensures)
+    (follows_done _ _ _ c.requires.records_held c.requires.slots_held _ _
+    (passed_on _ _ _ c.requires.records_held c.requires.slots_held _ _ (passed_over _ _ _ _ _ _ c.loop-address.invariant c.in-Some.ensures) c.in_default-current_record.ensures)
+    (omega (arith, c.in_err-at.ensures)))
 
-pub returns-then-address : goal.returns-then-address
-returns-then-address c = follows_done _ _ _ c.requires.records_held c.requires.slots_held _ _ (passed_on _ _ _ c.requires.records_held c.requires.slots_held _ _ c.current_record-r.result (passed_over _ _ _ _ _ _ c.loop-c.invariant c.candidate_from-c.ensures c.if-not-c.false) c.current_record-r.ensures c.if-r.false) (omega (arith, c.if-address.true))
+pub returns : goal.returns
+returns c = follows_end _ _ _ c.requires.records_held c.requires.slots_held _ _ c.loop-address.invariant c.in_default.ensures

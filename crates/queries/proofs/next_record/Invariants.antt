@@ -4,8 +4,8 @@ use Rattle.spec.specs.Widths.{addresses}
 use Rattle.queries.specs.NextViews.{Passed}
 use Rattle.queries.proofs.next_record.Given as goal
 
-abbrev pub invariant-loop-c : goal.invariant-loop-c
-invariant-loop-c l = Passed l.rows l.n l.slots l.from l.at
+abbrev pub invariant-loop-address : goal.invariant-loop-address
+invariant-loop-address l = Passed l.rows l.n l.slots l.from l.at
 
-abbrev pub decreases-loop-c : goal.decreases-loop-c
-decreases-loop-c l = addresses - l.at
+abbrev pub decreases-loop-address : goal.decreases-loop-address
+decreases-loop-address l = addresses - l.at

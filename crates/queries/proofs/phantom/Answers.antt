@@ -1,7 +1,6 @@
 -- `queries::phantom` meets its contract: by whether the leaf is there, and by the counts.
 use mathlib.Core.Path.{sym, ◌∙◌}
 use Rattle.queries.specs.PhantomLaws.{version_of_lem, hidden_of_lem, phantom_gone, phantom_none, phantom_count}
-use Rattle.std.proofs.Common.{false, true}
 use Rattle.queries.proofs.phantom.Goals as goal
 
 pub returns-then-l-version : goal.returns-then-l-version

@@ -7,4 +7,4 @@ use Rattle.queries.proofs.place_of.Goals as goal
 pub returns : goal.returns
 returns c =
     let ls = c.args.leaves.now in
-    leaf_at_lem (lows_of ls) _ _ _ c.requires.room (column_places 0 ls c.leaf_places.ensures) c.find_leaf.ensures
+    leaf_at_lem (lows_of ls) _ _ _ c.requires.room (column_places 0 ls c.told-leaves) c.find_leaf.ensures

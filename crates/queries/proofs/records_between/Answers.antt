@@ -1,6 +1,5 @@
 -- `queries::records_between` meets its contract: by whether the index has hi.
 use Rattle.queries.specs.ScanLaws.{spans_past, spans_other, spans_last}
-use Rattle.std.proofs.Common.{false, true}
 use Rattle.queries.proofs.records_between.Goals as goal
 
 pub returns-then-n-to : goal.returns-then-n-to

@@ -1,5 +1,4 @@
 use Rattle.queries.specs.NextLaws.{walked_end}
-use Rattle.std.proofs.Common.{false}
 use Rattle.queries.proofs.slot_from.Goals as goal
 
 pub returns : goal.returns

@@ -2,7 +2,6 @@ use mathlib.Core.Path.{refl}
 use Rattle.lists.specs.Tests.{same}
 use Rattle.workers.specs.Workers.{stage_at}
 use Rattle.workers.specs.WordLaws.{stage_is, stage_checked}
-use Rattle.std.proofs.Common.{true, false}
 use Rattle.workers.proofs.stage_at.Goals as goal
 
 pub returns-then-n-eq0 : goal.returns-then-n-eq0

@@ -1,5 +1,4 @@
 use Rattle.guards.specs.PutLaws.{test_start, test_on, test_hit, test_end}
-use Rattle.std.proofs.Common.{true, false}
 use Rattle.guards.proofs.lengths.unfit_put.Goals as goal
 
 pub loop-i-init : goal.loop-i-init

@@ -1,11 +1,9 @@
 -- `lengths::unfit_write` meets its contract.
 use Rattle.guards.specs.PutLaws.{entry_put, entry_deletion}
-use Rattle.std.proofs.Common.{true, false}
-use Rattle.spec.specs.Guards.{unfit}
 use Rattle.guards.proofs.lengths.unfit_write.Goals as goal
 
-pub returns-then-e-eq1 : goal.returns-then-e-eq1
-returns-then-e-eq1 c = entry_put _ _ c.if-e-eq1.true c.unfit.ensures
+pub returns-in-Put : goal.returns-in-Put
+returns-in-Put c = entry_put _ _ c.in-Put.is c.unfit.ensures
 
-pub returns : goal.returns
-returns c = entry_deletion _ _ c.if-e-eq1.false
+pub returns-in-Deletion : goal.returns-in-Deletion
+returns-in-Deletion c = entry_deletion _ _ c.in-Deletion.is

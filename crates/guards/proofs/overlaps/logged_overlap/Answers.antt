@@ -2,7 +2,6 @@ use mathlib.Core.Path.{◌∙◌}
 use Rattle.sets.specs.Reads.{no_read}
 use Rattle.guards.specs.SearchLaws.{search_start, search_on, search_hit, search_end}
 use Rattle.guards.specs.OverlapLaws.{part_size, part_at, part_all}
-use Rattle.std.proofs.Common.{false, true}
 use Rattle.guards.proofs.overlaps.logged_overlap.Goals as goal
 
 pub loop-i-init : goal.loop-i-init

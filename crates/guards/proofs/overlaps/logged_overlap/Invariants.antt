@@ -1,5 +1,4 @@
 -- `overlaps::logged_overlap` meets its contract: the first logged row that overlaps the section, or none does.
-use Prim.Native.Nat.{◌-◌}
 use lib.ListN.{take, drop}
 use Rattle.sets.specs.Reads.{reads_of}
 use Rattle.sets.specs.Writes.{writes_of}
@@ -10,6 +9,3 @@ use Rattle.guards.proofs.overlaps.logged_overlap.Given as goal
 abbrev pub invariant-loop-i : goal.invariant-loop-i
 invariant-loop-i l =
     Searching (overlaps_logged (writes_of l.writes l.n) l.a l.len) (take l.count (drop l.from (reads_of l.reads l.k))) l.count l.i
-
-abbrev pub decreases-loop-i : goal.decreases-loop-i
-decreases-loop-i l = l.count - l.i

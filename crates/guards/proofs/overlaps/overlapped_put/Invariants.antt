@@ -1,5 +1,4 @@
 -- `overlaps::overlapped_put` meets its contract: the first put that something overlaps, or none is.
-use Prim.Native.Nat.{◌-◌}
 use Rattle.spec.specs.Guards.{overlapped}
 use Rattle.sets.specs.Reads.{reads_of}
 use Rattle.sets.specs.Leaves.{scans_of}
@@ -9,6 +8,3 @@ use Rattle.guards.proofs.overlaps.overlapped_put.Given as goal
 
 abbrev pub invariant-loop-i : goal.invariant-loop-i
 invariant-loop-i l = Testing (overlapped (reads_of l.reads l.k) (scans_of l.leafset l.m) (writes_of l.writes l.n)) l.writes l.n l.i
-
-abbrev pub decreases-loop-i : goal.decreases-loop-i
-decreases-loop-i l = l.n - l.i

@@ -1,7 +1,6 @@
 -- `overlaps::overlaps` meets its contract.
 use native.Mathlib.Omega.{arith}
 use Rattle.guards.specs.OverlapLaws.{overlaps_same, overlaps_below, overlaps_above}
-use Rattle.std.proofs.Common.{false, true}
 use Rattle.guards.proofs.overlaps.overlaps.Goals as goal
 
 pub returns-then-j-a : goal.returns-then-j-a

@@ -1,5 +1,4 @@
 use Rattle.guards.specs.PutLaws.{test_start, test_on, test_hit, test_end}
-use Rattle.std.proofs.Common.{false, true}
 use Rattle.guards.proofs.overlaps.own_overlap.Goals as goal
 
 pub loop-i-init : goal.loop-i-init

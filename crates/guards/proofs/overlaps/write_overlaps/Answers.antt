@@ -1,10 +1,9 @@
 -- `overlaps::write_overlaps` meets its contract.
 use Rattle.guards.specs.PutLaws.{entry_put, entry_deletion}
-use Rattle.std.proofs.Common.{false, true}
 use Rattle.guards.proofs.overlaps.write_overlaps.Goals as goal
 
-pub returns-then-e-eq1 : goal.returns-then-e-eq1
-returns-then-e-eq1 c = entry_put _ _ c.if-e-eq1.true c.overlaps.ensures
+pub returns-in-Put : goal.returns-in-Put
+returns-in-Put c = entry_put _ _ c.in-Put.is c.overlaps.ensures
 
-pub returns : goal.returns
-returns c = entry_deletion _ _ c.if-e-eq1.false
+pub returns-in-Deletion : goal.returns-in-Deletion
+returns-in-Deletion c = entry_deletion _ _ c.in-Deletion.is

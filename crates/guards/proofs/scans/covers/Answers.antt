@@ -5,9 +5,6 @@ use Rattle.guards.specs.ScanLaws.{covers_late, covers_from}
 use Rattle.std.proofs.Common.{rules}
 use Rattle.guards.proofs.scans.covers.Goals as goal
 
-pub returns-then-lowest_reaching-s : goal.returns-then-lowest_reaching-s
-returns-then-lowest_reaching-s c = covers_late _ _ _ (omega (arith, c.lowest_reaching.ensures))
-
 pub overflow_add-result : goal.overflow_add-result
 overflow_add-result c =
     let z = fit_sized _ _ c.requires in
@@ -16,5 +13,8 @@ overflow_add-result c =
 pub overflow_sub-result : goal.overflow_sub-result
 overflow_sub-result c = omega (arith, (fit_sized _ _ c.requires).least)
 
-pub returns : goal.returns
-returns c = covers_from _ _ _ (omega (arith, c.lowest_reaching.ensures))
+pub returns-then-s-lowest_reaching : goal.returns-then-s-lowest_reaching
+returns-then-s-lowest_reaching c = covers_from _ _ _ (omega (arith, c.lowest_reaching.ensures))
+
+pub returns-else-s-lowest_reaching : goal.returns-else-s-lowest_reaching
+returns-else-s-lowest_reaching c = covers_late _ _ _ _ c.lowest_reaching.ensures c.if-s-lowest_reaching.false

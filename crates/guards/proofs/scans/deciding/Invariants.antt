@@ -4,6 +4,3 @@ use Rattle.guards.proofs.scans.deciding.Given as goal
 
 abbrev pub invariant-loop-i : goal.invariant-loop-i
 invariant-loop-i l = Deciding l.leafset l.a l.len l.m l.i
-
-abbrev pub decreases-loop-i : goal.decreases-loop-i
-decreases-loop-i l = l.i

@@ -1,6 +1,5 @@
 use Rattle.spec.specs.Guards.{unfit}
 use Rattle.guards.specs.PutLaws.{test_start, test_on, test_hit, test_end, no_put}
-use Rattle.std.proofs.Common.{false, true}
 use Rattle.guards.proofs.scans.uncovered_put.Goals as goal
 
 pub loop-i-init : goal.loop-i-init

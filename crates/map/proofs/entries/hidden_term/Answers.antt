@@ -1,6 +1,5 @@
 -- `map::entries::hidden_term` meets its contract: by the two tests.
 use Rattle.map.specs.EntryLaws.{hidden_silent, hidden_lacking, hidden_indexed}
-use Rattle.std.proofs.Common.{true, false}
 use Rattle.map.proofs.entries.hidden_term.Goals as goal
 use Rattle.std.specs.Prelude.{not}
 use Rattle.std.proofs.Math.Path.{ap}

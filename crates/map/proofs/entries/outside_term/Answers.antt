@@ -1,6 +1,5 @@
 -- `map::entries::outside_term` meets its contract: by the two tests.
 use Rattle.map.specs.EntryLaws.{term_idle, term_outside, term_inside}
-use Rattle.std.proofs.Common.{true, false}
 use Rattle.map.proofs.entries.outside_term.Goals as goal
 
 pub returns-then-idle : goal.returns-then-idle

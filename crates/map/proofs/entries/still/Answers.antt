@@ -1,6 +1,5 @@
 -- `map::entries::still` meets its contract: by the two tests.
 use Rattle.map.specs.EntryLaws.{still_same, still_not}
-use Rattle.std.proofs.Common.{true, false}
 use Rattle.map.proofs.entries.still.Goals as goal
 
 pub returns-then-idle : goal.returns-then-idle

@@ -4,7 +4,7 @@ use mathlib.Core.Bool.{Bool}
 use Rattle.indexlet.specs.Words.{content_in}
 use Rattle.map.specs.Entries.{hidden_term, outside_term}
 use Rattle.map.specs.EntryLaws.{hide_still, hide_moved, hide_most, balance_still, balance_moved, term_most}
-use Rattle.std.proofs.Common.{rules, true}
+use Rattle.std.proofs.Common.{rules}
 use Rattle.map.proofs.entries.terms.Goals as goal
 
 pub returns-then-still : goal.returns-then-still

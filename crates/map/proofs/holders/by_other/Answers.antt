@@ -1,6 +1,5 @@
 -- `map::holders::by_other` meets its contract: by the lock.
 use Rattle.map.specs.LockLaws.{free_other, taken_other}
-use Rattle.std.proofs.Common.{true, false}
 use Rattle.map.proofs.holders.by_other.Goals as goal
 
 pub returns-then-lock-eq0 : goal.returns-then-lock-eq0

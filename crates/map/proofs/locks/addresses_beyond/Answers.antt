@@ -1,6 +1,5 @@
 -- `locks::addresses_beyond` meets its contract: all fit, or they are counted.
 use Rattle.map.specs.AddressCounts.{base_fits, all_fit, addressed_few, addressed_counted}
-use Rattle.std.proofs.Common.{true}
 use Rattle.map.proofs.locks.addresses_beyond.Goals as goal
 
 pub overflow_add-z : goal.overflow_add-z

@@ -1,7 +1,6 @@
 use Prim.Native.Nat.{zero-le}
 use native.Mathlib.Omega.{arith}
 use Rattle.map.specs.AddressCounts.{unknown, counting_fits, counting_on, counting_end, base_fits, addressed_start, addressed}
-use Rattle.std.proofs.Common.{false, true}
 use Rattle.map.proofs.locks.addresses_with.Goals as goal
 
 pub overflow_add-sum : goal.overflow_add-sum

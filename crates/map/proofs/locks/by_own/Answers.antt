@@ -1,6 +1,5 @@
 -- `map::locks::by_own` meets its contract: by the lock.
 use Rattle.map.specs.LockLaws.{free_own, taken_own}
-use Rattle.std.proofs.Common.{false, true}
 use Rattle.map.proofs.locks.by_own.Goals as goal
 
 pub returns-then-lock-eq0 : goal.returns-then-lock-eq0

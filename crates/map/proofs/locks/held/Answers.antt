@@ -4,7 +4,6 @@ use mathlib.Core.Path.{sym, ap, ◌∙◌}
 use Rattle.lists.specs.Rows.{any}
 use Rattle.map.specs.WriteWalks.{keys_all}
 use Rattle.map.specs.LockLaws.{foreign, any_here, any_later, any_end}
-use Rattle.std.proofs.Common.{false, true}
 use Rattle.map.proofs.locks.held.Goals as goal
 
 pub loop-i-init : goal.loop-i-init

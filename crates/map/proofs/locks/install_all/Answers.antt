@@ -1,7 +1,6 @@
 use Prim.Native.Nat.{zero-le}
 use native.Mathlib.Omega.{arith}
 use Rattle.map.specs.LockLaws.{install_busy, install_start, install_on, install_end}
-use Rattle.std.proofs.Common.{false, true}
 use Rattle.map.proofs.locks.install_all.Goals as goal
 
 pub loop-i-init : goal.loop-i-init

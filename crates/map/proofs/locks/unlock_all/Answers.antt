@@ -1,7 +1,6 @@
 use Prim.Native.Nat.{zero-le}
 use native.Mathlib.Omega.{arith}
 use Rattle.map.specs.LockLaws.{unlock_start, unlock_on, unlock_end}
-use Rattle.std.proofs.Common.{false, true}
 use Rattle.map.proofs.locks.unlock_all.Goals as goal
 
 pub loop-i-init : goal.loop-i-init

@@ -3,7 +3,6 @@ use mathlib.Core.Path.{sym, ◌∙◌}
 use Rattle.spec.specs.Slots.{idle}
 use Rattle.indexlet.specs.EnterLaws.{said_at}
 use Rattle.map.specs.LockLaws.{said_as, said_nothing, unlock_said, unlock_other, unlock_room}
-use Rattle.std.proofs.Common.{false, true}
 use Rattle.map.proofs.locks.unlock_one.Goals as goal
 
 pub set_content-requires-clause-entry_room : goal.set_content-requires-clause-entry_room

@@ -1,6 +1,5 @@
 -- `map::locks::waiting_since` meets its contract: by whether a write waits already.
 use Rattle.map.specs.LockLaws.{since_now, since_before}
-use Rattle.std.proofs.Common.{false, true}
 use Rattle.map.proofs.locks.waiting_since.Goals as goal
 
 pub returns-then-old-eq0 : goal.returns-then-old-eq0

@@ -1,8 +1,6 @@
 use Prim.Native.Nat.{zero-le}
 use native.Mathlib.Omega.{arith}
 use Rattle.map.specs.AddressCounts.{entryless, counting_fits, counting_on, counting_end, waits_start, waits}
-use Rattle.std.proofs.Common.{false, true}
-use Rattle.spec.specs.Slots.{entries}
 use Rattle.map.proofs.locks.waiting_with.Goals as goal
 
 pub loop-i-init : goal.loop-i-init

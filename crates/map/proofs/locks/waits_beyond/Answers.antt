@@ -1,6 +1,5 @@
 -- `locks::waits_beyond` meets its contract: all fit, or they are counted.
 use Rattle.map.specs.AddressCounts.{entries_fit, beyond_few, beyond_counted}
-use Rattle.std.proofs.Common.{true}
 use Rattle.map.proofs.locks.waits_beyond.Goals as goal
 
 pub overflow_add-entries : goal.overflow_add-entries

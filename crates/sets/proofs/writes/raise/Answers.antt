@@ -1,5 +1,4 @@
 use Rattle.sets.specs.WriteLaws.{lifting_start, lifting_on}
-use Rattle.std.proofs.Common.{true}
 use Rattle.sets.proofs.writes.raise.Goals as goal
 
 pub loop-i-init : goal.loop-i-init

@@ -1,6 +1,5 @@
 -- `writes::stands` meets its contract.
 use Rattle.sets.specs.WriteLaws.{stands_past, stands_at}
-use Rattle.std.proofs.Common.{true, false}
 use Rattle.sets.proofs.writes.stands.Goals as goal
 
 pub returns-then-n-p : goal.returns-then-n-p

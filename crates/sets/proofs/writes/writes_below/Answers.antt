@@ -2,7 +2,6 @@ use native.Mathlib.Omega.{arith}
 use mathlib.Core.Path.{ap}
 use Rattle.sets.specs.declared.writes.WriteRow.{WriteRow}
 use Rattle.sets.specs.WriteLaws.{below_on, below_stop, below_end}
-use Rattle.std.proofs.Common.{true, false}
 use Rattle.sets.proofs.writes.writes_below.Goals as goal
 
 pub returns-then-key-r : goal.returns-then-key-r

@@ -1,12 +1,11 @@
 // Rows of words: all that touches the words of leaves, and the search among them.
 ghost use Rattle.std.specs.Prelude.{◌≡◌, ◌+◌, ◌/◌, ◌<◌, ◌≤◌, length, take};
-ghost use Rattle.lists.specs.Shifts.{moved};
 ghost use Rattle.index.specs.Views.{record_places, leaf_places};
 ghost use Rattle.index.specs.Nearing.{Nearing};
 ghost use Rattle.index.specs.LeafPlaces.{Listed, AtLeaf, Tells, low_place, probed_low};
 ghost use Rattle.index.specs.LeafColumns.{lows_of, leaf_at, leaf_put};
 
-use crate::{FEW, FEWER, LEAF_WORDS, LEAST, Leaves};
+use crate::{FEW, FEWER, LEAST, Leaves};
 use spec::{Address, MAP_LIMIT};
 
 // A leaf in words: its low and its version (document 01: mark), and the phantomlet's numbers of the keys that it hides from somebody
@@ -19,29 +18,22 @@ pub struct LeafWords {
     pub pending: u64,
 }
 
-// An array has as many rows as its type says.
-fn count(leaves: &[[u64; LEAF_WORDS]]) -> usize
-    ensures { result ≡ length leaves.now }
-{
-    leaves.len()
-}
-
+// For crates that cite it: an array has as many rows as its type says.
 pub fn leaf_places(leaves: &Leaves)
     ensures { length leaves.now ≡ leaf_places }
-{
-    count(leaves);
-}
+{}
 
 // The leaf at place i.
 pub fn leaf_at(leaves: &Leaves, i: usize) -> LeafWords
     requires { i < leaf_places }
     ensures { result ≡ leaf_at leaves.now i }
 {
+    let [low, version, hidden, pending] = leaves[i];
     LeafWords {
-        low: leaves[i][0],
-        version: leaves[i][1],
-        hidden: leaves[i][2],
-        pending: leaves[i][3],
+        low,
+        version,
+        hidden,
+        pending,
     }
 }
 
@@ -50,39 +42,7 @@ pub fn put_leaf(leaves: &mut Leaves, i: usize, l: LeafWords)
     requires { i < leaf_places }
     ensures { leaves.new ≡ leaf_put leaves.old i l }
 {
-    let row = [l.low, l.version, l.hidden, l.pending];
-    leaves[i] = row;
-}
-
-// Copies n leaves from place `from` on to the higher place `to`: the last one first, so that none is overwritten before
-// it is copied.
-pub fn shift_right(leaves: &mut Leaves, from: usize, to: usize, n: usize)
-    requires from_le_to { from ≤ to }
-    requires n_bound { to + n ≤ leaf_places }
-    ensures { leaves.new ≡ moved leaves.old from to n }
-{
-    leaf_places(leaves);
-    let mut i = n;
-    while 0 < i {
-        i -= 1;
-        let row = leaves[from + i];
-        leaves[to + i] = row;
-    }
-}
-
-// Copies n leaves from place `from` on to the lower place `to`: the first one first.
-pub fn shift_left(leaves: &mut Leaves, from: usize, to: usize, n: usize)
-    requires to_le_from { to ≤ from }
-    requires n_bound { from + n ≤ leaf_places }
-    ensures { leaves.new ≡ moved leaves.old from to n }
-{
-    leaf_places(leaves);
-    let mut i = 0;
-    while i < n {
-        let row = leaves[from + i];
-        leaves[to + i] = row;
-        i += 1;
-    }
+    leaves[i] = [l.low, l.version, l.hidden, l.pending];
 }
 
 // One step of the search: `step` leaves on, if that leaf is there and does not start above the address. The row is read
@@ -92,7 +52,6 @@ fn probe(leaves: &Leaves, m: usize, key: u64, base: usize, step: usize) -> usize
     requires step_bound { base + step ≤ record_places }
     ensures { result ≡ probed_low (take m (lows_of leaves.now)) key base step }
 {
-    leaf_places(leaves);
     let next = base + step;
     let l = leaf_at(leaves, next);
     if l.low <= key {
@@ -126,7 +85,6 @@ fn descend(leaves: &Leaves, m: usize, key: u64, half: usize) -> usize
     requires nearing { Nearing (low_place key (take m (lows_of leaves.now))) 0 half }
     ensures { AtLeaf (lows_of leaves.now) m key result }
 {
-    leaf_places(leaves);
     let mut base = 0;
     let mut step = half;
     while 1 < step {
@@ -144,7 +102,6 @@ pub fn find_leaf(leaves: &Leaves, m: usize, a: Address) -> usize
     requires { Listed (lows_of leaves.now) m }
     ensures { AtLeaf (lows_of leaves.now) m a result }
 {
-    leaf_places(leaves);
     let key = a as u64;
     if m <= LEAST {
         return descend(leaves, m, key, LEAST / 2);
@@ -167,7 +124,6 @@ fn lies_at(leaves: &Leaves, m: usize, key: u64, at: usize) -> bool
     requires { Listed (lows_of leaves.now) m }
     ensures { Tells (lows_of leaves.now) m key at result }
 {
-    leaf_places(leaves);
     if m <= at {
         return false;
     }

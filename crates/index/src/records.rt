@@ -120,8 +120,7 @@ fn insert(rows: &mut Records, n: usize, p: usize, r: RecordRow) -> usize
     ensures value { (result ≡ n + 1) × (records_of rows.new (n + 1) ≡ take p (records_of rows.old n) ++ (row_of r ∷ drop p (records_of rows.old n))) }
     ensures rows_unchanged { drop result rows.new ≡ drop result rows.old }
 {
-    rows::record_places(rows);
-    rows::raise(rows, p, p + 1, n - p);
+    rows::move_rows(rows, p, p + 1, n - p);
     rows::store(rows, p, r);
     n + 1
 }
@@ -134,7 +133,6 @@ pub fn put(rows: &mut Records, n: usize, a: Address, payload: PayloadWords, comm
     ensures records_are { RecordsAre rows.new result (assign a (some (record_from payload commit)) (records_of rows.old n)) }
     ensures rows_unchanged { drop result rows.new ≡ drop result rows.old }
 {
-    rows::record_places(rows);
     let p = locate(rows, n, a);
     let row = RecordRow {
         address: a as u64,
@@ -158,14 +156,13 @@ pub fn drop(rows: &mut Records, n: usize, a: Address) -> usize
     ensures records_are { RecordsAre rows.new result (assign a none (records_of rows.old n)) }
     ensures rows_unchanged { drop result rows.new ≡ drop result rows.old }
 {
-    rows::record_places(rows);
     let p = locate(rows, n, a);
     if n <= p {
         return n;
     }
     let there = rows::get(rows, p);
     if there.address == a as u64 {
-        rows::lower(rows, p + 1, p, n - p - 1);
+        rows::move_rows(rows, p + 1, p, n - p - 1);
         return n - 1;
     }
     n

@@ -6,7 +6,6 @@ use lib.ListN.{take}
 use Rattle.index.specs.Nearing.{two_high, two_low}
 use Rattle.index.specs.LeafPlaces.{probed_low, low_led}
 use Rattle.index.specs.LeafColumns.{lows_of}
-use Rattle.std.proofs.Common.{true, false}
 use Rattle.index.proofs.leaves.probe_two.Goals as goal
 
 pub returns-then-base-middle : goal.returns-then-base-middle

@@ -7,7 +7,6 @@ use Rattle.index.specs.Views.{records_of}
 use Rattle.index.specs.ViewLaws.{length_records}
 use Rattle.index.specs.Nearing.{near_on, near_two, near_end}
 use Rattle.index.specs.Searches.{probed, probe_took}
-use Rattle.std.proofs.Common.{true, false}
 use Rattle.index.proofs.records.descend.Goals as goal
 
 pub loop-step-preserved : goal.loop-step-preserved

@@ -7,7 +7,6 @@ use Rattle.index.specs.Views.{record_places, records_of}
 use Rattle.index.specs.ViewLaws.{length_records}
 use Rattle.index.specs.Nearing.{fewer, few, half, Took, first_taken, near_start, near_fewer, near_few, near_half}
 use Rattle.index.specs.Searches.{probe_took}
-use Rattle.std.proofs.Common.{true, false}
 use Rattle.index.proofs.records.locate.Goals as goal
 
 pub descend-requires-clause-nearing : goal.descend-requires-clause-nearing

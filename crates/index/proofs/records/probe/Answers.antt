@@ -1,6 +1,5 @@
 use Rattle.index.specs.Views.{row_of}
 use Rattle.index.specs.Searches.{step_taken, step_passed, step_short}
-use Rattle.std.proofs.Common.{true, false}
 use Rattle.index.proofs.records.probe.Goals as goal
 
 pub returns-then-end-n : goal.returns-then-end-n

@@ -5,7 +5,6 @@ use mathlib.Core.Path.{subst}
 use Rattle.index.specs.Views.{records_of}
 use Rattle.index.specs.Nearing.{two_high, two_low}
 use Rattle.index.specs.Searches.{probed, probed_led}
-use Rattle.std.proofs.Common.{true, false}
 use Rattle.index.proofs.records.probe_two.Goals as goal
 
 pub returns-then-base-middle : goal.returns-then-base-middle

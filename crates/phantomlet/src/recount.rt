@@ -160,7 +160,6 @@ fn tally_all(leaves: &mut Leaves, rows: &Records, slots: &Slots, n: usize, m: us
 }
 
 // The leaves that a merge made have no entry: it left none in its leaf, and did not join the leaf to the one before it.
-#[tactic(auto, unfolding(lists::specs::Tests::same, lists::specs::Tests::at_most))]
 fn bare(left: usize, m: usize, old: usize) -> bool
     ensures { result ≡ both (same left 0) (at_most old m) }
 {

@@ -1,7 +1,7 @@
 // The counters: the last commit number and the last leaf version given, and the functions that take the next ones; and how
 // many installs there were.
 //
-// `next_numbers` and `next_versions` are lent the counters. `take_numbers` and `take_versions` lend them in their bodies alone:
+// `next_numbers` and `next_versions` are lent the counters. `take_number` and `take_versions` lend them in their bodies alone:
 // their callers pass the counters by value.
 #![tactic(auto)]
 
@@ -17,41 +17,13 @@ pub struct Counters {
     pub installs: u64,
 }
 
-impl Counters {
-    // The next `count` commit numbers are given.
-    fn counted(self, count: u64) -> Counters
-        requires { self.number + count < 2 ^ 64 }
-        ensures { result ≡ counted self count }
-    {
-        Counters {
-            number: self.number + count,
-            version: self.version,
-            installs: self.installs,
-        }
-    }
-
-    // The next `count` leaf versions are given.
-    fn versioned(self, count: u64) -> Counters
-        requires { self.version + count < 2 ^ 64 }
-        ensures { result ≡ versioned self count }
-    {
-        Counters {
-            number: self.number,
-            version: self.version + count,
-            installs: self.installs,
-        }
-    }
-}
-
 // Takes the next `count` commit numbers, and answers the last one given.
 fn next_numbers(k: &mut Counters, count: u64) -> u64
     requires { k.old.number + count < 2 ^ 64 }
     ensures { (result ≡ (counted k.old count).number) × (k.new ≡ counted k.old count) }
 {
-    let before = *k;
-    let after = before.counted(count);
-    *k = after;
-    after.number
+    k.number += count;
+    k.number
 }
 
 // Takes the next `count` leaf versions, and answers the last one given.
@@ -59,10 +31,8 @@ fn next_versions(k: &mut Counters, count: u64) -> u64
     requires { k.old.version + count < 2 ^ 64 }
     ensures { (result ≡ (versioned k.old count).version) × (k.new ≡ versioned k.old count) }
 {
-    let before = *k;
-    let after = before.versioned(count);
-    *k = after;
-    after.version
+    k.version += count;
+    k.version
 }
 
 // The counters once the next numbers are taken, and the last of these.
@@ -72,22 +42,14 @@ pub struct Taken {
     pub last: u64,
 }
 
-// The next `count` commit numbers, where the counters go by value.
-fn take_numbers(k: Counters, count: u64) -> Taken
-    requires { k.number + count < 2 ^ 64 }
-    ensures { (result.last ≡ (counted k count).number) × (result.counters ≡ counted k count) }
-{
-    let mut counters = k;
-    let last = next_numbers(&mut counters, count);
-    Taken { counters, last }
-}
-
 // The next commit number, where the counters go by value.
 pub fn take_number(k: Counters) -> Taken
     requires { k.number + 1 < 2 ^ 64 }
     ensures { (result.last ≡ (numbered k).number) × (result.counters ≡ numbered k) }
 {
-    take_numbers(k, 1)
+    let mut counters = k;
+    let last = next_numbers(&mut counters, 1);
+    Taken { counters, last }
 }
 
 // One install more is counted.
@@ -96,9 +58,8 @@ pub fn count_install(k: Counters) -> Counters
     ensures { result ≡ installed k }
 {
     Counters {
-        number: k.number,
-        version: k.version,
         installs: k.installs + 1,
+        ..k
     }
 }
 

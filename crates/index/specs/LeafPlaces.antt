@@ -1,11 +1,10 @@
 -- The place of an address among the lows of the leaves, and one step of the search for it.
-use Rattle.std.specs.Prelude.{ℕ, zero, suc, ◌+◌, ◌<◌, ◌≤◌, ◌≡◌, refl, ◌⊎◌, Bool, true, false, List, [], ◌∷◌, length, take, get_or}
-use Rattle.std.proofs.Common.{zero-le, suc-le-suc, le_refl, not-suc-le-zero, arith, sym, inl, inr, ⊎_elim, length-take-le, get_or-take}
-use Rattle.lists.specs.Tests.{pick, both, less, at_most}
-use Rattle.lists.specs.TestLaws.{cases, clash, less_true, less_false, less_yes, less_no, at_most_true, at_most_false, at_most_yes, at_most_no}
+use Rattle.std.specs.Prelude.{ℕ, zero, suc, ◌+◌, ◌<◌, ◌≤◌, ◌≡◌, refl, Bool, true, false, List, [], ◌∷◌, length, take, get_or}
+use Rattle.std.proofs.Common.{zero-le, suc-le-suc, le_refl, not-suc-le-zero, arith, ⊎_elim, length-take-le, get_or-take}
+use Rattle.lists.specs.Tests.{pick, less}
+use Rattle.lists.specs.TestLaws.{cases, clash, less_true, less_false, less_yes, less_no}
 use Rattle.lists.specs.Ascending.{Ascends, ascends_at}
 use Rattle.index.specs.Views.{leaf_places}
-use Rattle.index.specs.Nearing.{Took, picked}
 
 -- how many of the lows, from the first one on, are not above a
 unfoldable pub up_to : ℕ → List ℕ → ℕ
@@ -76,66 +75,32 @@ leaf_above a [] i p h e = absurd (not-suc-le-zero h)
 leaf_above a (l ∷ ls) zero p h e = absurd (not-suc-le-zero p)
 leaf_above a (l ∷ ls) (suc i) p h e = suc-le-suc (up_above a ls i (omega arith) e)
 
--- ---- the search
+-- ---- the search: what the row at a place tells of the place of a
 
--- a step is taken to a leaf that starts at the address or before
-unfoldable pub probed_low : List ℕ → ℕ → ℕ → ℕ → ℕ
-probed_low ls a base step = pick (both (less (base + step) (length ls)) (at_most (get_or ls (base + step) 0) a)) (base + step) base
+module _ (lows : List ℕ) (m a i : ℕ) (h : Listed lows m) (fits : m ≤ length lows) (some : 0 < i) where
+  -- that leaf starts at the address or before
+  pub leaf_on : i < m → get_or lows i 0 ≤ a → i ≤ low_place a (take m lows)
+  leaf_on l e =
+      let n : length (take m lows) ≡ m = length-take-le m lows fits in
+      let g : get_or (take m lows) i 0 ≡ get_or lows i 0 = get_or-take m lows i 0 l in
+      leaf_below a 0 (take m lows) i h.rising (omega arith) (omega arith)
 
--- it leads on by its length, or nowhere
-pub low_led : (ls : List ℕ) (a base step : ℕ) → (probed_low ls a base step ≡ base + step) ⊎ (probed_low ls a base step ≡ base)
-unfolding probed_low
-low_led ls a base step = picked (both (less (base + step) (length ls)) (at_most (get_or ls (base + step) 0) a)) (base + step) base
+  -- there is no such leaf
+  pub leaf_end : m ≤ i → low_place a (take m lows) < i
+  leaf_end l =
+      let n : length (take m lows) ≡ m = length-take-le m lows fits in
+      let u : low_place a (take m lows) < length (take m lows) = place_inside a (take m lows) (rw n h.some) in
+      omega arith
 
-low_taken : (ls : List ℕ) (a base step : ℕ) → base + step < length ls → get_or ls (base + step) 0 ≤ a → probed_low ls a base step ≡ base + step
-unfolding probed_low
-low_taken ls a base step h l = rw (less_yes {m = base + step} {n = length ls} h, at_most_yes {m = get_or ls (base + step) 0} {n = a} l)
-
-low_passed : (ls : List ℕ) (a base step : ℕ) → base + step < length ls → a < get_or ls (base + step) 0 → probed_low ls a base step ≡ base
-unfolding probed_low
-low_passed ls a base step h l = rw (less_yes {m = base + step} {n = length ls} h, at_most_no {m = get_or ls (base + step) 0} {n = a} l)
-
-low_short : (ls : List ℕ) (a base step : ℕ) → length ls ≤ base + step → probed_low ls a base step ≡ base
-unfolding probed_low
-low_short ls a base step h = rw (less_no {m = base + step} {n = length ls} h)
-
-pub low_took : (lo : ℕ) (ls : List ℕ) (a base step : ℕ) → 1 ≤ length ls → Ascends lo ls → 0 < step → Took (low_place a ls) base step (probed_low ls a base step)
-low_took lo ls a base step s f h =
-    ⊎_elim
-    (λ e. let b : base + step < length ls = less_true (base + step) (length ls) e in
-    ⊎_elim
-    (λ d. let l : get_or ls (base + step) 0 ≤ a = at_most_true (get_or ls (base + step) 0) a d in
-    record { led = inl (low_taken ls a base step b l, leaf_below a lo ls (base + step) f b l) })
-    (λ d. let l : a < get_or ls (base + step) 0 = at_most_false (get_or ls (base + step) 0) a d in
-    record { led = inr (low_passed ls a base step b l, leaf_above a ls (base + step) (omega arith) b l) })
-    (cases (at_most (get_or ls (base + step) 0) a)))
-    (λ e. let b : length ls ≤ base + step = less_false (base + step) (length ls) e in
-    let p : low_place a ls < length ls = place_inside a ls s in
-    record { led = inr (low_short ls a base step b, omega arith) })
-    (cases (less (base + step) (length ls)))
-
--- ---- on all lows
-
-module _ (lows : List ℕ) (m a base step : ℕ) (fits : m ≤ length lows) where
-  few : length (take m lows) ≡ m
-  few = length-take-le m lows fits
-
-  pub leaf_step : base + step < m → get_or lows (base + step) 0 ≤ a → base + step ≡ probed_low (take m lows) a base step
-  leaf_step h l =
-      let e : get_or (take m lows) (base + step) 0 ≡ get_or lows (base + step) 0 = get_or-take m lows (base + step) 0 h in
-      sym (low_taken (take m lows) a base step (rw few h) (omega arith))
-
-  pub leaf_end : m ≤ base + step → base ≡ probed_low (take m lows) a base step
-  leaf_end h = sym (low_short (take m lows) a base step (rw few h))
-
-  -- the low is read whether it is a leaf's or not
-  pub leaf_stay : a < get_or lows (base + step) 0 → base ≡ probed_low (take m lows) a base step
-  leaf_stay l = ⊎_elim (λ d. here (less_true (base + step) m d)) (λ d. leaf_end (less_false (base + step) m d)) (cases (less (base + step) m))
+  -- it starts above it: the low is read whether it is a leaf's or not
+  pub leaf_stay : a < get_or lows i 0 → low_place a (take m lows) < i
+  leaf_stay e = ⊎_elim (λ d. here (less_true i m d)) (λ d. leaf_end (less_false i m d)) (cases (less i m))
     where
-      here : base + step < m → base ≡ probed_low (take m lows) a base step
-      here h =
-          let e : get_or (take m lows) (base + step) 0 ≡ get_or lows (base + step) 0 = get_or-take m lows (base + step) 0 h in
-          sym (low_passed (take m lows) a base step (rw few h) (omega arith))
+      here : i < m → low_place a (take m lows) < i
+      here l =
+          let n : length (take m lows) ≡ m = length-take-le m lows fits in
+          let g : get_or (take m lows) i 0 ≡ get_or lows i 0 = get_or-take m lows i 0 l in
+          leaf_above a (take m lows) i some (omega arith) (omega arith)
 
 -- ---- one place tried
 

@@ -1,12 +1,11 @@
 // Rows of words: all that touches the words of leaves, and the search among them.
 ghost use Rattle.std.specs.Prelude.{◌≡◌, ◌+◌, ◌/◌, ◌<◌, ◌≤◌, length, take};
-ghost use Rattle.lists.specs.Shifts.{moved};
 ghost use Rattle.index.specs.Views.{record_places, leaf_places};
-ghost use Rattle.index.specs.Nearing.{Nearing};
-ghost use Rattle.index.specs.LeafPlaces.{Listed, AtLeaf, Tells, low_place, probed_low};
+ghost use Rattle.index.specs.Nearing.{Leads};
+ghost use Rattle.index.specs.LeafPlaces.{Listed, AtLeaf, Tells, low_place};
 ghost use Rattle.index.specs.LeafColumns.{lows_of, leaf_at, leaf_put};
 
-use crate::{FEW, FEWER, LEAF_WORDS, LEAST, Leaves};
+use crate::{FEW, FEWER, LEAST, Leaves, search};
 use spec::{Address, MAP_LIMIT};
 
 // A leaf in words: its low and its version (document 01: mark), and the phantomlet's numbers of the keys that it hides from somebody
@@ -19,29 +18,22 @@ pub struct LeafWords {
     pub pending: u64,
 }
 
-// An array has as many rows as its type says.
-fn count(leaves: &[[u64; LEAF_WORDS]]) -> usize
-    ensures { result ≡ length leaves.now }
-{
-    leaves.len()
-}
-
+// For crates that cite it: an array has as many rows as its type says.
 pub fn leaf_places(leaves: &Leaves)
     ensures { length leaves.now ≡ leaf_places }
-{
-    count(leaves);
-}
+{}
 
 // The leaf at place i.
 pub fn leaf_at(leaves: &Leaves, i: usize) -> LeafWords
     requires { i < leaf_places }
     ensures { result ≡ leaf_at leaves.now i }
 {
+    let [low, version, hidden, pending] = leaves[i];
     LeafWords {
-        low: leaves[i][0],
-        version: leaves[i][1],
-        hidden: leaves[i][2],
-        pending: leaves[i][3],
+        low,
+        version,
+        hidden,
+        pending,
     }
 }
 
@@ -50,93 +42,17 @@ pub fn put_leaf(leaves: &mut Leaves, i: usize, l: LeafWords)
     requires { i < leaf_places }
     ensures { leaves.new ≡ leaf_put leaves.old i l }
 {
-    let row = [l.low, l.version, l.hidden, l.pending];
-    leaves[i] = row;
+    leaves[i] = [l.low, l.version, l.hidden, l.pending];
 }
 
-// Copies n leaves from place `from` on to the higher place `to`: the last one first, so that none is overwritten before
-// it is copied.
-pub fn shift_right(leaves: &mut Leaves, from: usize, to: usize, n: usize)
-    requires from_le_to { from ≤ to }
-    requires n_bound { to + n ≤ leaf_places }
-    ensures { leaves.new ≡ moved leaves.old from to n }
-{
-    leaf_places(leaves);
-    let mut i = n;
-    while 0 < i {
-        i -= 1;
-        let row = leaves[from + i];
-        leaves[to + i] = row;
-    }
-}
-
-// Copies n leaves from place `from` on to the lower place `to`: the first one first.
-pub fn shift_left(leaves: &mut Leaves, from: usize, to: usize, n: usize)
-    requires to_le_from { to ≤ from }
-    requires n_bound { from + n ≤ leaf_places }
-    ensures { leaves.new ≡ moved leaves.old from to n }
-{
-    leaf_places(leaves);
-    let mut i = 0;
-    while i < n {
-        let row = leaves[from + i];
-        leaves[to + i] = row;
-        i += 1;
-    }
-}
-
-// One step of the search: `step` leaves on, if that leaf is there and does not start above the address. The row is read
-// first, whether it holds a leaf or not, so that no branch depends on what it holds.
-fn probe(leaves: &Leaves, m: usize, key: u64, base: usize, step: usize) -> usize
-    requires m_le_leaf_places { m ≤ leaf_places }
-    requires step_bound { base + step ≤ record_places }
-    ensures { result ≡ probed_low (take m (lows_of leaves.now)) key base step }
-{
-    leaf_places(leaves);
-    let next = base + step;
-    let l = leaf_at(leaves, next);
-    if l.low <= key {
-        if next < m {
-            return next;
-        }
-    }
-    base
-}
-
-// Two steps at once: the second is tried from both ends of the first, so that three rows are read at a time, and not one after the
-// other.
-fn probe_two(leaves: &Leaves, m: usize, key: u64, base: usize, step: usize) -> usize
-    requires m_le_leaf_places { m ≤ leaf_places }
-    requires lt_step { (1 < step) × (base + step + step ≤ record_places) }
-    ensures { result ≡ probed_low (take m (lows_of leaves.now)) key (probed_low (take m (lows_of leaves.now)) key base step) (step / 2) }
-{
-    let half = step / 2;
-    let low = probe(leaves, m, key, base, half);
-    let high = probe(leaves, m, key, base + step, half);
-    let middle = probe(leaves, m, key, base, step);
-    if base < middle {
-        return high;
-    }
-    low
-}
-
-// The place of the leaf that holds an address, by steps from half of the places on which it can be.
-fn descend(leaves: &Leaves, m: usize, key: u64, half: usize) -> usize
+// Whether the leaf of an address is that at place `next`, or one behind it. The row is read first, whether it holds a leaf or not,
+// so that no branch depends on what it holds.
+fn reaches(leaves: &Leaves, m: usize, key: u64, next: usize) -> bool
     requires listed { Listed (lows_of leaves.now) m }
-    requires nearing { Nearing (low_place key (take m (lows_of leaves.now))) 0 half }
-    ensures { AtLeaf (lows_of leaves.now) m key result }
+    requires next_nonzero { (0 < next) × (next ≤ record_places) }
+    ensures { Leads (low_place key (take m (lows_of leaves.now))) next result }
 {
-    leaf_places(leaves);
-    let mut base = 0;
-    let mut step = half;
-    while 1 < step {
-        base = probe_two(leaves, m, key, base, step);
-        step = step / 4;
-    }
-    if step == 1 {
-        return probe(leaves, m, key, base, step);
-    }
-    base
+    leaf_at(leaves, next).low <= key && next < m
 }
 
 // The place of the leaf that holds an address. Few leaves take fewer steps; with many the last place of all is tried first.
@@ -144,22 +60,19 @@ pub fn find_leaf(leaves: &Leaves, m: usize, a: Address) -> usize
     requires { Listed (lows_of leaves.now) m }
     ensures { AtLeaf (lows_of leaves.now) m a result }
 {
-    leaf_places(leaves);
     let key = a as u64;
+    let goes = |next: usize| reaches(leaves, m, key, next);
     if m <= LEAST {
-        return descend(leaves, m, key, LEAST / 2);
+        search::descend(goes, LEAST / 2)
+    } else if m <= FEWER {
+        search::descend(goes, FEWER / 2)
+    } else if m <= FEW {
+        search::descend(goes, FEW / 2)
+    } else if goes(MAP_LIMIT) {
+        MAP_LIMIT
+    } else {
+        search::descend(goes, MAP_LIMIT / 2)
     }
-    if m <= FEWER {
-        return descend(leaves, m, key, FEWER / 2);
-    }
-    if m <= FEW {
-        return descend(leaves, m, key, FEW / 2);
-    }
-    let last = probe(leaves, m, key, 0, MAP_LIMIT);
-    if 0 < last {
-        return last;
-    }
-    descend(leaves, m, key, MAP_LIMIT / 2)
 }
 
 // Whether an address lies in the leaf at a place, which may be any.
@@ -167,7 +80,6 @@ fn lies_at(leaves: &Leaves, m: usize, key: u64, at: usize) -> bool
     requires { Listed (lows_of leaves.now) m }
     ensures { Tells (lows_of leaves.now) m key at result }
 {
-    leaf_places(leaves);
     if m <= at {
         return false;
     }

@@ -10,6 +10,7 @@ use spec::MAP_LIMIT;
 pub mod leaves;
 pub mod records;
 pub mod rows;
+mod search;
 pub mod settles;
 
 // How many words a record has: its address, its value, its owner, its commit number.

@@ -3,7 +3,7 @@ ghost use Rattle.std.specs.Prelude.{◌≡◌, ◌+◌, ◌<◌, ◌≤◌, leng
 ghost use Rattle.lists.specs.Shifts.{moved};
 ghost use Rattle.index.specs.Views.{record_places, row_of, row_at, stored};
 
-use crate::{RECORD_WORDS, Records};
+use crate::Records;
 use spec::PayloadWords;
 
 // A record in words.
@@ -14,32 +14,16 @@ pub struct RecordRow {
     pub commit: u64,
 }
 
-// An array has as many rows as its type says.
-fn count(rows: &[[u64; RECORD_WORDS]]) -> usize
-    ensures { result ≡ length rows.now }
-{
-    rows.len()
-}
-
-pub fn record_places(rows: &Records)
-    ensures { length rows.now ≡ record_places }
-{
-    count(rows);
-}
-
 // Row i.
 pub fn get(rows: &Records, i: usize) -> RecordRow
     requires { i < record_places }
     ensures { row_of result ≡ row_at rows.now i }
 {
-    let payload = PayloadWords {
-        value: rows[i][1],
-        owner: rows[i][2],
-    };
+    let [address, value, owner, commit] = rows[i];
     RecordRow {
-        address: rows[i][0],
-        payload,
-        commit: rows[i][3],
+        address,
+        payload: PayloadWords { value, owner },
+        commit,
     }
 }
 
@@ -48,38 +32,14 @@ pub fn store(rows: &mut Records, i: usize, r: RecordRow)
     requires { i < record_places }
     ensures { rows.new ≡ stored rows.old i r }
 {
-    let v = r.payload;
-    let row = [r.address, v.value, v.owner, r.commit];
-    rows[i] = row;
+    rows[i] = [r.address, r.payload.value, r.payload.owner, r.commit];
 }
 
-// Copies n rows from row `from` on to the higher row `to`: the last one first, so that none is overwritten before it is
-// copied.
-pub fn raise(rows: &mut Records, from: usize, to: usize, n: usize)
-    requires from_le_to { from ≤ to }
-    requires n_bound { to + n ≤ record_places }
+// Copies n rows from row `from` on to row `to`, higher or lower, none overwritten before it is copied.
+pub fn move_rows<T: Copy>(rows: &mut [T], from: usize, to: usize, n: usize)
+    requires from_bound { from + n ≤ length rows.old }
+    requires to_bound { to + n ≤ length rows.old }
     ensures { rows.new ≡ moved rows.old from to n }
 {
-    record_places(rows);
-    let mut i = n;
-    while 0 < i {
-        i -= 1;
-        let row = rows[from + i];
-        rows[to + i] = row;
-    }
-}
-
-// Copies n rows from row `from` on to the lower row `to`: the first one first.
-pub fn lower(rows: &mut Records, from: usize, to: usize, n: usize)
-    requires to_le_from { to ≤ from }
-    requires n_bound { from + n ≤ record_places }
-    ensures { rows.new ≡ moved rows.old from to n }
-{
-    record_places(rows);
-    let mut i = 0;
-    while i < n {
-        let row = rows[from + i];
-        rows[to + i] = row;
-        i += 1;
-    }
+    rows.copy_within(from..from + n, to);
 }

@@ -41,12 +41,9 @@ fn make_all(rows: &Records, i: usize, n: usize, v: u64) -> MadeLeaves
     ensures { MadeRuns rows.now i v n result }
 {
     let mut made = [cuts::MadeLeaf { low: 0, version: 0 }; MOST_RUNS];
-    let mut x = 0;
-    while x < n {
+    for x in 0..n {
         let r = rows::get(rows, i + (x + 1) * RUN);
-        let next = cuts::make_run(made, x, r.address, v + 1 + (x as u64));
-        made = next;
-        x += 1;
+        cuts::make_run(&mut made, x, r.address, v + 1 + x as u64);
     }
     made
 }
@@ -57,13 +54,9 @@ fn fill(leaves: &mut Leaves, made: MadeLeaves, at: usize, n: usize)
     requires n_lt_most_runs { n < most_runs }
     ensures { leaves.new ≡ over leaves.old at (tab (made_row made) n) }
 {
-    leaves::leaf_places(leaves);
-    let mut x = 0;
-    while x < n {
+    for x in 0..n {
         let run = made[x];
-        let l = made_leaf(run.low, run.version);
-        leaves::put_leaf(leaves, at + x, l);
-        x += 1;
+        leaves::put_leaf(leaves, at + x, made_leaf(run.low, run.version));
     }
 }
 
@@ -73,8 +66,7 @@ fn keep(leaves: &mut Leaves, m: usize, p: usize, v: u64) -> Settled
     ensures { (result.leaves ≡ m) × (result.version ≡ v + 1) × (leaves.new ≡ kept_rows leaves.old p v) }
 {
     let own = leaves::leaf_at(leaves, p);
-    let l = made_leaf(own.low, v + 1);
-    leaves::put_leaf(leaves, p, l);
+    leaves::put_leaf(leaves, p, made_leaf(own.low, v + 1));
     Settled {
         leaves: m,
         version: v + 1,
@@ -86,13 +78,11 @@ fn join(leaves: &mut Leaves, m: usize, p: usize, v: u64) -> Settled
     requires { (0 < p) × (p < m) × (m ≤ leaf_places) × (v + 1 < 2 ^ 64) }
     ensures { (result.leaves ≡ m - 1) × (result.version ≡ v + 1) × (leaves.new ≡ joined_rows leaves.old m p v) }
 {
-    leaves::shift_left(leaves, p + 1, p, m - p - 1);
+    rows::move_rows(leaves, p + 1, p, m - p - 1);
     let left = leaves::leaf_at(leaves, p - 1);
     let l = LeafWords {
-        low: left.low,
         version: v + 1,
-        hidden: left.hidden,
-        pending: left.pending,
+        ..left
     };
     leaves::put_leaf(leaves, p - 1, l);
     Settled {
@@ -115,14 +105,13 @@ fn cut(
     ensures { (result.leaves ≡ m + t - 1) × (result.version ≡ v + t) × (leaves.new ≡ cut_rows leaves.old rows.now m p i t v) }
 {
     let own = leaves::leaf_at(leaves, p);
-    leaves::shift_right(leaves, p + 1, p + t, m - p - 1);
+    rows::move_rows(leaves, p + 1, p + t, m - p - 1);
     let made = make_all(rows, i, t - 1, v + 1);
     fill(leaves, made, p + 1, t - 1);
-    let l = made_leaf(own.low, v + 1);
-    leaves::put_leaf(leaves, p, l);
+    leaves::put_leaf(leaves, p, made_leaf(own.low, v + 1));
     Settled {
         leaves: m + t - 1,
-        version: v + (t as u64),
+        version: v + t as u64,
     }
 }
 
@@ -141,7 +130,6 @@ pub fn settle(
     requires { Settling m p i j v (keys_between rows.now i j) }
     ensures { SettledRows leaves.old m p v (keys_between rows.now i j) leaves.new result.leaves result.version }
 {
-    leaves::leaf_places(leaves);
     let count = j - i;
     match count {
         0 => {

@@ -78,21 +78,14 @@ struct Sought {
 pub fn idle(c: Content) -> bool
     ensures { result ≡ is_idle (content_in c) }
 {
-    if c.kind != 0 {
-        return false;
-    }
-    c.lock == 0
+    c.kind == 0 && c.lock == 0
 }
 
 // The slot has the entry of the address. The key is compared first: nearly always that decides, so it is guessed right.
 fn holds_key(s: Slot, a: Address) -> bool
     ensures { result ≡ holds a (slot_in s) }
 {
-    if s.key != a as u64 {
-        return false;
-    }
-    let c = s.content;
-    !idle(c)
+    s.key == a as u64 && !idle(s.content)
 }
 
 // The row of slot i. Only this function, the next, and those of cells and of the bitmap touch words.
@@ -100,22 +93,29 @@ fn get(t: &Slots, i: usize) -> Slot
     requires { i < slot_count }
     ensures { result ≡ row_at t.now i }
 {
-    let payload = PayloadWords {
-        value: t[i][5],
-        owner: t[i][6],
-    };
+    let [
+        key,
+        overflow,
+        kind,
+        lock,
+        forput,
+        value,
+        owner,
+        commit,
+        since,
+    ] = t[i];
     let content = Content {
-        kind: t[i][2],
-        payload,
-        commit: t[i][7],
-        since: t[i][8],
-        lock: t[i][3],
-        forput: t[i][4],
+        kind,
+        payload: PayloadWords { value, owner },
+        commit,
+        since,
+        lock,
+        forput,
     };
     Slot {
-        key: t[i][0],
+        key,
         content,
-        overflow: t[i][1],
+        overflow,
     }
 }
 
@@ -126,10 +126,9 @@ fn put(t: &mut Slots, i: usize, s: Slot)
 {
     let c = s.content;
     let v = c.payload;
-    let row = [
+    t[i] = [
         s.key, s.overflow, c.kind, c.lock, c.forput, v.value, v.owner, c.commit, c.since,
     ];
-    t[i] = row;
 }
 
 // All slots are empty. What says that a slot is empty is its content; its key is 0, and an address all the same. In the rows behind
@@ -137,9 +136,7 @@ fn put(t: &mut Slots, i: usize, s: Slot)
 pub fn fresh_slots(t: &mut Slots)
     ensures { SlotsFresh t.new }
 {
-    let empty = [0, 0, 0, 0, 0, 0, 0, 0, 0];
-    let slots = [empty; SLOT_ROWS];
-    *t = slots;
+    *t = [[0; SLOT_WORDS]; SLOT_ROWS];
 }
 
 // The bucket of an address.
@@ -277,8 +274,7 @@ fn seek(t: &Slots, a: Address, h: usize) -> Sought
     requires { h ≡ home_slot address_size a }
     ensures { result ≡ sought (slots_of t.now) a }
 {
-    let mut d = 0;
-    while d < SLOTS {
+    for d in 0..SLOTS {
         let i = (h + d) % SLOTS;
         let s = get(t, i);
         if holds_key(s, a) {
@@ -293,7 +289,6 @@ fn seek(t: &Slots, a: Address, h: usize) -> Sought
                 examined: d + 1,
             };
         }
-        d += 1;
     }
     Sought {
         at: SLOTS,
@@ -305,10 +300,9 @@ fn seek(t: &Slots, a: Address, h: usize) -> Sought
 fn nothing() -> Content
     ensures { result ≡ unsaid }
 {
-    let payload = PayloadWords { value: 0, owner: 0 };
     Content {
         kind: 0,
-        payload,
+        payload: PayloadWords { value: 0, owner: 0 },
         commit: 0,
         since: 0,
         lock: 0,
@@ -321,10 +315,10 @@ pub fn content_at(t: &Slots, at: usize) -> Content
     ensures { result ≡ content_at t.now at }
 {
     if at < SLOTS {
-        let s = get(t, at);
-        return s.content;
+        get(t, at).content
+    } else {
+        nothing()
     }
-    nothing()
 }
 
 // The slot of an address's entry, or 256. Only the slot is answered: it comes in a register, and what is said there would come
@@ -365,17 +359,12 @@ pub fn look_up(t: &Slots, a: Address) -> Looked
     let at = find(t, a);
     let content = content_at(t, at);
     let h = homes::home(a);
-    if at < SLOTS {
-        return Looked {
-            content,
-            examined: passed(h, at) + 1,
-        };
-    }
-    let r = seek(t, a, h);
-    Looked {
-        content,
-        examined: r.examined,
-    }
+    let examined = if at < SLOTS {
+        passed(h, at) + 1
+    } else {
+        seek(t, a, h).examined
+    };
+    Looked { content, examined }
 }
 
 // The counts of n slots from this one on, up to the last slot at most: each has `up` added and `down` taken away.
@@ -384,18 +373,13 @@ fn recount(t: &mut Slots, from: usize, n: usize, up: u64, down: u64)
     requires countable { Countable up down (slots_of t.old) from n }
     ensures { Going (shifted up down) t.old from t.new n }
 {
-    let mut d = 0;
-    while d < n {
-        let i = from + d;
-        let s = get(t, i);
-        let said = s.content;
+    for d in 0..n {
+        let s = get(t, from + d);
         let other = Slot {
-            key: s.key,
-            content: said,
             overflow: s.overflow + up - down,
+            ..s
         };
-        put(t, i, other);
-        d += 1;
+        put(t, from + d, other);
     }
 }
 
@@ -408,11 +392,11 @@ fn recount_passed(t: &mut Slots, h: usize, n: usize, up: u64, down: u64)
 {
     if h + n <= SLOTS {
         recount(t, h, n, up, down);
-        return;
+    } else {
+        let m = SLOTS - h;
+        recount(t, h, m, up, down);
+        recount(t, 0, n - m, up, down);
     }
-    let m = SLOTS - h;
-    recount(t, h, m, up, down);
-    recount(t, 0, n - m, up, down);
 }
 
 // The bits of the slots without an entry, from this slot on, up to the end of its word: the lowest is its own.
@@ -449,11 +433,10 @@ fn say_at(t: &mut Slots, i: usize, a: Address, c: Content)
     requires { i < slot_count }
     ensures { t.new ≡ store t.old i (saying a c (row_at t.old i)) }
 {
-    let s = get(t, i);
     let own = Slot {
         key: a as u64,
         content: c,
-        overflow: s.overflow,
+        ..get(t, i)
     };
     put(t, i, own);
 }
@@ -468,9 +451,7 @@ fn take(t: &mut Slots, a: Address, h: usize, c: Content) -> usize
     ensures slots_become { (SlotsBecome t.old t.new (model.take address_size (slots_of t.old) a (content_in c))) × (result < slot_count) }
     ensures turns { Turns true false (slots_of t.old) (model.take address_size (slots_of t.old) a (content_in c)) result }
 {
-    let s = get(t, h);
-    let said = s.content;
-    if idle(said) {
+    if idle(get(t, h).content) {
         say_at(t, h, a, c);
         return h;
     }
@@ -491,12 +472,10 @@ fn release(t: &mut Slots, a: Address, h: usize, passed: usize)
 {
     recount_passed(t, h, passed, 0, 1);
     let i = (h + passed) % SLOTS;
-    let s = get(t, i);
-    let content = nothing();
     let none = Slot {
         key: 0,
-        content,
-        overflow: s.overflow,
+        content: nothing(),
+        ..get(t, i)
     };
     put(t, i, none);
 }

@@ -1,6 +1,6 @@
 -- What a merge need not walk over: slots whose keys lie elsewhere, and, where one pending write is all of a leaf that matters,
 -- all slots but its own.
-use Rattle.std.specs.Prelude.{ℕ, ◌+◌, ◌-◌, ◌<◌, ◌≤◌, ◌≡◌, Bool, not, List, [], get_or}
+use Rattle.std.specs.Prelude.{ℕ, ◌+◌, ◌<◌, ◌≤◌, ◌≡◌, Bool, not, List, [], get_or}
 use Rattle.std.proofs.Common.{zero-le, le_refl, ◌∙◌, subst, ⊎_elim}
 use native.Mathlib.Omega.{arith}
 use Rattle.std.proofs.Math.Path.{refl, sym, ap}

@@ -11,9 +11,9 @@ use mathlib.Core.List.{List, [], ◌∷◌, ◌++◌, append_assoc}
 use Rattle.std.proofs.Math.Option.{Option, none, some}
 use Rattle.std.proofs.Math.ListN.{length, take, drop, take-append-drop}
 use Rattle.std.proofs.Math.Seq.{take-take, take-append-le, take_at}
-use Rattle.lists.specs.Tests.{pick, both, maybe, present, same, less}
+use Rattle.lists.specs.Tests.{pick, both, maybe, present, less}
 use Rattle.lists.specs.TestLaws.{cases, clash, same_true, less_true, less_false}
-use Rattle.lists.specs.Rows.{Row, row, look, assign, keys, has, filter, distinct, From, Rising}
+use Rattle.lists.specs.Rows.{Row, look, assign, keys, has, filter, distinct, From, Rising}
 use Rattle.lists.specs.RowLaws.{look_low, from_weaken, rising_assign, rising_different, has_keys, length_keys}
 use Rattle.lists.specs.Places.{place, place_most}
 use Rattle.lists.specs.Fronts.{assign_front, from_take, keys_append, from_place, place_over, place_under}

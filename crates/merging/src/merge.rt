@@ -74,19 +74,17 @@ fn take_write(
     ensures rows_unchanged { drop result rows.new ≡ drop result rows.old }
 {
     if kind == 1 {
-        return index::records::put(rows, n, a, payload, commit);
+        index::records::put(rows, n, a, payload, commit)
+    } else {
+        index::records::drop(rows, n, a)
     }
-    index::records::drop(rows, n, a)
 }
 
 // 1 if somebody holds a lock.
 fn locked(c: indexlet::Content) -> usize
     ensures { result ≡ pick (present (content_in c).holder) 1 0 }
 {
-    if c.lock == 0 {
-        return 0;
-    }
-    1
+    if c.lock == 0 { 0 } else { 1 }
 }
 
 // How many entries lie outside of the index, after a write entered it. A put brings its address into the index; a deletion
@@ -96,9 +94,10 @@ fn outside_now(out: usize, before: usize, after: usize, kind: u64, lock: usize) 
     ensures { OutsideNow out before after kind lock result }
 {
     if kind == 1 {
-        return out + before - after;
+        out + before - after
+    } else {
+        out + lock + before - after - 1
     }
-    out + lock + before - after - 1
 }
 
 // The walk at slot j: a write that is pending there, in the leaf at place i, whose addresses are r, enters the index; a lock
@@ -119,33 +118,23 @@ fn take_slot(
     ensures { WalksSlot (placed (lows_of leaves.now) m i) rows.old slots.old w j rows.new slots.new result }
 {
     let s = indexlet::slot_at(slots, j);
-    let key = s.key;
-    if !recount::reaches(r, key) {
+    if !recount::reaches(r, s.key) {
         return w;
     }
     let c = s.content;
     let lock = locked(c);
     let left = w.left + lock;
     if c.kind == 0 {
-        return Walk {
-            records: w.records,
-            entries: w.entries,
-            count: w.count,
-            left,
-            outside: w.outside,
-        };
+        return Walk { left, ..w };
     }
-    let a = key as Address;
-    let payload = c.payload;
-    let n = take_write(rows, w.records, a, c.kind, payload, c.commit);
-    let nothing = PayloadWords { value: 0, owner: 0 };
+    let a = s.key as Address;
+    let n = take_write(rows, w.records, a, c.kind, c.payload, c.commit);
     let rest = indexlet::Content {
         kind: 0,
-        payload: nothing,
+        payload: PayloadWords { value: 0, owner: 0 },
         commit: 0,
         since: 0,
-        lock: c.lock,
-        forput: c.forput,
+        ..c
     };
     let e = indexlet::enter(slots, w.entries, a, j, rest);
     let outside = outside_now(w.outside, w.records, n, c.kind, lock);
@@ -250,19 +239,11 @@ fn hides_alone(
     ensures { result ≡ true → Alone (placed (lows_of leaves.now) m i) rows.now n slots.now j }
 {
     let s = indexlet::slot_at(slots, j);
-    let key = s.key;
-    if !recount::reaches(r, key) {
-        return false;
-    }
     let c = s.content;
-    let kind = c.kind;
-    if kind == 0 {
+    if !recount::reaches(r, s.key) || c.kind == 0 {
         return false;
     }
-    if hidden == 0 {
-        return true;
-    }
-    recount::hides_at(rows, n, key as Address, c) == hidden
+    hidden == 0 || recount::hides_at(rows, n, s.key as Address, c) == hidden
 }
 
 // The rows of the leaf at place i.
@@ -272,17 +253,15 @@ fn leaf_rows(rows: &Records, leaves: &Leaves, n: usize, m: usize, i: usize) -> S
     requires i_lt_m { i < m }
     ensures { LeafSpan (lows_of leaves.now) rows.now n m i result.from result.to }
 {
-    leaves::leaf_places(leaves);
-    let own = leaves::leaf_at(leaves, i);
-    let low = own.low as Address;
-    let from = index::records::locate(rows, n, low);
-    if i + 1 < m {
-        let next = leaves::leaf_at(leaves, i + 1);
-        let high = next.low as Address;
-        let to = index::records::locate(rows, n, high);
-        return Span { from, to };
-    }
-    Span { from, to: n }
+    let low = leaves::leaf_at(leaves, i).low;
+    let from = index::records::locate(rows, n, low as Address);
+    let to = if i + 1 < m {
+        let next = leaves::leaf_at(leaves, i + 1).low;
+        index::records::locate(rows, n, next as Address)
+    } else {
+        n
+    };
+    Span { from, to }
 }
 
 // Moves n rows, from row `from` on, up to row `to`.
@@ -291,9 +270,8 @@ fn move_up(rows: &mut Records, from: usize, to: usize, n: usize)
     requires n_bound { to + n ≤ index-views.record_places }
     ensures { Raised rows.old rows.new from to n }
 {
-    index::rows::record_places(rows);
     if from < to {
-        index::rows::raise(rows, from, to, n);
+        index::rows::move_rows(rows, from, to, n);
     }
 }
 
@@ -303,9 +281,8 @@ fn move_down(rows: &mut Records, from: usize, to: usize, n: usize)
     requires n_bound { from + n ≤ index-views.record_places }
     ensures { Lowered rows.old rows.new from to n }
 {
-    index::rows::record_places(rows);
     if to < from {
-        index::rows::lower(rows, from, to, n);
+        index::rows::move_rows(rows, from, to, n);
     }
 }
 
@@ -335,14 +312,10 @@ fn take_many(
     let w = take_all(
         rows, slots, leaves, to, z.entries, z.outside, z.leaves, i, r,
     );
-    let n = w.records;
-    move_down(rows, top, n, behind);
+    move_down(rows, top, w.records, behind);
     Walk {
-        records: n + behind,
-        entries: w.entries,
-        count: w.count,
-        left: w.left,
-        outside: w.outside,
+        records: w.records + behind,
+        ..w
     }
 }
 
@@ -365,23 +338,20 @@ fn take_leaf(
     requires numbered { Numbered leaves.now rows.old slots.old z.leaves z.records i }
     ensures { Took (placed (lows_of leaves.now) z.leaves i) rows.old slots.old z.records rows.new slots.new result }
 {
-    leaves::leaf_places(leaves);
     let m = z.leaves;
     let n = z.records;
     let own = leaves::leaf_at(leaves, i);
     if own.pending == 1 {
         let j = indexlet::find(slots, a);
-        if j < SLOTS {
-            if hides_alone(rows, slots, leaves, n, m, i, r, j, own.hidden) {
-                let w = Walk {
-                    records: n,
-                    entries: z.entries,
-                    count: 0,
-                    left: 0,
-                    outside: z.outside,
-                };
-                return take_slot(rows, slots, leaves, w, r, m, i, j);
-            }
+        if j < SLOTS && hides_alone(rows, slots, leaves, n, m, i, r, j, own.hidden) {
+            let w = Walk {
+                records: n,
+                entries: z.entries,
+                count: 0,
+                left: 0,
+                outside: z.outside,
+            };
+            return take_slot(rows, slots, leaves, w, r, m, i, j);
         }
     }
     take_many(rows, slots, leaves, z, i, r, s, own.hidden)
@@ -415,7 +385,6 @@ pub fn merge(
     let w = take_leaf(rows, slots, leaves, z, i, r, span, a);
     let to = span.to + w.records - z.records;
     let s = settles::settle(leaves, rows, m, i, span.from, to, k.version);
-    leaves::leaf_places(leaves);
     recount::recount(leaves, rows, slots, w.records, s.leaves, i, m, w.left);
     let sizes = Sizes {
         records: w.records,
@@ -424,10 +393,9 @@ pub fn merge(
         outside: w.outside,
     };
     let taken = counters::take_versions(k, s.version - k.version);
-    let counters = taken.counters;
     Merged {
         sizes,
-        counters,
+        counters: taken.counters,
         count: w.count,
     }
 }

@@ -29,44 +29,19 @@ pub struct Reach {
     pub span: u64,
 }
 
-// The place before, or the first.
-fn before(i: usize) -> usize
-    ensures { result ≡ i - 1 }
-{
-    if i == 0 {
-        return 0;
-    }
-    i - 1
-}
-
 // Writes 0 for the numbers of the leaves at the places from `from` up to, not including, `to`.
 fn clear(leaves: &mut Leaves, from: usize, to: usize)
     requires { (from ≤ to) × (to ≤ leaf_places) }
     ensures { Cleared leaves.old leaves.new from to }
 {
-    leaves::leaf_places(leaves);
-    let mut x = from;
-    while x < to {
-        let l = leaves::leaf_at(leaves, x);
+    for x in from..to {
         let none = LeafWords {
-            low: l.low,
-            version: l.version,
             hidden: 0,
             pending: 0,
+            ..leaves::leaf_at(leaves, x)
         };
         leaves::put_leaf(leaves, x, none);
-        x += 1;
     }
-}
-
-// How many numbers there are from one up to, not including, another.
-fn between(low: u64, high: u64) -> u64
-    ensures { result ≡ high - low }
-{
-    if high < low {
-        return 0;
-    }
-    high - low
 }
 
 // The addresses of the leaves at these places.
@@ -74,24 +49,17 @@ pub fn addresses_of(leaves: &Leaves, m: usize, from: usize, to: usize) -> Reach
     requires { Ranging (lows_of leaves.now) m from to }
     ensures { (ReachIs (lows_of leaves.now) m result) × (result.from ≡ from) × (result.to ≡ to) }
 {
-    leaves::leaf_places(leaves);
-    let first = leaves::leaf_at(leaves, from);
-    let low = first.low;
-    if to < m {
-        let next = leaves::leaf_at(leaves, to);
-        let last = between(1, next.low);
-        return Reach {
-            from,
-            to,
-            low,
-            span: between(low, last),
-        };
-    }
+    let low = leaves::leaf_at(leaves, from).low;
+    let last = if to < m {
+        leaves::leaf_at(leaves, to).low.saturating_sub(1)
+    } else {
+        HIGHEST as u64
+    };
     Reach {
         from,
         to,
         low,
-        span: between(low, HIGHEST as u64),
+        span: last.saturating_sub(low),
     }
 }
 
@@ -107,10 +75,7 @@ pub fn reaches(r: Reach, key: u64) -> bool
 pub fn waits(c: indexlet::Content) -> u64
     ensures { result ≡ pick (present (content_in c).pending) 1 0 }
 {
-    if c.kind == 0 {
-        return 0;
-    }
-    1
+    if c.kind == 0 { 0 } else { 1 }
 }
 
 // The index has no record at the address.
@@ -125,13 +90,7 @@ pub fn lacks(rows: &Records, n: usize, a: Address) -> bool
 pub fn hides_some(c: indexlet::Content) -> bool
     ensures { result ≡ hides_some (content_in c) }
 {
-    if c.kind == 1 {
-        return true;
-    }
-    if c.lock == 0 {
-        return false;
-    }
-    c.forput == 1
+    c.kind == 1 || c.lock != 0 && c.forput == 1
 }
 
 // 1 if what is said of the address hides it from somebody, and the index lacks it.
@@ -139,13 +98,11 @@ pub fn hides_at(rows: &Records, n: usize, a: Address, c: indexlet::Content) -> u
     requires { RecordsSorted rows.now n }
     ensures { result ≡ pick (both (not (present (look (records_of rows.now n) a))) (hides_some (content_in c))) 1 0 }
 {
-    if !hides_some(c) {
-        return 0;
+    if hides_some(c) && lacks(rows, n, a) {
+        1
+    } else {
+        0
     }
-    if lacks(rows, n, a) {
-        return 1;
-    }
-    0
 }
 
 // Adds to the two numbers of the leaf at a place.
@@ -156,10 +113,9 @@ fn raise(leaves: &mut Leaves, at: usize, x: u64, w: u64)
 {
     let l = leaves::leaf_at(leaves, at);
     let more = LeafWords {
-        low: l.low,
-        version: l.version,
         hidden: l.hidden + x,
         pending: l.pending + w,
+        ..l
     };
     leaves::put_leaf(leaves, at, more);
 }
@@ -179,18 +135,13 @@ fn tally_slot(
     ensures { Tallied rows.now leaves.old slots.now n m r (j + 1) leaves.new }
 {
     let s = indexlet::slot_at(slots, j);
-    let key = s.key;
-    if !reaches(r, key) {
+    if !reaches(r, s.key) || indexlet::idle(s.content) {
         return;
     }
-    let c = s.content;
-    if indexlet::idle(c) {
-        return;
-    }
-    let a = key as Address;
+    let a = s.key as Address;
     let at = leaves::find_leaf(leaves, m, a);
-    let x = hides_at(rows, n, a, c);
-    let w = waits(c);
+    let x = hides_at(rows, n, a, s.content);
+    let w = waits(s.content);
     raise(leaves, at, x, w);
 }
 
@@ -199,10 +150,8 @@ fn tally_all(leaves: &mut Leaves, rows: &Records, slots: &Slots, n: usize, m: us
     requires { Tallying rows.now (lows_of leaves.old) slots.now n m r (hidden_of leaves.old) (pending_of leaves.old) 0 }
     ensures { Numbering rows.now leaves.old slots.now n m leaves.new }
 {
-    let mut j = 0;
-    while j < SLOTS {
+    for j in 0..SLOTS {
         tally_slot(leaves, rows, slots, n, m, r, j);
-        j += 1;
     }
 }
 
@@ -210,10 +159,7 @@ fn tally_all(leaves: &mut Leaves, rows: &Records, slots: &Slots, n: usize, m: us
 fn bare(left: usize, m: usize, old: usize) -> bool
     ensures { result ≡ both (same left 0) (at_most old m) }
 {
-    if left == 0 {
-        return old <= m;
-    }
-    false
+    left == 0 && old <= m
 }
 
 // The phantomlet after a merge at place i of `old` leaves, of which there are m now; the merge left `left` entries in its
@@ -231,11 +177,10 @@ pub fn recount(
     requires { Recounting rows.now leaves.old slots.now n m i old left }
     ensures { Numbering rows.now leaves.old slots.now n m leaves.new }
 {
-    leaves::leaf_places(leaves);
     if bare(left, m, old) {
         return;
     }
-    let from = before(i);
+    let from = i.saturating_sub(1);
     let to = i + 1 + m - old;
     clear(leaves, from, to);
     let r = addresses_of(leaves, m, from, to);

@@ -1,5 +1,5 @@
 -- A leaf whose low address and version are both set is made.
-use Rattle.std.proofs.Common.{◌≡◌, ◌<◌, ℕ, List, length, set, ap, ◌∙◌, rules}
+use Rattle.std.proofs.Common.{◌≡◌, ◌<◌, ℕ, List, length, set, ap, ◌∙◌}
 use Rattle.std.proofs.Math.Seq.{set-set, get_or-set_same}
 use Rattle.cuts.specs.declared.MadeLeaf.{MadeLeaf}
 use Rattle.cuts.specs.Making.{leaf, lowered, versioned, changed}
@@ -13,4 +13,4 @@ pub returns : goal.returns
 returns c =
     c.set_version.ensures
     ∙ ap (λ (ys : List MadeLeaf). changed versioned ys c.args.i c.args.version) c.set_low.ensures
-    ∙ made c.args.made c.args.i c.args.low c.args.version (search rules)
+    ∙ made c.args.made.now c.args.i c.args.low c.args.version (rw c.told-made c.requires)

@@ -1,7 +1,6 @@
 -- `indexlet::enter` meets its contract: an entry goes, stays away, is rewritten or is new.
 use mathlib.Core.Path.{refl, sym, ◌∙◌}
 use Rattle.indexlet.specs.EnterLaws.{number_some, enter_out, enter_nothing, enter_over, enter_new}
-use Rattle.std.proofs.Common.{true, false}
 use Rattle.indexlet.proofs.enter.Goals as goal
 
 pub overflow_sub-result : goal.overflow_sub-result

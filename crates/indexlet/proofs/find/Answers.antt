@@ -2,7 +2,6 @@
 use native.Mathlib.Omega.{arith}
 use Rattle.indexlet.specs.FilterLaws.{bucket_inside}
 use Rattle.indexlet.specs.EnterLaws.{at_finds, none_finds, sought_finds, filter_miss, tried}
-use Rattle.std.proofs.Common.{true}
 use Rattle.indexlet.proofs.find.Goals as goal
 
 pub cell-w-requires : goal.cell-w-requires

@@ -1,10 +1,10 @@
-use mathlib.Core.Path.{sym}
+use Rattle.std.proofs.Common.{sym, ◌∙◌}
+use Rattle.std.proofs.lemmas.Bool.{ne_eqb}
 use Rattle.indexlet.specs.WordLaws.{idle_waiting, idle_lock}
-use Rattle.std.proofs.Common.{true, false}
 use Rattle.indexlet.proofs.idle.Goals as goal
 
-pub returns-then-c-ne0 : goal.returns-then-c-ne0
-returns-then-c-ne0 c = sym (idle_waiting c.args.c c.if-c-ne0.true)
+pub returns-then-c-eq0 : goal.returns-then-c-eq0
+returns-then-c-eq0 c = sym (idle_lock c.args.c c.if-c-eq0.true)
 
-pub returns : goal.returns
-returns c = sym (idle_lock c.args.c c.if-c-ne0.false)
+pub returns-else-c-eq0 : goal.returns-else-c-eq0
+returns-else-c-eq0 c = ne_eqb _ 0 c.if-c-eq0.false ∙ sym (idle_waiting c.args.c c.if-c-eq0.false)

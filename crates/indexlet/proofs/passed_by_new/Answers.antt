@@ -1,7 +1,5 @@
 use native.Mathlib.Omega.{arith}
 use Rattle.indexlet.specs.WalkLaws.{filled_on, filled_first, filled_less, filled_never, first_less}
-use Rattle.std.proofs.Common.{true, false}
-use Rattle.indexlet.specs.Bitmaps.{word_end}
 use Rattle.indexlet.proofs.passed_by_new.Goals as goal
 
 pub returns-then-w-ne0 : goal.returns-then-w-ne0

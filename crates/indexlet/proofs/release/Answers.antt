@@ -20,5 +20,5 @@ pub overflow_add-i : goal.overflow_add-i
 overflow_add-i c = omega (arith, c.requires.h_value, home_less address_size c.args.a, far_less c.requires.stands)
 
 pub returns : goal.returns
-returns c = release_ends _ _ _ _ c.requires.slots_held c.requires.h_value c.requires.stands _ c.recount_passed.ensures _ c.get-s.ensures _ _
-    (ap (λ (x : ContentWords). is_idle (content_in x)) c.nothing-content.ensures ∙ idle_zero) _ c.put.ensures
+returns c = release_ends _ _ _ _ c.requires.slots_held c.requires.h_value c.requires.stands _ c.recount_passed.ensures _ c.get.ensures _ _
+    (ap (λ (x : ContentWords). is_idle (content_in x)) c.nothing.ensures ∙ idle_zero) _ c.put.ensures

@@ -3,7 +3,6 @@ use mathlib.Core.Path.{sym, ◌∙◌}
 use Rattle.spec.specs.Widths.{address_size}
 use Rattle.laws.specs.Probes.{home_less}
 use Rattle.indexlet.specs.SeekLaws.{seek_start, seek_hit, seek_stop, seek_on, seek_end}
-use Rattle.std.proofs.Common.{true, false}
 use Rattle.indexlet.proofs.seek.Goals as goal
 
 pub loop-d-init : goal.loop-d-init

@@ -1,11 +1,6 @@
 -- `indexlet::seek` meets its contract. The invariant: what is left of the search is the whole search.
-use Prim.Native.Nat.{◌-◌}
-use Rattle.spec.specs.Slots.{slot_count}
 use Rattle.indexlet.specs.SeekLaws.{Seeking}
 use Rattle.indexlet.proofs.seek.Given as goal
 
 abbrev pub invariant-loop-d : goal.invariant-loop-d
 invariant-loop-d l = Seeking l.t l.a l.h l.d
-
-abbrev pub decreases-loop-d : goal.decreases-loop-d
-decreases-loop-d l = slot_count - l.d

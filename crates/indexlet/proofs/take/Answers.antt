@@ -5,11 +5,10 @@ use mathlib.Core.Path.{refl, sym, ◌∙◌}
 use Rattle.spec.specs.Widths.{address_size}
 use Rattle.laws.specs.Probes.{home_less}
 use Rattle.indexlet.specs.WalkLaws.{home_inside, take_counts, take_ends, take_turns, home_ends, home_turns}
-use Rattle.std.proofs.Common.{true}
 use Rattle.indexlet.proofs.take.Goals as goal
 
-pub get-s-requires : goal.get-s-requires
-get-s-requires c = home_inside c.args.a _ c.requires.h_value
+pub get-requires : goal.get-requires
+get-requires c = home_inside c.args.a _ c.requires.h_value
 
 pub say_at-requires : goal.say_at-requires
 say_at-requires c = home_inside c.args.a _ c.requires.h_value
@@ -17,12 +16,12 @@ say_at-requires c = home_inside c.args.a _ c.requires.h_value
 pub returns-then-idle-clause-slots_become : goal.returns-then-idle-clause-slots_become
 returns-then-idle-clause-slots_become c =
     let empty = sym c.idle.ensures ∙ c.if-idle.true in (
-      home_ends _ c.args.a _ c.requires.h_value c.requires.slots_held _ c.get-s.ensures empty c.args.c c.requires.c_value c.ranges.a.fits _ c.say_at.ensures,
+      home_ends _ c.args.a _ c.requires.h_value c.requires.slots_held _ c.get.ensures empty c.args.c c.requires.c_value c.ranges.a.fits _ c.say_at.ensures,
       home_inside c.args.a _ c.requires.h_value,
     )
 
 pub returns-then-idle-clause-turns : goal.returns-then-idle-clause-turns
-returns-then-idle-clause-turns c = let empty = sym c.idle.ensures ∙ c.if-idle.true in home_turns _ c.args.a _ c.requires.h_value c.requires.slots_held _ c.get-s.ensures empty c.args.c
+returns-then-idle-clause-turns c = let empty = sym c.idle.ensures ∙ c.if-idle.true in home_turns _ c.args.a _ c.requires.h_value c.requires.slots_held _ c.get.ensures empty c.args.c
 
 pub passed_by_new-d-requires-clause-h_lt_slot_count : goal.passed_by_new-d-requires-clause-h_lt_slot_count
 passed_by_new-d-requires-clause-h_lt_slot_count c = (home_inside c.args.a _ c.requires.h_value, c.requires.t_len_bound)

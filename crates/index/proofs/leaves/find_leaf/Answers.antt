@@ -1,55 +1,45 @@
-use mathlib.Core.Path.{◌≡◌}
-use Prim.Native.Nat.{◌<◌, ◌≤◌}
-use lib.ListN.{length, take}
-use lib.Seq.{length-take-le}
-use native.Mathlib.Omega.{arith}
-use Rattle.index.specs.Nearing.{least, fewer, few, Took, first_taken, near_start, near_least, near_fewer, near_few}
-use Rattle.index.specs.LeafPlaces.{low_place, place_inside, low_took}
+-- The place is one of the first, or any but the last, and the steps lead there; or it is the last.
+use Rattle.std.proofs.Common.{◌≡◌, ◌≤◌, ◌<◌, ℕ, length, take, arith, rules, length-take-le}
+use Rattle.index.specs.Nearing.{Leads, near_least, near_fewer, near_few, near_all}
 use Rattle.index.specs.Views.{record_places, leaf_places}
-use Rattle.index.specs.LeafColumns.{lows_of}
+use Rattle.index.specs.LeafColumns.{LeafRows, lows_of}
 use Rattle.index.specs.LeafColumnLaws.{column_places}
-use Rattle.std.proofs.Common.{true, false}
+use Rattle.index.specs.LeafPlaces.{Listed, AtLeaf, low_place, place_inside}
 use Rattle.index.proofs.leaves.find_leaf.Goals as goal
 
-pub descend-requires-clause-nearing : goal.descend-requires-clause-nearing
-descend-requires-clause-nearing c =
-    let ls = take c.args.m (lows_of c.args.leaves.now) in
-    let e : length ls ≡ c.args.m = length-take-le c.args.m (lows_of c.args.leaves.now) (rw (column_places 0 c.args.leaves.now c.leaf_places.ensures) c.requires.room) in
-    let p : low_place c.args.a ls < length ls = place_inside c.args.a ls (rw e c.requires.some) in
-    let h : c.args.m ≤ least = c.if-m-le-LEAST.true in
-    near_least (omega arith)
+-- the place is that of one of the leaves
+inside : (ls : LeafRows) (m a : ℕ) → length ls ≡ leaf_places → Listed (lows_of ls) m → low_place a (take m (lows_of ls)) < m
+inside ls m a l h =
+    let n : length (take m (lows_of ls)) ≡ m = length-take-le m (lows_of ls) (rw (column_places 0 ls l) h.room) in
+    let p : low_place a (take m (lows_of ls)) < length (take m (lows_of ls)) = place_inside a (take m (lows_of ls)) (rw n h.some) in
+    omega arith
 
-pub descend-requires-then-m-le-FEWER-clause-nearing : goal.descend-requires-then-m-le-FEWER-clause-nearing
-descend-requires-then-m-le-FEWER-clause-nearing c =
-    let ls = take c.args.m (lows_of c.args.leaves.now) in
-    let e : length ls ≡ c.args.m = length-take-le c.args.m (lows_of c.args.leaves.now) (rw (column_places 0 c.args.leaves.now c.leaf_places.ensures) c.requires.room) in
-    let p : low_place c.args.a ls < length ls = place_inside c.args.a ls (rw e c.requires.some) in
-    let h : c.args.m ≤ fewer = c.if-m-le-FEWER.true in
-    near_fewer (omega arith)
+found : (ls : LeafRows) (m a : ℕ) {r : ℕ} → length ls ≡ leaf_places → Listed (lows_of ls) m → r ≡ low_place a (take m (lows_of ls)) → AtLeaf (lows_of ls) m a r
+found ls m a {r} l h e = let p = inside ls m a l h in record { is = e; inside = omega arith }
 
-pub descend-requires-then-m-le-FEW-clause-nearing : goal.descend-requires-then-m-le-FEW-clause-nearing
-descend-requires-then-m-le-FEW-clause-nearing c =
-    let ls = take c.args.m (lows_of c.args.leaves.now) in
-    let e : length ls ≡ c.args.m = length-take-le c.args.m (lows_of c.args.leaves.now) (rw (column_places 0 c.args.leaves.now c.leaf_places.ensures) c.requires.room) in
-    let p : low_place c.args.a ls < length ls = place_inside c.args.a ls (rw e c.requires.some) in
-    let h : c.args.m ≤ few = c.if-m-le-FEW.true in
-    near_few (omega arith)
+pub returns-then-m-le-LEAST : goal.returns-then-m-le-LEAST
+returns-then-m-le-LEAST c =
+    let p = inside c.args.leaves.now c.args.m c.args.a c.told-leaves c.requires in
+    found c.args.leaves.now c.args.m c.args.a c.told-leaves c.requires (c.descend.ensures _ (λ i t a b q. search rules) (near_least (omega (arith, p, c.if-m-le-LEAST.true))))
 
-pub returns-then-last-gt0 : goal.returns-then-last-gt0
-returns-then-last-gt0 c =
-    let g = c.probe-last in
-    let ls = take c.args.m (lows_of c.args.leaves.now) in
-    let e : length ls ≡ c.args.m = length-take-le c.args.m (lows_of c.args.leaves.now) (rw (column_places 0 c.args.leaves.now c.leaf_places.ensures) c.requires.room) in
-    let p : low_place c.args.a ls < length ls = place_inside c.args.a ls (rw e c.requires.some) in
-    let r = c.requires.room in
-    let t : Took (low_place c.args.a ls) 0 record_places g.result = rw g.ensures (low_took 0 ls c.args.a 0 record_places (rw e c.requires.some) c.requires.rising (omega arith)) in
-    let q : g.result ≡ low_place c.args.a ls = first_taken (omega arith) t c.if-last-gt0.true in
-    record { is = q; inside = omega arith }
+pub returns-then-m-le-FEWER : goal.returns-then-m-le-FEWER
+returns-then-m-le-FEWER c =
+    let p = inside c.args.leaves.now c.args.m c.args.a c.told-leaves c.requires in
+    found c.args.leaves.now c.args.m c.args.a c.told-leaves c.requires (c.descend-then-m-le-FEWER.ensures _ (λ i t a b q. search rules) (near_fewer (omega (arith, p, c.if-m-le-FEWER.true))))
 
-pub descend-requires-2-clause-nearing : goal.descend-requires-2-clause-nearing
-descend-requires-2-clause-nearing c =
-    let g = c.probe-last in
-    let ls = take c.args.m (lows_of c.args.leaves.now) in
-    let e : length ls ≡ c.args.m = length-take-le c.args.m (lows_of c.args.leaves.now) (rw (column_places 0 c.args.leaves.now c.leaf_places.ensures) c.requires.room) in
-    let t : Took (low_place c.args.a ls) 0 record_places g.result = rw g.ensures (low_took 0 ls c.args.a 0 record_places (rw e c.requires.some) c.requires.rising (omega arith)) in
-    near_start t c.if-last-gt0.false
+pub returns-then-m-le-FEW : goal.returns-then-m-le-FEW
+returns-then-m-le-FEW c =
+    let p = inside c.args.leaves.now c.args.m c.args.a c.told-leaves c.requires in
+    found c.args.leaves.now c.args.m c.args.a c.told-leaves c.requires (c.descend-then-m-le-FEW.ensures _ (λ i t a b q. search rules) (near_few (omega (arith, p, c.if-m-le-FEW.true))))
+
+pub returns-then-goes : goal.returns-then-goes
+returns-then-goes c =
+    let p = inside c.args.leaves.now c.args.m c.args.a c.told-leaves c.requires in
+    let l : Leads (low_place c.args.a (take c.args.m (lows_of c.args.leaves.now))) record_places c.goes.result = search rules in
+    let q : record_places ≤ low_place c.args.a (take c.args.m (lows_of c.args.leaves.now)) = l.on c.if-goes.true in
+    found c.args.leaves.now c.args.m c.args.a c.told-leaves c.requires (omega (arith, p, q, c.requires.room))
+
+pub returns-else-goes : goal.returns-else-goes
+returns-else-goes c =
+    let l : Leads (low_place c.args.a (take c.args.m (lows_of c.args.leaves.now))) record_places c.goes.result = search rules in
+    found c.args.leaves.now c.args.m c.args.a c.told-leaves c.requires (c.descend-else-goes.ensures _ (λ i t a b q. search rules) (near_all (l.past c.if-goes.false)))

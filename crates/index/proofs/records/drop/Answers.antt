@@ -1,6 +1,5 @@
-use Rattle.index.specs.Views.{row_of, record_places}
+use Rattle.index.specs.Views.{row_of}
 use Rattle.index.specs.RecordLaws.{present_at, absent_at, absent_past, drop_here, drop_none, behind_removed}
-use Rattle.std.proofs.Common.{true, false}
 use Rattle.index.proofs.records.drop.Goals as goal
 
 pub returns-then-n-p-clause-records_are : goal.returns-then-n-p-clause-records_are
@@ -11,14 +10,14 @@ returns-then-n-p-clause-records_are c =
 pub returns-then-there-a-clause-records_are : goal.returns-then-there-a-clause-records_are
 returns-then-there-a-clause-records_are c =
     let p = c.locate-p in
-    let g = c.get-there in drop_here c.args.rows.now c.args.n c.args.a p.result c.requires p.ensures c.lower.new.rows c.record_places.ensures
+    let g = c.get-there in drop_here c.args.rows.now c.args.n c.args.a p.result c.requires p.ensures c.move_rows.new.rows c.told-rows
     (present_at c.args.rows.now c.args.n c.args.a p.result c.requires.room p.ensures (row_of g.result) c.if-n-p.false g.ensures c.if-there-a.true)
-    c.if-n-p.false c.lower.ensures
+    c.if-n-p.false c.move_rows.ensures
 
 pub returns-then-there-a-clause-rows_unchanged : goal.returns-then-there-a-clause-rows_unchanged
 returns-then-there-a-clause-rows_unchanged c =
     let p = c.locate-p in
-    let g = c.get-there in behind_removed c.args.rows.now c.lower.new.rows c.record_places.ensures c.args.n p.result c.if-n-p.false c.requires.room c.lower.ensures
+    let g = c.get-there in behind_removed c.args.rows.now c.move_rows.new.rows c.told-rows c.args.n p.result c.if-n-p.false c.requires.room c.move_rows.ensures
 
 pub returns-clause-records_are : goal.returns-clause-records_are
 returns-clause-records_are c =

@@ -1,6 +1,5 @@
 use Rattle.index.specs.Views.{row_of}
 use Rattle.index.specs.RecordLaws.{present_at, absent_at, absent_past, find_here, find_none}
-use Rattle.std.proofs.Common.{true, false}
 use Rattle.index.proofs.records.find.Goals as goal
 
 pub returns-then-n-p : goal.returns-then-n-p

@@ -1,6 +1,5 @@
-use Rattle.index.specs.Views.{row_of, record_from, record_places}
+use Rattle.index.specs.Views.{row_of, record_from}
 use Rattle.index.specs.RecordLaws.{present_at, absent_at, absent_past, put_over, put_room, put_new}
-use Rattle.std.proofs.Common.{true, false}
 use Rattle.index.proofs.records.put.Goals as goal
 
 pub insert-requires : goal.insert-requires
@@ -19,7 +18,7 @@ returns-then-n-p-clause-records_are c =
 pub returns-then-there-a-clause-records_are : goal.returns-then-there-a-clause-records_are
 returns-then-there-a-clause-records_are c =
     let p = c.locate-p in
-    let g = c.get-there in put_over c.args.rows.now c.args.n c.args.a p.result c.requires.records_sorted p.ensures c.store.new.rows c.args.payload c.args.commit c.record_places.ensures
+    let g = c.get-there in put_over c.args.rows.now c.args.n c.args.a p.result c.requires.records_sorted p.ensures c.store.new.rows c.args.payload c.args.commit c.told-rows
     (present_at c.args.rows.now c.args.n c.args.a p.result c.requires.records_sorted.room p.ensures (row_of g.result) c.if-n-p.false g.ensures c.if-there-a.true)
     c.if-n-p.false c.store.ensures
 

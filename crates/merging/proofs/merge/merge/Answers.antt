@@ -3,7 +3,6 @@ use mathlib.Core.Path.{◌∙◌, refl}
 use Rattle.merging.specs.Merges.{merges_nothing, starting, numbered, lows_held, ranging, resettling, recounting, merges_some}
 use Rattle.merging.specs.MergeSettles.{pending_of_lem, pending_some, settling, resettled}
 use Rattle.merging.specs.MergeSpans.{span_rows, rows_fit, span_after}
-use Rattle.std.proofs.Common.{true, false}
 use Rattle.merging.proofs.merge.merge.Goals as goal
 
 pub returns-then-own-eq0 : goal.returns-then-own-eq0
@@ -47,7 +46,7 @@ recount-requires c =
     let r = c.settle-s in
     let d = resettled (span_rows (span_after c.leaf_rows-span.ensures c.requires.map_held.tables.rows w.ensures) w.ensures.rows_held) r.ensures in
     recounting c.args.k c.requires.map_held c.args.a i.result i.ensures (pending_some _ _ c.leaf_at-own.ensures c.if-own-eq0.false) w.new.rows w.new.slots w.result w.ensures
-    r.new.leaves r.result.leaves r.result.version c.leaf_places.ensures d.settled d.hidden d.pending
+    r.new.leaves r.result.leaves r.result.version c.settle-s.array_long d.settled d.hidden d.pending
 
 pub returns : goal.returns
 returns c =
@@ -57,5 +56,5 @@ returns c =
     let d = resettled (span_rows (span_after c.leaf_rows-span.ensures c.requires.map_held.tables.rows w.ensures) w.ensures.rows_held) r.ensures in
     let n = c.recount in
     merges_some c.args.k c.requires.map_held c.args.a i.result i.ensures (pending_some _ _ c.leaf_at-own.ensures c.if-own-eq0.false) w.new.rows w.new.slots w.result w.ensures
-    r.new.leaves r.result.leaves r.result.version c.leaf_places.ensures d.settled d.hidden d.pending
+    r.new.leaves r.result.leaves r.result.version c.settle-s.array_long d.settled d.hidden d.pending
     n.new.leaves n.ensures c.take_versions-taken.ensures.1

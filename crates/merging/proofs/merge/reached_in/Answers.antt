@@ -2,7 +2,6 @@ use native.Mathlib.Omega.{arith}
 use mathlib.Core.Path.{sym, ◌∙◌}
 use Rattle.indexlet.specs.BitmapLaws.{unseen_start, unseen_end, unseen_inside, unseen_before, unseen_on}
 use Rattle.merging.specs.MergeShortcuts.{elsewhere_empty, elsewhere_read, skips_all}
-use Rattle.std.proofs.Common.{false}
 use Rattle.merging.proofs.merge.reached_in.Goals as goal
 
 pub loop-w-init : goal.loop-w-init

@@ -2,7 +2,6 @@ use Rattle.indexlet.specs.Words.{slots_of}
 use Rattle.index.specs.Views.{records_of}
 use Rattle.merging.specs.MergeWalks.{stays_same, stays_on, walk_start, clear_start, clear_on}
 use Rattle.merging.specs.MergeShortcuts.{skips_walk, skips_clear}
-use Rattle.std.proofs.Common.{true}
 use Rattle.merging.proofs.merge.take_all.Goals as goal
 
 pub loop-j-init : goal.loop-j-init

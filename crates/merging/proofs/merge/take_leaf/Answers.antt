@@ -2,7 +2,6 @@
 use mathlib.Core.Path.{sym, ◌∙◌}
 use Rattle.merging.specs.MergeSettles.{pending_of_lem}
 use Rattle.merging.specs.MergeShortcuts.{hidden_of_lem, alone_walk, alone_took}
-use Rattle.std.proofs.Common.{true}
 use Rattle.merging.proofs.merge.take_leaf.Goals as goal
 
 pub hides_alone-requires-clause-j_lt_slot_count : goal.hides_alone-requires-clause-j_lt_slot_count

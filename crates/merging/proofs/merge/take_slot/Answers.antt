@@ -11,7 +11,6 @@ use Rattle.index.specs.Views.{record_from}
 use Rattle.phantomlet.specs.LeafCounts.{leaf_outside, leaf_inside, reaches_yes, reaches_no}
 use Rattle.merging.specs.MergeWalks.{walk_lock, walk_on, slot_room, write_room, outside_fits, rest_content, entry_is}
 use Rattle.merging.specs.MergeShortcuts.{walk_unreached}
-use Rattle.std.proofs.Common.{true, false}
 use Rattle.merging.proofs.merge.take_slot.Goals as goal
 use Rattle.std.specs.Prelude.{not}
 use Rattle.std.proofs.Math.Path.{ap}

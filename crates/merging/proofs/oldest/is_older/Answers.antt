@@ -1,6 +1,5 @@
 -- `map::oldest::is_older` meets its contract: the first one, a tie that the address decides, or the install.
 use Rattle.merging.specs.OldestWalks.{elder_tie, elder_time}
-use Rattle.std.proofs.Common.{true, false}
 use Rattle.merging.proofs.oldest.is_older.Goals as goal
 
 pub returns-then-since-o : goal.returns-then-since-o

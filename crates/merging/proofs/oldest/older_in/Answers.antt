@@ -3,7 +3,6 @@ use native.Mathlib.Omega.{arith}
 use mathlib.Core.Path.{subst}
 use Rattle.indexlet.specs.BitmapLaws.{unseen_start, unseen_end, unseen_inside, unseen_before, unseen_on}
 use Rattle.merging.specs.OldestWalks.{younger_empty, younger_read, passes_all}
-use Rattle.std.proofs.Common.{false}
 use Rattle.merging.proofs.oldest.older_in.Goals as goal
 
 pub loop-w-init : goal.loop-w-init

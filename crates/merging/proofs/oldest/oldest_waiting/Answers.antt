@@ -1,5 +1,4 @@
 use Rattle.merging.specs.OldestWalks.{oldest_end}
-use Rattle.std.proofs.Common.{false}
 use Rattle.merging.proofs.oldest.oldest_waiting.Goals as goal
 
 pub returns : goal.returns

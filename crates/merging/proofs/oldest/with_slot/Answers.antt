@@ -1,7 +1,6 @@
 -- `map::oldest::with_slot` meets its contract: nothing is pending in the slot, or it is older, or it is not.
 use mathlib.Core.Path.{sym, ◌∙◌}
 use Rattle.merging.specs.OldestWalks.{elder_past, elder_here, elder_stays}
-use Rattle.std.proofs.Common.{true, false}
 use Rattle.merging.proofs.oldest.with_slot.Goals as goal
 
 pub returns-then-c-eq0 : goal.returns-then-c-eq0

@@ -1,11 +1,12 @@
-use Rattle.std.proofs.Common.{refl, true, false}
-use Rattle.lists.specs.Tests.{at_most}
-use Rattle.phantomlet.specs.MergeCounts.{bare_some, bare_none}
+-- `phantomlet::recount::bare` meets its contract: by the two comparisons.
+use Rattle.std.proofs.Common.{arith}
+use Rattle.lists.specs.Tests.{same, at_most}
 use Rattle.phantomlet.proofs.recount.bare.Goals as goal
 
 pub returns-then-left-eq0 : goal.returns-then-left-eq0
-unfolding at_most
-returns-then-left-eq0 c = bare_some c.args.left c.args.m c.args.old _ c.if-left-eq0.true refl
+unfolding same at_most
+returns-then-left-eq0 c = grind arith
 
-pub returns : goal.returns
-returns c = bare_none c.args.left c.args.m c.args.old _ c.if-left-eq0.false refl
+pub returns-else-left-eq0 : goal.returns-else-left-eq0
+unfolding same at_most
+returns-else-left-eq0 c = grind arith

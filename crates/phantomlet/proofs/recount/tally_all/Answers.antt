@@ -1,4 +1,3 @@
-use Rattle.std.proofs.Common.{false}
 use Rattle.phantomlet.specs.MergeCounts.{tallied_end}
 use Rattle.phantomlet.proofs.recount.tally_all.Goals as goal
 

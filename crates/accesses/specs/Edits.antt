@@ -1,5 +1,5 @@
 -- Put and remove, as they go: refused by 1, 2, 4 or 7, or the write stands in the worker's write set.
-use Rattle.std.specs.Prelude.{ℕ, Result, Ok, Err, ◌%◌, ◌<◌, ◌≤◌, ◌≡◌, refl, ◌⊎◌, Bool, true, false, not, List, [], ◌∷◌, length, get_or, set}
+use Rattle.std.specs.Prelude.{ℕ, Result, Ok, Err, Option as Optional, Some, None, is_some, ◌%◌, ◌<◌, ◌≤◌, ◌≡◌, refl, ◌⊎◌, Bool, true, false, not, List, [], ◌∷◌, length, get_or, set}
 use Rattle.std.proofs.Common.{arith, sym, ◌∙◌, subst}
 use Rattle.std.proofs.Math.Path.{ap}
 use Rattle.std.proofs.Math.Option.{Option, none, some}
@@ -16,14 +16,15 @@ use Rattle.spec.specs.Steps as model
 use Rattle.spec.specs.Steps.{State, Step, put, remove, Answer, done, is_open, worker_of, own_write, cause, no_worker, worker_free, wrong_stage, writes_full, causes, first_cause, refusal, granted, effect, with_worker, writing, access_causes, access_answer, accessed}
 use Rattle.laws.specs.WorkerLaws.{mild_cause}
 use Rattle.workers.specs.declared.Worker.{Worker}
-use Rattle.sets.specs.declared.writes.FoundWrite.{FoundWrite}
+use Rattle.sets.specs.declared.writes.Write.{Write as WriteWords}
+use Rattle.sets.specs.declared.writes.Write.TheVariants.{Put, Deletion}
 use Rattle.workers.specs.Workers.{worker_in, with_writes}
 use Rattle.workers.proofs.WorkerLaws.{write_in_lem}
 use Rattle.sets.specs.Reads.{ReadRows}
 use Rattle.sets.specs.Leaves.{LeafSetRows}
-use Rattle.sets.specs.Writes.{WriteRows, write_of, found_in, write_in, writes_of, PutsWrite}
+use Rattle.sets.specs.Writes.{WriteRows, edit_in, found_in, write_in, writes_of, PutsWrite}
 use Rattle.sets.specs.SetLaws.{each_set, other_set, length_rows}
-use Rattle.sets.specs.WriteLaws.{put_kind, deletion_kind, room_found}
+use Rattle.sets.specs.WriteLaws.{room_found}
 use Rattle.map.specs.Views.{Lent}
 use Rattle.transactions.specs.Cores.{Core}
 use Rattle.transactions.specs.Answering.{Yields, yields_granted, cause_holds, cause_fails, front, front_first}
@@ -55,20 +56,30 @@ both_last : (b : Bool) → false ≡ both b false
 both_last true = refl
 both_last false = refl
 
+twice : (b : Bool) → b ≡ not (not b)
+twice true = refl
+twice false = refl
+
+both_first : (b : Bool) → b ≡ both b true
+both_first true = refl
+both_first false = refl
+
 module _ (ws : WriteRows) (n a : ℕ) where
   pub full_room : n < limits.write_limit → false ≡ full_at ws n a
   full_room h =
       both_last (not (present (look (writes_of ws n) a)))
       ∙ ap (λ (b : Bool). both (not (present (look (writes_of ws n) a))) (not b)) (sym (less_yes {m = n} {n = limits.write_limit} h))
 
-  pub full_there : (f g : FoundWrite) → f ≡ g → present (found_in g) ≡ true → found_in f ≡ look (writes_of ws n) a → false ≡ full_at ws n a
-  full_there f g e t q =
-      ap (λ (b : Bool). both (not b) (not (less n limits.write_limit))) (sym (ap present (sym q ∙ ap found_in e) ∙ t))
+  none_found : (f : Optional WriteWords) → not (present (found_in f)) ≡ not (is_some f)
+  none_found None = refl
+  none_found (Some e) = refl
 
-  pub full_none : (f g : FoundWrite) → f ≡ g → found_in g ≡ none → found_in f ≡ look (writes_of ws n) a → limits.write_limit ≤ n → true ≡ full_at ws n a
-  full_none f g e t q h =
-      ap (λ (b : Bool). not b) (sym (less_no {m = n} {n = limits.write_limit} h))
-      ∙ ap (λ (o : Option Write). both (not (present o)) (not (less n limits.write_limit))) (sym (sym q ∙ ap found_in e ∙ t))
+  pub full_told : {b : Bool} (f : Optional WriteWords) → found_in f ≡ look (writes_of ws n) a → limits.write_limit ≤ n → is_some f ≡ not b → b ≡ full_at ws n a
+  full_told {b} f q h e =
+      twice b ∙ ap not (sym e) ∙ sym (none_found f)
+      ∙ ap (λ (o : Option Write). not (present o)) q
+      ∙ both_first (not (present (look (writes_of ws n) a)))
+      ∙ ap (λ (b : Bool). both (not (present (look (writes_of ws n) a))) (not b)) (sym (less_no {m = n} {n = limits.write_limit} h))
 
   pub room_here : (b : Bool) → b ≡ full_at ws n a → b ≡ false → (n < limits.write_limit) ⊎ (present (look (writes_of ws n) a) ≡ true)
   room_here b q f = room_found ws n a (sym q ∙ f)
@@ -137,16 +148,16 @@ unfolding effect accessed
 effect_editing σ w a (written p) = refl
 effect_editing σ w a deleted = refl
 
-pub edit_granted : {ws : List WriteRows} {us : WriteRows} {c c' : Core} {w a kind : ℕ} {v : PayloadWords} {x : Worker} {b : Bool} {n : ℕ} → Entered is_open c.workers w x
-    → b ≡ full_at (get_or ws w []) x.writes a → b ≡ false → PutsWrite (get_or ws w []) x.writes a kind v us n → c' ≡ core_with c w (with_writes x n)
-    → Edits ws c w a (write_of kind v) (set ws w us) c' (Ok tt)
+pub edit_granted : {ws : List WriteRows} {us : WriteRows} {c c' : Core} {w a : ℕ} {e : WriteWords} {x : Worker} {b : Bool} {n : ℕ} → Entered is_open c.workers w x
+    → b ≡ full_at (get_or ws w []) x.writes a → b ≡ false → PutsWrite (get_or ws w []) x.writes a e us n → c' ≡ core_with c w (with_writes x n)
+    → Edits ws c w a (edit_in e) (set ws w us) c' (Ok tt)
 unfolding first_cause
-edit_granted {ws} {us} {c} {c'} {w} {a} {kind} {v} {x} {b} {n} t q f p s =
+edit_granted {ws} {us} {c} {c'} {w} {a} {e = u} {x} {b} {n} t q f p s =
     record {
       refines_so = λ l rs ls k.
-          subst (λ (o : Core). Refines l (logs rs ls ws) c (editing w a (write_of kind v)) l (logs rs ls (set ws w us)) o (plain_in (Ok tt))) (sym s)
+          subst (λ (o : Core). Refines l (logs rs ls ws) c (editing w a (edit_in u)) l (logs rs ls (set ws w us)) o (plain_in (Ok tt))) (sym s)
           (let σ = state_of l (logs rs ls ws) c in
-          let e = write_of kind v in
+          let e = edit_in u in
           let g : Yields σ (editing w a e) (granted σ (editing w a e)) (effect σ (editing w a e))
           = yields_granted σ (editing w a e) (refusal_is l (logs rs ls ws) c w x k t a e b q ∙ cause_fails b WritesFull [] f) in
           let d : Yields σ (editing w a e) done (effect σ (editing w a e))
@@ -155,7 +166,7 @@ edit_granted {ws} {us} {c} {c'} {w} {a} {kind} {v} {x} {b} {n} t q f p s =
           (state_with l (logs rs ls ws) (logs rs ls (set ws w us)) c w (with_writes x n)
           (record { reads = λ u m d. refl; leaves = λ u m d. refl; scans = λ u m d. refl; writes = λ u m d. other_set (λ (s : WriteRows). writes_of s m) ws w us u d })
           ∙ ap (with_worker σ w)
-          (write_in_lem rs ls ws w x us n a kind v k.stored.writes t.inside p ∙ ap (writing a e) (sym (worker_is is_open l (logs rs ls ws) c w x k t)))
+          (write_in_lem rs ls ws w x us n a u k.stored.writes t.inside p ∙ ap (writing a e) (sym (worker_is is_open l (logs rs ls ws) c w x k t)))
           ∙ sym (effect_editing σ w a e))
           (stored_worker l rs ls ws rs (set ws w us) c w (with_writes x n) t.inside k.stored k.stored.reads (each_set w us k.stored.writes p.set.held)
           (let h : Within x = within is_open l (logs rs ls ws) c w x k t in record { reads = h.reads; leaves = h.leaves; writes = p.set.room })
@@ -165,16 +176,13 @@ edit_granted {ws} {us} {c} {c'} {w} {a} {kind} {v} {x} {b} {n} t q f p s =
 -- ---- the two steps
 
 pub put_refines : {ws us : List WriteRows} {c c' : Core} {w a : ℕ} {r : Result Unit Refusal} {l : Lent} {rs : List ReadRows} {ls : List LeafSetRows} (value owner : ℕ) → owner < owners
-    → Edits ws c w a (write_of 1 (record { value = value; owner = owner })) us c' r → Ready l (logs rs ls ws) c
+    → Edits ws c w a (edit_in (Put (record { value = value; owner = owner }))) us c' r → Ready l (logs rs ls ws) c
     → Refines l (logs rs ls ws) c (put w a (record { value = value; owner = owner })) l (logs rs ls us) c' (plain_in r)
 put_refines {ws} {us} {c} {c'} {w} {a} {r} {l} {rs} {ls} value owner h e k =
     subst (λ (x : Write). Refines l (logs rs ls ws) c (editing w a x) l (logs rs ls us) c' (plain_in r))
-    (put_kind 1 (record { value = value; owner = owner }) refl
-    ∙ ap (λ (n : ℕ). written (record { value = value; owner = n })) (let z : owner % owners ≡ owner = omega arith in z))
+    (ap (λ (n : ℕ). written (record { value = value; owner = n })) (let z : owner % owners ≡ owner = omega arith in z))
     (e.refines_so l rs ls k)
 
-pub remove_refines : {ws us : List WriteRows} {c c' : Core} {w a : ℕ} {r : Result Unit Refusal} {l : Lent} {rs : List ReadRows} {ls : List LeafSetRows} → Edits ws c w a (write_of 2 no_payload) us c' r
+pub remove_refines : {ws us : List WriteRows} {c c' : Core} {w a : ℕ} {r : Result Unit Refusal} {l : Lent} {rs : List ReadRows} {ls : List LeafSetRows} → Edits ws c w a (edit_in Deletion) us c' r
     → Ready l (logs rs ls ws) c → Refines l (logs rs ls ws) c (remove w a) l (logs rs ls us) c' (plain_in r)
-remove_refines {ws} {us} {c} {c'} {w} {a} {r} {l} {rs} {ls} e k =
-    subst (λ (x : Write). Refines l (logs rs ls ws) c (editing w a x) l (logs rs ls us) c' (plain_in r))
-    (deletion_kind 2 no_payload (λ q. let z : ⊥ = omega arith in z)) (e.refines_so l rs ls k)
+remove_refines {rs = rs} {ls} e k = e.refines_so l rs ls k

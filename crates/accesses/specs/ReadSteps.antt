@@ -10,9 +10,9 @@ use Rattle.std.proofs.lemmas.List.{set-get_or}
 use Rattle.lists.specs.Tests.{pick, both, maybe, present, less}
 use Rattle.lists.specs.TestLaws.{less_yes, less_no}
 use Rattle.lists.specs.Rows.{row, look, any}
-use Rattle.spec.specs.Payloads.{owners, payload_in}
+use Rattle.spec.specs.Payloads.{owners, payload_in, record_in}
 use Rattle.spec.specs.declared.PayloadWords.{PayloadWords}
-use Rattle.spec.specs.declared.Current.{Current}
+use Rattle.spec.specs.declared.RecordWords.{RecordWords}
 use Rattle.spec.specs.declared.Refusal.{Refusal}
 use Rattle.spec.specs.declared.Refusal.TheVariants.{LogFull}
 use Rattle.spec.specs.Refusals.{ends}
@@ -23,11 +23,11 @@ use Rattle.spec.specs.Steps as model
 use Rattle.spec.specs.Steps.{State, read, Answer, found, is_open, worker_of, free_worker, own_write, slots_examined, cause, no_worker, worker_free, wrong_stage, read_log_full, causes, first_cause, refusal, granted, effect, with_worker, logged, read_rows, access_causes, access_answer, accessed}
 use Rattle.laws.specs.WorkerLaws.{mild_cause}
 use Rattle.workers.specs.declared.Worker.{Worker}
-use Rattle.sets.specs.declared.writes.FoundWrite.{FoundWrite}
-use Rattle.sets.specs.declared.writes.FoundWrite.TheVariants.{Put, Deletion, Nothing}
+use Rattle.sets.specs.declared.writes.Write.{Write as WriteWords}
+use Rattle.sets.specs.declared.writes.Write.TheVariants.{Put, Deletion}
 use Rattle.workers.specs.Workers.{worker_in, with_reads}
 use Rattle.workers.proofs.WorkerLaws.{read_in_lem}
-use Rattle.sets.specs.Reads.{ReadRows, record_in, reads_of, ReadsHeld, LogsRead}
+use Rattle.sets.specs.Reads.{ReadRows, reads_of, ReadsHeld, LogsRead}
 use Rattle.sets.specs.Reads as reads
 use Rattle.sets.specs.Leaves.{LeafSetRows}
 use Rattle.sets.specs.Writes.{WriteRows, found_in, writes_in}
@@ -85,15 +85,13 @@ pub record TellsCurrent (rs : List ReadRows) (rows : RecordRows) (slots : SlotRo
 
 -- ---- what was seen
 
-pub shown_there : (s : Current) → s.there ≡ true → value_in (Some (told s.payload)) ≡ payload_of (record_in s)
+pub shown_there : (s : Optional RecordWords) (r : RecordWords) → s ≡ Some r → value_in (Some (told r.payload)) ≡ payload_of (record_in s)
 unfolding payload_of
-shown_there s e =
-    ap (λ (b : Bool). payload_of (pick b (some (record { payload = payload_in s.payload; commit = s.commit })) none)) (sym e)
+shown_there s r e = ap (λ (o : Optional RecordWords). payload_of (record_in o)) (sym e)
 
-pub shown_none : (s : Current) → s.there ≡ false → value_in None ≡ payload_of (record_in s)
+pub shown_none : (s : Optional RecordWords) → s ≡ None → value_in None ≡ payload_of (record_in s)
 unfolding payload_of
-shown_none s e =
-    ap (λ (b : Bool). payload_of (pick b (some (record { payload = payload_in s.payload; commit = s.commit })) none)) (sym e)
+shown_none s e = ap (λ (o : Optional RecordWords). payload_of (record_in o)) (sym e)
 
 -- ---- the refusals
 
@@ -212,22 +210,22 @@ read_own {rs} {rows} {slots} {ws} {c} {w} {a} {x} e v t q s =
           (sym (ap (with_worker σ w) (logged_none (worker_of σ w)) ∙ worker_back σ w)) k.stored);
     }
 
-pub read_put : {rs : List ReadRows} {rows : RecordRows} {slots : SlotRows} {ws : List WriteRows} {c : Core} {w a : ℕ} {v : PayloadWords} {x : Worker} {f : FoundWrite}
-    → Entered is_open c.workers w x → f ≡ Put v → found_in f ≡ look (writes_in ws w x.writes) a
+pub read_put : {rs : List ReadRows} {rows : RecordRows} {slots : SlotRows} {ws : List WriteRows} {c : Core} {w a : ℕ} {v : PayloadWords} {x : Worker} {f : Optional WriteWords}
+    → Entered is_open c.workers w x → f ≡ Some (Put v) → found_in f ≡ look (writes_in ws w x.writes) a
     → Tells rs rows slots ws c w a rs c (Ok (record { value = Some (told v); examined = 0 }))
 unfolding own_view
 read_put {v} t e q =
     read_own (written (payload_in v)) (record { value = Some (told v); examined = 0 }) t (sym q ∙ ap found_in e) refl
 
-pub read_deletion : {rs : List ReadRows} {rows : RecordRows} {slots : SlotRows} {ws : List WriteRows} {c : Core} {w a : ℕ} {x : Worker} {f : FoundWrite}
-    → Entered is_open c.workers w x → f ≡ Deletion → found_in f ≡ look (writes_in ws w x.writes) a
+pub read_deletion : {rs : List ReadRows} {rows : RecordRows} {slots : SlotRows} {ws : List WriteRows} {c : Core} {w a : ℕ} {x : Worker} {f : Optional WriteWords}
+    → Entered is_open c.workers w x → f ≡ Some Deletion → found_in f ≡ look (writes_in ws w x.writes) a
     → Tells rs rows slots ws c w a rs c (Ok (record { value = None; examined = 0 }))
 unfolding own_view
 read_deletion t e q =
     read_own deleted (record { value = None; examined = 0 }) t (sym q ∙ ap found_in e) refl
 
-pub read_nothing : {rs us : List ReadRows} {rows : RecordRows} {slots : SlotRows} {ws : List WriteRows} {c c' : Core} {w a : ℕ} {x : Worker} {f : FoundWrite} {r : Result Found Refusal}
-    → f ≡ Nothing → found_in f ≡ look (writes_in ws w x.writes) a
+pub read_nothing : {rs us : List ReadRows} {rows : RecordRows} {slots : SlotRows} {ws : List WriteRows} {c c' : Core} {w a : ℕ} {x : Worker} {f : Optional WriteWords} {r : Result Found Refusal}
+    → f ≡ None → found_in f ≡ look (writes_in ws w x.writes) a
     → TellsCurrent rs rows slots c w x a us c' r → Tells rs rows slots ws c w a us c' r
 read_nothing {ws = ws} e q k = k.tells ws (sym q ∙ ap found_in e)
 

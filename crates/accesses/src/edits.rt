@@ -2,7 +2,7 @@
 ghost use Rattle.std.specs.Prelude.{◌≡◌};
 ghost use Rattle.spec.specs.Steps.{put, remove};
 ghost use Rattle.workers.specs.Workers.{workers_of};
-ghost use Rattle.sets.specs.Writes.{WriteSetOrdered, write_of};
+ghost use Rattle.sets.specs.Writes.{WriteSetOrdered, edit_in};
 ghost use Rattle.map.specs.Views.{lent};
 ghost use Rattle.transactions.specs.declared.Globals as global;
 ghost use Rattle.transactions.specs.Views.{logs, core_of};
@@ -12,7 +12,7 @@ ghost use Rattle.transactions.specs.CoreLaws.{Writable};
 ghost use Rattle.accesses.specs.Edits.{Edits, full_at};
 
 use map::{Leaves, Records, Slots};
-use sets::writes::FoundWrite;
+use sets::writes::Write;
 use sets::{LeafSets, ReadSets, WriteSet, WriteSets, writes};
 use spec::{Address, PayloadWords, Refusal, WRITE_LIMIT};
 use transactions::{Globals, admits};
@@ -24,27 +24,19 @@ fn full(writes: &WriteSet, n: usize, a: Address) -> bool
     requires { WriteSetOrdered writes.now n }
     ensures { result ≡ full_at writes.now n a }
 {
-    if n < WRITE_LIMIT {
-        return false;
-    }
-    match writes::find_write(writes, n, a) {
-        FoundWrite::Put(_) => false,
-        FoundWrite::Deletion => false,
-        FoundWrite::Nothing => true,
-    }
+    n >= WRITE_LIMIT && writes::find_write(writes, n, a).is_none()
 }
 
-// Both steps: the write is of kind 1 (a put) or 2 (a deletion).
+// Both steps.
 fn edit(
     writes: &mut WriteSets,
     workers: &mut Workers,
     w: u32,
     a: Address,
-    kind: u64,
-    payload: PayloadWords,
+    write: Write,
 ) -> Result<(), Refusal>
     requires { Writable writes.old (workers_of workers.old) }
-    ensures { (c : global.Globals) → Edits writes.old (core_of workers.old c) w a (write_of kind payload) writes.new (core_of workers.new c) result }
+    ensures { (c : global.Globals) → Edits writes.old (core_of workers.old c) w a (edit_in write) writes.new (core_of workers.new c) result }
 {
     let x = admits::open(workers, w)?;
     let v = w as usize;
@@ -52,7 +44,7 @@ fn edit(
     if full(&writes[v], n, a) {
         return Err(Refusal::WritesFull);
     }
-    let count = writes::put_write(&mut writes[v], n, a, kind, payload);
+    let count = writes::put_write(&mut writes[v], n, a, write);
     let y = Worker {
         writes: count as u8,
         ..x
@@ -86,7 +78,7 @@ pub fn put(
         value,
         owner: owner as u64,
     };
-    edit(writes, workers, w, a, 1, payload)
+    edit(writes, workers, w, a, Write::Put(payload))
 }
 
 // Worker w removes an address.
@@ -108,6 +100,5 @@ pub fn remove(
         (lent rows.now leaves.now slots.now)
         (logs reads.now leafsets.now writes.new) (core_of workers.new c) (plain_in result) }
 {
-    let payload = PayloadWords { value: 0, owner: 0 };
-    edit(writes, workers, w, a, 2, payload)
+    edit(writes, workers, w, a, Write::Deletion)
 }

@@ -3,7 +3,8 @@ ghost use Rattle.std.specs.Prelude.{◌≡◌, ◌<◌};
 ghost use Rattle.spec.specs.Records.{limits, payload_of};
 ghost use Rattle.spec.specs.Steps.{read, is_open};
 ghost use Rattle.workers.specs.Workers.{workers_of};
-ghost use Rattle.sets.specs.Reads.{record_in, ReadSetHeld};
+ghost use Rattle.spec.specs.Payloads.{record_in};
+ghost use Rattle.sets.specs.Reads.{ReadSetHeld};
 ghost use Rattle.map.specs.Parts.{RecordsHeld, SlotsHeld};
 ghost use Rattle.map.specs.Views.{lent};
 ghost use Rattle.transactions.specs.Views.{logs, core_of};
@@ -13,9 +14,9 @@ ghost use Rattle.accesses.specs.ReadSteps.{Loggable, Readable, LogsCurrent, Tell
 ghost use Rattle.accesses.specs.Answers.{told, value_in, read_answer};
 
 use map::{Leaves, Records, Slots};
-use sets::writes::FoundWrite;
+use sets::writes::Write;
 use sets::{LeafSets, ReadSet, ReadSets, WriteSets, reads, writes};
-use spec::{Address, Current, OWNERS, PayloadWords, READ_LIMIT, Refusal};
+use spec::{Address, OWNERS, PayloadWords, READ_LIMIT, RecordWords, Refusal};
 use transactions::{Globals, admits};
 use workers;
 use workers::{Worker, Workers};
@@ -38,7 +39,7 @@ pub struct Found {
 #[derive(Clone, Copy)]
 struct Taken {
     count: usize,
-    seen: Current,
+    seen: Option<RecordWords>,
     examined: usize,
 }
 
@@ -53,13 +54,13 @@ fn told(p: PayloadWords) -> ReadValue
 }
 
 // What a read tells of the current record.
-fn shown(seen: Current) -> Option<ReadValue>
+fn shown(seen: Option<RecordWords>) -> Option<ReadValue>
     ensures { value_in result ≡ payload_of (record_in seen) }
 {
-    if seen.there {
-        return Some(told(seen.payload));
+    match seen {
+        Some(r) => Some(told(r.payload)),
+        None => None,
     }
-    None
 }
 
 // What a read tells of the worker's own write, for which no slot is examined.
@@ -85,11 +86,10 @@ fn take(
     ensures { LogsCurrent reads.old rows.now slots.now records n a reads.new result }
 {
     let looked = queries::see(rows, slots, records, a);
-    let seen = looked.current;
-    let count = reads::log_read(reads, n, a, seen);
+    let count = reads::log_read(reads, n, a, looked.current);
     Taken {
         count,
-        seen,
+        seen: looked.current,
         examined: looked.examined,
     }
 }
@@ -143,9 +143,9 @@ fn tell(
     let x = admits::open(workers, w)?;
     let v = w as usize;
     match writes::find_write(&writes[v], x.writes as usize, a) {
-        FoundWrite::Put(p) => Ok(own(Some(told(p)))),
-        FoundWrite::Deletion => Ok(own(None)),
-        FoundWrite::Nothing => read_current(reads, workers, rows, slots, c, w, x, a),
+        Some(Write::Put(p)) => Ok(own(Some(told(p)))),
+        Some(Write::Deletion) => Ok(own(None)),
+        None => read_current(reads, workers, rows, slots, c, w, x, a),
     }
 }
 

@@ -1,14 +1,14 @@
 -- What validate tests, over the arrays that it looks at.
-use Rattle.std.specs.Prelude.{ℕ, Result, Ok, Err, ◌+◌, ◌%◌, ◌<◌, ◌≤◌, ◌≡◌, refl, Bool, true, false, not, List, [], ◌∷◌, eqb, get_or, set}
+use Rattle.std.specs.Prelude.{ℕ, Result, Ok, Err, Some, None, Option as Optional, ◌+◌, ◌%◌, ◌<◌, ◌≤◌, ◌≡◌, refl, Bool, true, false, not, List, [], ◌∷◌, eqb, get_or, set}
 use Rattle.std.proofs.Math.Path.{sym}
 use Rattle.std.proofs.Common.{ap, ◌∙◌, subst}
 use Rattle.std.proofs.Math.Option.{Option, none, some}
 use Rattle.lists.specs.Tests.{pick, both, same, less}
 use Rattle.lists.specs.TestLaws.{same_yes, same_no, less_yes, less_no}
 use Rattle.lists.specs.Rows.{Row, look, keys, has, any}
-use Rattle.spec.specs.Payloads.{owners, payload_in}
+use Rattle.spec.specs.Payloads.{owners, payload_in, record_in}
 use Rattle.spec.specs.declared.PayloadWords.{PayloadWords}
-use Rattle.spec.specs.declared.Current.{Current}
+use Rattle.spec.specs.declared.RecordWords.{RecordWords}
 use Rattle.spec.specs.declared.Refusal.{Refusal}
 use Rattle.spec.specs.declared.Refusal.TheVariants.{Changed, UnderLock, Phantom, Spent}
 use Rattle.spec.specs.Steps.{numbered, cause, first_cause}
@@ -23,7 +23,7 @@ use Rattle.workers.specs.declared.Worker.{Worker}
 use Rattle.workers.specs.Workers.{at_check}
 use Rattle.sets.specs.declared.reads.Observed.{Observed}
 use Rattle.sets.specs.declared.leaves.LoggedLeaf.{LoggedLeaf}
-use Rattle.sets.specs.Reads.{ReadRows, record_in, reads_of, no_read, ReadSetHeld, GivesRead}
+use Rattle.sets.specs.Reads.{ReadRows, reads_of, no_read, ReadSetHeld, GivesRead}
 use Rattle.sets.specs.Leaves.{LeafSetRows, versions_of, lows_of, LeafSetHeld, GivesLeaf}
 use Rattle.sets.specs.Writes.{WriteRows, writes_of, WriteSetOrdered}
 use Rattle.transactions.specs.Cores.{Core}
@@ -31,7 +31,7 @@ use Rattle.transactions.specs.declared.Globals.{Globals}
 use Rattle.transactions.specs.Views.{core_of}
 use Rattle.transactions.specs.Ready.{Within}
 use Rattle.map.specs.Parts as map_parts
-use Rattle.map.specs.Views.{record_from, slots_in, map_of, Lent, SlotRows, RecordRows}
+use Rattle.map.specs.Views.{slots_in, map_of, Lent, SlotRows, RecordRows}
 
 -- the logged row's address has another record now
 unfoldable pub changed_in : RecordRows → ℕ → SlotRows → Row (Option Record) → Bool
@@ -98,57 +98,49 @@ numbering c w x = takes c w x (less c.counters.number limits.last_number)
 
 -- ---- two records compared
 
-abbrev pub differing : Current → Current → Bool
-differing now then = not (same_record (record_in now) (record_in then))
-
-parts : (p q : Bool) (v u : PayloadWords) (s t : ℕ)
-    → same_record (pick p (some (record_from v s)) none) (pick q (some (record_from u t)) none)
-    ≡ pick p (pick q (both (same_payload (payload_in v) (payload_in u)) (same s t)) false) (pick q false true)
-unfolding same_record
-parts true true v u s t = refl
-parts true false v u s t = refl
-parts false true v u s t = refl
-parts false false v u s t = refl
-
 pub payloads_same : (p q : PayloadWords) {b : Bool} → p.value ≡ q.value → b ≡ eqb (p.owner % owners) (q.owner % owners) → b ≡ same_payload (payload_in p) (payload_in q)
 unfolding same_payload same
 payloads_same p q e f = f ∙ sym (ap (λ (x : Bool). both x (eqb (p.owner % owners) (q.owner % owners))) (same_yes e))
 
-pub payloads_differ : (p q : PayloadWords) → (p.value ≡ q.value → ⊥) → false ≡ same_payload (payload_in p) (payload_in q)
+pub payloads_differ : (p q : PayloadWords) → (p.value ≡ q.value → ⊥) → eqb p.value q.value ≡ same_payload (payload_in p) (payload_in q)
 unfolding same_payload
-payloads_differ p q h = sym (ap (λ (x : Bool). both x (same (p.owner % owners) (q.owner % owners))) (same_no h))
+payloads_differ p q h =
+    let e : eqb p.value q.value ≡ false = unfold same in same_no h in
+    e ∙ sym (ap (λ (x : Bool). both x (same (p.owner % owners) (q.owner % owners))) (same_no h))
 
-module _ (a b : Current) where
-  differ_is : (p q : Bool) → a.there ≡ p → b.there ≡ q
-      → differing a b ≡ not (pick p (pick q (both (same_payload (payload_in a.payload) (payload_in b.payload)) (same a.commit b.commit)) false) (pick q false true))
-  differ_is p q e f =
-      ap not (parts a.there b.there a.payload b.payload a.commit b.commit
-      ∙ (λ i. pick (e i) (pick (f i) (both (same_payload (payload_in a.payload) (payload_in b.payload)) (same a.commit b.commit)) false) (pick (f i) false true)))
+abbrev pub differing : Optional RecordWords → Optional RecordWords → Bool
+differing now then = not (same_record (record_in now) (record_in then))
 
-  pub differ_stamps : a.there ≡ true → b.there ≡ true → same_payload (payload_in a.payload) (payload_in b.payload) ≡ true → not (eqb a.commit b.commit) ≡ differing a b
-  differ_stamps e f h =
-      sym
-      (differ_is true true e f
-      ∙ ap (λ (x : Bool). not (both x (same a.commit b.commit))) h
-      ∙ (unfold same in refl))
+module _ {a b : Optional RecordWords} where
+  module _ (p q : RecordWords) (e : a ≡ Some p) (f : b ≡ Some q) {s : Bool} (g : s ≡ same_payload (payload_in p.payload) (payload_in q.payload)) where
+    differ_is : (x : Bool) → s ≡ x → not (both x (same p.commit q.commit)) ≡ differing a b
+    unfolding same_record
+    differ_is x h =
+        ap (λ (y : Bool). not (both y (same p.commit q.commit))) (sym h ∙ g)
+        ∙ sym (λ i. differing (e i) (f i))
 
-  pub differ_payloads : a.there ≡ true → b.there ≡ true → same_payload (payload_in a.payload) (payload_in b.payload) ≡ false → true ≡ differing a b
-  differ_payloads e f h =
-      sym (differ_is true true e f ∙ ap (λ (x : Bool). not (both x (same a.commit b.commit))) h)
+    pub differ_payloads : s ≡ false → not s ≡ differing a b
+    differ_payloads h = ap not h ∙ differ_is false h
 
-  pub differ_gone : a.there ≡ true → b.there ≡ false → true ≡ differing a b
-  differ_gone e f = sym (differ_is true false e f)
+    pub differ_stamps : s ≡ true → not (eqb p.commit q.commit) ≡ differing a b
+    unfolding same
+    differ_stamps h = differ_is true h
 
-  pub differ_new : a.there ≡ false → b.there ≡ differing a b
-  differ_new e = sym (differ_is false b.there e refl ∙ back b.there)
-    where
-      back : (q : Bool) → not (pick q false true) ≡ q
-      back true = refl
-      back false = refl
+  pub differ_none : a ≡ None → b ≡ None → false ≡ differing a b
+  unfolding same_record
+  differ_none e f = sym (λ i. differing (e i) (f i))
+
+  pub differ_gone : (p : RecordWords) → a ≡ Some p → b ≡ None → true ≡ differing a b
+  unfolding same_record
+  differ_gone p e f = sym (λ i. differing (e i) (f i))
+
+  pub differ_new : (q : RecordWords) → a ≡ None → b ≡ Some q → true ≡ differing a b
+  unfolding same_record
+  differ_new q e f = sym (λ i. differing (e i) (f i))
 
 -- ---- one row
 
-pub row_changed : {rows : RecordRows} {n : ℕ} {slots : SlotRows} {reads : ReadRows} {i : ℕ} {l : Observed} {now : Current} {b c : Bool} (k : ℕ) → i < k
+pub row_changed : {rows : RecordRows} {n : ℕ} {slots : SlotRows} {reads : ReadRows} {i : ℕ} {l : Observed} {now : Optional RecordWords} {b c : Bool} (k : ℕ) → i < k
     → GivesRead reads i l → Sees rows n slots l.address now → b ≡ differing now l.current → b ≡ c
     → changed_in rows n slots (get_or (reads_of reads k) i no_read) ≡ c
 unfolding changed_in

@@ -2,13 +2,13 @@
 ghost use Rattle.std.specs.Prelude.{◌≡◌, not, ◌<◌, ◌≤◌};
 ghost use Rattle.spec.specs.Maps.{phantom_in};
 ghost use Rattle.lists.specs.Rows.{any, keys};
-ghost use Rattle.spec.specs.Payloads.{payload_in};
+ghost use Rattle.spec.specs.Payloads.{payload_in, record_in};
 ghost use Rattle.spec.specs.Records.{limits, same_payload, same_record};
 ghost use Rattle.spec.specs.Steps as model;
 ghost use Rattle.map.specs.Parts.{RecordsHeld, SlotsHeld};
 ghost use Rattle.map.specs.Views.{lent, map_of};
 ghost use Rattle.queries.specs.PhantomViews.{Holding, Owns};
-ghost use Rattle.sets.specs.Reads.{record_in, reads_of, ReadSetHeld};
+ghost use Rattle.sets.specs.Reads.{reads_of, ReadSetHeld};
 ghost use Rattle.sets.specs.Leaves.{versions_of, LeafSetHeld};
 ghost use Rattle.guards.specs.Judging.{refusal_in};
 ghost use Rattle.transactions.specs.Views.{logs, core_of};
@@ -19,7 +19,7 @@ ghost use Rattle.commits.specs.Answers.{validate_in};
 use crate::drops;
 use map::{Leaves, Records, Sizes, Slots, holders};
 use sets::{LeafSet, LeafSets, ReadSet, ReadSets, WriteSet, WriteSets, leaves, reads};
-use spec::{Current, LAST_NUMBER, OWNERS, PayloadWords, Refusal};
+use spec::{LAST_NUMBER, OWNERS, PayloadWords, RecordWords, Refusal};
 use transactions::{Globals, admits};
 use workers;
 use workers::{Worker, Workers};
@@ -28,28 +28,18 @@ use workers::{Worker, Workers};
 fn same_payload(p: PayloadWords, q: PayloadWords) -> bool
     ensures { result ≡ same_payload (payload_in p) (payload_in q) }
 {
-    if p.value == q.value {
-        return p.owner % OWNERS == q.owner % OWNERS;
-    }
-    false
+    p.value == q.value && p.owner % OWNERS == q.owner % OWNERS
 }
 
 // A logged record and the current one differ: in presence, payload or commit number.
-fn differs(now: Current, then: Current) -> bool
+fn differs(now: Option<RecordWords>, then: Option<RecordWords>) -> bool
     ensures { result ≡ not (same_record (record_in now) (record_in then)) }
 {
-    if now.there {
-        if then.there {
-            let p = now.payload;
-            let q = then.payload;
-            if same_payload(p, q) {
-                return now.commit != then.commit;
-            }
-            return true;
-        }
-        return true;
+    match (now, then) {
+        (Some(p), Some(q)) => !same_payload(p.payload, q.payload) || p.commit != q.commit,
+        (None, None) => false,
+        _ => true,
     }
-    then.there
 }
 
 // A logged address now has another record (refusal 12).
@@ -60,15 +50,12 @@ fn changed(rows: &Records, slots: &Slots, reads: &ReadSet, n: usize, k: usize) -
     requires k_le_read_limit { k ≤ limits.read_limit }
     ensures { result ≡ any (changed_in rows.now n slots.now) (reads_of reads.now k) }
 {
-    let mut i = 0;
-    while i < k {
+    for i in 0..k {
         let l = reads::read_at(reads, i);
         let now = queries::current_record(rows, slots, n, l.address);
-        let then = l.current;
-        if differs(now, then) {
+        if differs(now, l.current) {
             return true;
         }
-        i += 1;
     }
     false
 }
@@ -80,13 +67,11 @@ fn under_lock(slots: &Slots, reads: &ReadSet, w: usize, k: usize) -> bool
     requires k_le_read_limit { k ≤ limits.read_limit }
     ensures { result ≡ any (locked_in slots.now w) (keys (reads_of reads.now k)) }
 {
-    let mut i = 0;
-    while i < k {
+    for i in 0..k {
         let l = reads::read_at(reads, i);
         if holders::locked_by_other(slots, l.address, w as u64) {
             return true;
         }
-        i += 1;
     }
     false
 }
@@ -110,13 +95,11 @@ fn phantoms(
     requires k_le_leaf_set_limit { k ≤ limits.leaf_set_limit }
     ensures { result ≡ any (phantom_in (map_of (lent rows.now leaves.now slots.now) z) w) (versions_of leafset.now k) }
 {
-    let mut i = 0;
-    while i < k {
+    for i in 0..k {
         let m = leaves::logged_leaf_at(leafset, i);
         if queries::phantom(rows, leaves, slots, ws, z, n, m.version, m.low) {
             return true;
         }
-        i += 1;
     }
     false
 }

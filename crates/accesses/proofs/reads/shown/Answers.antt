@@ -2,8 +2,8 @@
 use Rattle.accesses.specs.ReadSteps.{shown_there, shown_none}
 use Rattle.accesses.proofs.reads.shown.Goals as goal
 
-pub returns-then-seen : goal.returns-then-seen
-returns-then-seen c = rw c.told.ensures (shown_there _ c.if-seen.true)
+pub returns-in-Some : goal.returns-in-Some
+returns-in-Some c = rw c.told.ensures (shown_there _ _ c.in-Some.is)
 
-pub returns : goal.returns
-returns c = shown_none _ c.if-seen.false
+pub returns-in-None : goal.returns-in-None
+returns-in-None c = shown_none _ c.in-None.is

@@ -7,6 +7,3 @@ use Rattle.commits.proofs.validates.changed.Given as goal
 
 abbrev pub invariant-loop-i : goal.invariant-loop-i
 invariant-loop-i l = (l.i ≤ l.k) × Searching (changed_in l.rows l.n l.slots) (reads_of l.reads l.k) l.i
-
-abbrev pub decreases-loop-i : goal.decreases-loop-i
-decreases-loop-i l = l.k - l.i

@@ -9,6 +9,3 @@ use Rattle.commits.proofs.validates.phantoms.Given as goal
 abbrev pub invariant-loop-i : goal.invariant-loop-i
 invariant-loop-i l =
     (l.i ≤ l.k) × Searching (phantom_in (map_of (lent l.rows l.leaves l.slots) l.z) l.w) (versions_of l.leafset l.k) l.i
-
-abbrev pub decreases-loop-i : goal.decreases-loop-i
-decreases-loop-i l = l.k - l.i

@@ -7,6 +7,3 @@ use Rattle.commits.proofs.validates.under_lock.Given as goal
 
 abbrev pub invariant-loop-i : goal.invariant-loop-i
 invariant-loop-i l = (l.i ≤ l.k) × Searching (row_locked l.slots l.w) (reads_of l.reads l.k) l.i
-
-abbrev pub decreases-loop-i : goal.decreases-loop-i
-decreases-loop-i l = l.k - l.i

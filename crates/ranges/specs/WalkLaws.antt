@@ -1,21 +1,23 @@
 -- The laws of a scan's walk: what comes next by the two addresses, and that both lists rise.
-use Rattle.std.specs.Prelude.{ℕ, suc, ◌+◌, ◌-◌, ◌<◌, ◌≤◌, ◌≡◌, refl, Bool, true, false, take, drop, eqb}
+use Rattle.std.specs.Prelude.{ℕ, suc, ◌+◌, ◌-◌, ◌<◌, ◌≤◌, ◌≡◌, refl, take, drop, Option as Optional, Some, None}
 use native.Mathlib.Omega.{arith}
 use Rattle.std.proofs.Common.{sym, ◌∙◌}
 use Rattle.std.proofs.Math.Path.{ap, subst}
 use mathlib.Core.List.{List, [], ◌∷◌}
-use Rattle.std.proofs.Math.Option.{Option, none, some}
+use Rattle.std.proofs.Math.Option.{Option}
 use Rattle.std.proofs.Math.ListN.{length, length-drop}
-use Rattle.lists.specs.Tests.{pick, same}
 use Rattle.lists.specs.Rows.{Row, row, map_items, From, Rising}
 use Rattle.lists.specs.RowLaws.{from_map_items}
-use Rattle.spec.specs.Payloads.{payload_in}
-use Rattle.spec.specs.Records.{Payload, Record, Write, written, deleted, own_view, payload_of}
+use Rattle.spec.specs.Payloads.{record_in}
+use Rattle.spec.specs.declared.RecordWords.{RecordWords}
+use Rattle.spec.specs.Records.{Payload, Record, Write, own_view, payload_of}
 use Rattle.spec.specs.Maps.{current}
 use Rattle.sets.specs.declared.writes.Entry.{Entry}
 use Rattle.sets.specs.declared.reads.Observed.{Observed}
 use Rattle.sets.specs.Reads.{observed_in}
-use Rattle.sets.specs.Writes.{write_of, write_in, entry_in, writes_of, GivesWrite}
+use Rattle.sets.specs.declared.writes.Write.{Write as WriteWords}
+use Rattle.sets.specs.declared.writes.Write.TheVariants.{Put, Deletion}
+use Rattle.sets.specs.Writes.{edit_in, write_in, entry_in, writes_of, GivesWrite}
 use Rattle.sets.specs.SetLaws.{length_rows}
 use Rattle.map.specs.WriteWalks.{rest_none, rest_cons, given}
 use Rattle.map.specs.WriteWalks as walks
@@ -26,22 +28,11 @@ use Rattle.queries.specs.RangeLaws.{walk_map}
 use Rattle.ranges.specs.Parts.{walk_on, walk_past, length_walk}
 use Rattle.ranges.specs.Overlays.{from_drop, shown, overlay, few_overlaid, overlay_none, overlay_upper, overlay_lower, overlay_both, rising_part, rising_tail, rising_map}
 use Rattle.ranges.specs.Scanning.{seen_in}
-use Rattle.ranges.specs.Walks.{Ground, seen_from, own_from, rest, Walks, Inside, Stands, index_turn, own_turn, turn_in, ComesNext}
+use Rattle.ranges.specs.Walks.{Ground, seen_from, own_from, rest, Walks, Inside, Stands, index_shown, own_shown, index_turn, own_turn, shown_first, ComesNext}
 use Rattle.map.specs.Views.{SlotRows, RecordRows}
 use Rattle.map.specs.Parts.{RecordsHeld}
 
 -- ---- what a turn shows
-
-pay_pick : (b : Bool) (v : Payload) (c : ℕ)
-    → pick b (some v) none ≡ payload_of (pick b (some (record { payload = v; commit = c })) none)
-unfolding payload_of
-pay_pick true v c = refl
-pay_pick false v c = refl
-
-own_pick : (b : Bool) (v : Payload) → pick b (some v) none ≡ own_view (pick b (written v) deleted)
-unfolding own_view
-own_pick true v = refl
-own_pick false v = refl
 
 -- the index's row, as it is shown
 paid : Row (Option Record) → Row (Option Payload)
@@ -51,13 +42,21 @@ paid r = row r.key (payload_of r.item)
 owned : Row Write → Row (Option Payload)
 owned r = row r.key (own_view r.item)
 
-index_shows : (s : Observed) (i j : ℕ) → turn_in (index_turn s i j) ≡ paid (observed_in s)
-unfolding turn_in paid
-index_shows s i j = ap (λ (o : Option Payload). row s.address o) (pay_pick s.current.there (payload_in s.current.payload) s.current.commit)
+index_shows : (s : Observed) (rs : List (Row Payload)) → shown (paid (observed_in s)) rs ≡ shown_first (index_shown s.address s.current) rs
+unfolding shown paid payload_of
+index_shows s rs = go s.current
+  where
+    go : (o : Optional RecordWords) → shown (row s.address (payload_of (record_in o))) rs ≡ shown_first (index_shown s.address o) rs
+    go None = refl
+    go (Some r) = refl
 
-own_shows : (e : Entry) (i j : ℕ) → turn_in (own_turn e i j) ≡ owned (entry_in e)
-unfolding turn_in owned write_of same
-own_shows e i j = ap (λ (o : Option Payload). row e.address o) (own_pick (eqb e.kind 1) (payload_in e.payload))
+own_shows : (e : Entry) (rs : List (Row Payload)) → shown (owned (entry_in e)) rs ≡ shown_first (own_shown e.address e.write) rs
+unfolding shown owned own_view
+own_shows e rs = go e.write
+  where
+    go : (x : WriteWords) → shown (row e.address (own_view (edit_in x))) rs ≡ shown_first (own_shown e.address x) rs
+    go (Put v) = refl
+    go Deletion = refl
 
 length_items : {A B : Type 0} (f : A → B) (rs : List (Row A)) → length (map_items f rs) ≡ length rs
 unfolding map_items
@@ -138,26 +137,26 @@ module _ (g : Ground) (h : Walks g) where
   -- ---- what comes next
 
   index_first : (i j : ℕ) (s : Observed) → i < g.bounds.to → Stands g.seen g.bounds.to i s → From (suc s.address) (own_from g j)
-      → rest g i j ≡ shown (turn_in (index_turn s (i + 1) j)) (rest g (i + 1) j)
+      → rest g i j ≡ shown_first (index_shown s.address s.current) (rest g (i + 1) j)
   unfolding rest map_items paid
   index_first i j s l a f =
       ap (λ (xs : List (Row (Option Record))). overlay (map_items own_view (own_from g j)) (map_items payload_of xs)) (seen_on i s l a)
       ∙ overlay_lower (paid (observed_in s)) (map_items own_view (own_from g j)) (map_items payload_of (seen_from g (i + 1)))
       (from_map_items own_view (own_from g j) (suc s.address) f) (from_map_items payload_of (seen_from g (i + 1)) (suc s.address) (seen_tail i s l a))
-      ∙ ap (λ (r : Row (Option Payload)). shown r (overlay (map_items own_view (own_from g j)) (map_items payload_of (seen_from g (i + 1))))) (sym (index_shows s (i + 1) j))
+      ∙ index_shows s (overlay (map_items own_view (own_from g j)) (map_items payload_of (seen_from g (i + 1))))
 
   own_first : (i j : ℕ) (e : Entry) → j < g.bounds.end → GivesWrite g.writes j e → From (suc e.address) (seen_from g i)
-      → rest g i j ≡ shown (turn_in (own_turn e i (j + 1))) (rest g i (j + 1))
+      → rest g i j ≡ shown_first (own_shown e.address e.write) (rest g i (j + 1))
   unfolding rest map_items owned
   own_first i j e l a f =
       ap (λ (xs : List (Row Write)). overlay (map_items own_view xs) (map_items payload_of (seen_from g i))) (own_on j e l a)
       ∙ overlay_upper (owned (entry_in e)) (map_items own_view (own_from g (j + 1))) (map_items payload_of (seen_from g i))
       (from_map_items own_view (own_from g (j + 1)) (suc e.address) (own_tail j e l a)) (from_map_items payload_of (seen_from g i) (suc e.address) f)
-      ∙ ap (λ (r : Row (Option Payload)). shown r (overlay (map_items own_view (own_from g (j + 1))) (map_items payload_of (seen_from g i)))) (sym (own_shows e i (j + 1)))
+      ∙ own_shows e (overlay (map_items own_view (own_from g (j + 1))) (map_items payload_of (seen_from g i)))
 
   both_first : (i j : ℕ) (s : Observed) (e : Entry) → i < g.bounds.to → Stands g.seen g.bounds.to i s
       → j < g.bounds.end → GivesWrite g.writes j e → s.address ≡ e.address
-      → rest g i j ≡ shown (turn_in (own_turn e (i + 1) (j + 1))) (rest g (i + 1) (j + 1))
+      → rest g i j ≡ shown_first (own_shown e.address e.write) (rest g (i + 1) (j + 1))
   unfolding rest map_items owned paid
   both_first i j s e l a k b q =
       ap (λ (xs : List (Row Write)). overlay (map_items own_view xs) (map_items payload_of (seen_from g i))) (own_on j e k b)
@@ -165,7 +164,7 @@ module _ (g : Ground) (h : Walks g) where
       ∙ overlay_both (owned (entry_in e)) (paid (observed_in s)) (map_items own_view (own_from g (j + 1))) (map_items payload_of (seen_from g (i + 1))) q
       (from_map_items own_view (own_from g (j + 1)) (suc e.address) (own_tail j e k b))
       (from_map_items payload_of (seen_from g (i + 1)) (suc e.address) (subst (λ (n : ℕ). From (suc n) (seen_from g (i + 1))) q (seen_tail i s l a)))
-      ∙ ap (λ (r : Row (Option Payload)). shown r (overlay (map_items own_view (own_from g (j + 1))) (map_items payload_of (seen_from g (i + 1))))) (sym (own_shows e (i + 1) (j + 1)))
+      ∙ own_shows e (overlay (map_items own_view (own_from g (j + 1))) (map_items payload_of (seen_from g (i + 1))))
 
   -- the walk is over
   pub rest_end : (i j : ℕ) → g.bounds.to ≤ i → g.bounds.end ≤ j → rest g i j ≡ []

@@ -1,11 +1,13 @@
 -- The walk of a scan: what is left of it at a place of the index and a place of the worker's writes, and what its
 -- functions promise.
-use Rattle.std.specs.Prelude.{ℕ, ◌+◌, ◌-◌, ◌<◌, ◌≤◌, ◌≡◌, true, List, [], ◌++◌, length, get_or, drop, eqb}
-use Rattle.std.proofs.Math.Option.{Option, none, some}
-use Rattle.lists.specs.Tests.{pick}
+use Rattle.std.specs.Prelude.{ℕ, ◌+◌, ◌-◌, ◌<◌, ◌≤◌, ◌≡◌, List, [], ◌∷◌, ◌++◌, length, get_or, drop, Option as Optional, Some, None}
+use Rattle.std.proofs.Math.Option.{Option}
 use Rattle.lists.specs.Rows.{Row, row, map_items, Rising}
 use Rattle.spec.specs.Payloads.{payload_in}
 use Rattle.spec.specs.Records.{limits, Payload, Record, Write, own_view, payload_of}
+use Rattle.spec.specs.declared.RecordWords.{RecordWords}
+use Rattle.sets.specs.declared.writes.Write.{Write as WriteWords}
+use Rattle.sets.specs.declared.writes.Write.TheVariants.{Put, Deletion}
 use Rattle.sets.specs.declared.writes.Entry.{Entry}
 use Rattle.sets.specs.declared.reads.Observed.{Observed}
 use Rattle.sets.specs.Reads.{ReadRows, read_in, observed_in, ReadSetHeld}
@@ -13,8 +15,9 @@ use Rattle.sets.specs.Writes.{WriteRows, WriteSetOrdered, writes_of}
 use Rattle.queries.specs.QueryViews.{walk}
 use Rattle.index.specs.Views.{record_places}
 use Rattle.ranges.specs.declared.walks.Bounds.{Bounds}
+use Rattle.ranges.specs.declared.walks.Shown.{Shown}
 use Rattle.ranges.specs.declared.walks.Turn.{Turn}
-use Rattle.ranges.specs.Overlays.{shown, overlay}
+use Rattle.ranges.specs.Overlays.{overlay}
 use Rattle.map.specs.Views.{SlotRows, RecordRows}
 use Rattle.map.specs.Parts.{RecordsHeld, SlotsHeld}
 use Rattle.buffers.specs.Buffers.{Buffers, rows_in, Beyond}
@@ -72,22 +75,31 @@ pub record Inside (b : Bounds) (i j : ℕ) : Type 0 where
 
 -- ---- one turn
 
+-- what the index shows at an address, and what a write shows there
+abbrev pub index_shown : ℕ → Optional RecordWords → Optional Shown
+index_shown a None = None
+index_shown a (Some r) = Some (record { address = a; payload = r.payload })
+
+abbrev pub own_shown : ℕ → WriteWords → Optional Shown
+own_shown a (Put v) = Some (record { address = a; payload = v })
+own_shown a Deletion = None
+
 abbrev pub index_turn : Observed → ℕ → ℕ → Turn
-index_turn s i j =
-    record { i = i; j = j; there = s.current.there; address = s.address; payload = s.current.payload }
+index_turn s i j = record { i = i; j = j; shown = index_shown s.address s.current }
 
 abbrev pub own_turn : Entry → ℕ → ℕ → Turn
-own_turn e i j = record { i = i; j = j; there = eqb e.kind 1; address = e.address; payload = e.payload }
+own_turn e i j = record { i = i; j = j; shown = own_shown e.address e.write }
 
--- its address, and what is shown there
-unfoldable pub turn_in : Turn → Row (Option Payload)
-turn_in r = row r.address (pick r.there (some (payload_in r.payload)) none)
+-- the rows, with the one that is shown before them
+abbrev pub shown_first : Optional Shown → List (Row Payload) → List (Row Payload)
+shown_first None rs = rs
+shown_first (Some x) rs = row x.address (payload_in x.payload) ∷ rs
 
 -- r comes next
 pub record ComesNext (g : Ground) (i j : ℕ) (r : Turn) : Type 0 where
   pub on : i + j < r.i + r.j
   pub inside : Inside g.bounds r.i r.j
-  pub rest_is : rest g i j ≡ shown (turn_in r) (rest g r.i r.j)
+  pub rest_is : rest g i j ≡ shown_first r.shown (rest g r.i r.j)
 
 -- s stands at place i, unless that is past the last
 pub record Stands (f : ℕ → Row (Option Record)) (to i : ℕ) (s : Observed) : Type 0 where
@@ -98,15 +110,15 @@ pub record GoesOn (ws : WriteRows) (b : Bounds) (s : Observed) (i j : ℕ) (r : 
   pub comes : (f : ℕ → Row (Option Record)) → Walks (ground f ws b) → Stands f b.to i s → ComesNext (ground f ws b) i j r
 
 -- there is a place for what is shown
-pub record Fits (b : Buffers) (at : ℕ) (x : Turn) : Type 0 where
-  pub addresses : x.there ≡ true → at < length b.addresses
-  pub values : x.there ≡ true → at < length b.values
-  pub owners : x.there ≡ true → at < length b.owners
+pub record Fits (b : Buffers) (at : ℕ) (x : Optional Shown) : Type 0 where
+  pub addresses : {s : Shown} → x ≡ Some s → at < length b.addresses
+  pub values : {s : Shown} → x ≡ Some s → at < length b.values
+  pub owners : {s : Shown} → x ≡ Some s → at < length b.owners
 
 -- the buffers after what is shown was written behind the first `at` places, and how many are written now
-pub record Shows (b : Buffers) (at : ℕ) (x : Turn) (c : Buffers) (r : ℕ) : Type 0 where
+pub record Shows (b : Buffers) (at : ℕ) (x : Optional Shown) (c : Buffers) (r : ℕ) : Type 0 where
   pub forth : at ≤ r
-  pub rows_are : rows_in r c ≡ rows_in at b ++ shown (turn_in x) []
+  pub rows_are : rows_in r c ≡ rows_in at b ++ shown_first x []
   pub beyond : Beyond r b c
 
 -- the buffers after the rows were written, and how many there are

@@ -22,13 +22,10 @@ pub fn log_rows(
     requires reads_room { ReadsRoom rows.now slots.now n m p }
     ensures { LogsRows reads.old m (seen_in rows.now n slots.now) p reads.new result }
 {
-    let mut i = p.from;
     let mut count = m;
-    while i < p.to {
+    for i in p.from..p.to {
         let s = queries::seen_at(rows, slots, n, i);
-        let current = s.current;
-        count = reads::log_read(reads, count, s.address, current);
-        i += 1;
+        count = reads::log_read(reads, count, s.address, s.current);
     }
     count
 }
@@ -40,12 +37,10 @@ pub fn log_leaves(leafset: &mut LeafSet, leaves: &Leaves, m: usize, p: Range, s:
     requires leaves_room { LeavesRoom (lows_of leaves.now) m p }
     ensures { LogsLeaves leafset.old m (lows_of leaves.now) (versions_of leaves.now) p s leafset.new result }
 {
-    let mut i = p.from;
     let mut count = m;
-    while i < p.to {
+    for i in p.from..p.to {
         let leaf = queries::leaf(leaves, i);
         count = leaves::log_leaf(leafset, count, leaf, i == p.from, s);
-        i += 1;
     }
     count
 }

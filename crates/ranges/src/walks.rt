@@ -1,16 +1,16 @@
 // The walk of a scan: the records of the index and the worker's own writes together, by rising address. At one address
 // the write decides.
 ghost use Rattle.std.specs.Prelude.{◌≡◌, ◌+◌, ◌<◌, length};
-ghost use Rattle.lists.specs.Tests.{pick, less};
+ghost use Rattle.lists.specs.Tests.{less};
 ghost use Rattle.buffers.specs.Buffers.{buffers};
 ghost use Rattle.ranges.specs.Scanning.{seen_in};
 ghost use Rattle.ranges.specs.Walks.{ground, log_row, rest, Walks, Nears, Sees, Keeps, Inside, Stands, GoesOn, index_turn, own_turn, Fits, Shows, RecordsFit, Fills};
 
 use map::{Records, Slots};
 use sets::reads::Observed;
-use sets::writes::Entry;
+use sets::writes::{Entry, Write};
 use sets::{ReadSet, WriteSet, reads, writes};
-use spec::{Address, Current, OWNERS, PayloadWords};
+use spec::{Address, OWNERS, PayloadWords};
 
 // Where the walk ends: places of the records and of the worker's writes.
 #[derive(Clone, Copy)]
@@ -19,41 +19,45 @@ pub struct Bounds {
     pub end: usize,
 }
 
-// One turn: the places after it, its address, and what is shown there, if anything is.
+// A record that is shown.
+#[derive(Clone, Copy)]
+pub struct Shown {
+    pub address: Address,
+    pub payload: PayloadWords,
+}
+
+// One turn: the places after it, and what is shown, if anything is.
 #[derive(Clone, Copy)]
 pub struct Turn {
     pub i: usize,
     pub j: usize,
-    pub there: bool,
-    pub address: Address,
-    pub payload: PayloadWords,
+    pub shown: Option<Shown>,
 }
 
 fn of_index(s: Observed, i: usize, j: usize) -> Turn
     ensures { result ≡ index_turn s i j }
 {
-    let c = s.current;
-    let payload = c.payload;
-    Turn {
-        i,
-        j,
-        there: c.there,
-        address: s.address,
-        payload,
-    }
+    let shown = match s.current {
+        Some(r) => Some(Shown {
+            address: s.address,
+            payload: r.payload,
+        }),
+        None => None,
+    };
+    Turn { i, j, shown }
 }
 
 fn of_write(e: Entry, i: usize, j: usize) -> Turn
     ensures { result ≡ own_turn e i j }
 {
-    let payload = e.payload;
-    Turn {
-        i,
-        j,
-        there: e.kind == 1,
-        address: e.address,
-        payload,
-    }
+    let shown = match e.write {
+        Write::Put(payload) => Some(Shown {
+            address: e.address,
+            payload,
+        }),
+        Write::Deletion => None,
+    };
+    Turn { i, j, shown }
 }
 
 // What comes next at place i of the records and place j of the writes; s stands at place i, unless the walk is past the last.
@@ -81,15 +85,9 @@ fn next(writes: &WriteSet, b: Bounds, s: Observed, i: usize, j: usize) -> Turn
 
 // Stands past the last place, where it is not looked at.
 fn nothing() -> Observed {
-    let payload = PayloadWords { value: 0, owner: 0 };
-    let current = Current {
-        there: false,
-        payload,
-        commit: 0,
-    };
     Observed {
         address: 0,
-        current,
+        current: None,
     }
 }
 
@@ -99,9 +97,10 @@ fn indexed(rows: &Records, slots: &Slots, n: usize, to: usize, i: usize) -> Obse
     ensures { Stands (seen_in rows.now n slots.now) to i result }
 {
     if i < to {
-        return queries::seen_at(rows, slots, n, i);
+        queries::seen_at(rows, slots, n, i)
+    } else {
+        nothing()
     }
-    nothing()
 }
 
 // The record in row first + i of the read set, unless that is past the walk's last.
@@ -110,19 +109,10 @@ fn logged(reads: &ReadSet, first: usize, to: usize, i: usize) -> Observed
     ensures { Stands (log_row reads.now first) to i result }
 {
     if i < to {
-        return reads::read_at(reads, first + i);
+        reads::read_at(reads, first + i)
+    } else {
+        nothing()
     }
-    nothing()
-}
-
-// 1 where something is shown, else 0.
-fn one(there: bool) -> usize
-    ensures { result ≡ pick there 1 0 }
-{
-    if there {
-        return 1;
-    }
-    0
 }
 
 // How many records the walk shows from place `from` of the index, which has n, and place `start` of the writes on.
@@ -146,8 +136,7 @@ fn count_shown(
     while i + j < b.to + b.end {
         let s = indexed(rows, slots, n, b.to, i);
         let x = next(writes, b, s, i, j);
-        let more = one(x.there);
-        count = count + more;
+        count += usize::from(x.shown.is_some());
         i = x.i;
         j = x.j;
     }
@@ -174,30 +163,28 @@ pub fn exceeds(
     if (b.to - from) + (b.end - start) <= most {
         return false;
     }
-    let count = count_shown(rows, slots, writes, n, b, from, start);
-    most < count
+    most < count_shown(rows, slots, writes, n, b, from, start)
 }
 
-// Writes what a turn shows behind the first `at` places. Answers how many are written now.
+// Writes what is shown, if anything is, behind the first `at` places. Answers how many are written now.
 fn show(
     addresses: &mut [Address],
     values: &mut [u64],
     owners: &mut [u16],
     at: usize,
-    x: Turn,
+    x: Option<Shown>,
 ) -> usize
     requires { Fits (buffers addresses.old values.old owners.old) at x }
     ensures { Shows (buffers addresses.old values.old owners.old) at x
         (buffers addresses.new values.new owners.new) result }
 {
-    if x.there {
-        let v = x.payload;
-        addresses[at] = x.address;
-        values[at] = v.value;
-        owners[at] = (v.owner % OWNERS) as u16;
-        return at + 1;
-    }
-    at
+    let Some(s) = x else {
+        return at;
+    };
+    addresses[at] = s.address;
+    values[at] = s.payload.value;
+    owners[at] = (s.payload.owner % OWNERS) as u16;
+    at + 1
 }
 
 // Writes what the walk shows, addresses, values and owners, from the first place on. Answers how many. The index's records are
@@ -226,7 +213,7 @@ pub fn fill(
     while i + j < b.to + b.end {
         let s = logged(reads, first, b.to, i);
         let x = next(writes, b, s, i, j);
-        at = show(addresses, values, owners, at, x);
+        at = show(addresses, values, owners, at, x.shown);
         i = x.i;
         j = x.j;
     }

@@ -4,7 +4,7 @@
 
 ghost use Rattle.std.specs.Prelude.{◌≡◌, ◌<◌, length, get_or, set};
 ghost use Rattle.spec.specs.Records.{limits};
-ghost use Rattle.workers.specs.Workers.{begun, at_lock, at_check, freed, rank_of, stage_at, packed, unpacked, workers_of};
+ghost use Rattle.workers.specs.Workers.{begun, at_lock, at_check, freed, stage_at, packed, unpacked, workers_of};
 
 use spec::{Stage, WORKERS};
 
@@ -28,100 +28,72 @@ pub struct Worker {
 
 impl Worker {
     // A transaction opens with nothing read and nothing written.
-    pub fn begin(mut self) -> Worker
+    pub fn begin(self) -> Worker
         ensures { result ≡ begun }
     {
-        self = Worker {
+        Worker {
             stage: Stage::Open,
-            number: 0,
-            reads: 0,
-            leaves: 0,
-            writes: 0,
-        };
-        self
+            ..self.free()
+        }
     }
 
     // The addresses of the write set are locked.
-    pub fn lock(mut self) -> Worker
+    pub fn lock(self) -> Worker
         ensures { result ≡ at_lock self }
     {
-        let before = self;
-        self = Worker {
+        Worker {
             stage: Stage::Locked,
-            number: before.number,
-            reads: before.reads,
-            leaves: before.leaves,
-            writes: before.writes,
-        };
-        self
+            ..self
+        }
     }
 
     // The sets are valid, and the commit number is given.
-    pub fn check(mut self, n: u32) -> Worker
+    pub fn check(self, n: u32) -> Worker
         ensures { result ≡ at_check self n }
     {
-        let before = self;
-        self = Worker {
+        Worker {
             stage: Stage::Checked,
             number: n,
-            reads: before.reads,
-            leaves: before.leaves,
-            writes: before.writes,
-        };
-        self
+            ..self
+        }
     }
 
     // The transaction is over, installed or aborted.
-    pub fn free(mut self) -> Worker
+    pub fn free(self) -> Worker
         ensures { result ≡ freed }
     {
-        self = Worker {
+        Worker {
             stage: Stage::Free,
             number: 0,
             reads: 0,
             leaves: 0,
             writes: 0,
-        };
-        self
+        }
     }
 }
 
-// The stages numbered.
-pub fn rank(s: Stage) -> u8
-    ensures { result ≡ rank_of s }
-{
-    match s {
-        Stage::Free => 0,
-        Stage::Open => 1,
-        Stage::Locked => 2,
-        Stage::Checked => 3,
-    }
-}
-
-// The stage of a number.
+// The stage of a number: `as` gives the number of a stage.
 fn stage_at(n: u64) -> Stage
     ensures { result ≡ stage_at n }
 {
-    if n == 0 {
-        return Stage::Free;
+    match n {
+        0 => Stage::Free,
+        1 => Stage::Open,
+        2 => Stage::Locked,
+        _ => Stage::Checked,
     }
-    if n == 1 {
-        return Stage::Open;
-    }
-    if n == 2 {
-        return Stage::Locked;
-    }
-    Stage::Checked
 }
+
+// Two functions and no `From`: that each worker comes back from its word is promised where the word is made, and `From` has no such
+// clause.
 
 // A worker's word: in its lowest 32 bits the commit number, then the stage and how many reads, leaves and writes, 8 bits each.
 fn pack(x: Worker) -> u64
     ensures value { result ≡ packed x }
     ensures result_value { unpacked result ≡ x }
 {
-    let stage = x.stage;
     let counts = x.reads as u64 + FIELD * (x.leaves as u64 + FIELD * x.writes as u64);
-    x.number as u64 + NUMBER_FIELD * (rank(stage) as u64 + FIELD * counts)
+    x.number as u64 + NUMBER_FIELD * (x.stage as u64 + FIELD * counts)
 }
 
 // The worker of a word, whatever it is.
@@ -131,27 +103,13 @@ fn unpack(n: u64) -> Worker
     let upper = n / NUMBER_FIELD;
     let counts = upper / FIELD;
     let others = counts / FIELD;
-    let stage = stage_at(upper % FIELD);
     Worker {
         number: (n % NUMBER_FIELD) as u32,
-        stage,
+        stage: stage_at(upper % FIELD),
         reads: (counts % FIELD) as u8,
         leaves: (others % FIELD) as u8,
         writes: (others / FIELD % FIELD) as u8,
     }
-}
-
-fn size_of(words: &[u64]) -> usize
-    ensures { result ≡ length words.now }
-{
-    words.len()
-}
-
-// All eight workers are there. Only as a slice the lent words tell their number.
-fn eight(workers: &Workers)
-    ensures { length (workers_of workers.now) ≡ limits.workers }
-{
-    size_of(workers);
 }
 
 // Worker w.
@@ -160,7 +118,6 @@ pub fn worker_at(workers: &Workers, w: usize) -> Worker
     ensures value { result ≡ get_or (workers_of workers.now) w freed }
     ensures workers_len { length (workers_of workers.now) ≡ limits.workers }
 {
-    eight(workers);
     unpack(workers[w])
 }
 

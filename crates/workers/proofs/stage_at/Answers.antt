@@ -1,20 +1,21 @@
+use native.Mathlib.Omega.{arith}
 use mathlib.Core.Path.{refl}
 use Rattle.lists.specs.Tests.{same}
 use Rattle.workers.specs.Workers.{stage_at}
 use Rattle.workers.specs.WordLaws.{stage_is, stage_checked}
 use Rattle.workers.proofs.stage_at.Goals as goal
 
-pub returns-then-n-eq0 : goal.returns-then-n-eq0
+pub returns-in-0 : goal.returns-in-0
 unfolding stage_at same
-returns-then-n-eq0 c = stage_is c.if-n-eq0.true refl
+returns-in-0 c = stage_is c.in-0.is refl
 
-pub returns-then-n-eq1 : goal.returns-then-n-eq1
+pub returns-in-1 : goal.returns-in-1
 unfolding stage_at same
-returns-then-n-eq1 c = stage_is c.if-n-eq1.true refl
+returns-in-1 c = stage_is c.in-1.is refl
 
-pub returns-then-n-eq2 : goal.returns-then-n-eq2
+pub returns-in-2 : goal.returns-in-2
 unfolding stage_at same
-returns-then-n-eq2 c = stage_is c.if-n-eq2.true refl
+returns-in-2 c = stage_is c.in-2.is refl
 
-pub returns : goal.returns
-returns c = stage_checked c.if-n-eq0.false c.if-n-eq1.false c.if-n-eq2.false
+pub returns-in_default : goal.returns-in_default
+returns-in_default c = stage_checked (λ e. omega arith) (λ e. omega arith) (λ e. omega arith)

@@ -1,5 +1,4 @@
 use Rattle.ranges.specs.LogLaws.{rows_on, rows_end}
-use Rattle.std.proofs.Common.{true, false}
 use Rattle.ranges.proofs.logs.log_rows.Goals as goal
 
 pub loop-i-preserved : goal.loop-i-preserved

@@ -3,7 +3,6 @@ use mathlib.Core.Path.{refl}
 use mathlib.Core.Logic.{inl, inr}
 use Rattle.ranges.specs.Plans.{full, short}
 use Rattle.ranges.specs.PlanLaws.{walkable, short_told, fits_told}
-use Rattle.std.proofs.Common.{true, false}
 use Rattle.ranges.proofs.plans.measure.Goals as goal
 
 pub returns-then-x-index-gt-READ_LIMIT : goal.returns-then-x-index-gt-READ_LIMIT

@@ -1,6 +1,5 @@
 -- `plans::writes_between` meets its contract: by whether the worker has a write at hi.
 use Rattle.ranges.specs.LogLaws.{own_past, own_other, own_last}
-use Rattle.std.proofs.Common.{true, false}
 use Rattle.ranges.proofs.plans.writes_between.Goals as goal
 
 pub returns-then-n-to : goal.returns-then-n-to

@@ -5,7 +5,6 @@ use mathlib.Core.Path.{sym, ap}
 use Rattle.lists.specs.Tests.{less}
 use Rattle.lists.specs.TestLaws.{less_no}
 use Rattle.ranges.specs.WalkLaws.{rest_few}
-use Rattle.std.proofs.Common.{true}
 use Rattle.ranges.proofs.walks.exceeds.Goals as goal
 
 pub returns-then-b-from : goal.returns-then-b-from
@@ -13,4 +12,4 @@ returns-then-b-from c = sym (less_no (le_trans (rest_few _ c.requires.walks _ _)
 
 pub returns : goal.returns
 unfolding less
-returns c = ap (λ (m : ℕ). less c.args.most m) c.count_shown-count.ensures
+returns c = ap (λ (m : ℕ). less c.args.most m) c.count_shown.ensures

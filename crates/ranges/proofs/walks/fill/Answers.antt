@@ -1,5 +1,4 @@
 use Rattle.ranges.specs.ShowLaws.{filling_start, filling_fits, filling_on, filling_end}
-use Rattle.std.proofs.Common.{false}
 use Rattle.ranges.proofs.walks.fill.Goals as goal
 
 pub loop-i-init : goal.loop-i-init

@@ -2,7 +2,6 @@
 use mathlib.Core.Path.{sym, subst}
 use Rattle.ranges.specs.Walks.{ComesNext}
 use Rattle.ranges.specs.WalkLaws.{step_index_only, step_own_only, step_index, step_own, step_both}
-use Rattle.std.proofs.Common.{true, false}
 use Rattle.ranges.proofs.walks.next.Goals as goal
 
 pub returns-then-b-j : goal.returns-then-b-j

@@ -1,5 +1,6 @@
 pub mod MergeWalks
 pub mod MergeSpans
+pub mod SlotWalks
 pub mod MergeShortcuts
 pub mod MergeSettles
 pub mod MergeKeeps

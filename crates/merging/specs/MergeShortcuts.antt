@@ -29,6 +29,7 @@ use Rattle.phantomlet.specs.Phantoms.{weigh, how_many, hides_some}
 use Rattle.phantomlet.specs.LeafTests.{placed, takes}
 use Rattle.phantomlet.specs.LeafCounts.{lacking, hiding_at, waiting, reached, OneLeaf, leaf_outside, leaf_inside}
 use Rattle.map.specs.Views.{SlotRows, LeafRows, RecordRows}
+use Rattle.merging.specs.SlotWalks.{Passed}
 use Rattle.merging.specs.MergeWalks.{passing, hiders, Walking, Clear, Underway, WalksSlot, Starting, Took, stays_same, behind_none, starting_first, walk, walk_start, walk_outside, walk_over, walk_took, both_false, entry_is, taken_yes}
 
 -- The slots from `from` up to, not including, j have no entry among the addresses r.
@@ -54,9 +55,6 @@ hidden_of_lem ls i e = column_get_or 2 ls i ∙ ap (λ (x : LeafWords). x.hidden
 
 -- ---- slots that are passed
 
-pub skips_start : {slots : SlotRows} {r : Reach} {from : ℕ} → from ≤ slot_count → Skips slots r from from
-skips_start h = record { forth = le_refl _; there = h; passed = λ i a b. absurd (let q : ⊥ = omega arith in q) }
-
 entry_of : (slots : SlotRows) (j : ℕ) (s : SlotWords) → indexlet.IsSlot slots j s → entry_at (slots_of slots) j ≡ kept s.key (content_in s.content)
 unfolding slot_in
 entry_of slots j s reads = sym (ap (λ (x : Slot). x.entry) reads.slot)
@@ -78,22 +76,13 @@ elsewhere_read {slots} r {j} s reads f e q =
     let own : s.key ≡ e.key = kept_key s.key (content_in s.content) e there in
     (subst (λ (x : ℕ). x < addresses) own (reads.narrow (kept_entry s.key (content_in s.content) e there).0), ap (reached r) (sym own) ∙ f)
 
-pub skips_all : {slots : SlotRows} {r : Reach} {from j : ℕ} → from ≤ j → j ≤ slot_count → ((i : ℕ) → from ≤ i → i < j → Elsewhere slots r i) → Skips slots r from j
-skips_all a b f = record { forth = a; there = b; passed = f }
-
-pub skips_join : {slots : SlotRows} {r : Reach} {from i j : ℕ} → Skips slots r from i → Skips slots r i j → Skips slots r from j
-skips_join {slots} {r} {from} {i} {j} k l =
-    let a : from ≤ i = k.forth in
-    let b : i ≤ j = l.forth in
+pub skips_passed : {slots : SlotRows} {r : Reach} {from j : ℕ} {stops : SlotWords → Bool → Type 0}
+    → ((s : SlotWords) → stops s false → reached r s.key ≡ false) → Passed slots stops from j → Skips slots r from j
+skips_passed {slots} {r} f p =
     record {
-      forth = omega arith;
-      there = l.there;
-      passed =
-          λ n p q.
-          ⊎_elim
-          (λ t. let h : n < i = less_true n i t in k.passed n p h)
-          (λ t. let h : i ≤ n = less_false n i t in l.passed n h q)
-          (cases (less n i));
+      forth = p.forth;
+      there = p.there;
+      passed = λ i a b. ⊎_elim (elsewhere_empty slots r i) (λ w. elsewhere_read r w.0 w.1 (f w.0 w.2)) (p.unmet i a b);
     }
 
 stands_is : {slots : SlotRows} {j : ℕ} (s : SlotWords) (b : Bool) → indexlet.IsSlot slots j s → b ≡ is_idle (content_in s.content) → not b ≡ present (entry_at (slots_of slots) j)

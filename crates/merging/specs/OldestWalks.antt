@@ -1,8 +1,9 @@
 -- A walk over the slots for the pending write that has waited longest.
 use Rattle.std.specs.Prelude.{ℕ, zero, suc, ◌+◌, ◌-◌, ◌<◌, ◌≤◌, ◌≡◌, Bool, not, List, [], ◌∷◌, ltb, eqb, length, get_or, drop}
-use Rattle.std.proofs.Common.{le_refl, arith, ◌∙◌, subst, eqb-true, drop_of_length-le, drop-cons}
+use Rattle.std.proofs.Common.{le_refl, ⊎_elim, arith, ◌∙◌, subst, eqb-true, drop_of_length-le, drop-cons}
 use Rattle.std.proofs.Math.Path.{refl, sym, ap}
 use Rattle.std.proofs.Math.Bool.{true, false}
+use Rattle.std.specs.Prelude.{Option as Found, Some, None}
 use Rattle.std.proofs.Math.Option.{Option, none, some}
 use Rattle.std.proofs.lemmas.Bool.{eqb-false}
 use Rattle.lists.specs.Tests.{pick, either, both, maybe, present, same, less}
@@ -16,14 +17,21 @@ use Rattle.indexlet.specs.declared.Slot.{Slot as SlotWords}
 use Rattle.indexlet.specs.Words.{pending_in, content_in, slot_in, slots_of}
 use Rattle.indexlet.specs.WordLaws.{length_slots, idle_waiting}
 use Rattle.indexlet.specs.Promises as indexlet
+use Rattle.merging.specs.SlotWalks.{Passed}
 use Rattle.merging.specs.declared.oldest.Oldest.{Oldest}
 
 -- the oldest so far, as the model has it
-abbrev pub oldest_so : Oldest → Option (Row ℕ)
-oldest_so o = pick o.there (some (row o.key o.since)) none
+abbrev pub oldest_so : Found Oldest → Option (Row ℕ)
+oldest_so None = none
+oldest_so (Some o) = some (row o.key o.since)
+
+-- its address, and 0 if there is none
+abbrev pub key_so : Found Oldest → ℕ
+key_so None = 0
+key_so (Some o) = o.key
 
 -- the write at this key, which waits since that install, has waited longer, or is the first one
-abbrev pub elder : Oldest → ℕ → ℕ → Bool
+abbrev pub elder : Found Oldest → ℕ → ℕ → Bool
 elder o key since = maybe (oldest_so o) true (λ (a : Row ℕ). older (row key since) a)
 
 -- the address of the oldest of one, if there is one, and of those
@@ -36,26 +44,24 @@ abbrev ages_from : List Slot → ℕ → List (Row ℕ)
 ages_from ss j = ages (entries (drop j ss))
 
 -- The walk went past slot j: the oldest of what it found by then and of the rest stays the same.
-pub record Elder (ss : List Slot) (j : ℕ) (o r : Oldest) : Type 0 where
+pub record Elder (ss : List Slot) (j : ℕ) (o r : Found Oldest) : Type 0 where
   pub same_oldest : oldest_after (oldest_so r) (ages_from ss (j + 1)) ≡ oldest_after (oldest_so o) (ages_from ss j)
-  pub narrow : r.key < addresses
-  pub nothing : (o.there ≡ false → o.key ≡ 0) → r.there ≡ false → r.key ≡ 0
+  pub narrow : key_so r < addresses
 
 -- the install since which a write waits, the largest number where none does
 abbrev pub age_in : ContentWords → ℕ
 age_in c = pick (eqb c.kind 0) 18446744073709551615 c.since
 
 -- The slots from `from` up to, not including, j have no write older than o.
-pub record Passes (ss : List Slot) (o : Oldest) (from j : ℕ) : Type 0 where
+pub record Passes (ss : List Slot) (o : Found Oldest) (from j : ℕ) : Type 0 where
   pub forth : from ≤ j
   pub there : j ≤ slot_count
   pub same_oldest : oldest_after (oldest_so o) (ages_from ss j) ≡ oldest_after (oldest_so o) (ages_from ss from)
 
 -- How far the walk is.
-pub record Walking (ss : List Slot) (j : ℕ) (o : Oldest) : Type 0 where
+pub record Walking (ss : List Slot) (j : ℕ) (o : Found Oldest) : Type 0 where
   pub oldest_is : oldest_after (oldest_so o) (ages_from ss j) ≡ oldest_key (ages (entries ss))
-  pub narrow : o.key < addresses
-  pub nothing : o.there ≡ false → o.key ≡ 0
+  pub narrow : key_so o < addresses
   pub inside : j ≤ slot_count
 
 -- ---- one slot
@@ -87,7 +93,7 @@ ages_here s ss n =
     go (suc zero) n = refl
     go (suc (suc k)) n = refl
 
-module _ (slots : List (List ℕ)) (j : ℕ) (o : Oldest) (s : SlotWords) (reads : indexlet.IsSlot slots j s) (inside : j < slot_count) (narrow : o.key < addresses) where
+module _ (slots : List (List ℕ)) (j : ℕ) (o : Found Oldest) (s : SlotWords) (reads : indexlet.IsSlot slots j s) (inside : j < slot_count) (narrow : key_so o < addresses) where
   from_here : ages_from (slots_of slots) j ≡ ages (entries (slot_in s ∷ drop (j + 1) (slots_of slots)))
   from_here =
       let z : length (slots_of slots) ≡ slot_count = length_slots slots in
@@ -103,7 +109,6 @@ module _ (slots : List (List ℕ)) (j : ℕ) (o : Oldest) (s : SlotWords) (reads
       record {
         same_oldest = ap (oldest_after (oldest_so o)) (sym (from_here ∙ ages_past s (drop (j + 1) (slots_of slots)) k));
         narrow = narrow;
-        nothing = λ f. f;
       }
 
   rest : List (Row ℕ)
@@ -118,13 +123,12 @@ module _ (slots : List (List ℕ)) (j : ℕ) (o : Oldest) (s : SlotWords) (reads
 
   -- what is pending there is the oldest by now
   pub elder_here : (s.content.kind ≡ 0 → ⊥) → elder o s.key s.content.since ≡ true
-      → Elder (slots_of slots) j o (record { there = true; key = s.key; since = s.content.since })
+      → Elder (slots_of slots) j o (Some (record { key = s.key; since = s.content.since }))
   unfolding mine rest oldest_key oldest_of
   elder_here n e =
       record {
         same_oldest = go (oldest_so o) e ∙ sym (ap (oldest_after (oldest_so o)) (from_mine n));
         narrow = reads.narrow (idle_waiting s.content n);
-        nothing = λ f q. clash refl q;
       }
     where
       go : (a : Option (Row ℕ)) → maybe a true (λ (x : Row ℕ). older mine x) ≡ true → (oldest_of mine rest).key ≡ oldest_after a (mine ∷ rest)
@@ -138,7 +142,6 @@ module _ (slots : List (List ℕ)) (j : ℕ) (o : Oldest) (s : SlotWords) (reads
       record {
         same_oldest = go (oldest_so o) e ∙ sym (ap (oldest_after (oldest_so o)) (from_mine n));
         narrow = narrow;
-        nothing = λ f. f;
       }
     where
       go : (a : Option (Row ℕ)) → maybe a true (λ (x : Row ℕ). older mine x) ≡ false → oldest_after a rest ≡ oldest_after a (mine ∷ rest)
@@ -147,35 +150,19 @@ module _ (slots : List (List ℕ)) (j : ℕ) (o : Oldest) (s : SlotWords) (reads
 
 -- ---- the test
 
-pub is_there : (b : Bool) → not b ≡ false → b ≡ true
-is_there true e = refl
-is_there false e = clash refl e
-
 module _ (o : Oldest) (key since : ℕ) where
-  absent : (b : Bool) → not b ≡ true → b ≡ false
-  absent true e = clash e refl
-  absent false e = refl
-
-  pub elder_first : not o.there ≡ true → true ≡ elder o key since
-  elder_first n = let e : o.there ≡ false = absent o.there n in sym (ap (λ (b : Bool). maybe (pick b (some (row o.key o.since)) none) true (λ (a : Row ℕ). older (row key since) a)) e)
-
-  there_older : not o.there ≡ false → older (row key since) (row o.key o.since) ≡ elder o key since
-  there_older n = let e : o.there ≡ true = is_there o.there n in sym (ap (λ (b : Bool). maybe (pick b (some (row o.key o.since)) none) true (λ (a : Row ℕ). older (row key since) a)) e)
-
-  pub elder_tie : not o.there ≡ false → since ≡ o.since → ltb key o.key ≡ elder o key since
+  pub elder_tie : since ≡ o.since → ltb key o.key ≡ elder (Some o) key since
   unfolding older less
-  elder_tie t e =
+  elder_tie e =
       sym
       (ap (λ (b : Bool). either b (both (same since o.since) (less key o.key))) (less_no {m = since} {n = o.since} (omega arith))
       ∙ ap (λ (b : Bool). both b (less key o.key)) (same_yes {m = since} {n = o.since} e))
-      ∙ there_older t
 
-  pub elder_time : not o.there ≡ false → (since ≡ o.since → ⊥) → ltb since o.since ≡ elder o key since
+  pub elder_time : (since ≡ o.since → ⊥) → ltb since o.since ≡ elder (Some o) key since
   unfolding older less
-  elder_time t d =
+  elder_time d =
       sym
       (ap (λ (b : Bool). either (less since o.since) (both b (less key o.key))) (same_no {m = since} {n = o.since} d) ∙ go (less since o.since))
-      ∙ there_older t
     where
       go : (b : Bool) → either b false ≡ b
       go true = refl
@@ -183,14 +170,14 @@ module _ (o : Oldest) (key since : ℕ) where
 
 -- ---- slots that are passed
 
-pub passes_none : (ss : List Slot) (o : Oldest) (from : ℕ) → from ≤ slot_count → Passes ss o from from
+pub passes_none : (ss : List Slot) (o : Found Oldest) (from : ℕ) → from ≤ slot_count → Passes ss o from from
 passes_none ss o from h = record { forth = le_refl from; there = h; same_oldest = refl }
 
 -- slot i has no write older than o
-abbrev pub Younger : List Slot → Oldest → ℕ → Type 0
+abbrev Younger : List Slot → Found Oldest → ℕ → Type 0
 Younger ss o i = oldest_after (oldest_so o) (ages_from ss (i + 1)) ≡ oldest_after (oldest_so o) (ages_from ss i)
 
-pub younger_empty : (slots : List (List ℕ)) (o : Oldest) (i : ℕ) → i < slot_count → vacant (get_or (slots_of slots) i empty_slot) ≡ true → Younger (slots_of slots) o i
+younger_empty : (slots : List (List ℕ)) (o : Found Oldest) (i : ℕ) → i < slot_count → vacant (get_or (slots_of slots) i empty_slot) ≡ true → Younger (slots_of slots) o i
 unfolding vacant entries ages
 younger_empty slots o i h t =
     let z : length (slots_of slots) ≡ slot_count = length_slots slots in
@@ -205,25 +192,24 @@ younger_empty slots o i h t =
     go none t = refl
     go (some e) t = clash t refl
 
-pub younger_read : (slots : List (List ℕ)) (j : ℕ) (o : Oldest) (s : SlotWords) → indexlet.IsSlot slots j s → j < slot_count → o.key < addresses → o.there ≡ true
-    → o.since < age_in s.content → Younger (slots_of slots) o j
+younger_read : (slots : List (List ℕ)) (j : ℕ) (o : Oldest) (s : SlotWords) → indexlet.IsSlot slots j s → j < slot_count → o.key < addresses
+    → o.since < age_in s.content → Younger (slots_of slots) (Some o) j
 unfolding less
-younger_read slots j o s reads inside narrow t l = (go (eqb s.content.kind 0) refl).same_oldest
+younger_read slots j o s reads inside narrow l = (go (eqb s.content.kind 0) refl).same_oldest
   where
-    younger : (s.content.kind ≡ 0 → ⊥) → o.since < s.content.since → elder o s.key s.content.since ≡ false
-    younger n h =
-        sym (elder_time o s.key s.content.since (ap not t) (λ e. let q : ⊥ = omega arith in q))
+    younger : o.since < s.content.since → elder (Some o) s.key s.content.since ≡ false
+    younger h =
+        sym (elder_time o s.key s.content.since (λ e. let q : ⊥ = omega arith in q))
         ∙ less_no {m = s.content.since} {n = o.since} (omega arith)
 
-    go : (b : Bool) → eqb s.content.kind 0 ≡ b → Elder (slots_of slots) j o o
-    go true e = elder_past slots j o s reads inside narrow (eqb-true s.content.kind 0 e)
+    go : (b : Bool) → eqb s.content.kind 0 ≡ b → Elder (slots_of slots) j (Some o) (Some o)
+    go true e = elder_past slots j (Some o) s reads inside narrow (eqb-true s.content.kind 0 e)
     go false e =
-        let n : s.content.kind ≡ 0 → ⊥ = eqb-false s.content.kind 0 e in
-        elder_stays slots j o s reads inside narrow n
-        (younger n (subst (λ (x : ℕ). o.since < x) (ap (λ (b : Bool). pick b 18446744073709551615 s.content.since) e) l))
+        elder_stays slots j (Some o) s reads inside narrow (eqb-false s.content.kind 0 e)
+        (younger (subst (λ (x : ℕ). o.since < x) (ap (λ (b : Bool). pick b 18446744073709551615 s.content.since) e) l))
 
 -- as many slots as d from `from` on
-younger_run : (ss : List Slot) (o : Oldest) (from d : ℕ) → ((i : ℕ) → from ≤ i → i < from + d → Younger ss o i)
+younger_run : (ss : List Slot) (o : Found Oldest) (from d : ℕ) → ((i : ℕ) → from ≤ i → i < from + d → Younger ss o i)
     → oldest_after (oldest_so o) (ages_from ss (from + d)) ≡ oldest_after (oldest_so o) (ages_from ss from)
 younger_run ss o from zero f = ap (λ (n : ℕ). oldest_after (oldest_so o) (ages_from ss n)) (let e : from + 0 ≡ from = omega arith in e)
 younger_run ss o from (suc d) f =
@@ -231,39 +217,39 @@ younger_run ss o from (suc d) f =
     ∙ f (from + d) (omega arith) (omega arith)
     ∙ younger_run ss o from d (λ i a b. f i a (omega arith))
 
-pub passes_all : {ss : List Slot} {o : Oldest} {from j : ℕ} → from ≤ j → j ≤ slot_count → ((i : ℕ) → from ≤ i → i < j → Younger ss o i) → Passes ss o from j
-passes_all {ss} {o} {from} {j} a b f =
+pub passes_passed : {slots : List (List ℕ)} {o : Oldest} {from j : ℕ} {stops : SlotWords → Bool → Type 0}
+    → o.key < addresses → ((s : SlotWords) → stops s false → o.since < age_in s.content) → Passed slots stops from j → Passes (slots_of slots) (Some o) from j
+passes_passed {slots} {o} {from} {j} narrow f p =
+    let a : from ≤ j = p.forth in
+    let b : j ≤ slot_count = p.there in
     record {
       forth = a;
       there = b;
       same_oldest =
-          ap (λ (n : ℕ). oldest_after (oldest_so o) (ages_from ss n)) (let e : j ≡ from + (j - from) = omega arith in e)
-          ∙ younger_run ss o from (j - from) (λ i p q. f i p (omega arith));
+          ap (λ (n : ℕ). oldest_after (oldest_so (Some o)) (ages_from (slots_of slots) n)) (let e : j ≡ from + (j - from) = omega arith in e)
+          ∙ younger_run (slots_of slots) (Some o) from (j - from)
+          (λ i c d.
+          let h : i < slot_count = omega arith in
+          ⊎_elim (younger_empty slots (Some o) i h) (λ w. younger_read slots i o w.0 w.1 h narrow (f w.0 w.2)) (p.unmet i c (omega arith)));
     }
 
-pub passes_join : {ss : List Slot} {o : Oldest} {from i j : ℕ} → Passes ss o from i → Passes ss o i j → Passes ss o from j
-passes_join {ss} {o} {from} {i} {j} k l =
-    let a : from ≤ i = k.forth in
-    let b : i ≤ j = l.forth in
-    record { forth = omega arith; there = l.there; same_oldest = l.same_oldest ∙ k.same_oldest }
-
-pub passes_walk : {ss : List Slot} {from j : ℕ} {o : Oldest} → Walking ss from o → Passes ss o from j → Walking ss j o
-passes_walk w p = record { oldest_is = p.same_oldest ∙ w.oldest_is; narrow = w.narrow; nothing = w.nothing; inside = p.there }
+pub passes_walk : {ss : List Slot} {from j : ℕ} {o : Found Oldest} → Walking ss from o → Passes ss o from j → Walking ss j o
+passes_walk w p = record { oldest_is = p.same_oldest ∙ w.oldest_is; narrow = w.narrow; inside = p.there }
 
 -- ---- the walk
 
-pub oldest_start : (ss : List Slot) → Walking ss 0 (record { there = false; key = 0; since = 0 })
-oldest_start ss = record { oldest_is = refl; narrow = omega arith; nothing = λ e. refl; inside = omega arith }
+pub oldest_start : (ss : List Slot) → Walking ss 0 None
+oldest_start ss = record { oldest_is = refl; narrow = omega arith; inside = omega arith }
 
-pub oldest_on : {ss : List Slot} {j : ℕ} {o r : Oldest} → j < slot_count → Walking ss j o → Elder ss j o r → Walking ss (j + 1) r
-oldest_on h w e = record { oldest_is = e.same_oldest ∙ w.oldest_is; narrow = e.narrow; nothing = e.nothing w.nothing; inside = omega arith }
+pub oldest_on : {ss : List Slot} {j : ℕ} {o r : Found Oldest} → j < slot_count → Walking ss j o → Elder ss j o r → Walking ss (j + 1) r
+oldest_on h w e = record { oldest_is = e.same_oldest ∙ w.oldest_is; narrow = e.narrow; inside = omega arith }
 
-pub oldest_end : (slots : List (List ℕ)) {j : ℕ} {o : Oldest} → slot_count ≤ j → Walking (slots_of slots) j o → o.key ≡ oldest_key (ages (entries (slots_of slots)))
+pub oldest_end : (slots : List (List ℕ)) {j : ℕ} {o : Found Oldest} → slot_count ≤ j → Walking (slots_of slots) j o → key_so o ≡ oldest_key (ages (entries (slots_of slots)))
 unfolding oldest_key oldest_of entries ages
 oldest_end slots {j} {o} h w =
-    sym (ap (λ (ss : List Slot). oldest_after (oldest_so o) (ages (entries ss))) (drop_of_length-le (slots_of slots) {i = j} (subst (λ (n : ℕ). n ≤ j) (sym (length_slots slots)) h)) ∙ go o.there refl)
+    sym (ap (λ (ss : List Slot). oldest_after (oldest_so o) (ages (entries ss))) (drop_of_length-le (slots_of slots) {i = j} (subst (λ (n : ℕ). n ≤ j) (sym (length_slots slots)) h)) ∙ go o)
     ∙ w.oldest_is
   where
-    go : (b : Bool) → o.there ≡ b → oldest_after (pick o.there (some (row o.key o.since)) none) [] ≡ o.key
-    go true e = ap (λ (b : Bool). oldest_after (pick b (some (row o.key o.since)) none) []) e
-    go false e = ap (λ (b : Bool). oldest_after (pick b (some (row o.key o.since)) none) []) e ∙ sym (w.nothing e)
+    go : (x : Found Oldest) → oldest_after (oldest_so x) [] ≡ key_so x
+    go None = refl
+    go (Some x) = refl

@@ -11,7 +11,6 @@ ghost use Rattle.spec.specs.Records.{standard};
 ghost use Rattle.spec.specs.Slots.{slot_count};
 ghost use Rattle.laws.specs.VersionBounds.{versions_per_merge};
 ghost use Rattle.indexlet.specs.Words.{content_in};
-ghost use Rattle.indexlet.specs.Bitmaps.{BitsFrom};
 ghost use Rattle.indexlet.specs.Promises as indexlet-promises;
 ghost use Rattle.index.specs.Views as index-views;
 ghost use Rattle.index.specs.LeafColumns.{lows_of};
@@ -25,9 +24,10 @@ ghost use Rattle.merging.specs.MergeWalks.{leaving, hiders, OutsideFits, Outside
 ghost use Rattle.merging.specs.MergeSpans.{LeafSpan, Raised, Lowered};
 ghost use Rattle.merging.specs.MergeShortcuts.{Skips, Alone, Numbered};
 
+use crate::walk;
 use counters::Counters;
 use index::{leaves, settles};
-use indexlet::SLOTS;
+use indexlet::{SLOTS, Slot};
 use map::{Leaves, Records, Sizes, Slots};
 use phantomlet::recount;
 use phantomlet::recount::Reach;
@@ -147,42 +147,13 @@ fn take_slot(
     }
 }
 
-// The next slot, from this one on, that has an entry among the addresses r, of the slots whose bits these are; the end of their
-// word if there is none.
-fn reached_in(slots: &Slots, r: Reach, from: usize, bits: u64) -> usize
-    requires slots_held { indexlet-promises.SlotsHeld slots.now }
-    requires from_lt_slot_count { (from < slot_count) × (r.low + r.span < 2 ^ 64) × (BitsFrom false slots.now from bits) }
-    ensures { Skips slots.now r from result }
-{
-    let mut w = bits;
-    while w != 0 {
-        let j = from + indexlet::lowest_bit(w);
-        let s = indexlet::slot_at(slots, j);
-        if recount::reaches(r, s.key) {
-            return j;
-        }
-        w = indexlet::other_bits(w);
-    }
-    indexlet::word_end(from)
-}
-
-// The next slot, from this one on, that has an entry among the addresses r; 256 if there is none. Most slots are passed here, and
-// those without an entry are not looked at.
+// The next slot, from this one on, that has an entry among the addresses r; 256 if there is none.
 fn next_reached(slots: &Slots, r: Reach, from: usize) -> usize
     requires slots_held { indexlet-promises.SlotsHeld slots.now }
     requires from_le_slot_count { (from ≤ slot_count) × (r.low + r.span < 2 ^ 64) }
     ensures { Skips slots.now r from result }
 {
-    let mut next = from;
-    while next < SLOTS {
-        let w = indexlet::bits_from(slots, next);
-        let j = reached_in(slots, r, next, w);
-        if j < indexlet::word_end(next) {
-            return j;
-        }
-        next = j;
-    }
-    next
+    walk::next(slots, |s: Slot| recount::reaches(r, s.key), from)
 }
 
 // All pending writes of the leaf at place i enter the first n rows of the index; no record behind these lies in the leaf. The
@@ -209,6 +180,7 @@ fn take_all(
         left: 0,
         outside: out,
     };
+    // No range gives the places of a walk that jumps.
     let mut j = 0;
     while j < SLOTS {
         j = next_reached(slots, r, j);

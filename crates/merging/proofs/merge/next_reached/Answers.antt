@@ -1,8 +1,7 @@
-use Rattle.merging.specs.MergeShortcuts.{skips_join}
+-- `merging::merge::next_reached` meets its contract: the walk passes what lies elsewhere.
+use Rattle.std.proofs.Common.{rules}
+use Rattle.merging.specs.MergeShortcuts.{skips_passed}
 use Rattle.merging.proofs.merge.next_reached.Goals as goal
 
-pub returns-then-j-word_end : goal.returns-then-j-word_end
-returns-then-j-word_end c = skips_join c.loop-next.invariant c.reached_in-j.ensures
-
-pub loop-next-preserved : goal.loop-next-preserved
-loop-next-preserved c = skips_join c.loop-next.invariant c.reached_in-j.ensures
+pub returns : goal.returns
+returns c = skips_passed (λ s q. search rules) c.next.ensures

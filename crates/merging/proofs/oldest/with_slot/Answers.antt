@@ -13,7 +13,7 @@ returns-then-is_older c =
     let r = c.slot_at-s in
     elder_here c.args.slots.now c.args.j c.args.o r.result r.ensures c.requires.j_lt_slot_count.0 c.requires.j_lt_slot_count.1 c.if-c-eq0.false (sym c.is_older.ensures ∙ c.if-is_older.true)
 
-pub returns : goal.returns
-returns c =
+pub returns-else-is_older : goal.returns-else-is_older
+returns-else-is_older c =
     let r = c.slot_at-s in
     elder_stays c.args.slots.now c.args.j c.args.o r.result r.ensures c.requires.j_lt_slot_count.0 c.requires.j_lt_slot_count.1 c.if-c-eq0.false (sym c.is_older.ensures ∙ c.if-is_older.false)

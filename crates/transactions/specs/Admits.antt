@@ -4,21 +4,23 @@ use Rattle.std.proofs.Math.Path.{refl, ap}
 use Rattle.std.proofs.Common.{sym, ◌∙◌, subst}
 use Rattle.std.proofs.Math.Bool.{not}
 use mathlib.Core.List.{List, [], ◌∷◌}
-use Rattle.lists.specs.Tests.{less, same}
-use Rattle.lists.specs.TestLaws.{less_yes, less_no, same_yes, same_no}
-use Rattle.std.proofs.Math.Option.{none, some}
+use Rattle.lists.specs.Tests.{maybe, less}
+use Rattle.lists.specs.TestLaws.{less_yes, less_no}
+use Rattle.std.proofs.Math.Option.{Option, none, some}
+use denote.Enum.Bare.{sameb}
+use Rattle.spec.specs.contracts.Stage.{the_type}
 use Rattle.spec.specs.declared.Stage.{Stage}
 use Rattle.spec.specs.declared.Stage.TheVariants.{Free, Open, Locked, Checked}
 use Rattle.spec.specs.declared.Refusal.{Refusal}
 use Rattle.spec.specs.declared.Refusal.TheVariants.{NoWorker, WorkerFree, WorkerTaken, WrongStage}
 use Rattle.spec.specs.Records.{limits}
 use Rattle.spec.specs.Refusals.{ends}
-use Rattle.spec.specs.Steps.{worker_of, is_free, is_open, is_locked, is_checked, begin, cause, no_worker, causes, first_cause, refusal}
+use Rattle.spec.specs.Steps.{worker_of, is_free, is_open, is_locked, is_checked, begin, cause, no_worker, wrong_stage, causes, first_cause, refusal}
 use Rattle.workers.specs.declared.Worker.{Worker}
-use Rattle.workers.specs.Workers.{worker_in, freed, rank_of}
+use Rattle.workers.specs.Workers.{worker_in, freed}
 use Rattle.map.specs.Views.{Lent}
 use Rattle.transactions.specs.Cores.{Core}
-use Rattle.transactions.specs.Answering.{cause_holds, cause_fails, front, front_none, front_free, front_wrong, front_passed}
+use Rattle.transactions.specs.Answering.{cause_holds, cause_fails, front, front_last, front_none, front_free, front_passed}
 use Rattle.transactions.specs.Views.{Logs, state_of}
 use Rattle.transactions.specs.ViewLaws.{worker_at_lem}
 
@@ -40,6 +42,7 @@ pub record Turned (right : Stage → Bool) (workers : List Worker) (w : ℕ) (r 
 -- They pass, and x is the worker.
 pub record Entered (right : Stage → Bool) (workers : List Worker) (w : ℕ) (x : Worker) : Type 0 where
   pub inside : w < limits.workers
+  pub size : length workers ≡ limits.workers
   pub is : x ≡ get_or workers w freed
   pub stage : right x.stage ≡ true
   pub front_is : (l : Lent) (g : Logs) (c : Core) → c.workers ≡ workers → front right (state_of l g c) w ≡ none
@@ -65,30 +68,36 @@ Begun workers w (Ok x) = Vacant workers w x
 
 -- ---- by cases of the tests
 
-rank_test : (s t : Stage) → same (rank_of s) (rank_of t) ≡ is_at t s
-unfolding same is_free is_open is_locked is_checked
-rank_test Free Free = refl
-rank_test Free Open = refl
-rank_test Free Locked = refl
-rank_test Free Checked = refl
-rank_test Open Free = refl
-rank_test Open Open = refl
-rank_test Open Locked = refl
-rank_test Open Checked = refl
-rank_test Locked Free = refl
-rank_test Locked Open = refl
-rank_test Locked Locked = refl
-rank_test Locked Checked = refl
-rank_test Checked Free = refl
-rank_test Checked Open = refl
-rank_test Checked Locked = refl
-rank_test Checked Checked = refl
+-- what `==` says of two stages
+pub stage_eq : {b : Bool} (s t : Stage) → b ≡ sameb the_type s t → b ≡ is_at t s
+unfolding is_free is_open is_locked is_checked
+stage_eq s t e = e ∙ eq_is s t
+  where
+    eq_is : (s t : Stage) → sameb the_type s t ≡ is_at t s
+    eq_is Free Free = refl
+    eq_is Free Open = refl
+    eq_is Free Locked = refl
+    eq_is Free Checked = refl
+    eq_is Open Free = refl
+    eq_is Open Open = refl
+    eq_is Open Locked = refl
+    eq_is Open Checked = refl
+    eq_is Locked Free = refl
+    eq_is Locked Open = refl
+    eq_is Locked Locked = refl
+    eq_is Locked Checked = refl
+    eq_is Checked Free = refl
+    eq_is Checked Open = refl
+    eq_is Checked Locked = refl
+    eq_is Checked Checked = refl
 
-pub rank_is : (s t : Stage) {m n : ℕ} → m ≡ rank_of s → n ≡ rank_of t → m ≡ n → is_at t s ≡ true
-rank_is s t p q e = sym (rank_test s t) ∙ same_yes (sym p ∙ e ∙ q)
-
-pub rank_not : (s t : Stage) {m n : ℕ} → m ≡ rank_of s → n ≡ rank_of t → (m ≡ n → ⊥) → is_at t s ≡ false
-rank_not s t p q d = sym (rank_test s t) ∙ same_no (λ e. d (p ∙ e ∙ sym q))
+-- ... and `!=`
+pub stage_ne : {b : Bool} (s t : Stage) → b ≡ not (sameb the_type s t) → not b ≡ is_at t s
+stage_ne s t e = ap not e ∙ twice (sameb the_type s t) ∙ stage_eq s t refl
+  where
+    twice : (b : Bool) → not (not b) ≡ b
+    twice true = refl
+    twice false = refl
 
 stage_is : (l : Lent) (g : Logs) (c : Core) (workers : List Worker) (w : ℕ) → c.workers ≡ workers → w < length workers
     → (worker_of (state_of l g c) w).stage ≡ (get_or workers w freed).stage
@@ -101,36 +110,61 @@ pub turned_none : (right : Stage → Bool) (workers : List Worker) (w : ℕ) →
 turned_none right workers w h =
     record { front_is = λ l g c e. front_none right (state_of l g c) w h }
 
--- worker x at its place, whose stage has rank n
-module _ {workers : List Worker} {w n : ℕ} (x : Worker) (all : length workers ≡ limits.workers) (h : w < limits.workers) (is : x ≡ get_or workers w freed)
-    (ranked : n ≡ rank_of x.stage) where
+-- worker x at its place
+module _ {workers : List Worker} {w : ℕ} (x : Worker) (all : length workers ≡ limits.workers) (h : w < limits.workers) (is : x ≡ get_or workers w freed) where
   here : (l : Lent) (g : Logs) (c : Core) → c.workers ≡ workers → (worker_of (state_of l g c) w).stage ≡ x.stage
   here l g c e =
       stage_is l g c workers w e (subst (λ (n : ℕ). w < n) (sym all) h) ∙ ap (λ (y : Worker). y.stage) (sym is)
 
-  module _ (right : Stage → Bool) where
-    pub turned_free : n ≡ 0 → Turned right workers w WorkerFree
-    turned_free z =
-        record { front_is = λ l g c e. front_free right (state_of l g c) w h (ap is_free (here l g c e) ∙ rank_is x.stage Free ranked refl z) }
+  pub turned_free : is_free x.stage ≡ true → Turned any_stage workers w WorkerFree
+  turned_free z =
+      record { front_is = λ l g c e. front_free any_stage (state_of l g c) w h (ap is_free (here l g c e) ∙ z) }
 
-    pub turned_wrong : (n ≡ 0 → ⊥) → right x.stage ≡ false → Turned right workers w WrongStage
-    turned_wrong f r =
-        record {
-          front_is =
-              λ l g c e. front_wrong right (state_of l g c) w h
-              (ap is_free (here l g c e) ∙ rank_not x.stage Free ranked refl f) (ap right (here l g c e) ∙ r);
-        }
+  pub entered : is_free x.stage ≡ false → Entered any_stage workers w x
+  entered f =
+      record {
+        inside = h;
+        size = all;
+        is = is;
+        stage = refl;
+        front_is =
+            λ l g c e. front_passed any_stage (state_of l g c) w h
+            (ap is_free (here l g c e) ∙ f) refl;
+      }
 
-    pub admitted : (n ≡ 0 → ⊥) → right x.stage ≡ true → Entered right workers w x
-    admitted f r =
-        record {
-          inside = h;
-          is = is;
-          stage = r;
-          front_is =
-              λ l g c e. front_passed right (state_of l g c) w h
-              (ap is_free (here l g c e) ∙ rank_not x.stage Free ranked refl f) (ap right (here l g c e) ∙ r);
-        }
+-- whatever the stage has to be, the first two tests come before it
+pub turned_first : (right : Stage → Bool) {workers : List Worker} {w : ℕ} {r : Refusal} → Turned any_stage workers w r → Turned right workers w r
+turned_first right {workers} {w} {r} t =
+    record {
+      front_is = λ l g c e.
+          let σ = state_of l g c in
+          front_last any_stage right σ w refl ∙ ap (λ (o : Option Refusal). maybe o (first_cause (wrong_stage right σ w ∷ [])) some) (t.front_is l g c e);
+    }
+
+module _ (right : Stage → Bool) {workers : List Worker} {w : ℕ} {x : Worker} (t : Entered any_stage workers w x) where
+  last_test : (b : Bool) → right x.stage ≡ b → (l : Lent) (g : Logs) (c : Core) → c.workers ≡ workers
+      → front right (state_of l g c) w ≡ first_cause (cause (not b) WrongStage ∷ [])
+  unfolding wrong_stage
+  last_test b f l g c e =
+      let σ = state_of l g c in
+      front_last any_stage right σ w refl
+      ∙ ap (λ (o : Option Refusal). maybe o (first_cause (wrong_stage right σ w ∷ [])) some) (t.front_is l g c e)
+      ∙ ap (λ (b : Bool). first_cause (cause (not b) WrongStage ∷ [])) (ap right (here x t.size t.inside t.is l g c e) ∙ f)
+
+  pub turned_wrong : right x.stage ≡ false → Turned right workers w WrongStage
+  unfolding first_cause
+  turned_wrong f = record { front_is = λ l g c e. last_test false f l g c e }
+
+  pub admitted : right x.stage ≡ true → Entered right workers w x
+  unfolding first_cause
+  admitted f =
+      record {
+        inside = t.inside;
+        size = t.size;
+        is = t.is;
+        stage = f;
+        front_is = λ l g c e. last_test true f l g c e;
+      }
 
 -- ---- begin
 
@@ -146,18 +180,17 @@ begin_then : (l : Lent) (g : Logs) (c : Core) (w : ℕ) → w < limits.workers
 unfolding refusal causes no_worker state_of
 begin_then l g c w h = cause_fails (not (less w limits.workers)) NoWorker _ (ap not (less_yes {m = w} {n = limits.workers} h))
 
-module _ {workers : List Worker} {w n : ℕ} (x : Worker) (all : length workers ≡ limits.workers) (h : w < limits.workers) (is : x ≡ get_or workers w freed)
-    (ranked : n ≡ rank_of x.stage) where
-  pub barred_taken : (n ≡ 0 → ⊥) → Barred workers w WorkerTaken
+module _ {workers : List Worker} {w : ℕ} (x : Worker) (all : length workers ≡ limits.workers) (h : w < limits.workers) (is : x ≡ get_or workers w freed) where
+  pub barred_taken : is_free x.stage ≡ false → Barred workers w WorkerTaken
   barred_taken f =
       record {
         refuses =
             λ l g c e. begin_then l g c w h
-            ∙ cause_holds _ WorkerTaken [] (ap (λ (s : Stage). not (is_free s)) (here x all h is ranked l g c e) ∙ ap not (rank_not x.stage Free ranked refl f));
+            ∙ cause_holds _ WorkerTaken [] (ap (λ (s : Stage). not (is_free s)) (here x all h is l g c e) ∙ ap not f);
         mild = refl;
       }
 
-  pub vacant_free : n ≡ 0 → Vacant workers w x
+  pub vacant_free : is_free x.stage ≡ true → Vacant workers w x
   unfolding first_cause
   vacant_free z =
       record {
@@ -165,5 +198,5 @@ module _ {workers : List Worker} {w n : ℕ} (x : Worker) (all : length workers 
         is = is;
         passes =
             λ l g c e. begin_then l g c w h
-            ∙ cause_fails _ WorkerTaken [] (ap (λ (s : Stage). not (is_free s)) (here x all h is ranked l g c e) ∙ ap not (rank_is x.stage Free ranked refl z));
+            ∙ cause_fails _ WorkerTaken [] (ap (λ (s : Stage). not (is_free s)) (here x all h is l g c e) ∙ ap not z);
       }

@@ -1,7 +1,7 @@
 -- How a step's refusals are found one after the other: the causes that the code has tested, in their order.
 use Rattle.std.specs.Prelude.{ℕ, ◌<◌, ◌≤◌, ◌≡◌, refl, Bool, true, false, not, List, [], ◌∷◌}
 use Rattle.std.proofs.Math.Path.{ap}
-use Rattle.std.proofs.Common.{◌∙◌}
+use Rattle.std.proofs.Common.{sym, ◌∙◌}
 use Rattle.std.proofs.Math.Option.{Option, none, some}
 use Rattle.lists.specs.Tests.{pick, maybe, less}
 use Rattle.lists.specs.TestLaws.{less_yes, less_no}
@@ -64,6 +64,15 @@ front_first right σ w cs =
     (pick_first (worker_free σ w).holds (worker_free σ w).refusal (pick (wrong_stage right σ w).holds (some (wrong_stage right σ w).refusal) none) (first_cause cs))
     ∙ pick_first (no_worker σ w).holds (no_worker σ w).refusal
     (pick (worker_free σ w).holds (some (worker_free σ w).refusal) (pick (wrong_stage right σ w).holds (some (wrong_stage right σ w).refusal) none)) (first_cause cs)
+
+-- the test of the stage comes last
+pub front_last : (any right : Stage → Bool) (σ : State) (w : ℕ) → any (worker_of σ w).stage ≡ true
+    → front right σ w ≡ maybe (front any σ w) (first_cause (wrong_stage right σ w ∷ [])) some
+unfolding front first_cause wrong_stage
+front_last any right σ w e =
+    ap (λ (b : Bool). pick (no_worker σ w).holds (some (no_worker σ w).refusal) (pick (worker_free σ w).holds (some (worker_free σ w).refusal)
+    (pick (not b) (some WrongStage) (pick (not (right (worker_of σ w).stage)) (some WrongStage) none)))) (sym e)
+    ∙ front_first any σ w (wrong_stage right σ w ∷ [])
 
 -- no worker
 pub front_none : (right : Stage → Bool) (σ : State) (w : ℕ) → limits.workers ≤ w → front right σ w ≡ some NoWorker

@@ -7,20 +7,27 @@ use spec::{Refusal, Stage, WORKERS};
 use workers;
 use workers::{Worker, Workers};
 
-// A worker in this stage, which is not the free one.
-fn at_stage(workers: &Workers, w: u32, right: Stage) -> Result<Worker, Refusal>
-    ensures { Admitted (is_at right) (workers_of workers.now) w result }
+// A worker in any stage but the free one, for abort.
+pub fn busy(workers: &Workers, w: u32) -> Result<Worker, Refusal>
+    ensures { Admitted any_stage (workers_of workers.now) w result }
 {
     let i = w as usize;
     if i >= WORKERS {
         return Err(Refusal::NoWorker);
     }
     let x = workers::worker_at(workers, i);
-    let n = workers::rank(x.stage);
-    if n == 0 {
+    if x.stage == Stage::Free {
         return Err(Refusal::WorkerFree);
     }
-    if n != workers::rank(right) {
+    Ok(x)
+}
+
+// A worker in this stage, which is not the free one.
+fn at_stage(workers: &Workers, w: u32, right: Stage) -> Result<Worker, Refusal>
+    ensures { Admitted (is_at right) (workers_of workers.now) w result }
+{
+    let x = busy(workers, w)?;
+    if x.stage != right {
         return Err(Refusal::WrongStage);
     }
     Ok(x)
@@ -47,21 +54,6 @@ pub fn checked(workers: &Workers, w: u32) -> Result<Worker, Refusal>
     at_stage(workers, w, Stage::Checked)
 }
 
-// A worker in any stage but the free one, for abort.
-pub fn busy(workers: &Workers, w: u32) -> Result<Worker, Refusal>
-    ensures { Admitted any_stage (workers_of workers.now) w result }
-{
-    let i = w as usize;
-    if i >= WORKERS {
-        return Err(Refusal::NoWorker);
-    }
-    let x = workers::worker_at(workers, i);
-    if workers::rank(x.stage) == 0 {
-        return Err(Refusal::WorkerFree);
-    }
-    Ok(x)
-}
-
 // A free worker, for begin.
 pub fn vacant(workers: &Workers, w: u32) -> Result<Worker, Refusal>
     ensures { Begun (workers_of workers.now) w result }
@@ -71,7 +63,7 @@ pub fn vacant(workers: &Workers, w: u32) -> Result<Worker, Refusal>
         return Err(Refusal::NoWorker);
     }
     let x = workers::worker_at(workers, i);
-    if workers::rank(x.stage) != 0 {
+    if x.stage != Stage::Free {
         return Err(Refusal::WorkerTaken);
     }
     Ok(x)

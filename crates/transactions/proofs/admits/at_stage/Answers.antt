@@ -1,17 +1,15 @@
-use Rattle.transactions.specs.Admits.{rank_is, rank_not, turned_none, turned_free, turned_wrong, admitted}
-use Rattle.std.proofs.Common.{true, false}
+use Rattle.std.proofs.Common.{sym, ap, ◌∙◌, not}
+use Rattle.std.proofs.lemmas.Result.{err_from_is_err_and}
+use Rattle.transactions.specs.Admits.{stage_ne, turned_first, turned_wrong, admitted}
 use Rattle.transactions.proofs.admits.at_stage.Goals as goal
 
-pub returns-then-i-ge-WORKERS : goal.returns-then-i-ge-WORKERS
-returns-then-i-ge-WORKERS c = turned_none _ _ _ c.if-i-ge-WORKERS.true
+pub returns-in_err-x : goal.returns-in_err-x
+returns-in_err-x c =
+    let p = err_from_is_err_and c.from_residual.result c.from_residual.ensures.1 in
+    rw (p.1, p.2) (turned_first _ c.in_err-x.ensures)
 
-pub returns-then-n-eq0 : goal.returns-then-n-eq0
-returns-then-n-eq0 c = turned_free _ c.worker_at-x.ensures.workers_len c.if-i-ge-WORKERS.false c.worker_at-x.ensures.value c.rank-n.ensures _ c.if-n-eq0.true
-
-pub returns-then-n-rank : goal.returns-then-n-rank
-returns-then-n-rank c = turned_wrong _ c.worker_at-x.ensures.workers_len c.if-i-ge-WORKERS.false c.worker_at-x.ensures.value c.rank-n.ensures _ c.if-n-eq0.false
-    (rank_not _ c.args.right c.rank-n.ensures c.rank.ensures c.if-n-rank.true)
+pub returns-then-ne : goal.returns-then-ne
+returns-then-ne c = turned_wrong _ c.in_ok-x.ensures (sym (stage_ne _ c.args.right c.ne.ensures) ∙ ap not c.if-ne.true)
 
 pub returns : goal.returns
-returns c = admitted _ c.worker_at-x.ensures.workers_len c.if-i-ge-WORKERS.false c.worker_at-x.ensures.value c.rank-n.ensures _ c.if-n-eq0.false
-    (rank_is _ c.args.right c.rank-n.ensures c.rank.ensures c.if-n-rank.false)
+returns c = admitted _ c.in_ok-x.ensures (sym (stage_ne _ c.args.right c.ne.ensures) ∙ ap not c.if-ne.false)

@@ -185,4 +185,4 @@ put_refines {ws} {us} {c} {c'} {w} {a} {r} {l} {rs} {ls} value owner h e k =
 
 pub remove_refines : {ws us : List WriteRows} {c c' : Core} {w a : ℕ} {r : Result Unit Refusal} {l : Lent} {rs : List ReadRows} {ls : List LeafSetRows} → Edits ws c w a (edit_in Deletion) us c' r
     → Ready l (logs rs ls ws) c → Refines l (logs rs ls ws) c (remove w a) l (logs rs ls us) c' (plain_in r)
-remove_refines {rs = rs} {ls} e k = e.refines_so l rs ls k
+remove_refines {l = l} {rs} {ls} e k = e.refines_so l rs ls k

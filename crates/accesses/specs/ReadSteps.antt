@@ -30,7 +30,7 @@ use Rattle.workers.proofs.WorkerLaws.{read_in_lem}
 use Rattle.sets.specs.Reads.{ReadRows, reads_of, ReadsHeld, LogsRead}
 use Rattle.sets.specs.Reads as reads
 use Rattle.sets.specs.Leaves.{LeafSetRows}
-use Rattle.sets.specs.Writes.{WriteRows, found_in, writes_in}
+use Rattle.sets.specs.Writes.{WriteRows, edit_in, found_in, writes_in}
 use Rattle.sets.specs.SetLaws.{each_set, other_set, length_rows}
 use Rattle.queries.specs.QueryViews.{Examines}
 use Rattle.map.specs.Views.{leaves_in, by_columns, SlotRows, RecordRows, Lent}
@@ -210,19 +210,18 @@ read_own {rs} {rows} {slots} {ws} {c} {w} {a} {x} e v t q s =
           (sym (ap (with_worker σ w) (logged_none (worker_of σ w)) ∙ worker_back σ w)) k.stored);
     }
 
-pub read_put : {rs : List ReadRows} {rows : RecordRows} {slots : SlotRows} {ws : List WriteRows} {c : Core} {w a : ℕ} {v : PayloadWords} {x : Worker} {f : Optional WriteWords}
-    → Entered is_open c.workers w x → f ≡ Some (Put v) → found_in f ≡ look (writes_in ws w x.writes) a
-    → Tells rs rows slots ws c w a rs c (Ok (record { value = Some (told v); examined = 0 }))
+pub own_put : (v : PayloadWords) → found_by (record { value = Some (told v); examined = 0 }) ≡ found (own_view (edit_in (Put v))) 0
 unfolding own_view
-read_put {v} t e q =
-    read_own (written (payload_in v)) (record { value = Some (told v); examined = 0 }) t (sym q ∙ ap found_in e) refl
+own_put v = refl
 
-pub read_deletion : {rs : List ReadRows} {rows : RecordRows} {slots : SlotRows} {ws : List WriteRows} {c : Core} {w a : ℕ} {x : Worker} {f : Optional WriteWords}
-    → Entered is_open c.workers w x → f ≡ Some Deletion → found_in f ≡ look (writes_in ws w x.writes) a
-    → Tells rs rows slots ws c w a rs c (Ok (record { value = None; examined = 0 }))
+pub own_deletion : found_by (record { value = None; examined = 0 }) ≡ found (own_view (edit_in Deletion)) 0
 unfolding own_view
-read_deletion t e q =
-    read_own deleted (record { value = None; examined = 0 }) t (sym q ∙ ap found_in e) refl
+own_deletion = refl
+
+pub read_written : {rs : List ReadRows} {rows : RecordRows} {slots : SlotRows} {ws : List WriteRows} {c : Core} {w a : ℕ} {e : WriteWords} {v : Found} {x : Worker} {f : Optional WriteWords}
+    → Entered is_open c.workers w x → f ≡ Some e → found_in f ≡ look (writes_in ws w x.writes) a → found_by v ≡ found (own_view (edit_in e)) 0
+    → Tells rs rows slots ws c w a rs c (Ok v)
+read_written {e = e} {v} t p q s = read_own (edit_in e) v t (sym q ∙ ap found_in p) s
 
 pub read_nothing : {rs us : List ReadRows} {rows : RecordRows} {slots : SlotRows} {ws : List WriteRows} {c c' : Core} {w a : ℕ} {x : Worker} {f : Optional WriteWords} {r : Result Found Refusal}
     → f ≡ None → found_in f ≡ look (writes_in ws w x.writes) a

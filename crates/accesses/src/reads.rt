@@ -1,17 +1,18 @@
 // Read: a worker's own write, or the current record, which its read set takes.
 ghost use Rattle.std.specs.Prelude.{◌≡◌, ◌<◌};
-ghost use Rattle.spec.specs.Records.{limits, payload_of};
-ghost use Rattle.spec.specs.Steps.{read, is_open};
+ghost use Rattle.spec.specs.Records.{limits, payload_of, own_view};
+ghost use Rattle.spec.specs.Steps.{read, found, is_open};
 ghost use Rattle.workers.specs.Workers.{workers_of};
 ghost use Rattle.spec.specs.Payloads.{record_in};
 ghost use Rattle.sets.specs.Reads.{ReadSetHeld};
+ghost use Rattle.sets.specs.Writes.{edit_in};
 ghost use Rattle.map.specs.Parts.{RecordsHeld, SlotsHeld};
 ghost use Rattle.map.specs.Views.{lent};
 ghost use Rattle.transactions.specs.Views.{logs, core_of};
 ghost use Rattle.transactions.specs.Ready.{Ready, Refines};
 ghost use Rattle.transactions.specs.Admits.{Entered};
 ghost use Rattle.accesses.specs.ReadSteps.{Loggable, Readable, LogsCurrent, Tells, TellsCurrent};
-ghost use Rattle.accesses.specs.Answers.{told, value_in, read_answer};
+ghost use Rattle.accesses.specs.Answers.{told, value_in, found_by, read_answer};
 
 use map::{Leaves, Records, Slots};
 use sets::writes::Write;
@@ -64,9 +65,13 @@ fn shown(seen: Option<RecordWords>) -> Option<ReadValue>
 }
 
 // What a read tells of the worker's own write, for which no slot is examined.
-fn own(value: Option<ReadValue>) -> Found
-    ensures { result ≡ record { value = value; examined = 0 } }
+fn own(write: Write) -> Found
+    ensures { found_by result ≡ found (own_view (edit_in write)) 0 }
 {
+    let value = match write {
+        Write::Put(p) => Some(told(p)),
+        Write::Deletion => None,
+    };
     Found { value, examined: 0 }
 }
 
@@ -143,8 +148,7 @@ fn tell(
     let x = admits::open(workers, w)?;
     let v = w as usize;
     match writes::find_write(&writes[v], x.writes as usize, a) {
-        Some(Write::Put(p)) => Ok(own(Some(told(p)))),
-        Some(Write::Deletion) => Ok(own(None)),
+        Some(write) => Ok(own(write)),
         None => read_current(reads, workers, rows, slots, c, w, x, a),
     }
 }

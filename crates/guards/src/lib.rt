@@ -7,6 +7,8 @@ use sets::{LeafSet, ReadSet, WriteSet};
 use spec::Refusal;
 use workers::Worker;
 
+// Four loops in these test a put after another. They stay four: one loop over a closure would ask for a ghost test, two clauses
+// on the closure and a pick at each call, in place of five plain lines.
 mod lengths;
 mod overlaps;
 mod scans;

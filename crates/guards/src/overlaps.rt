@@ -21,12 +21,12 @@ fn overlaps(a: Address, len: u64, j: Address, m: u64) -> bool
     ensures { result ≡ overlaps_at a len j m }
 {
     if j == a {
-        return false;
+        false
+    } else if j < a {
+        ((a - j) as u64) < m
+    } else {
+        ((j - a) as u64) < len
     }
-    if j < a {
-        return ((a - j) as u64) < m;
-    }
-    ((j - a) as u64) < len
 }
 
 // The worker's own write is a put that overlaps the section.

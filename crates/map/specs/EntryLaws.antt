@@ -460,9 +460,13 @@ module _ (b lacks : Bool) (c : ContentWords) (e : b ≡ is_idle (content_in c)) 
   unfolding outside_term
   term_outside t f = sym (ap (λ (x : Bool). pick x 0 (pick lacks 1 0)) (sym e ∙ t) ∙ ap (λ (x : Bool). pick x 1 0) f)
 
-  pub term_inside : b ≡ false → lacks ≡ false → 0 ≡ outside_term lacks (content_in c)
-  unfolding outside_term
-  term_inside t f = sym (ap (λ (x : Bool). pick x 0 (pick lacks 1 0)) (sym e ∙ t) ∙ ap (λ (x : Bool). pick x 1 0) f)
+pub term_indexed : {lacks : Bool} (c : ContentWords) → lacks ≡ false → 0 ≡ outside_term lacks (content_in c)
+unfolding outside_term
+term_indexed c f = sym (ap (λ (x : Bool). pick (is_idle (content_in c)) 0 (pick x 1 0)) f ∙ none_of (is_idle (content_in c)))
+  where
+    none_of : (b : Bool) → ◌≡◌ {A = ℕ} (pick b 0 0) 0
+    none_of true = refl
+    none_of false = refl
 
 module _ (b lacks : Bool) (c : ContentWords) (e : b ≡ hides_some (content_in c)) where
   pub hidden_silent : not b ≡ true → 0 ≡ hidden_term lacks (content_in c)

@@ -2,7 +2,8 @@
 use Prim.Native.Nat.{ℕ, zero, suc, ◌+◌, ◌-◌, ◌<◌, ◌≤◌}
 use Rattle.std.proofs.Common.{lt_of_le_of_lt, add-one, ◌∙◌}
 use native.Mathlib.Omega.{arith}
-use Rattle.std.specs.Prelude.{◌≡◌, Bool, true, length, eqb}
+use Rattle.std.specs.Prelude.{◌≡◌, Bool, true, length, eqb, Option as Optional, Some, None, SomeIff}
+use Rattle.std.specs.Option.{option_eq}
 use Rattle.std.proofs.Math.Path.{refl, sym, ap, subst}
 use Rattle.std.proofs.Math.Bool.{false, not}
 use mathlib.Core.List.{List, [], ◌∷◌}
@@ -11,6 +12,7 @@ use Rattle.lists.specs.Tests.{pick, maybe, present, same}
 use Rattle.lists.specs.Rows.{Row, look, keys, any, Different}
 use Rattle.lists.specs.RowLaws.{look_here}
 use Rattle.spec.specs.Widths.{address_size}
+use Rattle.spec.specs.Payloads.{option_in}
 use Rattle.spec.specs.declared.PayloadWords.{PayloadWords}
 use Rattle.spec.specs.Records.{limits, standard, Write, is_put}
 use Rattle.spec.specs.Slots.{slot_count, Pending, Content, is_idle, Slot, entries, content_of, enter}
@@ -96,26 +98,36 @@ holding_none c = refl
 unfoldable pub held_by : ℕ → Content → Bool
 held_by w c = maybe c.holder false (λ (h : ℕ). same h w)
 
-module _ (c : ContentWords) (w : ℕ) where
-  pub free_own : c.lock ≡ 0 → false ≡ held_by w (content_in c)
-  unfolding held_by content_in holder_in
-  free_own e = sym (ap (λ (x : ℕ). maybe (holder_in x) false (λ (h : ℕ). same h w)) e)
+-- who has a lock, as the code says it
+abbrev pub holder_of : Optional ℕ → Option ℕ
+holder_of o = option_in (λ (h : ℕ). h) o
 
-  pub free_other : c.lock ≡ 0 → false ≡ held_by_other w (content_in c)
-  unfolding held_by_other content_in holder_in
-  free_other e = sym (ap (λ (x : ℕ). maybe (holder_in x) false (λ (h : ℕ). not (same h w))) e)
+pub holder_back : (c : ContentWords) (o : Optional ℕ) → SomeIff o (1 ≤ c.lock) (c.lock - 1) → holder_of o ≡ (content_in c).holder
+unfolding content_in holder_in
+holder_back c o h = go o c.lock h
+  where
+    go : (p : Optional ℕ) (l : ℕ) → SomeIff p (1 ≤ l) (l - 1) → holder_of p ≡ holder_in l
+    go None zero h = refl
+    go None (suc l) h = absurd (h (omega arith))
+    go (Some x) zero h = absurd (let q : 1 ≤ 0 = h.0 in omega arith)
+    go (Some x) (suc l) h = ap some (let q : x ≡ suc l - 1 = h.1 in omega arith)
 
-  taken_holder : (c.lock ≡ 0 → ⊥) → (content_in c).holder ≡ some (c.lock - 1)
-  unfolding content_in holder_in
-  taken_holder n = let e : c.lock ≡ suc (c.lock - 1) = omega arith in ap holder_in e
+module _ (c : Content) (w : ℕ) where
+  pub own_lock : (o : Optional ℕ) {b : Bool} → holder_of o ≡ c.holder → b ≡ option_eq eqb o (Some w) → b ≡ held_by w c
+  unfolding held_by
+  own_lock o e f = f ∙ go o ∙ ap (λ (h : Option ℕ). maybe h false (λ (x : ℕ). same x w)) e
+    where
+      go : (p : Optional ℕ) → option_eq eqb p (Some w) ≡ maybe (holder_of p) false (λ (x : ℕ). same x w)
+      go None = refl
+      go (Some x) = unfold same in refl
 
-  pub taken_own : (c.lock ≡ 0 → ⊥) → eqb (c.lock - 1) w ≡ held_by w (content_in c)
-  unfolding held_by same
-  taken_own n = sym (ap (λ (o : Option ℕ). maybe o false (λ (h : ℕ). same h w)) (taken_holder n))
-
-  pub taken_other : (c.lock ≡ 0 → ⊥) → not (eqb (c.lock - 1) w) ≡ held_by_other w (content_in c)
+  pub other_lock : {h : ℕ} → some h ≡ c.holder → not (eqb h w) ≡ held_by_other w c
   unfolding held_by_other same
-  taken_other n = sym (ap (λ (o : Option ℕ). maybe o false (λ (h : ℕ). not (same h w))) (taken_holder n))
+  other_lock e = ap (λ (o : Option ℕ). maybe o false (λ (x : ℕ). not (same x w))) e
+
+  pub no_lock : none ≡ c.holder → false ≡ held_by_other w c
+  unfolding held_by_other
+  no_lock e = ap (λ (o : Option ℕ). maybe o false (λ (x : ℕ). not (same x w))) e
 
 -- ---- what is said of one address
 

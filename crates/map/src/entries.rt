@@ -24,7 +24,6 @@ use spec::Address;
 pub fn fresh_map(rows: &mut Records, leaves: &mut Leaves, slots: &mut Slots) -> Sizes
     ensures { MapBecomes (lent rows.new leaves.new slots.new) result 0 fresh_map }
 {
-    leaves::leaf_places(leaves);
     let first = LeafWords {
         low: 0,
         version: 0,
@@ -45,36 +44,25 @@ pub fn fresh_map(rows: &mut Records, leaves: &mut Leaves, slots: &mut Slots) -> 
 fn outside_term(lacks: bool, c: indexlet::Content) -> u64
     ensures { result ≡ outside_term lacks (content_in c) }
 {
-    if indexlet::idle(c) {
-        return 0;
-    }
-    if lacks {
-        return 1;
-    }
-    0
+    if lacks && !indexlet::idle(c) { 1 } else { 0 }
 }
 
 // 1 if what is said of an address that the index lacks hides it from somebody.
 fn hidden_term(lacks: bool, c: indexlet::Content) -> u64
     ensures { result ≡ hidden_term lacks (content_in c) }
 {
-    if !recount::hides_some(c) {
-        return 0;
+    if lacks && recount::hides_some(c) {
+        1
+    } else {
+        0
     }
-    if lacks {
-        return 1;
-    }
-    0
 }
 
 // An entry neither comes nor goes, and it hides its address as before.
 fn still(old: indexlet::Content, c: indexlet::Content) -> bool
     ensures { result ≡ still_as (content_in old) (content_in c) }
 {
-    if indexlet::idle(old) == indexlet::idle(c) {
-        return recount::hides_some(old) == recount::hides_some(c);
-    }
-    false
+    indexlet::idle(old) == indexlet::idle(c) && recount::hides_some(old) == recount::hides_some(c)
 }
 
 // What an address adds to the phantomlet's numbers, at the place of its leaf, and what it takes away: pending writes, and
@@ -96,15 +84,13 @@ fn adjust(leaves: &mut Leaves, t: Change)
     requires adjustable_2 { Adjustable (hidden_of leaves.old) t.at t.hide t.unhide }
     ensures { Adjusts leaves.old t leaves.new }
 {
-    let at = t.at;
-    let l = leaves::leaf_at(leaves, at);
+    let l = leaves::leaf_at(leaves, t.at);
     let changed = LeafWords {
-        low: l.low,
-        version: l.version,
         hidden: l.hidden + t.hide - t.unhide,
         pending: l.pending + t.pend - t.unpend,
+        ..l
     };
-    leaves::put_leaf(leaves, at, changed);
+    leaves::put_leaf(leaves, t.at, changed);
 }
 
 // What changes if c is said of an address of which `old` is said, and whose leaf has place `at`. Where nothing of the entry changes
@@ -177,10 +163,9 @@ pub fn set_content(
     adjust(leaves, t);
     let entries = indexlet::enter(slots, z.entries, a, at, c);
     let sizes = Sizes {
-        records: z.records,
-        leaves: z.leaves,
         entries,
         outside: z.outside + t.join as usize - t.leave as usize,
+        ..z
     };
     Placed { sizes, at: t.at }
 }

@@ -33,19 +33,14 @@ fn key_at(ws: &WriteSet, n: usize, i: usize) -> Address
     requires i_lt_n { i < n }
     ensures { result ≡ (write_at ws.now i).key }
 {
-    let r = writes::write_at(ws, i);
-    r.address
+    writes::write_at(ws, i).address
 }
 
 // Worker w has the lock.
 fn by_own(c: indexlet::Content, w: u64) -> bool
     ensures { result ≡ held_by w (content_in c) }
 {
-    let lock = c.lock;
-    if lock == 0 {
-        return false;
-    }
-    lock - 1 == w
+    holders::holder(c) == Some(w)
 }
 
 // Another worker has the lock of the address in row i.
@@ -65,12 +60,10 @@ pub fn held(slots: &Slots, ws: &WriteSet, n: usize, w: u64) -> bool
     requires writing { Writing ws.now n }
     ensures { result ≡ any (λ (k : ℕ). held_by_other w (content_of (slots_of slots.now) k)) (keys (writes_of ws.now n)) }
 {
-    let mut i = 0;
-    while i < n {
+    for i in 0..n {
         if held_at(slots, ws, n, i, w) {
             return true;
         }
-        i += 1;
     }
     false
 }
@@ -198,6 +191,8 @@ fn install_one(
     entries::set_content(leaves, slots, rows, z, k, a, at, c, t)
 }
 
+// The three loops below stay three: a step lent to one loop as a closure would borrow the leaves and the slots that the loop changes.
+
 // Worker w locks the addresses of the write set, by rising address. The tests of refusals 9 to 11 come before.
 pub fn lock_all(
     leaves: &mut Leaves,
@@ -215,17 +210,11 @@ pub fn lock_all(
     requires lockable { Lockable (map_of (lent rows.now leaves.old slots.old) z) (writes_of ws.now n) }
     ensures { MapBecomes (lent rows.now leaves.new slots.new) result k.version (lock_all w (map_of (lent rows.now leaves.old slots.old) z) (writes_of ws.now n)) }
 {
-    let mut sizes = z;
-    let mut near = 0;
-    let mut i = 0;
-    while i < n {
-        let placed = lock_one(leaves, slots, rows, ws, sizes, k, n, i, w, near);
-        let changed = placed.sizes;
-        sizes = changed;
-        near = placed.at;
-        i += 1;
+    let mut placed = Placed { sizes: z, at: 0 };
+    for i in 0..n {
+        placed = lock_one(leaves, slots, rows, ws, placed.sizes, k, n, i, w, placed.at);
     }
-    sizes
+    placed.sizes
 }
 
 // The locks that worker w has on the addresses of the write set go.
@@ -243,17 +232,11 @@ pub fn unlock_all(
     requires writing { Writing ws.now n }
     ensures { MapBecomes (lent rows.now leaves.new slots.new) result k.version (unlock_all w (map_of (lent rows.now leaves.old slots.old) z) (keys (writes_of ws.now n))) }
 {
-    let mut sizes = z;
-    let mut near = 0;
-    let mut i = 0;
-    while i < n {
-        let placed = unlock_one(leaves, slots, rows, ws, sizes, k, n, i, w, near);
-        let changed = placed.sizes;
-        sizes = changed;
-        near = placed.at;
-        i += 1;
+    let mut placed = Placed { sizes: z, at: 0 };
+    for i in 0..n {
+        placed = unlock_one(leaves, slots, rows, ws, placed.sizes, k, n, i, w, placed.at);
     }
-    sizes
+    placed.sizes
 }
 
 // The writes of the write set are pending from now on, under the commit number, left by install t, and its locks go.
@@ -273,17 +256,23 @@ pub fn install_all(
     requires installable { Installable (slots_of slots.old) (writes_of ws.now n) }
     ensures { MapBecomes (lent rows.now leaves.new slots.new) result k.version (install_all number t (map_of (lent rows.now leaves.old slots.old) z) (writes_of ws.now n)) }
 {
-    let mut sizes = z;
-    let mut near = 0;
-    let mut i = 0;
-    while i < n {
-        let placed = install_one(leaves, slots, rows, ws, sizes, k, n, i, number, t, near);
-        let changed = placed.sizes;
-        sizes = changed;
-        near = placed.at;
-        i += 1;
+    let mut placed = Placed { sizes: z, at: 0 };
+    for i in 0..n {
+        placed = install_one(
+            leaves,
+            slots,
+            rows,
+            ws,
+            placed.sizes,
+            k,
+            n,
+            i,
+            number,
+            t,
+            placed.at,
+        );
     }
-    sizes
+    placed.sizes
 }
 
 // 1 if the address in row i has no entry.
@@ -312,10 +301,8 @@ fn waiting_with(slots: &Slots, ws: &WriteSet, n: usize, entries: usize) -> usize
     ensures { Waits slots.now ws.now n result }
 {
     let mut sum = entries;
-    let mut i = 0;
-    while i < n {
+    for i in 0..n {
         sum += entryless_at(slots, ws, n, i);
-        i += 1;
     }
     sum
 }
@@ -331,8 +318,7 @@ pub fn waits_beyond(slots: &Slots, ws: &WriteSet, n: usize, entries: usize) -> b
     if entries + n <= WAITING_LIMIT {
         return false;
     }
-    let waiting = waiting_with(slots, ws, n, entries);
-    WAITING_LIMIT < waiting
+    WAITING_LIMIT < waiting_with(slots, ws, n, entries)
 }
 
 // 1 if the address in row i has no entry and the index lacks it.
@@ -364,12 +350,9 @@ fn addresses_with(rows: &Records, slots: &Slots, ws: &WriteSet, n: usize, z: Siz
     requires rising { Rising (writes_of ws.now n) }
     ensures { Addressed rows.now slots.now ws.now z n result }
 {
-    let records = z.records;
-    let mut sum = records + z.outside;
-    let mut i = 0;
-    while i < n {
-        sum += unknown_at(rows, slots, ws, records, n, i);
-        i += 1;
+    let mut sum = z.records + z.outside;
+    for i in 0..n {
+        sum += unknown_at(rows, slots, ws, z.records, n, i);
     }
     sum
 }
@@ -384,6 +367,5 @@ pub fn addresses_beyond(rows: &Records, slots: &Slots, ws: &WriteSet, n: usize, 
     if z.records + z.outside + n <= MAP_LIMIT {
         return false;
     }
-    let addresses = addresses_with(rows, slots, ws, n, z);
-    MAP_LIMIT < addresses
+    MAP_LIMIT < addresses_with(rows, slots, ws, n, z)
 }

@@ -1,16 +1,17 @@
 -- The laws of write sets: rows moved up, the place of an address, whether a write stands there, what a put leaves.
-use Rattle.std.specs.Prelude.{ℕ, ◌+◌, ◌-◌, ◌<◌, ◌≤◌, ◌≡◌, refl, ◌⊎◌, true, false, not, [], ◌∷◌, ◌++◌, eqb, take, drop, get_or, replicate}
+use Rattle.std.specs.Prelude.{ℕ, ◌+◌, ◌-◌, ◌<◌, ◌≤◌, ◌≡◌, refl, ◌⊎◌, true, false, not, List, [], ◌∷◌, ◌++◌, eqb, ltb, take, drop, get_or, replicate}
 use native.Mathlib.Omega.{arith}
 use Rattle.std.proofs.Math.Path.{sym, ap, subst}
-use Rattle.std.proofs.Common.{◌∙◌, inl, inr, ⊎_elim, eqb-true}
+use Rattle.std.proofs.Common.{◌∙◌, inl, inr, ⊎_elim, eqb-true, append_assoc, length-drop, length-take-le}
 use Rattle.std.proofs.Math.Option.{none, some}
 use Rattle.std.proofs.Math.ListN.{length, set}
 use Rattle.std.proofs.lemmas.Bool.{eqb-false}
 use Rattle.lists.specs.Tests.{both, present, same, less}
-use Rattle.lists.specs.TestLaws.{cases, clash, same_yes, same_no, less_true}
+use Rattle.lists.specs.TestLaws.{cases, clash, same_yes, same_no, less_no, less_true, less_false}
 use Rattle.lists.specs.Rows.{Row, row, look, insert, assign, Rising}
 use Rattle.lists.specs.RowLaws.{rising_assign}
-use Rattle.lists.specs.Shifts.{moved, Raising, raising_start, raising_on, raising_end}
+use Rattle.std.specs.List.{copy_within, CopiedTo, SameBelow, SameFrom}
+use Rattle.lists.specs.Shifts.{over, moved, length_moved}
 use Rattle.lists.specs.Places.{place, place_most, place_below, place_above, Present, Absent, look_present, look_absent, insert_present, insert_absent}
 use Rattle.spec.specs.Widths.{addresses}
 use Rattle.spec.specs.Records.{limits, Write, written, deleted}
@@ -41,24 +42,46 @@ kind_back Deletion = refl
 
 -- ---- rows moved up, and one put in
 
--- the loop that moves the rows from place p on up by one
-pub record Lifting (rs us : WriteRows) (n p i : ℕ) : Type 0 where
-  pub held : WriteSetHeld us
-  pub rows : Raising rs us p (p + 1) (n - p) i
+-- what std's `copy_within` leaves is the list with those elements moved
+copied : {A : Type 0} (xs : List A) (from to end : ℕ) → from ≤ end → end ≤ length xs → copy_within xs from end to ≡ moved xs from to (end - from)
+unfolding moved over
+copied xs from to end h l =
+    let ys = take (end - from) (drop from xs) in
+    let e : length ys ≡ end - from = length-take-le (end - from) (drop from xs) (rw length-drop (omega arith)) in
+    rw e (append_assoc (take to xs) ys (drop (to + (end - from)) xs))
 
-pub lifting_start : (rs : WriteRows) (n p : ℕ) → WriteSetHeld rs → Lifting rs rs n p (n - p)
-lifting_start rs n p held = record { held = held; rows = raising_start rs p (p + 1) (n - p) }
-
-pub lifting_on : {rs us : WriteRows} {n p i : ℕ} → length rs ≡ limits.write_limit → p ≤ n → n < limits.write_limit → 0 < i → Lifting rs us n p i
-    → Lifting rs (set us (p + 1 + (i - 1)) (get_or us (p + (i - 1)) [])) n p (i - 1)
-lifting_on {rs} {us} {n} {p} {i} z h l o f =
+-- the rows from place p on moved up by one: each of them stood there before
+pub lifted : {rs us : WriteRows} (n p : ℕ) → WriteSetHeld rs → p ≤ n → n < limits.write_limit → us ≡ copy_within rs p n (p + 1)
+    → CopiedTo rs us p (p + 1) (n - p) × SameBelow rs us (p + 1) × SameFrom rs us (p + 1 + (n - p)) → WritesBecome (moved rs p (p + 1) (n - p)) us
+lifted {rs} {us} n p held h l e k =
+    let z : length rs ≡ limits.write_limit = held.size in
     record {
-      held = each_set (p + 1 + (i - 1)) (get_or us (p + (i - 1)) []) f.held (f.held.at (p + (i - 1)) (omega (arith, f.rows.left)));
-      rows = raising_on _ [] (omega arith) (omega arith) o f.rows refl;
+      held =
+          record {
+            size = ap length e' ∙ length_moved rs p (p + 1) (n - p) (omega arith) (omega arith) ∙ z;
+            at = λ i q.
+                ⊎_elim
+                (λ t. narrow i i q (k.1 i [] (less_true i (p + 1) t)))
+                (λ t.
+                let b : p + 1 ≤ i = less_false i (p + 1) t in
+                ⊎_elim
+                (λ u.
+                let a : i < p + 1 + (n - p) = less_true i (p + 1 + (n - p)) u in
+                narrow i (p + (i - (p + 1))) (omega arith) (k.0 i [] b a))
+                (λ u. narrow i i q (k.2 i [] (less_false i (p + 1 + (n - p)) u)))
+                (cases (less i (p + 1 + (n - p)))))
+                (cases (less i (p + 1)));
+          };
+      rows = e';
     }
+  where
+    e' : us ≡ moved rs p (p + 1) (n - p)
+    e' =
+        let z : length rs ≡ limits.write_limit = held.size in
+        e ∙ copied rs p (p + 1) n (omega arith) (omega arith)
 
-pub lifting_end : {rs us : WriteRows} {n p i : ℕ} → Lifting rs us n p i → i ≤ 0 → WritesBecome (moved rs p (p + 1) (n - p)) us
-lifting_end f h = record { held = f.held; rows = raising_end f.rows h }
+    narrow : (i j : ℕ) → j < limits.write_limit → get_or us i [] ≡ get_or rs j [] → get_or (get_or us i []) 0 0 < addresses
+    narrow i j q f = subst (λ (r : List ℕ). get_or r 0 0 < addresses) (sym f) (held.at j q)
 
 pub line_stored : {rs us vs : WriteRows} (p : ℕ) (r : WriteRow) → r.address < addresses → WritesBecome rs us → vs ≡ set us p (words_of r)
     → WritesBecome (set rs p (words_of r)) vs
@@ -102,11 +125,12 @@ module _ {rs : WriteRows} {n a p : ℕ} (given : WriteSetOrdered rs n) (at : Pla
   key_there : p < n → (get_or (writes_of rs n) (place a (writes_of rs n)) no_write).key ≡ (line_at rs p).address
   key_there h = ap (λ (i : ℕ). (get_or (writes_of rs n) i no_write).key) (sym at.is) ∙ key_at rs n p h
 
-  pub stands_past : n ≤ p → WritesHave rs n a false
+  pub stands_past : n ≤ p → WritesHave rs n a (ltb p n)
+  unfolding less
   stands_past h =
       let s : length (writes_of rs n) ≡ n = length_rows write_in rs n in
       let i : p ≡ place a (writes_of rs n) = at.is in
-      record { present = λ e. clash e refl; absent = λ e. record { elsewhere = λ g f. omega arith } }
+      subst (WritesHave rs n a) (sym (less_no {m = p} {n = n} h)) (record { present = λ e. clash e refl; absent = λ e. record { elsewhere = λ g f. omega arith } })
 
   pub stands_at : (r : WriteRow) → r ≡ line_at rs p → p < n → WritesHave rs n a (eqb r.address a)
   stands_at r g h =

@@ -102,23 +102,16 @@ fn store(writes: &mut WriteSet, i: usize, r: WriteRow)
     requires { i < limits.write_limit }
     ensures { writes.new ≡ set writes.old i (words_of r) }
 {
-    let v = r.payload;
-    let row = [r.address, r.kind, v.value, v.owner];
-    writes[i] = row;
+    writes[i] = [r.address, r.kind, r.payload.value, r.payload.owner];
 }
 
-// Moves the rows from place p on up by one: the last one first, so that none is overwritten before it is copied.
+// Moves the rows from place p on up by one.
 fn raise(writes: &mut WriteSet, n: usize, p: usize)
     requires write_set_held { WriteSetHeld writes.old }
     requires p_le_n { (p ≤ n) × (n < limits.write_limit) }
     ensures { WritesBecome (moved writes.old p (p + 1) (n - p)) writes.new }
 {
-    let mut i = n - p;
-    while 0 < i {
-        i -= 1;
-        let row = writes[p + i];
-        writes[p + 1 + i] = row;
-    }
+    writes.copy_within(p..n, p + 1);
 }
 
 // Puts a row in at place p, before the rows that stand there and after it.
@@ -137,15 +130,12 @@ pub fn writes_below(writes: &WriteSet, n: usize, a: Address) -> usize
     ensures { PlaceOf writes.now n a result }
 {
     let key = a as u64;
-    let mut i = 0;
-    while i < n {
-        let r = get(writes, i);
-        if key <= r.address {
+    for i in 0..n {
+        if key <= get(writes, i).address {
             return i;
         }
-        i += 1;
     }
-    i
+    n
 }
 
 // Whether the write at place p is that of the address.
@@ -154,11 +144,7 @@ fn stands(writes: &WriteSet, n: usize, a: Address, p: usize) -> bool
     requires place_of { PlaceOf writes.now n a p }
     ensures { WritesHave writes.now n a result }
 {
-    if n <= p {
-        return false;
-    }
-    let r = get(writes, p);
-    r.address == a as u64
+    p < n && get(writes, p).address == a as u64
 }
 
 // The worker's own write at an address, if there is one.
@@ -168,8 +154,7 @@ pub fn find_write(writes: &WriteSet, n: usize, a: Address) -> Option<Write>
 {
     let p = writes_below(writes, n, a);
     if stands(writes, n, a, p) {
-        let r = get(writes, p);
-        Some(r.write())
+        Some(get(writes, p).write())
     } else {
         None
     }

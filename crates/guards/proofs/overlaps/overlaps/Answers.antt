@@ -9,5 +9,5 @@ returns-then-j-a c = overlaps_same _ _ _ _ c.if-j-a.true
 pub returns-then-j-a-2 : goal.returns-then-j-a-2
 returns-then-j-a-2 c = overlaps_below _ _ _ _ c.if-j-a-2.true
 
-pub returns : goal.returns
-returns c = overlaps_above _ _ _ _ (omega (arith, c.if-j-a.false))
+pub returns-else-j-a-2 : goal.returns-else-j-a-2
+returns-else-j-a-2 c = overlaps_above _ _ _ _ (omega (arith, c.if-j-a.false))

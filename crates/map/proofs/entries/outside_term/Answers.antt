@@ -1,12 +1,14 @@
 -- `map::entries::outside_term` meets its contract: by the two tests.
-use Rattle.map.specs.EntryLaws.{term_idle, term_outside, term_inside}
+use Rattle.map.specs.EntryLaws.{term_idle, term_outside, term_indexed}
 use Rattle.map.proofs.entries.outside_term.Goals as goal
+use Rattle.map.proofs.entries.outside_term.Goals.{else-lacks-via-then-lacks+else-not-idle, else-lacks-via-else-lacks}
 
-pub returns-then-idle : goal.returns-then-idle
-returns-then-idle c = term_idle _ c.args.lacks c.args.c c.idle.ensures c.if-idle.true
+pub returns-then-not-idle : goal.returns-then-not-idle
+returns-then-not-idle c = term_outside _ c.args.lacks c.args.c c.idle.ensures c.if-not-idle.true c.if-lacks.true
 
-pub returns-then-lacks : goal.returns-then-lacks
-returns-then-lacks c = term_outside _ c.args.lacks c.args.c c.idle.ensures c.if-idle.false c.if-lacks.true
-
-pub returns : goal.returns
-returns c = term_inside _ c.args.lacks c.args.c c.idle.ensures c.if-idle.false c.if-lacks.false
+pub returns-else-lacks : goal.returns-else-lacks
+returns-else-lacks c =
+    elim c.else-lacks.branch [
+      | else-lacks-via-then-lacks+else-not-idle w ↦ term_idle _ c.args.lacks c.args.c w.idle.ensures w.if-not-idle.false
+      | else-lacks-via-else-lacks w ↦ term_indexed c.args.c w.if-lacks.false
+    ]

@@ -1,9 +1,9 @@
--- `map::holders::by_other` meets its contract: by the lock.
-use Rattle.map.specs.LockLaws.{free_other, taken_other}
+-- `map::holders::by_other` meets its contract: by whether somebody has the lock.
+use Rattle.map.specs.LockLaws.{other_lock, no_lock}
 use Rattle.map.proofs.holders.by_other.Goals as goal
 
-pub returns-then-lock-eq0 : goal.returns-then-lock-eq0
-returns-then-lock-eq0 c = free_other c.args.c c.args.w c.if-lock-eq0.true
+pub returns-in-Some : goal.returns-in-Some
+returns-in-Some c = other_lock _ _ c.in-Some.ensures
 
-pub returns : goal.returns
-returns c = taken_other c.args.c c.args.w c.if-lock-eq0.false
+pub returns-in-None : goal.returns-in-None
+returns-in-None c = no_lock _ _ c.in-None.ensures

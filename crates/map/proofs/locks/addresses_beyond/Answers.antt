@@ -12,4 +12,4 @@ pub returns-then-z-n-le-MAP_LIMIT : goal.returns-then-z-n-le-MAP_LIMIT
 returns-then-z-n-le-MAP_LIMIT c = addressed_few _ _ _ _ _ c.requires.counted c.requires.rising c.if-z-n-le-MAP_LIMIT.true
 
 pub returns : goal.returns
-returns c = addressed_counted c.addresses_with-addresses.ensures
+returns c = addressed_counted c.addresses_with.ensures

@@ -1,5 +1,5 @@
 -- `map::locks::addresses_with` meets its contract: the sum and what the rows that are left add stay the same.
-use Prim.Native.Nat.{◌+◌, ◌-◌, ◌≤◌}
+use Prim.Native.Nat.{◌+◌}
 use lib.ListN.{length}
 use Rattle.lists.specs.Rows.{keys, filter}
 use Rattle.sets.specs.Writes.{writes_of}
@@ -7,7 +7,4 @@ use Rattle.map.specs.AddressCounts.{unknown, Counting}
 use Rattle.map.proofs.locks.addresses_with.Given as goal
 
 abbrev pub invariant-loop-i : goal.invariant-loop-i
-invariant-loop-i l = (l.i ≤ l.n) × Counting (unknown l.rows l.records l.slots) l.ws l.n l.i l.sum (l.initial.sum + length (filter (unknown l.rows l.records l.slots) (keys (writes_of l.ws l.n))))
-
-abbrev pub decreases-loop-i : goal.decreases-loop-i
-decreases-loop-i l = l.n - l.i
+invariant-loop-i l = Counting (unknown l.rows l.fn.z.records l.slots) l.ws l.n l.i l.sum (l.initial.sum + length (filter (unknown l.rows l.fn.z.records l.slots) (keys (writes_of l.ws l.n))))

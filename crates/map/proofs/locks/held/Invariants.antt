@@ -1,5 +1,4 @@
 -- `map::locks::held` meets its contract: the rows that are left say what all rows say.
-use Prim.Native.Nat.{◌-◌, ◌≤◌}
 use mathlib.Core.Path.{◌≡◌}
 use Rattle.lists.specs.Rows.{any, keys}
 use Rattle.sets.specs.Writes.{writes_of}
@@ -8,7 +7,4 @@ use Rattle.map.specs.LockLaws.{foreign}
 use Rattle.map.proofs.locks.held.Given as goal
 
 abbrev pub invariant-loop-i : goal.invariant-loop-i
-invariant-loop-i l = (l.i ≤ l.n) × (any (foreign l.slots l.w) (rest_keys l.ws l.i l.n) ≡ any (foreign l.slots l.w) (keys (writes_of l.ws l.n)))
-
-abbrev pub decreases-loop-i : goal.decreases-loop-i
-decreases-loop-i l = l.n - l.i
+invariant-loop-i l = (any (foreign l.slots l.w) (rest_keys l.ws l.i l.n) ≡ any (foreign l.slots l.w) (keys (writes_of l.ws l.n)))

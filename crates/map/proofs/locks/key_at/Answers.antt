@@ -7,4 +7,4 @@ use Rattle.map.proofs.locks.key_at.Goals as goal
 
 pub returns : goal.returns
 returns c = ap (λ (r : Row Write). r.key)
-    (given c.write_at-r.ensures c.requires.i_lt_n)
+    (given c.write_at.ensures c.requires.i_lt_n)

@@ -1,5 +1,4 @@
 -- `map::locks::lock_all` meets its contract: the map with the rows that are left locked stays the same.
-use Prim.Native.Nat.{◌-◌, ◌≤◌}
 use Rattle.spec.specs.Maps.{lock_all}
 use Rattle.map.specs.Views.{lent, map_of}
 use Rattle.sets.specs.Writes.{writes_of}
@@ -8,8 +7,4 @@ use Rattle.map.proofs.locks.lock_all.Given as goal
 
 abbrev pub invariant-loop-i : goal.invariant-loop-i
 invariant-loop-i l =
-    (l.i ≤ l.n) × Locking l.w (lent l.rows l.leaves l.slots) l.sizes l.k.version l.ws l.i l.n (lock_all l.w (map_of (lent l.rows l.initial.leaves l.initial.slots) l.initial.sizes) (writes_of l.ws l.n))
-
-abbrev pub decreases-loop-i : goal.decreases-loop-i
-decreases-loop-i l =
-    l.n - l.i
+    Locking l.w (lent l.rows l.leaves l.slots) l.placed.sizes l.k.version l.ws l.i l.n (lock_all l.w (map_of (lent l.rows l.initial.leaves l.initial.slots) l.initial.placed.sizes) (writes_of l.ws l.n))

@@ -9,4 +9,4 @@ pub returns-then-entries-n-le-WAITING_LIMIT : goal.returns-then-entries-n-le-WAI
 returns-then-entries-n-le-WAITING_LIMIT c = beyond_few _ _ _ c.requires.slots_held _ c.requires.entries_value c.requires.rising c.if-entries-n-le-WAITING_LIMIT.true
 
 pub returns : goal.returns
-returns c = beyond_counted c.waiting_with-waiting.ensures
+returns c = beyond_counted c.waiting_with.ensures

@@ -1,8 +1,6 @@
-use Rattle.sets.specs.WriteLaws.{lifting_start, lifting_on}
+-- `writes::raise` meets its contract: what std's `copy_within` leaves is the list with those rows moved.
+use Rattle.sets.specs.WriteLaws.{lifted}
 use Rattle.sets.proofs.writes.raise.Goals as goal
 
-pub loop-i-init : goal.loop-i-init
-loop-i-init c = lifting_start c.args.writes.now c.args.n c.args.p c.requires.write_set_held
-
-pub loop-i-preserved : goal.loop-i-preserved
-loop-i-preserved c = lifting_on c.requires.write_set_held.size c.requires.p_le_n.0 c.requires.p_le_n.1 c.loop-i-test.true c.loop-i.invariant
+pub returns : goal.returns
+returns c = lifted c.args.n c.args.p c.requires.write_set_held c.requires.p_le_n.0 c.requires.p_le_n.1 c.copy_within.ensures.after c.copy_within.ensures.by_index

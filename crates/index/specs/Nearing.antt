@@ -56,7 +56,7 @@ near_on {p} {base} {step} {r} h n t =
     t.led
 
 -- two steps, the second half as long
-pub near_two : {p base step r q : ℕ} → 1 < step → Nearing p base step → Took p base step r → Took p r (step / 2) q → Nearing p q (step / 4)
+near_two : {p base step r q : ℕ} → 1 < step → Nearing p base step → Took p base step r → Took p r (step / 2) q → Nearing p q (step / 4)
 near_two {p} {base} {step} {r} {q} h n t u =
     let a : Nearing p r (step / 2) = near_on (omega arith) n t in
     subst (Nearing p q) (let e : step / 2 / 2 ≡ step / 4 = omega arith in e) (near_on (omega arith) a u)

@@ -83,19 +83,8 @@ fn lies_at(leaves: &Leaves, m: usize, key: u64, at: usize) -> bool
     if m <= at {
         return false;
     }
-    let l = leaf_at(leaves, at);
-    if key < l.low {
-        return false;
-    }
     let next = at + 1;
-    if next == m {
-        return true;
-    }
-    let upper = leaf_at(leaves, next);
-    if key < upper.low {
-        return true;
-    }
-    false
+    leaf_at(leaves, at).low <= key && (next == m || key < leaf_at(leaves, next).low)
 }
 
 // The place of the leaf that holds an address. The place `near`, whatever it is, is tried first: neighbours mostly lie in
@@ -104,9 +93,9 @@ pub fn find_near(leaves: &Leaves, m: usize, a: Address, near: usize) -> usize
     requires { Listed (lows_of leaves.now) m }
     ensures { AtLeaf (lows_of leaves.now) m a result }
 {
-    let key = a as u64;
-    if lies_at(leaves, m, key, near) {
-        return near;
+    if lies_at(leaves, m, a as u64, near) {
+        near
+    } else {
+        find_leaf(leaves, m, a)
     }
-    find_leaf(leaves, m, a)
 }

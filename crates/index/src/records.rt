@@ -87,15 +87,12 @@ pub fn put(rows: &mut Records, n: usize, a: Address, payload: PayloadWords, comm
         payload,
         commit,
     };
-    if n <= p {
-        return insert(rows, n, p, row);
-    }
-    let there = rows::get(rows, p);
-    if there.address == a as u64 {
+    if p < n && rows::get(rows, p).address == a as u64 {
         rows::store(rows, p, row);
-        return n;
+        n
+    } else {
+        insert(rows, n, p, row)
     }
-    insert(rows, n, p, row)
 }
 
 // Drops the record at an address, if there is one. Answers how many records there are now; the rows behind them stay.
@@ -105,13 +102,10 @@ pub fn drop(rows: &mut Records, n: usize, a: Address) -> usize
     ensures rows_unchanged { drop result rows.new ≡ drop result rows.old }
 {
     let p = locate(rows, n, a);
-    if n <= p {
-        return n;
-    }
-    let there = rows::get(rows, p);
-    if there.address == a as u64 {
+    if p < n && rows::get(rows, p).address == a as u64 {
         rows::move_rows(rows, p + 1, p, n - p - 1);
-        return n - 1;
+        n - 1
+    } else {
+        n
     }
-    n
 }

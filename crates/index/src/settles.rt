@@ -131,15 +131,11 @@ pub fn settle(
     ensures { SettledRows leaves.old m p v (keys_between rows.now i j) leaves.new result.leaves result.version }
 {
     let count = j - i;
-    match count {
-        0 => {
-            if p == 0 {
-                keep(leaves, m, p, v)
-            } else {
-                join(leaves, m, p, v)
-            }
-        }
-        1..=16 => keep(leaves, m, p, v),
-        _ => cut(leaves, rows, m, p, i, count / RUN, v),
+    if count == 0 && 0 < p {
+        join(leaves, m, p, v)
+    } else if count <= 16 {
+        keep(leaves, m, p, v)
+    } else {
+        cut(leaves, rows, m, p, i, count / RUN, v)
     }
 }

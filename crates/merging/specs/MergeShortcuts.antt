@@ -66,11 +66,11 @@ kept_key k c e q = ap (λ (x : Row Content). x.key) (kept_entry k c e q).1
 abbrev pub Elsewhere : SlotRows → Reach → ℕ → Type 0
 Elsewhere slots r i = (e : Row Content) → entry_at (slots_of slots) i ≡ some e → (e.key < addresses) × (reached r e.key ≡ false)
 
-pub elsewhere_empty : (slots : SlotRows) (r : Reach) (i : ℕ) → vacant (get_or (slots_of slots) i empty_slot) ≡ true → Elsewhere slots r i
+elsewhere_empty : (slots : SlotRows) (r : Reach) (i : ℕ) → vacant (get_or (slots_of slots) i empty_slot) ≡ true → Elsewhere slots r i
 unfolding vacant
 elsewhere_empty slots r i t e q = clash t (ap (λ (o : Option (Row Content)). not (present o)) q)
 
-pub elsewhere_read : {slots : SlotRows} (r : Reach) {j : ℕ} (s : SlotWords) → indexlet.IsSlot slots j s → reached r s.key ≡ false → Elsewhere slots r j
+elsewhere_read : {slots : SlotRows} (r : Reach) {j : ℕ} (s : SlotWords) → indexlet.IsSlot slots j s → reached r s.key ≡ false → Elsewhere slots r j
 elsewhere_read {slots} r {j} s reads f e q =
     let there : kept s.key (content_in s.content) ≡ some e = sym (entry_of slots j s reads) ∙ q in
     let own : s.key ≡ e.key = kept_key s.key (content_in s.content) e there in

@@ -220,12 +220,6 @@ module _ {rows : RecordRows} {ls : LeafRows} {slots : SlotRows} {n m : ℕ} {r :
 
 -- ---- no walk
 
-pub bare_none : (left m old : ℕ) (b : Bool) → (left ≢ 0) → b ≡ false → b ≡ both (same left 0) (at_most old m)
-bare_none left m old b n e = e ∙ sym (ap (λ (x : Bool). both x (at_most old m)) (same_no {m = left} {n = 0} n))
-
-pub bare_some : (left m old : ℕ) (b : Bool) → left ≡ 0 → b ≡ at_most old m → b ≡ both (same left 0) (at_most old m)
-bare_some left m old b z e = e ∙ sym (ap (λ (x : Bool). both x (at_most old m)) (same_yes {m = left} {n = 0} z))
-
 bare_yes : (left m old : ℕ) → both (same left 0) (at_most old m) ≡ true → (left ≡ 0) × (old ≤ m)
 bare_yes left m old e =
     ⊎_elim

@@ -23,8 +23,8 @@ fn put_pair(out: &mut [u8], at: usize, n: u64) -> usize
     requires { (n < 100) × (at + 2 ≤ length out.old) }
     ensures { Wrote out.old at (pair n) out.new result }
 {
-    let next = put_byte(out, at, 48 + (n / 10) as u8);
-    put_byte(out, next, 48 + (n % 10) as u8)
+    let next = put_byte(out, at, b'0' + (n / 10) as u8);
+    put_byte(out, next, b'0' + (n % 10) as u8)
 }
 
 // Four digits.
@@ -50,10 +50,11 @@ fn put_small(out: &mut [u8], at: usize, n: u64) -> usize
     requires { (n < 100) × (at + 2 ≤ length out.old) }
     ensures { Wrote out.old at (decimal n) out.new result }
 {
-    if n >= 10 {
-        return put_pair(out, at, n);
+    if n < 10 {
+        put_byte(out, at, b'0' + n as u8)
+    } else {
+        put_pair(out, at, n)
     }
-    put_byte(out, at, 48 + n as u8)
 }
 
 // A number of at most four digits.
@@ -62,10 +63,11 @@ fn put_short(out: &mut [u8], at: usize, n: u64) -> usize
     ensures { Wrote out.old at (decimal n) out.new result }
 {
     if n < 100 {
-        return put_small(out, at, n);
+        put_small(out, at, n)
+    } else {
+        let next = put_small(out, at, n / 100);
+        put_pair(out, next, n % 100)
     }
-    let next = put_small(out, at, n / 100);
-    put_pair(out, next, n % 100)
 }
 
 // A number of at most eight digits.
@@ -74,10 +76,11 @@ fn put_middle(out: &mut [u8], at: usize, n: u64) -> usize
     ensures { Wrote out.old at (decimal n) out.new result }
 {
     if n < 10_000 {
-        return put_short(out, at, n);
+        put_short(out, at, n)
+    } else {
+        let next = put_short(out, at, n / 10_000);
+        put_four(out, next, n % 10_000)
     }
-    let next = put_short(out, at, n / 10_000);
-    put_four(out, next, n % 10_000)
 }
 
 // A number of nine digits or more.
@@ -88,11 +91,12 @@ fn put_long(out: &mut [u8], at: usize, n: u64) -> usize
     let high = n / 100_000_000;
     if high < 100_000_000 {
         let next = put_middle(out, at, high);
-        return put_eight(out, next, n % 100_000_000);
+        put_eight(out, next, n % 100_000_000)
+    } else {
+        let next = put_short(out, at, high / 100_000_000);
+        let last = put_eight(out, next, high % 100_000_000);
+        put_eight(out, last, n % 100_000_000)
     }
-    let next = put_short(out, at, high / 100_000_000);
-    let last = put_eight(out, next, high % 100_000_000);
-    put_eight(out, last, n % 100_000_000)
 }
 
 // A number in decimal. Most have one digit, which needs no division.
@@ -101,12 +105,12 @@ fn put_number(out: &mut [u8], at: usize, n: u64) -> usize
     ensures { Wrote out.old at (decimal n) out.new result }
 {
     if n < 10 {
-        return put_byte(out, at, 48 + n as u8);
+        put_byte(out, at, b'0' + n as u8)
+    } else if n < 100_000_000 {
+        put_middle(out, at, n)
+    } else {
+        put_long(out, at, n)
     }
-    if n < 100_000_000 {
-        return put_middle(out, at, n);
-    }
-    put_long(out, at, n)
 }
 
 // A space and a number.
@@ -160,10 +164,8 @@ pub fn put_triples(
     ensures { Wrote out.old at (triples_of (take n addresses.now) (take n values.now) (take n owners.now)) out.new result }
 {
     let mut next = at;
-    let mut i = 0;
-    while i < n {
+    for i in 0..n {
         next = put_triple(out, next, addresses[i] as u64, values[i], owners[i]);
-        i += 1;
     }
     next
 }

@@ -1,19 +1,19 @@
 -- Codes of export steps by the tests that the code makes, and their answers put into words.
-use Rattle.std.specs.Prelude.{ℕ, ◌<◌, ◌≤◌, ◌≡◌, refl, Bool, true, false, List, [], ◌∷◌, ◌++◌, length}
+use Rattle.std.specs.Prelude.{ℕ, ◌<◌, ◌≤◌, ◌≡◌, refl, Bool, true, false, List, [], ◌∷◌, ◌++◌, length, Ok, Err}
 use Rattle.std.proofs.Common.{zero-le, sym, ◌∙◌, subst, append-nil, length-take-le}
 use Rattle.std.proofs.Math.Path.{ap}
 use Rattle.lists.specs.Tests.{pick, same, at_most}
 use Rattle.lists.specs.TestLaws.{same_no, at_most_yes, at_most_no, at_most_true}
+use Rattle.lists.specs.Tabulation.{tab, tab_from}
 use Rattle.lists.specs.Texts.{Wrote}
 use Rattle.lists.specs.TextLaws.{wrote_join}
 use Rattle.spec.specs.Steps.{Places, places}
 use Rattle.buffers.specs.Buffers.{Buffers, places_of, rows_in, Lends}
 use Rattle.buffers.specs.BufferLaws.{length_rows}
-use Rattle.exports.specs.declared.ExportAnswer.{ExportAnswer}
-use Rattle.exports.specs.declared.ExportAnswer.TheVariants as export
+use Rattle.exports.specs.declared.ExportTold.TheVariants as export
 use Rattle.exports.specs.declared.ops.ExportOp.{ExportOp}
 use Rattle.exports.specs.declared.ops.ExportOp.TheVariants.{Open, Portion, File, Close}
-use Rattle.exports.specs.Exporting.{Space, space, export_answer_in, bytes_written, LendsTo}
+use Rattle.exports.specs.Exporting.{Space, space, ExportAnswer, export_answer_in, places_written, bytes_written, LendsTo}
 use Rattle.codes.specs.declared.Code.{Code}
 use Rattle.codes.specs.declared.Coded.{Coded}
 use Rattle.codes.specs.declared.decodes.DecodedExport.{DecodedExport}
@@ -21,7 +21,7 @@ use Rattle.codes.specs.declared.decodes.DecodedExport.TheVariants.{Meant, Meanin
 use Rattle.codes.specs.Codes.{places_lent, listed_words}
 use Rattle.codes.specs.CodeLaws.{lends_none, lent_lends}
 use Rattle.codes.specs.ExportCodes.{export_meant, decoded_portion, decoded_file, decoded_export, export_coded_of, export_words}
-use Rattle.codes.specs.Words.{head_words, export_row_words, ExportRoomy}
+use Rattle.codes.specs.Words.{head_words}
 
 -- ---- what a code means
 
@@ -112,41 +112,34 @@ export_lends s k e f =
 
 -- ---- answers
 
-pub export_is : {p q : ExportAnswer} → p ≡ q → export_coded_of q ≡ export_coded_of p
-export_is e = ap export_coded_of (sym e)
+-- none but a portion's answer has records
+export_alone : (p : ExportAnswer) (b : Buffers) (ws : List ℕ) → places_written p ≡ 0 → ws ≡ head_words (export_coded_of p)
+    → ws ≡ head_words (export_coded_of p) ++ listed_words (rows_in (places_written p) b)
+unfolding rows_in tab tab_from listed_words
+export_alone p b ws z e =
+    e
+    ∙ sym (append-nil (head_words (export_coded_of p)))
+    ∙ ap (λ (n : ℕ). head_words (export_coded_of p) ++ listed_words (rows_in n b)) (sym z)
 
 -- the words of an answer are its five and its records'
 export_words_lem : (p : ExportAnswer) (b : Buffers) (bs : List ℕ) → bytes_written p ≤ length bs
-    → export_words (export_answer_in p (space b bs)) ≡ head_words (export_coded_of p) ++ export_row_words p b
-unfolding export_words export_answer_in bytes_written
-export_words_lem (export.Opened n) b bs h = refl
-export_words_lem (export.Given n left) b bs h = ap (λ (m : ℕ). 0 ∷ 7 ∷ m ∷ left ∷ 0 ∷ listed_words (rows_in n b)) (length_rows n b)
-export_words_lem (export.Filed n) b bs h = ap (λ (m : ℕ). 0 ∷ 8 ∷ m ∷ 0 ∷ 0 ∷ []) (length-take-le n bs h)
-export_words_lem export.Closed b bs h = refl
-export_words_lem (export.Refused r) b bs h = refl
+    → export_words (export_answer_in p (space b bs)) ≡ head_words (export_coded_of p) ++ listed_words (rows_in (places_written p) b)
+unfolding export_words export_answer_in bytes_written places_written
+export_words_lem (Ok (export.Opened n)) b bs h = export_alone (Ok (export.Opened n)) b _ refl refl
+export_words_lem (Ok (export.Given n left)) b bs h =
+    ap (λ (m : ℕ). 0 ∷ 7 ∷ m ∷ left ∷ 0 ∷ listed_words (rows_in n b)) (length_rows n b)
+export_words_lem (Ok (export.Filed n)) b bs h =
+    export_alone (Ok (export.Filed n)) b _ refl (ap (λ (m : ℕ). 0 ∷ 8 ∷ m ∷ 0 ∷ 0 ∷ []) (length-take-le n bs h))
+export_words_lem (Ok export.Closed) b bs h = export_alone (Ok export.Closed) b _ refl refl
+export_words_lem (Err r) b bs h = export_alone (Err r) b _ refl refl
 
-module _ {l m : List ℕ} {at j : ℕ} {a : Coded} (b : Buffers) (p : ExportAnswer) (f : a ≡ export_coded_of p) (w : Wrote l at (head_words a) m j) where
-  -- five words, and no records
-  pub export_short : (q : ExportAnswer) → p ≡ q → export_row_words q b ≡ [] → (bs : List ℕ) → bytes_written p ≤ length bs
-      → Wrote l at (export_words (export_answer_in p (space b bs))) m j
-  export_short q e z bs h =
-      subst (λ (t : List ℕ). Wrote l at t m j)
-      (ap head_words f
-      ∙ sym (append-nil (head_words (export_coded_of p)))
-      ∙ ap (λ (t : List ℕ). head_words (export_coded_of p) ++ t) (sym (ap (λ (x : ExportAnswer). export_row_words x b) e ∙ z))
-      ∙ sym (export_words_lem p b bs h))
-      w
-
-  -- five words, and records
-  pub export_long : {n : List ℕ} {k i left : ℕ} → p ≡ export.Given i left → Wrote m j (listed_words (rows_in i b)) n k → (bs : List ℕ) → bytes_written p ≤ length bs
-      → Wrote l at (export_words (export_answer_in p (space b bs))) n k
-  export_long {n} {k} {i} {left} e u bs h =
-      subst (λ (t : List ℕ). Wrote l at t n k)
-      (ap (λ (x : Coded). head_words x ++ listed_words (rows_in i b)) f
-      ∙ ap (λ (t : List ℕ). head_words (export_coded_of p) ++ t) (sym (ap (λ (x : ExportAnswer). export_row_words x b) e))
-      ∙ sym (export_words_lem p b bs h))
-      (wrote_join w u)
-
--- the room that a portion's records need
-pub roomy_given : {p : ExportAnswer} {b : Buffers} {out : List ℕ} {at n left : ℕ} → ExportRoomy p b out at → p ≡ export.Given n left → ExportRoomy (export.Given n left) b out at
-roomy_given {b = b} {out} {at} h e = subst (λ (q : ExportAnswer). ExportRoomy q b out at) e h
+-- five words, and the records of as many places as it filled
+pub wrote_export : {l m n : List ℕ} {at j k i : ℕ} {a : Coded} (b : Buffers) (p : ExportAnswer) → a ≡ export_coded_of p → i ≡ places_written p
+    → Wrote l at (head_words a) m j → Wrote m j (listed_words (rows_in i b)) n k → (bs : List ℕ) → bytes_written p ≤ length bs
+    → Wrote l at (export_words (export_answer_in p (space b bs))) n k
+wrote_export {l} {m} {n} {at} {j} {k} {i} {a} b p f e w u bs h =
+    subst (λ (t : List ℕ). Wrote l at t n k)
+    (ap (λ (x : Coded). head_words x ++ listed_words (rows_in i b)) f
+    ∙ ap (λ (x : ℕ). head_words (export_coded_of p) ++ listed_words (rows_in x b)) e
+    ∙ sym (export_words_lem p b bs h))
+    (wrote_join w u)

@@ -1,11 +1,11 @@
 -- Request 107 in numbers: what the code of an export step means, and which numbers its answer is.
-use Rattle.std.specs.Prelude.{ℕ, List, [], ◌∷◌, length}
+use Rattle.std.specs.Prelude.{ℕ, List, [], ◌∷◌, length, Ok, Err}
 use Rattle.lists.specs.Tests.{pick, same, at_most}
 use Rattle.spec.specs.Refusals.{number_of}
 use Rattle.spec.specs.Steps.{Places, places}
 use Rattle.spec.specs.Exports as model
-use Rattle.exports.specs.declared.ExportAnswer.{ExportAnswer}
-use Rattle.exports.specs.declared.ExportAnswer.TheVariants.{Opened, Given, Filed, Closed, Refused}
+use Rattle.exports.specs.declared.ExportTold.TheVariants.{Opened, Given, Filed, Closed}
+use Rattle.exports.specs.Exporting.{ExportAnswer}
 use Rattle.exports.specs.declared.ops.ExportOp.{ExportOp}
 use Rattle.exports.specs.declared.ops.ExportOp.TheVariants.{Open, Portion, File, Close}
 use Rattle.codes.specs.declared.Code.{Code}
@@ -40,11 +40,11 @@ decoded_export m n k =
 
 -- an answer in numbers; the records of a portion stand in its buffers, the bytes of a file in its own
 abbrev pub export_coded_of : ExportAnswer → Coded
-export_coded_of (Opened n) = coded_as 0 6 n 0 0
-export_coded_of (Given n left) = coded_as 0 7 n left 0
-export_coded_of (Filed n) = coded_as 0 8 n 0 0
-export_coded_of Closed = coded_as 0 0 0 0 0
-export_coded_of (Refused r) = coded_as (number_of r) 0 0 0 0
+export_coded_of (Ok (Opened n)) = coded_as 0 6 n 0 0
+export_coded_of (Ok (Given n left)) = coded_as 0 7 n left 0
+export_coded_of (Ok (Filed n)) = coded_as 0 8 n 0 0
+export_coded_of (Ok Closed) = coded_as 0 0 0 0 0
+export_coded_of (Err r) = coded_as (number_of r) 0 0 0 0
 
 -- the model's answer in numbers: as a job's, with what remains after a portion in the fourth, and the records of a portion
 unfoldable pub export_words : model.ExportAnswer → List ℕ

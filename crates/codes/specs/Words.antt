@@ -1,27 +1,16 @@
 -- What is asked and promised of putting an answer into words: its five, and the records of a scan or a portion.
-use Rattle.std.specs.Prelude.{ℕ, Result, Ok, Err, ◌+◌, ◌*◌, ◌≤◌, List, [], ◌∷◌, length}
+use Rattle.std.specs.Prelude.{ℕ, Result, ◌+◌, ◌*◌, ◌≤◌, List, [], ◌∷◌, length}
 use Rattle.spec.specs.Steps.{shortest}
-use Rattle.buffers.specs.Buffers.{Buffers, places_of, rows_in}
-use Rattle.exports.specs.declared.ExportAnswer.{ExportAnswer}
-use Rattle.exports.specs.declared.ExportAnswer.TheVariants as export
-use Rattle.exports.specs.Exporting.{places_written}
+use Rattle.buffers.specs.Buffers.{Buffers, places_of}
+use Rattle.exports.specs.Exporting.{ExportAnswer, places_written}
 use Rattle.spec.specs.declared.Refusal.{Refusal}
 use Rattle.engine.specs.declared.steps.Told.{Told}
 use Rattle.engine.specs.Performs.{places_in}
 use Rattle.codes.specs.declared.Coded.{Coded}
-use Rattle.codes.specs.Codes.{listed_words}
 
 -- the five words of every answer
 abbrev pub head_words : Coded → List ℕ
 head_words a = a.number ∷ a.told ∷ a.value ∷ a.beside ∷ a.examined ∷ []
-
--- the words of a portion's records
-abbrev pub export_row_words : ExportAnswer → Buffers → List ℕ
-export_row_words (export.Opened n) b = []
-export_row_words (export.Given n left) b = listed_words (rows_in n b)
-export_row_words (export.Filed n) b = []
-export_row_words export.Closed b = []
-export_row_words (export.Refused r) b = []
 
 -- There is room for a reply: a scan's places are in the buffers, and its words in the answer buffer.
 pub record Roomy (p : Result Told Refusal) (b : Buffers) (out : List ℕ) (at : ℕ) : Type 0 where

@@ -3,7 +3,7 @@ ghost use Rattle.std.specs.Prelude.{◌≡◌, List, [], ◌∷◌, ℕ, ◌+◌
 ghost use Rattle.lists.specs.Texts.{Wrote};
 ghost use Rattle.spec.specs.Steps.{shortest};
 ghost use Rattle.buffers.specs.Buffers.{buffers, places_of, rows_in};
-ghost use Rattle.exports.specs.Exporting.{space, export_answer_in, bytes_written};
+ghost use Rattle.exports.specs.Exporting.{space, export_answer_in, places_written, bytes_written};
 ghost use Rattle.engine.specs.Performs.{reply_in, places_in};
 ghost use Rattle.codes.specs.Codes.{coded_found, coded_of, no_meaning, listed_words, words_of};
 ghost use Rattle.codes.specs.ExportCodes.{export_coded_of, export_words};
@@ -12,7 +12,7 @@ ghost use Rattle.codes.specs.Words.{head_words, Roomy, ExportRoomy};
 use crate::{Coded, MEANINGLESS};
 use accesses::reads::Found;
 use engine::steps::{Reply, Told};
-use exports::ExportAnswer;
+use exports::{ExportAnswer, ExportTold};
 use spec::{Address, number_of};
 
 // The answer of a granted step that tells nothing.
@@ -79,40 +79,26 @@ pub fn encode_export(p: ExportAnswer) -> Coded
     ensures { result ≡ export_coded_of p }
 {
     match p {
-        ExportAnswer::Opened(n) => Coded {
-            number: 0,
+        Ok(ExportTold::Opened(n)) => Coded {
             told: 6,
             value: n as u64,
-            beside: 0,
-            examined: 0,
+            ..GRANTED
         },
-        ExportAnswer::Given(n, left) => Coded {
-            number: 0,
+        Ok(ExportTold::Given(n, left)) => Coded {
             told: 7,
             value: n as u64,
             beside: left as u64,
-            examined: 0,
+            ..GRANTED
         },
-        ExportAnswer::Filed(n) => Coded {
-            number: 0,
+        Ok(ExportTold::Filed(n)) => Coded {
             told: 8,
             value: n as u64,
-            beside: 0,
-            examined: 0,
+            ..GRANTED
         },
-        ExportAnswer::Closed => Coded {
-            number: 0,
-            told: 0,
-            value: 0,
-            beside: 0,
-            examined: 0,
-        },
-        ExportAnswer::Refused(r) => Coded {
+        Ok(ExportTold::Closed) => GRANTED,
+        Err(r) => Coded {
             number: number_of(r),
-            told: 0,
-            value: 0,
-            beside: 0,
-            examined: 0,
+            ..GRANTED
         },
     }
 }
@@ -169,10 +155,8 @@ fn put_rows(
         (listed_words (rows_in n (buffers addresses.now values.now owners.now))) out.new result }
 {
     let mut next = at;
-    let mut i = 0;
-    while i < n {
+    for i in 0..n {
         next = put_three(out, next, addresses[i] as u64, values[i], owners[i] as u64);
-        i += 1;
     }
     next
 }
@@ -204,6 +188,17 @@ pub fn put_answer_words(
     put_rows(out, next, addresses, values, owners, listed(p))
 }
 
+// How many places of the buffers an export step filled.
+#[tactic(auto, unfolding(exports::specs::Exporting::places_written))]
+fn given(p: ExportAnswer) -> usize
+    ensures { result ≡ places_written p }
+{
+    match p {
+        Ok(ExportTold::Given(n, _)) => n,
+        _ => 0,
+    }
+}
+
 // The words of an export step's answer: its five, and a portion's records.
 pub fn put_export_words(
     out: &mut [u64],
@@ -217,13 +212,6 @@ pub fn put_export_words(
     ensures { (bs : List ℕ) → bytes_written p ≤ length bs → Wrote out.old at
         (export_words (export_answer_in p (space (buffers addresses.now values.now owners.now) bs))) out.new result }
 {
-    let a = encode_export(p);
-    let next = put_head(out, at, a);
-    match p {
-        ExportAnswer::Opened(_) => next,
-        ExportAnswer::Given(n, _) => put_rows(out, next, addresses, values, owners, n),
-        ExportAnswer::Filed(_) => next,
-        ExportAnswer::Closed => next,
-        ExportAnswer::Refused(_) => next,
-    }
+    let next = put_head(out, at, encode_export(p));
+    put_rows(out, next, addresses, values, owners, given(p))
 }

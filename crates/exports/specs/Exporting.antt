@@ -1,16 +1,17 @@
 -- Request 107: how a lent array and three values are read as the export beside the map, and what each step of one promises.
-use Rattle.std.specs.Prelude.{ℕ, ◌≤◌, ◌≡◌, false, List, length, take}
+use Rattle.std.specs.Prelude.{ℕ, ◌≤◌, ◌≡◌, false, List, length, take, Result, Ok, Err}
 use Rattle.std.proofs.Math.Option.{Option, none, some}
 use Rattle.lists.specs.Tests.{pick}
 use Rattle.lists.specs.Rows.{Row}
+use Rattle.spec.specs.declared.Refusal.{Refusal}
 use Rattle.spec.specs.Records.{limits, Record}
 use Rattle.spec.specs.Steps.{Places, shortest}
 use Rattle.spec.specs.Exports as model
 use Rattle.contents.specs.Copies.{CopyRows, copied_in}
 use Rattle.buffers.specs.Buffers.{Buffers, places_of, rows_in, Unmoved, Beyond, Lends}
 use Rattle.exports.specs.declared.Export.{Export}
-use Rattle.exports.specs.declared.ExportAnswer.{ExportAnswer}
-use Rattle.exports.specs.declared.ExportAnswer.TheVariants.{Opened, Given, Filed, Closed, Refused}
+use Rattle.exports.specs.declared.ExportTold.{ExportTold}
+use Rattle.exports.specs.declared.ExportTold.TheVariants.{Opened, Given, Filed, Closed}
 use Rattle.exports.specs.declared.ExportDone.{ExportDone}
 use Rattle.exports.specs.declared.ops.ExportOp.{ExportOp}
 use Rattle.exports.specs.declared.ops.ExportOp.TheVariants.{Open, Portion, File, Close}
@@ -42,28 +43,36 @@ pub record Space : Type 0 where
 abbrev pub space : Buffers → List ℕ → Space
 space b bs = record { portion = b; bytes = bs }
 
+-- what a step answers
+abbrev pub ExportAnswer : Type 0
+ExportAnswer = Result ExportTold Refusal
+
+-- a refused step leaves the export
+abbrev pub refused : Export → Refusal → ExportDone
+refused x r = record { export = x; answer = Err r }
+
 -- an answer, with what the step left there
 unfoldable pub export_answer_in : ExportAnswer → Space → model.ExportAnswer
-export_answer_in (Opened n) s = model.opened n
-export_answer_in (Given n m) s = model.given (rows_in n s.portion) m
-export_answer_in (Filed n) s = model.filed (take n s.bytes)
-export_answer_in Closed s = model.closed
-export_answer_in (Refused r) s = model.declined r
+export_answer_in (Ok (Opened n)) s = model.opened n
+export_answer_in (Ok (Given n m)) s = model.given (rows_in n s.portion) m
+export_answer_in (Ok (Filed n)) s = model.filed (take n s.bytes)
+export_answer_in (Ok Closed) s = model.closed
+export_answer_in (Err r) s = model.declined r
 
 -- how many places of the buffers were written, and how many bytes
 unfoldable pub places_written : ExportAnswer → ℕ
-places_written (Opened n) = 0
-places_written (Given n m) = n
-places_written (Filed n) = 0
-places_written Closed = 0
-places_written (Refused r) = 0
+places_written (Ok (Opened n)) = 0
+places_written (Ok (Given n m)) = n
+places_written (Ok (Filed n)) = 0
+places_written (Ok Closed) = 0
+places_written (Err r) = 0
 
 unfoldable pub bytes_written : ExportAnswer → ℕ
-bytes_written (Opened n) = 0
-bytes_written (Given n m) = 0
-bytes_written (Filed n) = n
-bytes_written Closed = 0
-bytes_written (Refused r) = 0
+bytes_written (Ok (Opened n)) = 0
+bytes_written (Ok (Given n m)) = 0
+bytes_written (Ok (Filed n)) = n
+bytes_written (Ok Closed) = 0
+bytes_written (Err r) = 0
 
 -- how many of them a step may write at most
 unfoldable pub places_wanted : model.ExportStep → ℕ

@@ -1,5 +1,5 @@
 -- A step with the first places of the lent buffers, or the first of the lent bytes: what it makes of the whole.
-use Rattle.std.specs.Prelude.{ℕ, ◌≤◌, ◌≡◌, refl, List, ◌++◌, length, take, drop}
+use Rattle.std.specs.Prelude.{ℕ, ◌≤◌, ◌≡◌, refl, List, ◌++◌, length, take, drop, Ok, Err}
 use Rattle.std.proofs.Common.{sym, ap, ◌∙◌, subst, length-take-le, take_at, drop_at, take-take}
 use Rattle.lists.specs.Rows.{Row}
 use Rattle.spec.specs.Records.{Record}
@@ -8,22 +8,21 @@ use Rattle.spec.specs.Exports as model
 use Rattle.buffers.specs.Buffers.{Buffers, places_of, Beyond, Lends, first_of, Unmoved}
 use Rattle.buffers.specs.FirstPlaces.{first_places, behind, behind_first, behind_others, beyond_part, unmoved_part, rows_part}
 use Rattle.exports.specs.declared.Export.{Export}
-use Rattle.exports.specs.declared.ExportAnswer.{ExportAnswer}
-use Rattle.exports.specs.declared.ExportAnswer.TheVariants.{Opened, Given, Filed, Closed, Refused}
+use Rattle.exports.specs.declared.ExportTold.TheVariants.{Opened, Given, Filed, Closed}
 use Rattle.exports.specs.declared.ExportDone.{ExportDone}
 use Rattle.exports.specs.declared.ops.ExportOp.{ExportOp}
-use Rattle.exports.specs.Exporting.{ExportedRows, export_in, Space, space, export_answer_in, places_written, bytes_written, places_wanted, bytes_wanted, ExportStepped, export_step_in}
+use Rattle.exports.specs.Exporting.{ExportAnswer, ExportedRows, export_in, Space, space, export_answer_in, places_written, bytes_written, places_wanted, bytes_wanted, ExportStepped, export_step_in}
 
 -- ---- a portion
 
 portion_answer : (a : ExportAnswer) (w : Places) (b : Buffers) (bs : List ℕ) → places_written a ≤ shortest w
     → export_answer_in a (space b bs) ≡ export_answer_in a (space (first_of w b) bs)
 unfolding export_answer_in places_written
-portion_answer (Opened n) w b bs h = refl
-portion_answer (Given n m) w b bs h = ap (λ (rs : List _). model.given rs m) (sym (rows_part n w b h))
-portion_answer (Filed n) w b bs h = refl
-portion_answer Closed w b bs h = refl
-portion_answer (Refused r) w b bs h = refl
+portion_answer (Ok (Opened n)) w b bs h = refl
+portion_answer (Ok (Given n m)) w b bs h = ap (λ (rs : List _). model.given rs m) (sym (rows_part n w b h))
+portion_answer (Ok (Filed n)) w b bs h = refl
+portion_answer (Ok Closed) w b bs h = refl
+portion_answer (Err r) w b bs h = refl
 
 pub portion_part : {contents : List (Row Record)} {rows : ExportedRows} {x : Export} {d : ExportDone} {p : Buffers} {bs : List ℕ} (w : Places) (b : Buffers)
     → Lends (places_of b) w
@@ -55,11 +54,11 @@ portion_part {contents} {rows} {x} {d} {p} {bs} w b n h =
 
 file_answer : (a : ExportAnswer) (n : ℕ) (b : Buffers) (bs : List ℕ) → bytes_written a ≤ n → export_answer_in a (space b bs) ≡ export_answer_in a (space b (take n bs))
 unfolding export_answer_in bytes_written
-file_answer (Opened k) n b bs h = refl
-file_answer (Given k m) n b bs h = refl
-file_answer (Filed k) n b bs h = ap model.filed (sym (take-take k n bs h))
-file_answer Closed n b bs h = refl
-file_answer (Refused r) n b bs h = refl
+file_answer (Ok (Opened k)) n b bs h = refl
+file_answer (Ok (Given k m)) n b bs h = refl
+file_answer (Ok (Filed k)) n b bs h = ap model.filed (sym (take-take k n bs h))
+file_answer (Ok Closed) n b bs h = refl
+file_answer (Err r) n b bs h = refl
 
 pub file_part : {contents : List (Row Record)} {rows : ExportedRows} {x : Export} {d : ExportDone} {b : Buffers} {ps : List ℕ} (n : ℕ) (bs : List ℕ) → n ≤ length bs
     → ExportStepped contents (model.file (length (take n bs))) rows x (space b (take n bs)) rows d (space b ps)

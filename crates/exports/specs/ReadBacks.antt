@@ -1,5 +1,5 @@
 -- For the reader: every file that is written is read back as the records of the export.
-use Rattle.std.specs.Prelude.{ℕ, zero, suc, ◌^◌, ◌<◌, ◌≤◌, ◌≡◌, refl, Bool, true, false, List, [], length, take, get_or}
+use Rattle.std.specs.Prelude.{ℕ, zero, suc, ◌^◌, ◌<◌, ◌≤◌, ◌≡◌, refl, Bool, true, false, List, [], length, take, get_or, Ok}
 use Rattle.std.proofs.Common.{arith, sym, ap, ◌∙◌, ⊎_elim}
 use Rattle.std.proofs.Math.Option.{Option, none, some}
 use Rattle.lists.specs.Tests.{pick, maybe, less}
@@ -18,10 +18,9 @@ use Rattle.sets.specs.SetLaws.{length_rows}
 use Rattle.contents.specs.Copies.{copy_row, copied_in}
 use Rattle.buffers.specs.Buffers.{Buffers}
 use Rattle.exports.specs.declared.Export.{Export}
-use Rattle.exports.specs.declared.ExportAnswer.{ExportAnswer}
-use Rattle.exports.specs.declared.ExportAnswer.TheVariants.{Filed}
+use Rattle.exports.specs.declared.ExportTold.TheVariants.{Filed}
 use Rattle.exports.specs.declared.ExportDone.{ExportDone}
-use Rattle.exports.specs.Exporting.{ExportedRows, export_in, ExportHeld, space, export_answer_in, ExportStepped}
+use Rattle.exports.specs.Exporting.{ExportAnswer, ExportedRows, export_in, ExportHeld, space, export_answer_in, ExportStepped}
 
 -- ---- the records of an export fit a file
 
@@ -99,7 +98,7 @@ told_read_back contents rows x s bs h e =
 
 -- The bytes that a step of `file` writes are read back as the records of the export.
 pub file_read_back : {contents : List (Row Record)} {rows : ExportedRows} {x : Export} {b : Buffers} {bs bs' : List ℕ} {d : ExportDone} (n : ℕ) → ExportHeld x
-    → ExportStepped contents (model.file (length bs)) rows x (space b bs) rows d (space b bs') → d.answer ≡ Filed n
+    → ExportStepped contents (model.file (length bs)) rows x (space b bs) rows d (space b bs') → d.answer ≡ Ok (Filed n)
     → parsed (take n bs') ≡ some (model.export_of (export_in rows x)).records
 unfolding export_answer_in
 file_read_back {contents} {rows} {x} {b} {bs} {bs'} {d} n h p e =

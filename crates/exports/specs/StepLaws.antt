@@ -1,11 +1,11 @@
 -- The laws of an export's steps: refused ones, and granted ones of each kind.
 use Prim.Native.Nat.{ℕ, ◌+◌, ◌-◌, ◌*◌, ◌<◌, ◌≤◌, zero-le, min}
 use native.Mathlib.Omega.{arith}
-use Rattle.std.specs.Prelude.{◌≡◌, Bool, true, take, drop}
+use Rattle.std.specs.Prelude.{◌≡◌, Bool, true, take, drop, Ok, Err}
 use Rattle.std.proofs.Math.Path.{refl, sym, ap}
 use Rattle.std.proofs.Common.{◌∙◌, ⊎_elim, length-drop, take_all}
 use Rattle.std.proofs.Math.Bool.{false}
-use mathlib.Core.List.{List, []}
+use mathlib.Core.List.{List}
 use Rattle.std.proofs.Math.Option.{Option, none, some}
 use Rattle.std.proofs.Math.ListN.{length}
 use Rattle.lists.specs.Tests.{pick, maybe, less}
@@ -24,7 +24,7 @@ use Rattle.contents.specs.Copies.{copy_row, copied_in, Copied}
 use Rattle.buffers.specs.Buffers.{Buffers, rows_in, Unmoved, Beyond, places_of}
 use Rattle.buffers.specs.BufferLaws.{length_rows as places_count, unmoved_refl, beyond_refl}
 use Rattle.exports.specs.declared.Export.{Export}
-use Rattle.exports.specs.declared.ExportAnswer.TheVariants.{Opened, Given, Filed, Closed, Refused}
+use Rattle.exports.specs.declared.ExportTold.TheVariants.{Opened, Given, Filed, Closed}
 use Rattle.exports.specs.declared.ExportDone.{ExportDone}
 use Rattle.exports.specs.Exporting.{ExportedRows, export_in, ExportHeld, Space, space, export_answer_in, places_written, bytes_written, places_wanted, bytes_wanted, ExportStepped}
 use Rattle.exports.specs.RowLaws.{part_rows}
@@ -70,7 +70,7 @@ module _ (contents : List (Row Record)) (step : model.ExportStep) (rows : Export
       ∙ ap (λ (r : Option Refusal). maybe r (model.export_effect contents o step) (λ (r : Refusal). o)) e)
 
   declines : (r : Refusal) (s : Space) → ExportHeld x → model.export_refusal o step ≡ some r
-      → ExportStepped contents step rows x s rows (record { export = x; answer = Refused r }) s
+      → ExportStepped contents step rows x s rows (record { export = x; answer = Err r }) s
   unfolding export_answer_in places_written bytes_written
   declines r s h e =
       record {
@@ -119,16 +119,16 @@ module _ (contents : List (Row Record)) (rows : ExportedRows) (x : Export) where
   -- ---- refused
 
   module _ (s : Space) (h : ExportHeld x) where
-    pub open_already : x.open ≡ true → ExportStepped contents model.open_export rows x s rows (record { export = x; answer = Refused ExportOpen }) s
+    pub open_already : x.open ≡ true → ExportStepped contents model.open_export rows x s rows (record { export = x; answer = Err ExportOpen }) s
     open_already e = declines contents model.open_export rows x (some (open_in rows x)) (open_in_lem rows x e) ExportOpen s h (open_refused (open_in rows x))
 
-    pub no_portion : (w : Places) → x.open ≡ false → ExportStepped contents (model.portion w) rows x s rows (record { export = x; answer = Refused NoExport }) s
+    pub no_portion : (w : Places) → x.open ≡ false → ExportStepped contents (model.portion w) rows x s rows (record { export = x; answer = Err NoExport }) s
     no_portion w e = declines contents (model.portion w) rows x none (none_in rows x e) NoExport s h (portion_refused w)
 
-    pub no_file : (n : ℕ) → x.open ≡ false → ExportStepped contents (model.file n) rows x s rows (record { export = x; answer = Refused NoExport }) s
+    pub no_file : (n : ℕ) → x.open ≡ false → ExportStepped contents (model.file n) rows x s rows (record { export = x; answer = Err NoExport }) s
     no_file n e = declines contents (model.file n) rows x none (none_in rows x e) NoExport s h (file_refused n)
 
-    pub no_close : x.open ≡ false → ExportStepped contents model.close_export rows x s rows (record { export = x; answer = Refused NoExport }) s
+    pub no_close : x.open ≡ false → ExportStepped contents model.close_export rows x s rows (record { export = x; answer = Err NoExport }) s
     no_close e = declines contents model.close_export rows x none (none_in rows x e) NoExport s h close_refused
 
   size_of : file_size (copied_in rows x.count) ≡ 8 + (address_size + entry_size) * x.count
@@ -136,7 +136,7 @@ module _ (contents : List (Row Record)) (rows : ExportedRows) (x : Export) where
   size_of = ap (λ (n : ℕ). 8 + (address_size + entry_size) * n) (length_rows copy_row rows x.count)
 
   pub file_short : (s : Space) (n : ℕ) → ExportHeld x → x.open ≡ true → n < 8 + (address_size + entry_size) * x.count
-      → ExportStepped contents (model.file n) rows x s rows (record { export = x; answer = Refused ShortBuffer }) s
+      → ExportStepped contents (model.file n) rows x s rows (record { export = x; answer = Err ShortBuffer }) s
   file_short s n h e l =
       let z : file_size (copied_in rows x.count) ≡ 8 + (address_size + entry_size) * x.count = size_of in
       declines contents (model.file n) rows x (some (open_in rows x)) (open_in_lem rows x e) ShortBuffer s h
@@ -146,7 +146,7 @@ module _ (contents : List (Row Record)) (rows : ExportedRows) (x : Export) where
 
   pub opens : {rows' : ExportedRows} {count : ℕ} (s : Space) → x.open ≡ false → length contents ≤ limits.map_limit → Copied contents rows' count
       → ExportStepped contents model.open_export rows x s rows'
-      (record { export = record { «open» = true; count = count; taken = 0 }; answer = Opened count }) s
+      (record { export = record { «open» = true; count = count; taken = 0 }; answer = Ok (Opened count) }) s
   unfolding export_answer_in places_written bytes_written export_in model.export_refusal model.export_causes first_cause model.export_granted model.export_effect
   opens {rows'} {count} s e l c =
       let q : count ≡ length contents = c.count_is in
@@ -161,7 +161,7 @@ module _ (contents : List (Row Record)) (rows : ExportedRows) (x : Export) where
       zero-le
 
   pub closes : {e : Export} (s : Space) → x.open ≡ true → ((rows : ExportedRows) → export_in rows e ≡ none) × ExportHeld e
-      → ExportStepped contents model.close_export rows x s rows (record { export = e; answer = Closed }) s
+      → ExportStepped contents model.close_export rows x s rows (record { export = e; answer = Ok Closed }) s
   unfolding export_answer_in places_written bytes_written model.export_refusal model.export_causes first_cause model.export_granted model.export_effect
   closes {e} s o n =
       grants contents model.close_export rows x (some (open_in rows x)) (open_in_lem rows x o) {s = s} {s' = s} {rows' = rows}
@@ -175,7 +175,7 @@ module _ (contents : List (Row Record)) (rows : ExportedRows) (x : Export) where
       zero-le
 
   pub files : {bs bs' : List ℕ} {n : ℕ} (b : Buffers) → ExportHeld x → x.open ≡ true → 8 + (address_size + entry_size) * x.count ≤ length bs → Wrote bs 0 (file_of (copied_in rows x.count)) bs' n
-      → ExportStepped contents (model.file (length bs)) rows x (space b bs) rows (record { export = x; answer = Filed n }) (space b bs')
+      → ExportStepped contents (model.file (length bs)) rows x (space b bs) rows (record { export = x; answer = Ok (Filed n) }) (space b bs')
   unfolding export_answer_in places_written bytes_written bytes_wanted model.export_granted model.export_effect model.export_of
   files {bs} {bs'} {n} b h e l w =
       let z : file_size (copied_in rows x.count) ≡ 8 + (address_size + entry_size) * x.count = size_of in
@@ -194,10 +194,10 @@ module _ (contents : List (Row Record)) (rows : ExportedRows) (x : Export) where
 -- ---- a portion
 
 -- how many it gives, by three comparisons
-pub least_is : (b : Buffers) (left : ℕ) {i j n : ℕ} → i ≡ min (length b.addresses) (length b.values) → j ≡ min i (length b.owners) → n ≡ min left j
+pub least_is : (b : Buffers) (left n : ℕ) → n ≡ min (min (min left (length b.addresses)) (length b.values)) (length b.owners)
     → n ≡ min left (shortest (places_of b))
 unfolding shortest
-least_is b left {i} {j} {n} p q r = r ∙ ap (λ (k : ℕ). min left k) (q ∙ ap (λ (k : ℕ). min k (length b.owners)) p)
+least_is b left n e = omega arith
 
 -- no more is taken than there is
 take_least : {A : Type 0} (m n : ℕ) (l : List A) → n ≡ min (length l) m → take m l ≡ take n l
@@ -227,7 +227,7 @@ module _ (x : Export) (h : ExportHeld x) {b : Buffers} {n : ℕ} (m : n ≡ min 
         ∙ sym (take_least (shortest (places_of b)) n (drop x.taken (copied_in rows x.count)) (let q : n ≡ min (length (drop x.taken (copied_in rows x.count))) (shortest (places_of b)) = m ∙ ap (λ (k : ℕ). min k (shortest (places_of b))) (sym (d ∙ ap (λ (k : ℕ). k - x.taken) l)) in q))
 
     pub gives : ExportStepped contents (model.portion (places_of b)) rows x (space b bs) rows
-        (record { export = record { «open» = true; count = x.count; taken = x.taken + n }; answer = Given n (x.count - x.taken - n) }) (space c bs)
+        (record { export = record x { taken = x.taken + n }; answer = Ok (Given n (x.count - x.taken - n)) }) (space c bs)
     unfolding export_answer_in places_written bytes_written places_wanted export_in model.export_refusal model.export_causes first_cause model.export_granted model.export_effect model.export_of
     gives =
         let w : x.taken ≤ x.count = h.within in
@@ -239,9 +239,9 @@ module _ (x : Export) (h : ExportHeld x) {b : Buffers} {n : ℕ} (m : n ≡ min 
         ∙ sym (length-drop (x.taken + length (model.portion_of (open_in rows x) (places_of b))) (copied_in rows x.count) ∙ (λ i. l i - (x.taken + k i))) in
         grants contents (model.portion (places_of b)) rows x (some (open_in rows x)) (open_in_lem rows x e) {s = space b bs} {s' = space c bs} {rows' = rows}
         refl
-        (record { room = r; within = omega arith; none_closed = λ o. clash refl o })
+        (record { room = r; within = omega arith; none_closed = h.none_closed })
         (λ i. model.given (portion_is i) (left i))
-        (ap (λ (j : ℕ). some (record { records = copied_in rows x.count; taken = x.taken + j })) (sym k))
+        (open_in_lem rows (record x { taken = x.taken + n }) e ∙ ap (λ (j : ℕ). some (record { records = copied_in rows x.count; taken = x.taken + j })) (sym k))
         g.beyond
         (unmoved_refl 0 bs)
         (omega arith)

@@ -19,12 +19,10 @@ pub fn give(
     ensures { Gives exported.now from n (buffers addresses.old values.old owners.old)
         (buffers addresses.new values.new owners.new) }
 {
-    let mut i = 0;
-    while i < n {
+    for i in 0..n {
         let r = rows::get(exported, from + i);
         addresses[i] = r.address;
         values[i] = r.value;
         owners[i] = r.owner;
-        i += 1;
     }
 }

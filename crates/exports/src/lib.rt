@@ -13,7 +13,7 @@ ghost use Rattle.spec.specs.Exports as model;
 ghost use Rattle.map.specs.Parts.{RecordsHeld, SlotsHeld};
 ghost use Rattle.queries.specs.Contents.{all_records};
 ghost use Rattle.buffers.specs.Buffers.{Buffers, buffers, places_of};
-ghost use Rattle.exports.specs.Exporting.{ExportedRows, export_in, ExportHeld, Space, space, ExportStepped};
+ghost use Rattle.exports.specs.Exporting.{ExportedRows, export_in, refused, ExportHeld, Space, space, ExportStepped};
 
 use map::{Records, Slots};
 use spec::{Address, Refusal};
@@ -33,22 +33,34 @@ pub struct Export {
     pub taken: usize,
 }
 
-// The answer to a step: how many records the export has; how many a portion gave, and how many remain; how many bytes a file
-// has; closed; refused.
+// What a granted step tells: how many records the export has; how many a portion gave, and how many remain; how many bytes a
+// file has; that it is closed.
 #[derive(Clone, Copy)]
-pub enum ExportAnswer {
+pub enum ExportTold {
     Opened(usize),
     Given(usize, usize),
     Filed(usize),
     Closed,
-    Refused(Refusal),
 }
+
+// The answer to a step.
+pub type ExportAnswer = Result<ExportTold, Refusal>;
 
 // The export after a step, and the answer.
 #[derive(Clone, Copy)]
 pub struct ExportDone {
     pub export: Export,
     pub answer: ExportAnswer,
+}
+
+// A refused step leaves the export.
+fn refused(export: Export, r: Refusal) -> ExportDone
+    ensures { result ≡ refused export r }
+{
+    ExportDone {
+        export,
+        answer: Err(r),
+    }
 }
 
 // None is open.
@@ -77,20 +89,16 @@ pub fn open_export(
         exported.old x s exported.new result s }
 {
     if x.open {
-        return ExportDone {
-            export: x,
-            answer: ExportAnswer::Refused(Refusal::ExportOpen),
-        };
+        return refused(x, Refusal::ExportOpen);
     }
     let count = contents::copy_contents(exported, rows, slots, n);
-    let export = Export {
-        open: true,
-        count,
-        taken: 0,
-    };
     ExportDone {
-        export,
-        answer: ExportAnswer::Opened(count),
+        export: Export {
+            open: true,
+            count,
+            taken: 0,
+        },
+        answer: Ok(ExportTold::Opened(count)),
     }
 }
 
@@ -108,25 +116,21 @@ pub fn portion(
         exported.now x (space (buffers addresses.old values.old owners.old) bs)
         exported.now result (space (buffers addresses.new values.new owners.new) bs) }
 {
-    if x.open {
-        let left = x.count - x.taken;
-        let two = buffers::lesser(addresses.len(), values.len());
-        let shortest = buffers::lesser(two, owners.len());
-        let n = buffers::lesser(left, shortest);
-        copies::give(addresses, values, owners, exported, x.taken, n);
-        let export = Export {
-            open: true,
-            count: x.count,
-            taken: x.taken + n,
-        };
-        return ExportDone {
-            export,
-            answer: ExportAnswer::Given(n, left - n),
-        };
+    if !x.open {
+        return refused(x, Refusal::NoExport);
     }
+    let left = x.count - x.taken;
+    let n = left
+        .min(addresses.len())
+        .min(values.len())
+        .min(owners.len());
+    copies::give(addresses, values, owners, exported, x.taken, n);
     ExportDone {
-        export: x,
-        answer: ExportAnswer::Refused(Refusal::NoExport),
+        export: Export {
+            taken: x.taken + n,
+            ..x
+        },
+        answer: Ok(ExportTold::Given(n, left - n)),
     }
 }
 
@@ -136,22 +140,16 @@ pub fn file(bytes: &mut [u8], exported: &Exported, x: Export) -> ExportDone
     ensures { (contents : List (Row Record)) (b : Buffers) → ExportStepped contents (model.file (length bytes.old))
         exported.now x (space b bytes.old) exported.now result (space b bytes.new) }
 {
-    if x.open {
-        if bytes.len() < files::HEADER_BYTES + files::RECORD_BYTES * x.count {
-            return ExportDone {
-                export: x,
-                answer: ExportAnswer::Refused(Refusal::ShortBuffer),
-            };
-        }
-        let n = files::put_file(bytes, exported, x.count);
-        return ExportDone {
-            export: x,
-            answer: ExportAnswer::Filed(n),
-        };
+    if !x.open {
+        return refused(x, Refusal::NoExport);
     }
+    if bytes.len() < files::HEADER_BYTES + files::RECORD_BYTES * x.count {
+        return refused(x, Refusal::ShortBuffer);
+    }
+    let n = files::put_file(bytes, exported, x.count);
     ExportDone {
         export: x,
-        answer: ExportAnswer::Refused(Refusal::NoExport),
+        answer: Ok(ExportTold::Filed(n)),
     }
 }
 
@@ -160,15 +158,11 @@ pub fn close_export(x: Export) -> ExportDone
     requires { ExportHeld x }
     ensures { (contents : List (Row Record)) (rows : ExportedRows) (s : Space) → ExportStepped contents model.close_export rows x s rows result s }
 {
-    if x.open {
-        let export = no_export();
-        return ExportDone {
-            export,
-            answer: ExportAnswer::Closed,
-        };
+    if !x.open {
+        return refused(x, Refusal::NoExport);
     }
     ExportDone {
-        export: x,
-        answer: ExportAnswer::Refused(Refusal::NoExport),
+        export: no_export(),
+        answer: Ok(ExportTold::Closed),
     }
 }

@@ -8,9 +8,8 @@ use Rattle.spec.specs.Records.{Payload}
 use Rattle.spec.specs.Steps.{Places, shortest}
 use Rattle.spec.specs.Exports.{Exchange, records_given}
 use Rattle.buffers.specs.Buffers.{Buffers, places_of, row_in, rows_in, Unmoved, Beyond, Lends}
-use Rattle.exports.specs.declared.ExportAnswer.{ExportAnswer}
-use Rattle.exports.specs.declared.ExportAnswer.TheVariants as export
-use Rattle.exports.specs.Exporting.{Space, export_answer_in, places_written, bytes_written}
+use Rattle.exports.specs.declared.ExportTold.TheVariants as export
+use Rattle.exports.specs.Exporting.{ExportAnswer, Space, export_answer_in, places_written, bytes_written}
 use Rattle.spec.specs.declared.Refusal.{Refusal}
 use Rattle.engine.specs.declared.steps.Told.{Told}
 use Rattle.engine.specs.declared.steps.Told.TheVariants as told
@@ -126,16 +125,16 @@ reply_shown (Err r) b = refl
 
 pub export_shown : (a : ExportAnswer) (s : Space) → records_given (export_answer_in a s) ≡ rows_in (places_written a) s.portion
 unfolding records_given export_answer_in places_written rows_in tab tab_from
-export_shown (export.Opened n) s = refl
-export_shown (export.Given n m) s = refl
-export_shown (export.Filed n) s = refl
-export_shown export.Closed s = refl
-export_shown (export.Refused r) s = refl
+export_shown (Ok (export.Opened n)) s = refl
+export_shown (Ok (export.Given n m)) s = refl
+export_shown (Ok (export.Filed n)) s = refl
+export_shown (Ok export.Closed) s = refl
+export_shown (Err r) s = refl
 
 pub export_filed : (a : ExportAnswer) (s : Space) → bytes_of (export_answer_in a s) ≡ take (bytes_written a) s.bytes
 unfolding bytes_of export_answer_in bytes_written
-export_filed (export.Opened n) s = refl
-export_filed (export.Given n m) s = refl
-export_filed (export.Filed n) s = refl
-export_filed export.Closed s = refl
-export_filed (export.Refused r) s = refl
+export_filed (Ok (export.Opened n)) s = refl
+export_filed (Ok (export.Given n m)) s = refl
+export_filed (Ok (export.Filed n)) s = refl
+export_filed (Ok export.Closed) s = refl
+export_filed (Err r) s = refl

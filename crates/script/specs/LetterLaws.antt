@@ -10,21 +10,17 @@ use Rattle.script.specs.declared.Event.TheVariants as event
 use Rattle.script.specs.Grammar.{seat_line, one_number, two_numbers, three_numbers, four_numbers, line_of}
 use Rattle.script.specs.Tokens.{told}
 
--- ---- one number
+pick_none : (x : Bool) → ◌≡◌ {A = Option Line} none (pick x none none)
+pick_none true = refl
+pick_none false = refl
 
-pub merge_wide : (c a : ℕ) → c ≡ 77 → addresses ≤ a → event.Malformed ≡ told (line_of c (a ∷ []))
-unfolding line_of one_number
-merge_wide c a e h = rw (same_yes e, less_no h)
+-- ---- one number
 
 pub merge_letter : (c a : ℕ) → c ≡ 77 → a < addresses → event.Line (Line.Merge a) ≡ told (line_of c (a ∷ []))
 unfolding line_of one_number
 merge_letter c a e h = rw (same_yes e, less_yes h)
 
 module _ (c a : ℕ) (m : c ≡ 77 → ⊥) where
-  pub seat_wide : worker_names ≤ a → event.Malformed ≡ told (line_of c (a ∷ []))
-  unfolding line_of one_number
-  seat_wide h = rw (same_no m, less_no h)
-
   pub seat_letter : (k : ℕ) → c ≡ k → a < worker_names → told (seat_line k a) ≡ told (line_of c (a ∷ []))
   unfolding line_of one_number
   seat_letter k e h = rw (same_no m, less_yes h) (ap (λ (x : ℕ). told (seat_line x a)) (sym e))
@@ -33,15 +29,16 @@ module _ (c a : ℕ) (m : c ≡ 77 → ⊥) where
   unfolding line_of one_number seat_line
   seat_other b l v i x h = rw (same_no m, less_yes h, same_no b, same_no l, same_no v, same_no i, same_no x)
 
+-- an address and the number that names a worker have 32 bits each
+pub one_wide : (c a : ℕ) → addresses ≤ a → event.Malformed ≡ told (line_of c (a ∷ []))
+unfolding line_of one_number
+one_wide c a h = rw (less_no h) (ap told (pick_none (same c 77)))
+
 -- ---- two numbers
 
 both_wide : (x y : Bool) (o : Option Line) → y ≡ false → pick (both x y) o none ≡ none
 both_wide true y o e = rw e
 both_wide false y o e = refl
-
-pick_none : (x : Bool) → ◌≡◌ {A = Option Line} none (pick x none none)
-pick_none true = refl
-pick_none false = refl
 
 pub two_wide : (c a b : ℕ) → worker_names ≤ a → event.Malformed ≡ told (line_of c (a ∷ b ∷ []))
 unfolding line_of

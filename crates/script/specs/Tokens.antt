@@ -169,6 +169,10 @@ abbrev pub told : Option Line → Event
 told none = event.Malformed
 told (some x) = event.Line x
 
+-- the line is over
+abbrev pub malformed : ℕ → Parsed
+malformed j = record { parser = Start; next = j; event = event.Malformed }
+
 pub moves_none : (p : Parser) → Moves p p []
 moves_none p =
     record { unbroken = has_nil 10; begun = nothing (started p); means = λ rest. refl; guards = λ rest. refl }

@@ -2,14 +2,12 @@
 // `meaning`, in specs/Grammar.antt.
 #![tactic(auto)]
 
-ghost use Rattle.std.specs.Prelude.{◌≡◌, true, not, List, [], ◌∷◌, ℕ, ◌+◌, ◌*◌, ◌^◌, ◌<◌, ◌≤◌, length};
-ghost use Rattle.lists.specs.Tests.{less};
-ghost use Rattle.spec.specs.Widths.{worker_names};
-ghost use Rattle.script.specs.Grammar.{line_of};
+ghost use Rattle.std.specs.Prelude.{◌≡◌, true, not, List, [], ◌∷◌, ℕ, ◌+◌, ◌-◌, ◌*◌, ◌<◌, ◌≤◌, length, MatchOption};
+ghost use Rattle.script.specs.Grammar.{is_digit, line_of};
 ghost use Rattle.script.specs.Parsing.{none_before, one_before, two_before, three_before, in_number, started, filled, After, Parses};
-ghost use Rattle.script.specs.Tokens.{Advances, ParsesPart, Digits, told};
+ghost use Rattle.script.specs.Tokens.{Advances, ParsesPart, Stops, Digits, malformed, told};
 
-use spec::{ADDRESSES, Address, OWNERS, WORKER_NAMES};
+use spec::Address;
 
 // A line of a script, with its numbers.
 #[derive(Clone, Copy)]
@@ -91,12 +89,12 @@ struct Run {
     value: u64,
 }
 
-const SPACE: u8 = 32;
+const SPACE: u8 = b' ';
 
-const LINE_FEED: u8 = 10;
+const LINE_FEED: u8 = b'\n';
 
-// The largest number that ten times fits 64 bits, and then a digit up to 5.
-const TENTH: u64 = 1844674407370955161;
+// Ten times a number below it, and a digit, fit 64 bits.
+const TENTH: u64 = u64::MAX / 10;
 
 // The parser at the start of a line.
 pub fn fresh_parser() -> Parser
@@ -110,69 +108,23 @@ pub fn at_line_start(p: Parser) -> bool
     ensures value { result ≡ not (started p) }
     ensures by_index { (seen : List ℕ) → After seen p → result ≡ not (filled seen) }
 {
-    match p {
-        Parser::Start => true,
-        Parser::Letter(_) => false,
-        Parser::Oldest => false,
-        Parser::Guard => false,
-        Parser::First {
-            letter: _,
-            digit: _,
-            value: _,
-        } => false,
-        Parser::Second {
-            letter: _,
-            digit: _,
-            a: _,
-            value: _,
-        } => false,
-        Parser::Third {
-            letter: _,
-            digit: _,
-            a: _,
-            b: _,
-            value: _,
-        } => false,
-        Parser::Fourth {
-            letter: _,
-            digit: _,
-            a: _,
-            b: _,
-            c: _,
-            value: _,
-        } => false,
-    }
-}
-
-// A line of one number that is no seat: the address of a fold may be as wide.
-fn one_wide(letter: u8, a: u64) -> Event
-    requires { worker_names ≤ a }
-    ensures { result ≡ told (line_of letter (a ∷ [])) }
-{
-    if letter != b'M' {
-        return Event::Malformed;
-    }
-    if a >= ADDRESSES {
-        return Event::Malformed;
-    }
-    Event::Line(Line::Merge(a as Address))
+    matches!(p, Parser::Start)
 }
 
 // A line of one number: the address of a fold, or a seat.
 fn one(letter: u8, a: u64) -> Event
     ensures { result ≡ told (line_of letter (a ∷ [])) }
 {
-    if a >= WORKER_NAMES {
-        return one_wide(letter, a);
-    }
-    let w = a as u32;
+    let Ok(n) = u32::try_from(a) else {
+        return Event::Malformed;
+    };
     match letter {
-        b'B' => Event::Line(Line::Begin(w)),
-        b'L' => Event::Line(Line::Lock(w)),
-        b'V' => Event::Line(Line::Validate(w)),
-        b'I' => Event::Line(Line::Install(w)),
-        b'A' => Event::Line(Line::Abort(w)),
-        b'M' => Event::Line(Line::Merge(a as Address)),
+        b'B' => Event::Line(Line::Begin(n)),
+        b'L' => Event::Line(Line::Lock(n)),
+        b'V' => Event::Line(Line::Validate(n)),
+        b'I' => Event::Line(Line::Install(n)),
+        b'A' => Event::Line(Line::Abort(n)),
+        b'M' => Event::Line(Line::Merge(n)),
         _ => Event::Malformed,
     }
 }
@@ -181,17 +133,12 @@ fn one(letter: u8, a: u64) -> Event
 fn two(letter: u8, a: u64, b: u64) -> Event
     ensures { result ≡ told (line_of letter (a ∷ b ∷ [])) }
 {
-    if a >= WORKER_NAMES {
+    let (Ok(w), Ok(k)) = (u32::try_from(a), Address::try_from(b)) else {
         return Event::Malformed;
-    }
-    if b >= ADDRESSES {
-        return Event::Malformed;
-    }
-    let m = a as u32;
-    let n = b as Address;
+    };
     match letter {
-        b'R' => Event::Line(Line::Read(m, n)),
-        b'D' => Event::Line(Line::Remove(m, n)),
+        b'R' => Event::Line(Line::Read(w, k)),
+        b'D' => Event::Line(Line::Remove(w, k)),
         _ => Event::Malformed,
     }
 }
@@ -200,97 +147,80 @@ fn two(letter: u8, a: u64, b: u64) -> Event
 fn three(letter: u8, a: u64, b: u64, c: u64) -> Event
     ensures { result ≡ told (line_of letter (a ∷ b ∷ c ∷ [])) }
 {
-    if letter != b'S' {
-        return Event::Malformed;
+    match (
+        letter,
+        u32::try_from(a),
+        Address::try_from(b),
+        Address::try_from(c),
+    ) {
+        (b'S', Ok(w), Ok(lo), Ok(hi)) => Event::Line(Line::Scan(w, lo, hi)),
+        _ => Event::Malformed,
     }
-    if a >= WORKER_NAMES {
-        return Event::Malformed;
-    }
-    if b >= ADDRESSES {
-        return Event::Malformed;
-    }
-    if c >= ADDRESSES {
-        return Event::Malformed;
-    }
-    Event::Line(Line::Scan(a as u32, b as Address, c as Address))
 }
 
 // A line of four numbers.
 fn four(letter: u8, a: u64, b: u64, c: u64, d: u64) -> Event
     ensures { result ≡ told (line_of letter (a ∷ b ∷ c ∷ d ∷ [])) }
 {
-    if letter != b'P' {
-        return Event::Malformed;
+    match (
+        letter,
+        u32::try_from(a),
+        Address::try_from(b),
+        u16::try_from(d),
+    ) {
+        (b'P', Ok(w), Ok(k), Ok(owner)) => Event::Line(Line::Put(w, k, c, owner)),
+        _ => Event::Malformed,
     }
-    if a >= WORKER_NAMES {
-        return Event::Malformed;
-    }
-    if b >= ADDRESSES {
-        return Event::Malformed;
-    }
-    if d >= OWNERS {
-        return Event::Malformed;
-    }
-    Event::Line(Line::Put(a as u32, b as Address, c, d as u16))
 }
 
-// The number with one more digit has 64 bits at most.
-fn room(n: u64, d: u64) -> bool
-    requires { d < 10 }
-    ensures { result ≡ less (n * 10 + d) (2 ^ 64) }
+// No line begins so.
+fn malformed(next: usize) -> Parsed
+    ensures { result ≡ malformed next }
 {
+    Parsed {
+        parser: Parser::Start,
+        next,
+        event: Event::Malformed,
+    }
+}
+
+// A number with one more digit. There is none if the byte is no digit, or the number would have more than 64 bits: a short
+// one, as most are, passes by one test.
+fn with_digit(n: u64, b: u8) -> Option<u64>
+    ensures { MatchOption result (Stops n b) (λ m. (is_digit b ≡ true) × (m ≡ n * 10 + (b - 48))) }
+{
+    if !b.is_ascii_digit() {
+        return None;
+    }
+    let d = (b - b'0') as u64;
     if n < TENTH {
-        return true;
+        Some(n * 10 + d)
+    } else {
+        n.checked_mul(10)?.checked_add(d)
     }
-    if n > TENTH {
-        return false;
-    }
-    if d > 5 {
-        return false;
-    }
-    true
 }
 
 // A number's digits from a place on: where they end, if the number has a digit, and its value so far. They end at the
 // slice's end, or at a byte that goes on with no number: no digit, or one that makes it more than 64 bits.
-fn digits(s: &[u8], from: usize, digit: bool, value: u64) -> Run
+fn digits(s: &[u8], from: usize, mut digit: bool, mut value: u64) -> Run
+    requires { from ≤ length s.now }
     ensures { Digits s.now from digit value result }
 {
-    let mut i = from;
-    let mut seen = digit;
-    let mut n = value;
-    while i < s.len() {
-        let b = s[i];
-        if b < 48 {
+    for i in from..s.len() {
+        let Some(n) = with_digit(value, s[i]) else {
             return Run {
                 next: i,
-                digit: seen,
-                value: n,
+                digit,
+                value,
             };
-        }
-        if b > 57 {
-            return Run {
-                next: i,
-                digit: seen,
-                value: n,
-            };
-        }
-        let d = (b - 48) as u64;
-        if !room(n, d) {
-            return Run {
-                next: i,
-                digit: seen,
-                value: n,
-            };
-        }
-        n = n * 10 + d;
-        seen = true;
-        i += 1;
+        };
+        value = n;
+        digit = true;
     }
     Run {
-        next: i,
-        digit: seen,
-        value: n,
+        next: s.len(),
+        digit,
+        value,
     }
 }
 
@@ -314,32 +244,23 @@ fn first_number(s: &[u8], i: usize, letter: u8, digit: bool, value: u64) -> Pars
             event: Event::SliceEnd,
         };
     }
-    let end = s[next];
-    if run.digit {
-        if end == SPACE {
-            return Parsed {
-                parser: Parser::Second {
-                    letter,
-                    digit: false,
-                    a: run.value,
-                    value: 0,
-                },
-                next: next + 1,
-                event: Event::SliceEnd,
-            };
-        }
-        if end == LINE_FEED {
-            return Parsed {
-                parser: Parser::Start,
-                next: next + 1,
-                event: one(letter, run.value),
-            };
-        }
-    }
-    Parsed {
-        parser: Parser::Start,
-        next: next + 1,
-        event: Event::Malformed,
+    match s[next] {
+        SPACE if run.digit => Parsed {
+            parser: Parser::Second {
+                letter,
+                digit: false,
+                a: run.value,
+                value: 0,
+            },
+            next: next + 1,
+            event: Event::SliceEnd,
+        },
+        LINE_FEED if run.digit => Parsed {
+            parser: Parser::Start,
+            next: next + 1,
+            event: one(letter, run.value),
+        },
+        _ => malformed(next + 1),
     }
 }
 
@@ -363,33 +284,24 @@ fn second_number(s: &[u8], i: usize, letter: u8, a: u64, digit: bool, value: u64
             event: Event::SliceEnd,
         };
     }
-    let end = s[next];
-    if run.digit {
-        if end == SPACE {
-            return Parsed {
-                parser: Parser::Third {
-                    letter,
-                    digit: false,
-                    a,
-                    b: run.value,
-                    value: 0,
-                },
-                next: next + 1,
-                event: Event::SliceEnd,
-            };
-        }
-        if end == LINE_FEED {
-            return Parsed {
-                parser: Parser::Start,
-                next: next + 1,
-                event: two(letter, a, run.value),
-            };
-        }
-    }
-    Parsed {
-        parser: Parser::Start,
-        next: next + 1,
-        event: Event::Malformed,
+    match s[next] {
+        SPACE if run.digit => Parsed {
+            parser: Parser::Third {
+                letter,
+                digit: false,
+                a,
+                b: run.value,
+                value: 0,
+            },
+            next: next + 1,
+            event: Event::SliceEnd,
+        },
+        LINE_FEED if run.digit => Parsed {
+            parser: Parser::Start,
+            next: next + 1,
+            event: two(letter, a, run.value),
+        },
+        _ => malformed(next + 1),
     }
 }
 
@@ -414,34 +326,25 @@ fn third_number(s: &[u8], i: usize, letter: u8, a: u64, b: u64, digit: bool, val
             event: Event::SliceEnd,
         };
     }
-    let end = s[next];
-    if run.digit {
-        if end == SPACE {
-            return Parsed {
-                parser: Parser::Fourth {
-                    letter,
-                    digit: false,
-                    a,
-                    b,
-                    c: run.value,
-                    value: 0,
-                },
-                next: next + 1,
-                event: Event::SliceEnd,
-            };
-        }
-        if end == LINE_FEED {
-            return Parsed {
-                parser: Parser::Start,
-                next: next + 1,
-                event: three(letter, a, b, run.value),
-            };
-        }
-    }
-    Parsed {
-        parser: Parser::Start,
-        next: next + 1,
-        event: Event::Malformed,
+    match s[next] {
+        SPACE if run.digit => Parsed {
+            parser: Parser::Fourth {
+                letter,
+                digit: false,
+                a,
+                b,
+                c: run.value,
+                value: 0,
+            },
+            next: next + 1,
+            event: Event::SliceEnd,
+        },
+        LINE_FEED if run.digit => Parsed {
+            parser: Parser::Start,
+            next: next + 1,
+            event: three(letter, a, b, run.value),
+        },
+        _ => malformed(next + 1),
     }
 }
 
@@ -476,20 +379,13 @@ fn last_number(
             event: Event::SliceEnd,
         };
     }
-    let end = s[next];
-    if run.digit {
-        if end == LINE_FEED {
-            return Parsed {
-                parser: Parser::Start,
-                next: next + 1,
-                event: four(letter, a, b, c, run.value),
-            };
-        }
-    }
-    Parsed {
-        parser: Parser::Start,
-        next: next + 1,
-        event: Event::Malformed,
+    match s[next] {
+        LINE_FEED if run.digit => Parsed {
+            parser: Parser::Start,
+            next: next + 1,
+            event: four(letter, a, b, c, run.value),
+        },
+        _ => malformed(next + 1),
     }
 }
 
@@ -500,37 +396,14 @@ fn start(s: &[u8], i: usize) -> Parsed
     ensures parses_part { ParsesPart s.now i Parser.Start result }
     ensures i_lt_next { i < result.next }
 {
-    let b = s[i];
-    if b == SPACE {
-        return Parsed {
-            parser: Parser::Start,
-            next: i + 1,
-            event: Event::Malformed,
-        };
-    }
-    if b == LINE_FEED {
-        return Parsed {
-            parser: Parser::Start,
-            next: i + 1,
-            event: Event::Malformed,
-        };
-    }
-    if b == b'T' {
-        return Parsed {
-            parser: Parser::Oldest,
-            next: i + 1,
-            event: Event::SliceEnd,
-        };
-    }
-    if b == b'G' {
-        return Parsed {
-            parser: Parser::Guard,
-            next: i + 1,
-            event: Event::SliceEnd,
-        };
-    }
+    let parser = match s[i] {
+        SPACE | LINE_FEED => return malformed(i + 1),
+        b'T' => Parser::Oldest,
+        b'G' => Parser::Guard,
+        letter => Parser::Letter(letter),
+    };
     Parsed {
-        parser: Parser::Letter(b),
+        parser,
         next: i + 1,
         event: Event::SliceEnd,
     }
@@ -542,9 +415,8 @@ fn after_letter(s: &[u8], i: usize, letter: u8) -> Parsed
     ensures parses_part { ParsesPart s.now i (Parser.Letter letter) result }
     ensures i_lt_next { i < result.next }
 {
-    let b = s[i];
-    if b == SPACE {
-        return Parsed {
+    if s[i] == SPACE {
+        Parsed {
             parser: Parser::First {
                 letter,
                 digit: false,
@@ -552,12 +424,9 @@ fn after_letter(s: &[u8], i: usize, letter: u8) -> Parsed
             },
             next: i + 1,
             event: Event::SliceEnd,
-        };
-    }
-    Parsed {
-        parser: Parser::Start,
-        next: i + 1,
-        event: Event::Malformed,
+        }
+    } else {
+        malformed(i + 1)
     }
 }
 
@@ -567,18 +436,14 @@ fn after_oldest(s: &[u8], i: usize) -> Parsed
     ensures parses_part { ParsesPart s.now i Parser.Oldest result }
     ensures i_lt_next { i < result.next }
 {
-    let b = s[i];
-    if b != LINE_FEED {
-        return Parsed {
+    if s[i] == LINE_FEED {
+        Parsed {
             parser: Parser::Start,
             next: i + 1,
-            event: Event::Malformed,
-        };
-    }
-    Parsed {
-        parser: Parser::Start,
-        next: i + 1,
-        event: Event::Line(Line::MergeOldest),
+            event: Event::Line(Line::MergeOldest),
+        }
+    } else {
+        malformed(i + 1)
     }
 }
 
@@ -589,17 +454,14 @@ fn after_guard(s: &[u8], i: usize) -> Parsed
     ensures i_lt_next { i < result.next }
 {
     let end = s[i];
-    if end != LINE_FEED {
-        return Parsed {
+    if end == LINE_FEED {
+        Parsed {
             parser: Parser::Start,
             next: i + 1,
-            event: Event::Malformed,
-        };
-    }
-    Parsed {
-        parser: Parser::Start,
-        next: i + 1,
-        event: Event::Guard,
+            event: Event::Guard,
+        }
+    } else {
+        malformed(i + 1)
     }
 }
 
@@ -643,39 +505,22 @@ fn parse_part(s: &[u8], i: usize, p: Parser) -> Parsed
     }
 }
 
-// A parser, and the place that it goes on at.
-#[derive(Clone, Copy)]
-struct Place {
-    parser: Parser,
-    at: usize,
-}
-
 // At the start of a line whose letter, the space after it and a byte more are in the slice, the parser before the first
-// number; else the parser as it is. A line of numbers then takes two turns less. Any byte above a space passes for the letter:
-// with a number `T` and `G` say nothing either, and the line's end tells.
-fn begin_line(s: &[u8], i: usize, p: Parser) -> Place
-    ensures { Advances s.now i p result.at result.parser }
+// number; else the parser as it is; and the place that it goes on at. A line of numbers then takes two turns less. Any byte
+// above a space passes for the letter: with a number `T` and `G` say nothing either, and the line's end tells.
+fn begin_line(s: &[u8], i: usize, p: Parser) -> (Parser, usize)
+    ensures { Advances s.now i p result.1 result.0 }
 {
-    if at_line_start(p) {
-        if i < s.len() {
-            if s.len() - i > 2 {
-                let letter = s[i];
-                if letter > SPACE {
-                    if s[i + 1] == SPACE {
-                        return Place {
-                            parser: Parser::First {
-                                letter,
-                                digit: false,
-                                value: 0,
-                            },
-                            at: i + 2,
-                        };
-                    }
-                }
-            }
-        }
+    if at_line_start(p) && s.len().saturating_sub(i) > 2 && s[i] > SPACE && s[i + 1] == SPACE {
+        let first = Parser::First {
+            letter: s[i],
+            digit: false,
+            value: 0,
+        };
+        (first, i + 2)
+    } else {
+        (p, i)
     }
-    Place { parser: p, at: i }
 }
 
 // Reads the slice from a place on up to the end of a line, or up to a byte with which no line can say anything, or up to
@@ -683,20 +528,15 @@ fn begin_line(s: &[u8], i: usize, p: Parser) -> Place
 pub fn parse(s: &[u8], from: usize, p: Parser) -> Parsed
     ensures { (seen : List ℕ) → After seen p → Parses seen s.now from result }
 {
-    let begun = begin_line(s, from, p);
-    let mut i = begun.at;
-    let mut q = begun.parser;
+    let (mut q, mut i) = begin_line(s, from, p);
     while i < s.len() {
         let t = parse_part(s, i, q);
-        let event = t.event;
-        match event {
-            Event::Line(_) => return t,
-            Event::Guard => return t,
-            Event::Malformed => return t,
+        match t.event {
             Event::SliceEnd => {
                 q = t.parser;
                 i = t.next;
             }
+            _ => return t,
         }
     }
     Parsed {

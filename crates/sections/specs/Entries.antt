@@ -11,9 +11,8 @@ use Rattle.queries.specs.Contents.{first_from}
 use Rattle.transactions.specs.Views.{Logs}
 use Rattle.transactions.specs.Ready.{Ready}
 use Rattle.buffers.specs.Buffers.{Buffers}
-use Rattle.exports.specs.declared.ExportAnswer.{ExportAnswer}
 use Rattle.exports.specs.declared.ExportDone.{ExportDone}
-use Rattle.exports.specs.Exporting.{ExportedRows, export_in, ExportHeld, Space, ExportStepped}
+use Rattle.exports.specs.Exporting.{ExportAnswer, ExportedRows, export_in, ExportHeld, Space, ExportStepped}
 use Rattle.codes.specs.declared.Code.{Code}
 use Rattle.codes.specs.declared.Coded.{Coded}
 use Rattle.codes.specs.Codes.{coded_as}

@@ -2,7 +2,6 @@
 use Prim.Native.Nat.{◌/◌, ◌%◌}
 use native.Mathlib.Omega.{arith}
 use Rattle.answers.specs.OutputLaws.{decimal_most, length_eight, wrote_eight}
-use Rattle.std.proofs.Common.{false}
 use Rattle.answers.proofs.put_long.Goals as goal
 
 pub put_eight-requires : goal.put_eight-requires
@@ -18,10 +17,10 @@ put_eight-last-requires c =
     let n = c.args.n in
     (omega arith, omega (arith, c.put_short-next.ensures, decimal_most 3 (n / 100000000 / 100000000) (omega arith)))
 
-pub put_eight-requires-2 : goal.put_eight-requires-2
-put_eight-requires-2 c =
+pub put_eight-requires-else-high-lt100000000 : goal.put_eight-requires-else-high-lt100000000
+put_eight-requires-else-high-lt100000000 c =
     let n = c.args.n in
     (omega arith, omega (arith, c.put_short-next.ensures, c.put_eight-last.ensures, decimal_most 3 (n / 100000000 / 100000000) (omega arith), length_eight (n / 100000000 % 100000000)))
 
-pub returns : goal.returns
-returns c = wrote_eight _ c.requires.0 (wrote_eight _ c.if-high-lt100000000.false c.put_short-next.ensures c.put_eight-last.ensures) c.put_eight-2.ensures
+pub returns-else-high-lt100000000 : goal.returns-else-high-lt100000000
+returns-else-high-lt100000000 c = wrote_eight _ c.requires.0 (wrote_eight _ c.if-high-lt100000000.false c.put_short-next.ensures c.put_eight-last.ensures) c.put_eight-else-high-lt100000000.ensures

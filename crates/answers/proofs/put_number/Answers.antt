@@ -1,6 +1,5 @@
 -- `answers::put_number` meets its contract: a number of one digit, of at most eight, or longer.
 use Rattle.answers.specs.OutputLaws.{wrote_one}
-use Rattle.std.proofs.Common.{true}
 use Rattle.answers.proofs.put_number.Goals as goal
 
 pub returns-then-n-lt10 : goal.returns-then-n-lt10

@@ -1,19 +1,24 @@
--- `script::four` meets its contract: at each `return` the tests say which line it is.
+-- `script::four` meets its contract: the letter and the numbers say which line it is.
 use Rattle.script.specs.LetterLaws.{four_wide, four_wide', four_put, four_put_wide, four_other}
-use Rattle.std.proofs.Common.{true, false}
+use Rattle.script.proofs.Narrow.{too_wide}
+use Rattle.std.proofs.Common.{arith}
 use Rattle.script.proofs.four.Goals as goal
 
-pub returns-then-letter-ne80 : goal.returns-then-letter-ne80
-returns-then-letter-ne80 c = four_other _ _ _ _ _ c.if-letter-ne80.true
+pub returns-in-80-Ok-Ok-Ok : goal.returns-in-80-Ok-Ok-Ok
+returns-in-80-Ok-Ok-Ok c =
+    let h = c.in-80-Ok-Ok-Ok in
+    rw (h.ensures.1, h.ensures'.1, h.ensures''.1) (four_put _ _ _ _ _ h.is-0 h.ensures.0 h.ensures'.0 c.ranges.c.fits h.ensures''.0)
 
-pub returns-then-a-ge-WORKER_NAMES : goal.returns-then-a-ge-WORKER_NAMES
-returns-then-a-ge-WORKER_NAMES c = four_wide _ _ _ _ _ c.if-a-ge-WORKER_NAMES.true
+pub returns-in_default : goal.returns-in_default
+returns-in_default c =
+    let h = c.in_default in
+    four_put_wide _ _ _ _ _ h.is-0 h.ensures.0 h.ensures'.0 (omega (arith, h.ensures''))
 
-pub returns-then-b-ge-ADDRESSES : goal.returns-then-b-ge-ADDRESSES
-returns-then-b-ge-ADDRESSES c = four_wide' _ _ _ _ _ c.if-b-ge-ADDRESSES.true
+pub returns-in_default-2 : goal.returns-in_default-2
+returns-in_default-2 c = four_wide' _ _ _ _ _ (too_wide _ _ _ c.try_from-2.ensures c.in_default.is-2)
 
-pub returns-then-d-ge-OWNERS : goal.returns-then-d-ge-OWNERS
-returns-then-d-ge-OWNERS c = four_put_wide _ _ _ _ _ c.if-letter-ne80.false c.if-a-ge-WORKER_NAMES.false c.if-b-ge-ADDRESSES.false c.if-d-ge-OWNERS.true
+pub returns-in_default-3 : goal.returns-in_default-3
+returns-in_default-3 c = four_wide _ _ _ _ _ (too_wide _ _ _ c.try_from.ensures c.in_default.is-1)
 
-pub returns : goal.returns
-returns c = four_put _ _ _ _ _ c.if-letter-ne80.false c.if-a-ge-WORKER_NAMES.false c.if-b-ge-ADDRESSES.false c.ranges.c.fits c.if-d-ge-OWNERS.false
+pub returns-in_default-4 : goal.returns-in_default-4
+returns-in_default-4 c = four_other _ _ _ _ _ c.in_default.is-0.1

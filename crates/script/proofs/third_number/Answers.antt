@@ -1,28 +1,29 @@
 -- `script::third_number` meets its contract: the run of digits, and then what the byte after it says.
-use mathlib.Core.Logic.{inl, inr}
-use mathlib.Core.Path.{refl}
 use Rattle.script.specs.Parsing.{two_before, three_before, in_number}
 use Rattle.script.specs.TokenLaws.{field_ended, field_spaced, field_fed, field_refused}
-use Rattle.std.proofs.Common.{true, false}
+use Rattle.std.proofs.Common.{refl, inl, inr, arith}
 use Rattle.script.proofs.third_number.Goals as goal
-use Rattle.script.proofs.third_number.Goals.{then-run+else-end-eq-SPACE+else-end-eq-LINE_FEED, else-run}
+use Rattle.script.proofs.third_number.Goals.{in_default-via-in-32+else-run, in_default-via-in-10+else-run-2, in_default-via-in_default-1}
 
 pub returns-then-next-s-clause-parses_part : goal.returns-then-next-s-clause-parses_part
 unfolding in_number
-returns-then-next-s-clause-parses_part c = field_ended _ (two_before _ _) c.digits-run.ensures
+returns-then-next-s-clause-parses_part c = (field_ended _ (two_before _ _) c.digits-run.ensures)
 
-pub returns-then-end-eq-SPACE-clause-parses_part : goal.returns-then-end-eq-SPACE-clause-parses_part
+pub returns-in-32-clause-parses_part : goal.returns-in-32-clause-parses_part
 unfolding in_number
-returns-then-end-eq-SPACE-clause-parses_part c =
-    let d = c.digits-run.ensures in
-    field_spaced _ (two_before _ _) (three_before _ _ _) d c.if-next-s.false c.if-run.true c.if-end-eq-SPACE.true refl
+returns-in-32-clause-parses_part c =
+    (field_spaced _ (two_before _ _) (three_before _ _ _) c.digits-run.ensures c.if-next-s.false c.if-run.true c.in-32.is refl)
 
-pub returns-then-end-eq-LINE_FEED-clause-parses_part : goal.returns-then-end-eq-LINE_FEED-clause-parses_part
-returns-then-end-eq-LINE_FEED-clause-parses_part c =
-    let d = c.digits-run.ensures in
-    field_fed _ (two_before _ _) _ d c.if-next-s.false c.if-run.true c.if-end-eq-LINE_FEED.true c.three.ensures
+pub returns-in-10-clause-parses_part : goal.returns-in-10-clause-parses_part
+returns-in-10-clause-parses_part c =
+    (field_fed _ (two_before _ _) _ c.digits-run.ensures c.if-next-s.false c.if-run-2.true c.in-10.is c.three.ensures)
 
-pub returns-clause-parses_part : goal.returns-clause-parses_part
-returns-clause-parses_part c =
-    field_refused _ (two_before _ _) c.digits-run.ensures c.if-next-s.false
-    (elim c.if-run.branch [ then-run+else-end-eq-SPACE+else-end-eq-LINE_FEED w ↦ inl (w.if-end-eq-SPACE.false, w.if-end-eq-LINE_FEED.false) | else-run w ↦ inr w.if-run.false ])
+pub returns-in_default-clause-parses_part : goal.returns-in_default-clause-parses_part
+returns-in_default-clause-parses_part c =
+    rw c.malformed.ensures
+    (field_refused _ (two_before _ _) c.digits-run.ensures c.if-next-s.false
+    (elim c.in_default.branch [
+      | in_default-via-in-32+else-run w ↦ inr w.if-run.false
+      | in_default-via-in-10+else-run-2 w ↦ inr w.if-run-2.false
+      | in_default-via-in_default-1 w ↦ inl (omega arith, omega arith)
+    ]))

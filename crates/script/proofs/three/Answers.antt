@@ -1,19 +1,24 @@
--- `script::three` meets its contract: at each `return` the tests say which line it is.
+-- `script::three` meets its contract: the letter and the numbers say which line it is.
 use Rattle.script.specs.LetterLaws.{three_wide, three_wide', three_scan, three_scan_wide, three_other}
-use Rattle.std.proofs.Common.{true, false}
+use Rattle.script.proofs.Narrow.{too_wide}
+use Rattle.std.proofs.Common.{arith}
 use Rattle.script.proofs.three.Goals as goal
 
-pub returns-then-letter-ne83 : goal.returns-then-letter-ne83
-returns-then-letter-ne83 c = three_other _ _ _ _ c.if-letter-ne83.true
+pub returns-in-83-Ok-Ok-Ok : goal.returns-in-83-Ok-Ok-Ok
+returns-in-83-Ok-Ok-Ok c =
+    let h = c.in-83-Ok-Ok-Ok in
+    rw (h.ensures.1, h.ensures'.1, h.ensures''.1) (three_scan _ _ _ _ h.is-0 h.ensures.0 h.ensures'.0 h.ensures''.0)
 
-pub returns-then-a-ge-WORKER_NAMES : goal.returns-then-a-ge-WORKER_NAMES
-returns-then-a-ge-WORKER_NAMES c = three_wide _ _ _ _ c.if-a-ge-WORKER_NAMES.true
+pub returns-in_default : goal.returns-in_default
+returns-in_default c =
+    let h = c.in_default in
+    three_scan_wide _ _ _ _ h.is-0 h.ensures.0 h.ensures'.0 (omega (arith, h.ensures''))
 
-pub returns-then-b-ge-ADDRESSES : goal.returns-then-b-ge-ADDRESSES
-returns-then-b-ge-ADDRESSES c = three_wide' _ _ _ _ c.if-b-ge-ADDRESSES.true
+pub returns-in_default-2 : goal.returns-in_default-2
+returns-in_default-2 c = three_wide' _ _ _ _ (too_wide _ _ _ c.try_from-2.ensures c.in_default.is-2)
 
-pub returns-then-c-ge-ADDRESSES : goal.returns-then-c-ge-ADDRESSES
-returns-then-c-ge-ADDRESSES c = three_scan_wide _ _ _ _ c.if-letter-ne83.false c.if-a-ge-WORKER_NAMES.false c.if-b-ge-ADDRESSES.false c.if-c-ge-ADDRESSES.true
+pub returns-in_default-3 : goal.returns-in_default-3
+returns-in_default-3 c = three_wide _ _ _ _ (too_wide _ _ _ c.try_from.ensures c.in_default.is-1)
 
-pub returns : goal.returns
-returns c = three_scan _ _ _ _ c.if-letter-ne83.false c.if-a-ge-WORKER_NAMES.false c.if-b-ge-ADDRESSES.false c.if-c-ge-ADDRESSES.false
+pub returns-in_default-4 : goal.returns-in_default-4
+returns-in_default-4 c = three_other _ _ _ _ c.in_default.is-0.1

@@ -1,6 +1,5 @@
 -- `decodes::decode` meets its contract: a fold of the oldest, or a step with numbers.
 use Rattle.codes.specs.CodeLaws.{code_oldest, code_numbered}
-use Rattle.std.proofs.Common.{true, false}
 use Rattle.codes.proofs.decodes.decode.Goals as goal
 
 pub returns-then-k-eq10 : goal.returns-then-k-eq10

@@ -2,7 +2,7 @@
 use mathlib.Core.Path.{◌∙◌}
 use Rattle.lists.specs.Tests.{same}
 use Rattle.codes.specs.CodeLaws.{access_wide, access_kind, access_other}
-use Rattle.std.proofs.Common.{true, false, arith}
+use Rattle.std.proofs.Common.{arith}
 use Rattle.codes.proofs.decodes.decode_access.Goals as goal
 
 pub returns-then-k-ge-ADDRESSES : goal.returns-then-k-ge-ADDRESSES

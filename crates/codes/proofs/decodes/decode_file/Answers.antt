@@ -1,6 +1,5 @@
 -- `decodes::decode_file` meets its contract: by the test of its bytes.
 use Rattle.codes.specs.ExportCodeLaws.{file_unlent, file_meant}
-use Rattle.std.proofs.Common.{true, false}
 use Rattle.codes.proofs.decodes.decode_file.Goals as goal
 
 pub returns-then-size-bytes : goal.returns-then-size-bytes

@@ -1,6 +1,5 @@
 -- `decodes::decode_merge` meets its contract: by the test of its address.
 use Rattle.codes.specs.CodeLaws.{merge_wide, merge_meant}
-use Rattle.std.proofs.Common.{true, false}
 use Rattle.codes.proofs.decodes.decode_merge.Goals as goal
 
 pub returns-then-k-ge-ADDRESSES : goal.returns-then-k-ge-ADDRESSES

@@ -1,6 +1,5 @@
 -- `decodes::decode_numbered` meets its contract: a fold, or a step with a seat.
 use Rattle.codes.specs.CodeLaws.{code_merge, code_seat}
-use Rattle.std.proofs.Common.{true, false}
 use Rattle.codes.proofs.decodes.decode_numbered.Goals as goal
 
 pub returns-then-k-eq9 : goal.returns-then-k-eq9

@@ -2,7 +2,6 @@
 use mathlib.Core.Path.{sym, ◌∙◌}
 use mathlib.Core.Bool.{true, false}
 use Rattle.codes.specs.ExportCodeLaws.{portion_by}
-use Rattle.codes.specs.Codes.{places_lent}
 use Rattle.codes.proofs.decodes.decode_portion.Goals as goal
 
 pub returns-then-places_lent : goal.returns-then-places_lent

@@ -1,6 +1,5 @@
 -- `decodes::decode_put` meets its contract: at each return the test says what the code means.
 use Rattle.codes.specs.CodeLaws.{put_wide, put_meant}
-use Rattle.std.proofs.Common.{true, false}
 use Rattle.codes.proofs.decodes.decode_put.Goals as goal
 
 pub returns-then-k-ge-OWNERS : goal.returns-then-k-ge-OWNERS

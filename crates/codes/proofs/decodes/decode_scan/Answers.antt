@@ -1,7 +1,5 @@
 -- `decodes::decode_scan` meets its contract: at each return the tests say what the code means.
 use Rattle.codes.specs.CodeLaws.{scan_wide, scan_unlent, scan_meant}
-use Rattle.std.proofs.Common.{true, false}
-use Rattle.codes.specs.Codes.{places_lent}
 use Rattle.codes.proofs.decodes.decode_scan.Goals as goal
 
 pub returns-then-k-ge-ADDRESSES : goal.returns-then-k-ge-ADDRESSES

@@ -2,7 +2,7 @@
 use mathlib.Core.Path.{◌∙◌}
 use Rattle.lists.specs.Tests.{same}
 use Rattle.codes.specs.CodeLaws.{seat_wide, seat_kind, seat_other}
-use Rattle.std.proofs.Common.{true, false, arith}
+use Rattle.std.proofs.Common.{arith}
 use Rattle.codes.proofs.decodes.decode_seat.Goals as goal
 
 pub returns-then-k-ge-WORKER_NAMES : goal.returns-then-k-ge-WORKER_NAMES

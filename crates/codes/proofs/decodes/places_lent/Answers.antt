@@ -1,6 +1,5 @@
 -- `decodes::places_lent` meets its contract: each buffer, one after the other.
 use Rattle.codes.specs.CodeLaws.{lent_addresses, lent_values, lent_owners}
-use Rattle.std.proofs.Common.{true, false}
 use Rattle.codes.proofs.decodes.places_lent.Goals as goal
 
 pub returns-then-addresses-m : goal.returns-then-addresses-m

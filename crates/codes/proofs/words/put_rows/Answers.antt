@@ -4,7 +4,7 @@ use Rattle.codes.specs.WordLaws.{putting_none, putting_on}
 use Rattle.codes.proofs.words.put_rows.Goals as goal
 
 pub loop-i-init : goal.loop-i-init
-loop-i-init c = (putting_none _ _ _ (omega (arith, c.requires)), omega arith)
+loop-i-init c = putting_none _ _ _ (omega (arith, c.requires))
 
 pub bounds-addresses-i : goal.bounds-addresses-i
 unfolding shortest
@@ -19,4 +19,4 @@ unfolding shortest
 bounds-owners-i c = omega arith
 
 pub loop-i-preserved : goal.loop-i-preserved
-loop-i-preserved c = (putting_on c.loop-i.i c.loop-i.invariant.0 c.put_three-next.ensures, omega arith)
+loop-i-preserved c = putting_on c.loop-i.i c.loop-i.invariant c.put_three-next.ensures

@@ -1,10 +1,12 @@
-use native.Mathlib.Omega.{arith}
-use Rattle.exports.specs.FilePuts.{addresses_each, putting_none, putting_on}
-use Rattle.std.proofs.Common.{true}
+use Rattle.std.proofs.Common.{arith, ◌∙◌}
+use Rattle.exports.specs.FilePuts.{addresses_each, putting_none, putting_on, wrote_as}
+use Rattle.exports.proofs.Puts.{four_is}
 use Rattle.exports.proofs.files.put_addresses.Goals as goal
 
 pub loop-i-init : goal.loop-i-init
-loop-i-init c = (putting_none addresses_each _ _ _ (omega (arith, c.requires.n_in_bounds)), omega arith)
+loop-i-init c = putting_none addresses_each _ _ _ (omega (arith, c.requires.n_in_bounds))
 
 pub loop-i-preserved : goal.loop-i-preserved
-loop-i-preserved c = (putting_on addresses_each _ c.loop-i.invariant.0 c.get-r.ensures c.put_address-next.ensures, omega (arith, c.loop-i-test.true))
+loop-i-preserved c =
+    putting_on addresses_each _ c.loop-i.invariant c.get-r.ensures
+    (wrote_as (c.to_le_bytes.ensures ∙ four_is _) c.put-next.ensures)

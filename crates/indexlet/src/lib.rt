@@ -416,6 +416,7 @@ fn passed_by_new(t: &Slots, h: usize) -> usize
     requires h_lt_slot_count { (h < slot_count) × (length (entries (slots_of t.now)) < slot_count) }
     ensures { (First vacant (slots_of t.now) h 0 result) × (result < slot_count) }
 {
+    // A word of bits goes by at a time, so no range gives these places.
     let mut d = 0;
     while d < SLOTS {
         let i = (h + d) % SLOTS;

@@ -131,11 +131,16 @@ pub fn settle(
     ensures { SettledRows leaves.old m p v (keys_between rows.now i j) leaves.new result.leaves result.version }
 {
     let count = j - i;
-    if count == 0 && 0 < p {
-        join(leaves, m, p, v)
-    } else if count <= 16 {
-        keep(leaves, m, p, v)
-    } else {
-        cut(leaves, rows, m, p, i, count / RUN, v)
+    // Document 01 settles by a match on 0, 1 to 16 and the rest.
+    match count {
+        0 => {
+            if p == 0 {
+                keep(leaves, m, p, v)
+            } else {
+                join(leaves, m, p, v)
+            }
+        }
+        1..=16 => keep(leaves, m, p, v),
+        _ => cut(leaves, rows, m, p, i, count / RUN, v),
     }
 }

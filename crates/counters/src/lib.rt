@@ -1,8 +1,8 @@
 // The counters: the last commit number and the last leaf version given, and the functions that take the next ones; and how
 // many installs there were.
 //
-// `next_numbers` and `next_versions` are lent the counters. `take_number` and `take_versions` lend them in their bodies alone:
-// their callers pass the counters by value.
+// `next_numbers` and `next_versions`, one for each number, are lent the counters. `take_number` and `take_versions` lend them in
+// their bodies alone: their callers pass the counters by value.
 #![tactic(auto)]
 
 ghost use Rattle.std.specs.Prelude.{◌≡◌, ◌+◌, ◌^◌, ◌<◌};

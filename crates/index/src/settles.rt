@@ -49,10 +49,10 @@ fn make_all(rows: &Records, i: usize, n: usize, v: u64) -> MadeLeaves
 }
 
 // The first n of the leaves that were made, a row each, from place `at` on.
-fn fill(leaves: &mut Leaves, made: MadeLeaves, at: usize, n: usize)
+fn fill(leaves: &mut Leaves, made: &MadeLeaves, at: usize, n: usize)
     requires n_bound { at + n ≤ leaf_places }
     requires n_lt_most_runs { n < most_runs }
-    ensures { leaves.new ≡ over leaves.old at (tab (made_row made) n) }
+    ensures { leaves.new ≡ over leaves.old at (tab (made_row made.now) n) }
 {
     for x in 0..n {
         let run = made[x];
@@ -107,7 +107,7 @@ fn cut(
     let own = leaves::leaf_at(leaves, p);
     rows::move_rows(leaves, p + 1, p + t, m - p - 1);
     let made = make_all(rows, i, t - 1, v + 1);
-    fill(leaves, made, p + 1, t - 1);
+    fill(leaves, &made, p + 1, t - 1);
     leaves::put_leaf(leaves, p, made_leaf(own.low, v + 1));
     Settled {
         leaves: m + t - 1,
@@ -131,11 +131,16 @@ pub fn settle(
     ensures { SettledRows leaves.old m p v (keys_between rows.now i j) leaves.new result.leaves result.version }
 {
     let count = j - i;
-    if count == 0 && 0 < p {
-        join(leaves, m, p, v)
-    } else if count <= 16 {
-        keep(leaves, m, p, v)
-    } else {
-        cut(leaves, rows, m, p, i, count / RUN, v)
+    // Document 01 settles by a match on 0, 1 to 16 and the rest.
+    match count {
+        0 => {
+            if p == 0 {
+                keep(leaves, m, p, v)
+            } else {
+                join(leaves, m, p, v)
+            }
+        }
+        1..=16 => keep(leaves, m, p, v),
+        _ => cut(leaves, rows, m, p, i, count / RUN, v),
     }
 }

@@ -216,7 +216,7 @@ fn set_bit(t: &mut Slots, i: usize)
     put_word(t, k, w + m);
 }
 
-// Slot i has none any more.
+// Slot i has none any more. A function for both, by a flag, would be no plainer.
 fn clear_bit(t: &mut Slots, i: usize)
     requires { (i < slot_count) × (bit (i % word_bits) (bitmap_at t.old (i / word_bits)) ≡ 1) }
     ensures { t.new ≡ bitmap_put t.old (i / word_bits) (bitmap_at t.old (i / word_bits) - 2 ^ (i % word_bits)) }
@@ -399,7 +399,8 @@ fn recount_passed(t: &mut Slots, h: usize, n: usize, up: u64, down: u64)
     }
 }
 
-// The bits of the slots without an entry, from this slot on, up to the end of its word: the lowest is its own.
+// The bits of the slots without an entry, from this slot on, up to the end of its word: the lowest is its own. One function for
+// these and `bits_from`, by a flag, would be no plainer.
 fn free_from(t: &Slots, from: usize) -> u64
     requires slots_held { SlotsHeld t.now }
     requires from_lt_slot_count { from < slot_count }
@@ -416,6 +417,7 @@ fn passed_by_new(t: &Slots, h: usize) -> usize
     requires h_lt_slot_count { (h < slot_count) × (length (entries (slots_of t.now)) < slot_count) }
     ensures { (First vacant (slots_of t.now) h 0 result) × (result < slot_count) }
 {
+    // A word of bits goes by at a time, so no range gives these places.
     let mut d = 0;
     while d < SLOTS {
         let i = (h + d) % SLOTS;

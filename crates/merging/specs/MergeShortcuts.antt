@@ -63,7 +63,7 @@ kept_key : (k : ℕ) (c : Content) (e : Row Content) → kept k c ≡ some e →
 kept_key k c e q = ap (λ (x : Row Content). x.key) (kept_entry k c e q).1
 
 -- an entry in slot i, if there is one, lies elsewhere
-abbrev pub Elsewhere : SlotRows → Reach → ℕ → Type 0
+abbrev Elsewhere : SlotRows → Reach → ℕ → Type 0
 Elsewhere slots r i = (e : Row Content) → entry_at (slots_of slots) i ≡ some e → (e.key < addresses) × (reached r e.key ≡ false)
 
 elsewhere_empty : (slots : SlotRows) (r : Reach) (i : ℕ) → vacant (get_or (slots_of slots) i empty_slot) ≡ true → Elsewhere slots r i

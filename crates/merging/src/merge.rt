@@ -247,7 +247,7 @@ fn move_up(rows: &mut Records, from: usize, to: usize, n: usize)
     }
 }
 
-// Moves n rows, from row `from` on, down to row `to`.
+// Moves n rows, from row `from` on, down to row `to`. Two functions, since they promise different things: `Raised` and `Lowered`.
 fn move_down(rows: &mut Records, from: usize, to: usize, n: usize)
     requires to_le_from { to ≤ from }
     requires n_bound { from + n ≤ index-views.record_places }

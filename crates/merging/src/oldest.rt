@@ -19,20 +19,14 @@ struct Oldest {
     since: u64,
 }
 
-// A write that waits at the key since that install has waited longer, or is the first one.
-fn is_older(o: Option<Oldest>, key: u64, since: u64) -> bool
-    ensures { result ≡ elder o key since }
+// A write that waits at the key since that install has waited longer.
+fn is_older(o: Oldest, key: u64, since: u64) -> bool
+    ensures { result ≡ elder (Some o) key since }
 {
-    match o {
-        None => true,
-        Some(x) => {
-            if since == x.since {
-                key < x.key
-            } else {
-                since < x.since
-            }
-        }
+    if since == o.since {
+        return key < o.key;
     }
+    since < o.since
 }
 
 // The oldest, slot j included.
@@ -46,13 +40,18 @@ fn with_slot(slots: &Slots, j: usize, o: Option<Oldest>) -> Option<Oldest>
     if c.kind == 0 {
         return o;
     }
-    if is_older(o, s.key, c.since) {
-        Some(Oldest {
-            key: s.key,
-            since: c.since,
-        })
-    } else {
-        o
+    let own = Oldest {
+        key: s.key,
+        since: c.since,
+    };
+    match o {
+        None => Some(own),
+        Some(x) => {
+            if is_older(x, s.key, c.since) {
+                return Some(own);
+            }
+            o
+        }
     }
 }
 

@@ -7,7 +7,7 @@ use Rattle.index.specs.SettleRows.{made_row}
 use Rattle.index.proofs.settles.fill.Goals as goal
 
 pub loop-x-init : goal.loop-x-init
-loop-x-init c = filling_start c.args.leaves.now c.args.at (made_row c.args.made) c.args.n
+loop-x-init c = filling_start c.args.leaves.now c.args.at (made_row c.args.made.now) c.args.n
 
 pub loop-x-preserved : goal.loop-x-preserved
 loop-x-preserved c =

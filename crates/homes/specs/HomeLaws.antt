@@ -1,8 +1,9 @@
 -- Home slots, byte by byte.
-use Rattle.std.specs.Prelude.{ℕ, suc, ◌/◌, ◌%◌, ◌<◌, ◌≡◌, refl}
+use Rattle.std.specs.Prelude.{ℕ, suc, ◌≡◌, refl, List, get_or}
+use Rattle.std.specs.Int.{w32, to_be_bytes}
 use Rattle.std.proofs.Common.{arith, sym, ap, ◌∙◌}
 use Rattle.std.specs.Int.Bits.{bit_xor}
-use Rattle.spec.specs.Widths.{address_size, addresses}
+use Rattle.spec.specs.Widths.{address_size}
 use Rattle.spec.specs.Slots.{table_entry, byte_of, home_from, home_slot}
 
 -- ---- of any width
@@ -25,11 +26,14 @@ home_last a h = refl
 -- ---- of this one
 
 -- the bytes of an address, highest first, each but the first exclusive-or the result so far
-pub home_steps : (a h3 h2 h1 h0 : ℕ) → a < addresses → h3 ≡ table_entry (a / 16777216) → h2 ≡ table_entry (bit_xor (a / 65536 % 256) h3)
-    → h1 ≡ table_entry (bit_xor (a / 256 % 256) h2) → h0 ≡ table_entry (bit_xor (a % 256) h1) → h0 ≡ home_slot address_size a
-home_steps a h3 h2 h1 h0 h e3 e2 e1 e0 =
+pub home_steps : (a h3 h2 h1 h0 : ℕ) (bs : List ℕ) → bs ≡ to_be_bytes w32 a → h3 ≡ table_entry (get_or bs 0 0) → h2 ≡ table_entry (bit_xor (get_or bs 1 0) h3)
+    → h1 ≡ table_entry (bit_xor (get_or bs 2 0) h2) → h0 ≡ table_entry (bit_xor (get_or bs 3 0) h1) → h0 ≡ home_slot address_size a
+home_steps a h3 h2 h1 h0 bs e e3 e2 e1 e0 =
     sym (home_last a h0)
-    ∙ home_next 0 a (a % 256) h1 h0 (unfold byte_of in omega arith) e0
-    ∙ home_next 1 a (a / 256 % 256) h2 h1 (unfold byte_of in omega arith) e1
-    ∙ home_next 2 a (a / 65536 % 256) h3 h2 (unfold byte_of in omega arith) e2
-    ∙ home_first 3 a (a / 16777216) h3 (unfold byte_of in omega arith) e3
+    ∙ home_next 0 a (get_or bs 3 0) h1 h0 (at 3 ∙ (unfold byte_of in omega arith)) e0
+    ∙ home_next 1 a (get_or bs 2 0) h2 h1 (at 2 ∙ (unfold byte_of in omega arith)) e1
+    ∙ home_next 2 a (get_or bs 1 0) h3 h2 (at 1 ∙ (unfold byte_of in omega arith)) e2
+    ∙ home_first 3 a (get_or bs 0 0) h3 (at 0 ∙ (unfold byte_of in omega arith)) e3
+  where
+    at : (i : ℕ) → get_or bs i 0 ≡ get_or (to_be_bytes w32 a) i 0
+    at i = ap (λ (xs : List ℕ). get_or xs i 0) e

@@ -19,10 +19,7 @@ pub fn table_entry(i: u8) -> u8
 pub fn home(a: Address) -> usize
     ensures { result ≡ home_slot address_size a }
 {
-    let b3 = (a / 16777216) as u8;
-    let b2 = (a / 65536 % 256) as u8;
-    let b1 = (a / 256 % 256) as u8;
-    let b0 = (a % 256) as u8;
+    let [b3, b2, b1, b0] = a.to_be_bytes();
     let h3 = table_entry(b3);
     let h2 = table_entry(b2 ^ h3);
     let h1 = table_entry(b1 ^ h2);

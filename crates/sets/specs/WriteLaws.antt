@@ -35,7 +35,7 @@ unfolding write_of
 deletion_kind kind v n = rw (same_no {m = kind} {n = 1} n)
 
 -- what the words of a write say
-pub kind_back : (w : WriteWords) → write_of (kind_of w) (given_by w) ≡ edit_in w
+kind_back : (w : WriteWords) → write_of (kind_of w) (given_by w) ≡ edit_in w
 unfolding write_of same
 kind_back (Put v) = refl
 kind_back Deletion = refl

@@ -39,15 +39,6 @@ module _ {l l' : Lent} {g g' : Logs} {c k : Core} {o : Op} {t : Step} (s : Op) (
   pub quiet_done : Refines l g c t l' g' k model.done → Quiet l g c o l' g' (record { core = k; reply = Ok told.Nothing })
   quiet_done h = quiet s t (Ok told.Nothing) model.done i e h (λ b. refl) refl
 
-  pub quiet_found : (f : Found) → Refines l g c t l' g' k (found_by f) → Quiet l g c o l' g' (record { core = k; reply = Ok (told.Found f) })
-  quiet_found f h = quiet s t (Ok (told.Found f)) (found_by f) i e h (λ b. refl) refl
-
-  pub quiet_numbered : (n : ℕ) → Refines l g c t l' g' k (model.numbered n) → Quiet l g c o l' g' (record { core = k; reply = Ok (told.Numbered n) })
-  quiet_numbered n h = quiet s t (Ok (told.Numbered n)) (model.numbered n) i e h (λ b. refl) refl
-
-  pub quiet_counted : (n : ℕ) → Refines l g c t l' g' k (model.counted n) → Quiet l g c o l' g' (record { core = k; reply = Ok (told.Counted n) })
-  quiet_counted n h = quiet s t (Ok (told.Counted n)) (model.counted n) i e h (λ b. refl) refl
-
   pub quiet_refused : (r : Refusal) → Refines l g c t l' g' k (model.refused r) → Quiet l g c o l' g' (record { core = k; reply = Err r })
   quiet_refused r h = quiet s t (Err r) (model.refused r) i e h (λ b. refl) refl
 
@@ -59,19 +50,3 @@ performs_quiet b h =
       refines = h.refines b;
       beyond = subst (λ (n : ℕ). Beyond n b b) (sym h.places) (beyond_refl 0 b);
     }
-
--- under the operation's other name
-pub performs_as : {l l' : Lent} {g g' : Logs} {c : Core} {o s : Op} {b b' : Buffers} {r : Performed} → o ≡ s
-    → Performs l g c s b l' g' b' r → Performs l g c o b l' g' b' r
-performs_as {l} {l'} {g} {g'} {c} {o} {s} {b} {b'} {r} e h =
-    subst (λ (x : Op). Performs l g c x b l' g' b' r) (sym e) h
-
-pub quiet_as : {l l' : Lent} {g g' : Logs} {c : Core} {o s : Op} {r : Performed} → o ≡ s → Quiet l g c s l' g' r → Quiet l g c o l' g' r
-quiet_as {l} {l'} {g} {g'} {c} {o} {s} {r} e h = subst (λ (x : Op). Quiet l g c x l' g' r) (sym e) h
-
-module _ {l : Lent} {g g' : Logs} {c k : Core} {o : Op} {w lo hi : ℕ} {b b' : Buffers} (e : o ≡ op.Access w (access.Scan lo hi)) where
-  pub performs_listed : (n : ℕ) → Scans l g c w lo hi b g' b' k (Ok n) → Performs l g c o b l g' b' (record { core = k; reply = Ok (told.Listed n) })
-  performs_listed n h = performs_as e (record { refines = h.refines; beyond = h.beyond })
-
-  pub performs_unscanned : (r : Refusal) → Scans l g c w lo hi b g' b' k (Err r) → Performs l g c o b l g' b' (record { core = k; reply = Err r })
-  performs_unscanned r h = performs_as e (record { refines = h.refines; beyond = h.beyond })

@@ -22,7 +22,6 @@ use crate::saved::{ExportWords, GlobalWords};
 use codes::{Code, Coded, StepWords, words};
 use exports::{ExportDone, Exported};
 use map::{Leaves, Records, Slots};
-use queries::Next;
 use replay::stops::Stop;
 use replay::{runs, steps};
 use sets::{LeafSets, ReadSets, WriteSets};
@@ -201,27 +200,21 @@ pub extern "C" fn sections_next(
     ensures { NextRecord (lent rows.now leaves.now slots.now) globals.now from found.old found.new result }
 {
     let c = saved::load(globals);
-    let sizes = c.sizes;
     if from >= ADDRESSES {
         return false;
     }
-    let next = queries::next_record(rows, slots, sizes.records, from as Address);
-    match next {
-        Next::At {
-            address,
-            payload,
-            commit,
-        } => {
-            let all = [
-                address as u64,
-                payload.value,
-                payload.owner % OWNERS,
-                commit,
+    match queries::next_record(rows, slots, c.sizes.records, from as Address) {
+        Some(next) => {
+            let r = next.record;
+            *found = [
+                next.address as u64,
+                r.payload.value,
+                r.payload.owner % OWNERS,
+                r.commit,
             ];
-            *found = all;
             true
         }
-        Next::Done => false,
+        None => false,
     }
 }
 

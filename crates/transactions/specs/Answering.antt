@@ -93,11 +93,6 @@ past_free : (right : Stage → Bool) (σ : State) (w : ℕ) → w < limits.worke
 unfolding worker_free
 past_free right σ w h e = past_none right σ w h ∙ cause_fails (is_free (worker_of σ w).stage) WorkerFree _ e
 
-pub front_wrong : (right : Stage → Bool) (σ : State) (w : ℕ) → w < limits.workers → is_free (worker_of σ w).stage ≡ false
-    → right (worker_of σ w).stage ≡ false → front right σ w ≡ some WrongStage
-unfolding wrong_stage
-front_wrong right σ w h e q = past_free right σ w h e ∙ cause_holds (not (right (worker_of σ w).stage)) WrongStage [] (ap not q)
-
 pub front_passed : (right : Stage → Bool) (σ : State) (w : ℕ) → w < limits.workers → is_free (worker_of σ w).stage ≡ false
     → right (worker_of σ w).stage ≡ true → front right σ w ≡ none
 unfolding wrong_stage first_cause

@@ -28,10 +28,10 @@ use Rattle.exports.specs.declared.Export.{Export}
 use Rattle.exports.specs.declared.ExportDone.{ExportDone}
 use Rattle.exports.specs.Exporting.{ExportedRows, export_in, ExportHeld, Space, ExportStepped}
 use Rattle.codes.specs.declared.Code.{Code}
+use Rattle.codes.specs.declared.Coded.{Coded}
 use Rattle.codes.specs.declared.decodes.Decoded.{Decoded}
 use Rattle.codes.specs.declared.decodes.Decoded.TheVariants.{Meant, Meaningless}
 use Rattle.codes.specs.Codes.{decoded}
-use Rattle.replay.specs.declared.steps.Stepped.{Stepped}
 use Rattle.replay.specs.declared.runs.Replayed.{Replayed}
 use Rattle.replay.specs.CodedSteps.{StepEnd, step_end_of, CodedStep}
 use Rattle.replay.specs.Replays.{replay_end_of, Replays}

@@ -24,11 +24,9 @@ fn put_records(out: &mut [u8], at: usize, copied: &CopyRows, count: usize) -> us
     ensures { TriplesPut copied.now count out.old at out.new result }
 {
     let mut place = at;
-    let mut i = 0;
-    while i < count {
+    for i in 0..count {
         let r = rows::get(copied, i);
         place = answers::put_triple(out, place, r.address as u64, r.value, r.owner);
-        i += 1;
     }
     place
 }
@@ -72,13 +70,10 @@ pub fn finish(
     ensures { Finishes (lent rows.now leaves.now slots.now) (logs reads.now leafsets.now writes.now) (session_of workers.now x) out.old out.new result }
 {
     if x.stopped {
-        return x.at;
+        x.at
+    } else if script::at_line_start(x.parser) {
+        put_contents(out, copied, x.at, rows, slots, x.globals.sizes.records)
+    } else {
+        answers::put_malformed(out, x.at)
     }
-    let parser = x.parser;
-    if script::at_line_start(parser) {
-        let globals = x.globals;
-        let sizes = globals.sizes;
-        return put_contents(out, copied, x.at, rows, slots, sizes.records);
-    }
-    answers::put_malformed(out, x.at)
 }

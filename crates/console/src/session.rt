@@ -63,7 +63,7 @@ pub fn at_places(x: Session, next: usize, at: usize) -> Session
     Session { next, at, ..x }
 }
 
-// There is input to read, and room for the longest line.
+// There is input to read, and room for the longest line. Test by test: over one chain of `&&` the proof did not close.
 fn can_go_on(stopped: bool, next: usize, size: usize, at: usize, room: usize) -> bool
     ensures { result ≡ can_go_on stopped next size at room }
 {
@@ -94,11 +94,10 @@ fn end_malformed(out: &mut [u8], x: Session, parser: Parser, next: usize) -> Ses
     requires { x.at + 2 ≤ length out.old }
     ensures { (ws : List ℕ) → EndsMalformed (session_of ws x) parser next out.old out.new (session_of ws result) }
 {
-    let at = answers::put_malformed(out, x.at);
     Session {
         parser,
         next,
-        at,
+        at: answers::put_malformed(out, x.at),
         stopped: true,
         first: false,
         ..x
@@ -111,18 +110,17 @@ fn run_guard(out: &mut [u8], x: Session, parser: Parser, next: usize) -> Session
     ensures { (ws : List ℕ) → RunsGuard (session_of ws x) parser next out.old out.new (session_of ws result) }
 {
     if x.first {
-        let globals = guarded(x.globals);
-        let at = answers::put_guarded(out, x.at);
-        return Session {
-            globals,
+        Session {
+            globals: guarded(x.globals),
             parser,
             next,
-            at,
+            at: answers::put_guarded(out, x.at),
             stopped: false,
             first: false,
-        };
+        }
+    } else {
+        end_malformed(out, x, parser, next)
     }
-    end_malformed(out, x, parser, next)
 }
 
 // Reads to the end of a line, performs it and writes its answer; or reads to what makes a line malformed, or to the end

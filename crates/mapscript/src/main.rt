@@ -64,8 +64,7 @@ fn settle(
     requires going_value { (w.going ≡ true) × (w.session.at ≤ length out.now) × Countable w w.session.at }
     ensures { WriteDone w result }
 {
-    let x = w.session;
-    let n = x.at;
+    let n = w.session.at;
     let calls = system::write_due(
         to, out, n, rows, leaves, slots, reads, leafsets, writes, workers, input, w,
     );
@@ -115,14 +114,7 @@ fn advance(
         &input[..count],
         x,
     );
-    let calls = w.calls;
-    let run = Work {
-        session: y,
-        count,
-        going: w.going,
-        failed: w.failed,
-        calls,
-    };
+    let run = Work { session: y, ..w };
     settle(
         to, out, rows, leaves, slots, reads, leafsets, writes, workers, input, run,
     )
@@ -154,9 +146,8 @@ fn close(
     if w.going {
         return w.calls;
     }
-    let x = w.session;
     let last = closing::finish(
-        out, copied, rows, leaves, slots, reads, leafsets, writes, workers, x,
+        out, copied, rows, leaves, slots, reads, leafsets, writes, workers, w.session,
     );
     system::write_due(
         to, out, last, rows, leaves, slots, reads, leafsets, writes, workers, input, w,

@@ -1,7 +1,7 @@
 -- Calls of the library, one after the other, by any caller: each keeps the promise of its entry (`StepEntry`, `ExportEntry`), on
 -- what the call before it left. Each has a step of its own, and buffers and bytes of its own, of any lengths and with any
 -- contents. What was called and what was answered is their history; it has no call of a step with no meaning.
-use Rattle.std.specs.Prelude.{ℕ, Result, ◌≡◌, List, [], ◌∷◌}
+use Rattle.std.specs.Prelude.{ℕ, ◌≡◌, List, [], ◌∷◌, Result}
 use Rattle.spec.specs.Records.{Made}
 use Rattle.spec.specs.Steps.{Places, fresh}
 use Rattle.spec.specs.Claim.{SerialRun}

@@ -1,5 +1,5 @@
 -- The globals are read from their words, and put into them; so are the numbers of an export.
-use Rattle.std.specs.Prelude.{ℕ, ◌≤◌, ◌≡◌, refl, Bool, true, false, List, [], ◌∷◌, eqb, length, get_or}
+use Rattle.std.specs.Prelude.{ℕ, ◌≤◌, ◌≡◌, refl, Bool, true, false, List, [], ◌∷◌, length}
 use Rattle.std.proofs.Common.{arith, sym, ap}
 use Rattle.std.proofs.Math.Option.{none, some}
 use mir.Val.{bool_byte}
@@ -15,20 +15,6 @@ use Rattle.sections.specs.Saved.{saved_globals, saved_export, export_saved, expo
 
 -- ---- the globals
 
-pub globals_read : (ws : List ℕ) {n m k j : ℕ} → n ≡ get_or ws 1 0 → m ≡ get_or ws 2 0 → k ≡ get_or ws 3 0 → j ≡ get_or ws 4 0
-    → record {
-      guarded = get_or ws 0 0;
-      sizes = record { records = n; leaves = m; entries = k; outside = j };
-      counters = record { number = get_or ws 5 0; version = get_or ws 6 0; installs = get_or ws 7 0 };
-    } ≡ saved_globals ws
-unfolding saved_globals
-globals_read ws e f g h =
-    λ i. record {
-      guarded = get_or ws 0 0;
-      sizes = record { records = e i; leaves = f i; entries = g i; outside = h i };
-      counters = record { number = get_or ws 5 0; version = get_or ws 6 0; installs = get_or ws 7 0 };
-    }
-
 abbrev global_words : Globals → List ℕ
 global_words c =
     c.guarded ∷ c.sizes.records ∷ c.sizes.leaves ∷ c.sizes.entries ∷ c.sizes.outside
@@ -39,10 +25,6 @@ unfolding saved_globals
 globals_put c = refl
 
 -- ---- an export
-
-pub export_read : (ws : List ℕ) {n m : ℕ} → n ≡ get_or ws 1 0 → m ≡ get_or ws 2 0 → record { «open» = eqb (get_or ws 0 0) 1; count = n; taken = m } ≡ saved_export ws
-unfolding saved_export
-export_read ws e f = λ i. record { «open» = eqb (get_or ws 0 0) 1; count = e i; taken = f i }
 
 pub export_put : (x : Export) → saved_export (export_saved x) ≡ x
 unfolding saved_export

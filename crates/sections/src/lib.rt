@@ -65,15 +65,13 @@ pub extern "C" fn sections_fresh(
         rows, leaves, slots, reads, leafsets, writes, workers, guarded,
     );
     saved::store(globals, c);
-    let x = exports::no_export();
-    saved::store_export(export, x);
+    saved::store_export(export, exports::no_export());
 }
 
 fn put_answer(answer: &mut AnswerWords, a: Coded)
     ensures { coded_in answer.new ≡ a }
 {
-    let all = [a.number, a.told, a.value, a.beside, a.examined];
-    *answer = all;
+    *answer = [a.number, a.told, a.value, a.beside, a.examined];
 }
 
 fn code_in(step: &StepWords) -> Code
@@ -137,8 +135,7 @@ fn stop_number(s: Stop) -> u64
 fn put_counts(counts: &mut CountWords, taken: usize, written: usize)
     ensures { CountsAre counts.new taken written }
 {
-    let all = [taken as u64, written as u64];
-    *counts = all;
+    *counts = [taken as u64, written as u64];
 }
 
 // A list of steps, seven numbers to each, those of exports among them, from a fresh map, guarded or not, with no export open
@@ -222,11 +219,8 @@ pub extern "C" fn sections_next(
 fn put_done(answer: &mut AnswerWords, export: &mut ExportWords, d: ExportDone)
     ensures { DoneIn export.new answer.new d }
 {
-    let next = d.export;
-    let told = d.answer;
-    saved::store_export(export, next);
-    let a = words::encode_export(told);
-    put_answer(answer, a);
+    saved::store_export(export, d.export);
+    put_answer(answer, words::encode_export(d.answer));
 }
 
 // Opens an export of the contents (request 107): its records go to `exported`, which no step of a job touches.
@@ -250,9 +244,8 @@ pub extern "C" fn sections_open_export(
         exported.old export.old s exported.new export.new s answer.new }
 {
     let c = saved::load(globals);
-    let sizes = c.sizes;
     let x = saved::load_export(export);
-    let d = exports::open_export(exported, rows, slots, sizes.records, x);
+    let d = exports::open_export(exported, rows, slots, c.sizes.records, x);
     put_done(answer, export, d);
 }
 

@@ -18,35 +18,24 @@ pub const EXPORT_NUMBERS: usize = 3;
 
 pub type ExportWords = [u64; EXPORT_NUMBERS];
 
-fn size(n: u64) -> usize
-    ensures { result ≡ n }
-{
-    n as usize
-}
-
 // The globals that the words hold.
+#[tactic(auto, unfolding(crate::specs::Saved::saved_globals))]
 pub fn load(words: &GlobalWords) -> Globals
     ensures { result ≡ saved_globals words.now }
 {
-    let records = size(words[1]);
-    let leaves = size(words[2]);
-    let entries = size(words[3]);
-    let outside = size(words[4]);
-    let sizes = Sizes {
-        records,
-        leaves,
-        entries,
-        outside,
-    };
-    let counters = Counters {
-        number: words[5],
-        version: words[6],
-        installs: words[7],
-    };
     Globals {
         guarded: words[0],
-        sizes,
-        counters,
+        sizes: Sizes {
+            records: words[1] as usize,
+            leaves: words[2] as usize,
+            entries: words[3] as usize,
+            outside: words[4] as usize,
+        },
+        counters: Counters {
+            number: words[5],
+            version: words[6],
+            installs: words[7],
+        },
     }
 }
 
@@ -54,31 +43,27 @@ pub fn load(words: &GlobalWords) -> Globals
 pub fn store(words: &mut GlobalWords, c: Globals)
     ensures { saved_globals words.new ≡ c }
 {
-    let z = c.sizes;
-    let k = c.counters;
-    let all = [
+    *words = [
         c.guarded,
-        z.records as u64,
-        z.leaves as u64,
-        z.entries as u64,
-        z.outside as u64,
-        k.number,
-        k.version,
-        k.installs,
+        c.sizes.records as u64,
+        c.sizes.leaves as u64,
+        c.sizes.entries as u64,
+        c.sizes.outside as u64,
+        c.counters.number,
+        c.counters.version,
+        c.counters.installs,
     ];
-    *words = all;
 }
 
 // The export whose numbers the words hold.
+#[tactic(auto, unfolding(crate::specs::Saved::saved_export))]
 pub fn load_export(words: &ExportWords) -> Export
     ensures { result ≡ saved_export words.now }
 {
-    let count = size(words[1]);
-    let taken = size(words[2]);
     Export {
         open: words[0] == 1,
-        count,
-        taken,
+        count: words[1] as usize,
+        taken: words[2] as usize,
     }
 }
 
@@ -86,6 +71,5 @@ pub fn load_export(words: &ExportWords) -> Export
 pub fn store_export(words: &mut ExportWords, x: Export)
     ensures { words.new ≡ export_saved x }
 {
-    let all = [x.open as u64, x.count as u64, x.taken as u64];
-    *words = all;
+    *words = [x.open as u64, x.count as u64, x.taken as u64];
 }

@@ -26,13 +26,10 @@ pub struct Work {
 pub fn after_read(calls: Calls, input: &[u8], w: Work) -> Work
     ensures { result ≡ with_read w calls (length input.now) }
 {
-    let x = w.session;
-    let session = session::at_places(x, 0, 0);
     let got = system::answer(calls);
-    let count = io::count(got, input);
     Work {
-        session,
-        count,
+        session: session::at_places(w.session, 0, 0),
+        count: io::count(got, input),
         going: got > 0,
         failed: got < 0,
         calls,
@@ -44,21 +41,12 @@ pub fn after_write(calls: Calls, w: Work) -> Work
     ensures { result ≡ with_write w calls }
 {
     let x = w.session;
-    let session = session::at_places(x, x.next, 0);
-    if system::answer(calls) < 0 {
-        return Work {
-            session,
-            count: w.count,
-            going: false,
-            failed: true,
-            calls,
-        };
-    }
+    let failed = system::answer(calls) < 0;
     Work {
-        session,
-        count: w.count,
-        going: !x.stopped,
-        failed: false,
+        session: session::at_places(x, x.next, 0),
+        going: !failed && !x.stopped,
+        failed,
         calls,
+        ..w
     }
 }

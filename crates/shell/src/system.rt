@@ -63,12 +63,11 @@ pub fn read_next(
         Ok(n) => n as isize,
         Err(_) => -1,
     };
-    let fed = c.fed + io::count(got, input) as u64;
     Calls {
         made: c.made + 1,
-        fed,
-        told: c.told,
+        fed: c.fed + io::count(got, input) as u64,
         answer: got,
+        ..c
     }
 }
 
@@ -94,20 +93,14 @@ pub fn write_due(
 {
     let c = w.calls;
     let mut to = to;
-    let written = to.write_all(&out[..n]).is_ok();
-    let told = c.told + n as u64;
-    if !written {
-        return Calls {
-            made: c.made + 1,
-            fed: c.fed,
-            told,
-            answer: -1,
-        };
-    }
+    let answer = match to.write_all(&out[..n]) {
+        Ok(()) => 0,
+        Err(_) => -1,
+    };
     Calls {
         made: c.made + 1,
-        fed: c.fed,
-        told,
-        answer: 0,
+        told: c.told + n as u64,
+        answer,
+        ..c
     }
 }

@@ -3,7 +3,6 @@ use mathlib.Core.Path.{refl}
 use Rattle.queries.specs.NextLaws.{passed_start, follows_done}
 use Rattle.sections.specs.EntryLaws.{ready_loaded, next_record_none}
 use Rattle.map.specs.Parts.{records_held, slots_held}
-use Rattle.std.proofs.Common.{true}
 use Rattle.sections.proofs.sections_next.Goals as goal
 
 pub returns-then-from-ge-ADDRESSES : goal.returns-then-from-ge-ADDRESSES

@@ -1,6 +1,5 @@
 -- `sections_replay` meets its contract: `runs::replay`, its outcome in the words.
 use Rattle.sections.specs.EntryLaws.{replayed}
-use Rattle.sections.specs.Entries.{stop_number}
 use Rattle.sections.proofs.sections_replay.Goals as goal
 
 pub returns : goal.returns

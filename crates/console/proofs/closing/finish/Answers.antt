@@ -16,5 +16,5 @@ put_contents-requires-clause-slots_len_bound c =
 pub returns-then-at_line_start : goal.returns-then-at_line_start
 returns-then-at_line_start c = finish_whole _ _ _ _ _ _ _ c.requires.started c.if-x.false c.at_line_start.ensures.by_index c.if-at_line_start.true c.put_contents.ensures
 
-pub returns : goal.returns
-returns c = finish_inside _ _ _ _ _ _ _ c.requires.started c.if-x.false c.at_line_start.ensures.by_index c.if-at_line_start.false c.put_malformed.ensures
+pub returns-else-at_line_start : goal.returns-else-at_line_start
+returns-else-at_line_start c = finish_inside _ _ _ _ _ _ _ c.requires.started c.if-x.false c.at_line_start.ensures.by_index c.if-at_line_start.false c.put_malformed.ensures

@@ -3,5 +3,5 @@ use Rattle.console.specs.SessionLaws.{guard_misplaced}
 use Rattle.std.proofs.Common.{false}
 use Rattle.console.proofs.session.run_guard.Goals as goal
 
-pub returns : goal.returns
-returns c = λ ws. guard_misplaced c.if-x.false (c.end_malformed.ensures ws)
+pub returns-else-x : goal.returns-else-x
+returns-else-x c = λ ws. guard_misplaced c.if-x.false (c.end_malformed.ensures ws)

@@ -18,29 +18,9 @@ use Rattle.exports.specs.Exporting.{ExportedRows}
 
 -- ---- numbers
 
-pub two_is : (n : ℕ) → ◌++◌ {A = ℕ} (n % 256 ∷ []) (n / 256 % 256 ∷ []) ≡ little_endian 2 n
-unfolding little_endian
-two_is n = refl
-
-pub four_is : (n : ℕ) → little_endian 2 n ++ little_endian 2 (n / 65536) ≡ little_endian 4 n
-unfolding little_endian
-four_is n =
-    let q : n / 65536 ≡ n / 256 / 256 = omega arith in
-    ap (λ (m : ℕ). n % 256 ∷ n / 256 % 256 ∷ m % 256 ∷ m / 256 % 256 ∷ []) q
-
-pub eight_is : (n : ℕ) → little_endian 4 n ++ little_endian 4 (n / 4294967296) ≡ little_endian 8 n
-unfolding little_endian
-eight_is n =
-    let q : n / 4294967296 ≡ n / 256 / 256 / 256 / 256 = omega arith in
-    ap (λ (m : ℕ). n % 256 ∷ n / 256 % 256 ∷ n / 256 / 256 % 256 ∷ n / 256 / 256 / 256 % 256 ∷ little_endian 4 m) q
-
 -- a text in place of one that is the same
 pub wrote_as : {old new text text' : List ℕ} {at next : ℕ} → text ≡ text' → Wrote old at text new next → Wrote old at text' new next
 wrote_as {old} {new} {text} {text'} {at} {next} e w = subst (λ (t : List ℕ). Wrote old at t new next) e w
-
--- a number's place, by its width
-pub next_place : {old new : List ℕ} {at next : ℕ} (count n : ℕ) → Wrote old at (little_endian count n) new next → next ≡ at + count
-next_place {old} {new} {at} {next} count n w = w.place ∙ ap (λ (k : ℕ). at + k) (length_number count n)
 
 -- ---- one record after the other
 

@@ -1,12 +1,12 @@
 -- What one more byte of a line makes of what the line says.
-use Rattle.std.specs.Prelude.{ℕ, ◌+◌, ◌-◌, ◌*◌, ◌^◌, ◌<◌, ◌≤◌, ◌≡◌, Bool, true, not}
+use Rattle.std.specs.Prelude.{ℕ, ◌+◌, ◌-◌, ◌*◌, ◌^◌, ◌≤◌, ◌≡◌, Bool, true, not}
 use Rattle.std.proofs.Common.{arith, sym, ◌∙◌, ⊎_elim}
 use Rattle.std.proofs.Math.Path.{refl, ap}
 use Rattle.std.proofs.Math.Bool.{false}
 use mathlib.Core.List.{List, [], ◌∷◌, ◌++◌}
 use Rattle.std.proofs.Math.Option.{Option, none, some}
 use Rattle.lists.specs.Tests.{pick, both, maybe, same, less, within, at_most}
-use Rattle.lists.specs.TestLaws.{cases, clash, same_no, same_refl, less_no, at_most_yes, at_most_no, at_most_true}
+use Rattle.lists.specs.TestLaws.{cases, clash, same_no, same_refl, less_no, at_most_yes, at_most_true}
 use Rattle.std.proofs.Math.Seq.{append_snoc}
 use Rattle.spec.specs.Widths.{addresses, worker_names}
 use Rattle.script.specs.declared.Line.{Line}
@@ -19,14 +19,6 @@ use Rattle.script.specs.Parsing.{Before, none_before, one_before, two_before, th
 pub digit_yes : (b : ℕ) → 48 ≤ b → b ≤ 57 → is_digit b ≡ true
 unfolding is_digit within
 digit_yes b h g = rw (at_most_yes h) (at_most_yes g)
-
-pub digit_low : (b : ℕ) → b < 48 → is_digit b ≡ false
-unfolding is_digit within
-digit_low b h = rw (at_most_no h)
-
-pub digit_high : (b : ℕ) → 57 < b → is_digit b ≡ false
-unfolding is_digit within
-digit_high b h = ⊎_elim (λ e. rw e (at_most_no h)) (λ e. rw e) (cases (at_most 48 b))
 
 pub digit_from : (b : ℕ) → is_digit b ≡ true → 48 ≤ b
 unfolding is_digit within

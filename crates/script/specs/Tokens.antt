@@ -193,15 +193,6 @@ goes_none s i p = record { taken = []; cut = cut_none s i; moves = moves_none p 
 pub turns_as : {s : List ℕ} {i : ℕ} {p q : Parser} {r : Parsed} → p ≡ q → ParsesPart s i q r → ParsesPart s i p r
 turns_as {s} {i} {p} {q} {r} e t = subst (λ (x : Parser). ParsesPart s i x r) (sym e) t
 
-pub line_ends : {e : Event} {x : Line} → e ≡ event.Line x → e ≡ event.SliceEnd → ⊥
-line_ends p q = let z : ◌≡◌ {A = ℕ} 0 1 = cc in omega arith
-
-pub guard_ends : {e : Event} → e ≡ event.Guard → e ≡ event.SliceEnd → ⊥
-guard_ends p q = let z : ◌≡◌ {A = ℕ} 0 1 = cc in omega arith
-
-pub malformed_ends : {e : Event} → e ≡ event.Malformed → e ≡ event.SliceEnd → ⊥
-malformed_ends p q = let z : ◌≡◌ {A = ℕ} 0 1 = cc in omega arith
-
 ended_moves : {p q : Parser} {e : Event} {bs : List ℕ} → e ≡ event.SliceEnd → Tells p e q bs → Moves p q bs
 unfolding Tells
 ended_moves {p} {q} {e} {bs} h t = subst (λ (x : Event). Tells p x q bs) h t

@@ -3,6 +3,7 @@ use Rattle.std.specs.Prelude.{ℕ, ◌≤◌, ◌≡◌, List, length, get_or, t
 use Rattle.lists.specs.Rows.{Row, row}
 use Rattle.lists.specs.Tabulation.{tab}
 use Rattle.spec.specs.Records.{Payload}
+use Rattle.buffers.specs.declared.Places.{Places as PlaceCounts}
 use Rattle.spec.specs.Steps.{Places}
 
 -- the lent buffers, as lists
@@ -17,6 +18,10 @@ buffers ks vs os = record { addresses = ks; values = vs; owners = os }
 -- how many places they have
 abbrev pub places_of : Buffers → Places
 places_of b = record { addresses = length b.addresses; values = length b.values; owners = length b.owners }
+
+-- the counts of the code
+abbrev pub counted_places : PlaceCounts → Places
+counted_places p = record { addresses = p.addresses; values = p.values; owners = p.owners }
 
 -- what place i of each holds
 abbrev pub row_in : Buffers → ℕ → Row Payload

@@ -1,5 +1,5 @@
 -- Codes by the tests that the code makes.
-use Rattle.std.specs.Prelude.{ℕ, Result, ◌^◌, ◌<◌, ◌≤◌, ◌≡◌, Bool, false, leb}
+use Rattle.std.specs.Prelude.{ℕ, Result, Some, None, ◌^◌, ◌<◌, ◌≤◌, ◌≡◌, Bool, false, leb}
 use Rattle.std.proofs.Common.{zero-le, ap, ◌∙◌, subst}
 use Rattle.std.proofs.Math.Path.{refl, sym}
 use Rattle.std.proofs.Math.Bool.{true}
@@ -7,7 +7,7 @@ use Rattle.lists.specs.Tests.{pick, both, same, less, at_most}
 use Rattle.lists.specs.TestLaws.{same_yes, same_no, less_yes, less_no, at_most_yes, at_most_no, at_most_true, clash}
 use Rattle.spec.specs.Widths.{addresses, worker_names}
 use Rattle.spec.specs.Steps.{Places, places}
-use Rattle.buffers.specs.Buffers.{Lends}
+use Rattle.buffers.specs.Buffers.{Lends, counted_places}
 use Rattle.engine.specs.declared.steps.Access.TheVariants as access
 use Rattle.engine.specs.declared.steps.Ending.TheVariants as ending
 use Rattle.engine.specs.declared.steps.Op.{Op}
@@ -15,9 +15,8 @@ use Rattle.engine.specs.declared.steps.Op.TheVariants as op
 use Rattle.spec.specs.declared.Refusal.{Refusal}
 use Rattle.engine.specs.declared.steps.Told.{Told}
 use Rattle.codes.specs.declared.Code.{Code}
-use Rattle.codes.specs.declared.decodes.Decoded.{Decoded}
-use Rattle.codes.specs.declared.decodes.Decoded.TheVariants.{Meant, Meaningless}
-use Rattle.codes.specs.Codes.{places_lent, meant_with, meant_alone, decoded_scan, decoded_put, decoded_access, decoded_seat, decoded_merge, decoded_numbered, decoded, coded_of}
+use Rattle.buffers.specs.declared.Places.{Places as PlaceCounts}
+use Rattle.codes.specs.Codes.{Decoded, places_lent, meant_with, meant_alone, decoded_scan, decoded_put, decoded_access, decoded_seat, decoded_merge, decoded_numbered, decoded, coded_of}
 
 -- ---- what a code means, by the number of its kind
 
@@ -26,7 +25,7 @@ access_by x m k =
     pick (same x 1) (meant_alone (op.Access k.a (access.Read k.b)))
     (pick (same x 2) (decoded_scan m k)
     (pick (same x 3) (decoded_put k)
-    (pick (same x 4) (meant_alone (op.Access k.a (access.Remove k.b))) Meaningless)))
+    (pick (same x 4) (meant_alone (op.Access k.a (access.Remove k.b))) None)))
 
 abbrev pub seat_by : ℕ → Places → Code → Decoded
 seat_by x m k =
@@ -42,7 +41,7 @@ scan_in k = meant_with (op.Access k.a (access.Scan k.b k.c)) (places k.d k.e k.f
 -- ---- by the tests that the code makes
 
 module _ (k : Code) where
-  pub put_wide : 2 ^ 16 ≤ k.d → Meaningless ≡ decoded_put k
+  pub put_wide : 2 ^ 16 ≤ k.d → None ≡ decoded_put k
   unfolding decoded_put
   put_wide h = rw (less_no h)
 
@@ -50,7 +49,7 @@ module _ (k : Code) where
   unfolding decoded_put
   put_meant h = rw (less_yes h)
 
-  pub merge_wide : addresses ≤ k.a → Meaningless ≡ decoded_merge k
+  pub merge_wide : addresses ≤ k.a → None ≡ decoded_merge k
   unfolding decoded_merge
   merge_wide h = rw (less_no h)
 
@@ -75,14 +74,14 @@ module _ (m : Places) (k : Code) where
   lent_owners g f = lent_is true true _ (at_most_yes f) (at_most_yes g) refl
 
   -- by its tests
-  scan_is : (x y : Bool) → less k.c addresses ≡ x → places_lent m k ≡ y → pick (both x y) (scan_in k) Meaningless ≡ decoded_scan m k
+  scan_is : (x y : Bool) → less k.c addresses ≡ x → places_lent m k ≡ y → pick (both x y) (scan_in k) None ≡ decoded_scan m k
   unfolding decoded_scan
   scan_is x y e f = rw (e, f)
 
-  pub scan_wide : addresses ≤ k.c → Meaningless ≡ decoded_scan m k
+  pub scan_wide : addresses ≤ k.c → None ≡ decoded_scan m k
   scan_wide h = scan_is false _ (less_no h) refl
 
-  pub scan_unlent : {b : Bool} → b ≡ places_lent m k → b ≡ false → k.c < addresses → Meaningless ≡ decoded_scan m k
+  pub scan_unlent : {b : Bool} → b ≡ places_lent m k → b ≡ false → k.c < addresses → None ≡ decoded_scan m k
   scan_unlent e f h = scan_is true false (less_yes h) (sym e ∙ f)
 
   pub scan_meant : {b : Bool} → b ≡ places_lent m k → b ≡ true → k.c < addresses → scan_in k ≡ decoded_scan m k
@@ -90,7 +89,7 @@ module _ (m : Places) (k : Code) where
 
   -- ---- read, scan, put, remove
 
-  pub access_wide : addresses ≤ k.b → Meaningless ≡ decoded_access m k
+  pub access_wide : addresses ≤ k.b → None ≡ decoded_access m k
   unfolding decoded_access
   access_wide h = rw (less_no h)
 
@@ -99,13 +98,13 @@ module _ (m : Places) (k : Code) where
   unfolding decoded_access
   access_kind x e h = rw (less_yes h) (ap (λ (y : ℕ). access_by y m k) (sym e))
 
-  pub access_other : (k.kind ≡ 1 → ⊥) → (k.kind ≡ 2 → ⊥) → (k.kind ≡ 3 → ⊥) → (k.kind ≡ 4 → ⊥) → k.b < addresses → Meaningless ≡ decoded_access m k
+  pub access_other : (k.kind ≡ 1 → ⊥) → (k.kind ≡ 2 → ⊥) → (k.kind ≡ 3 → ⊥) → (k.kind ≡ 4 → ⊥) → k.b < addresses → None ≡ decoded_access m k
   unfolding decoded_access
   access_other x y z u h = rw (less_yes h, same_no x, same_no y, same_no z, same_no u)
 
   -- ---- all steps
 
-  pub seat_wide : worker_names ≤ k.a → Meaningless ≡ decoded_seat m k
+  pub seat_wide : worker_names ≤ k.a → None ≡ decoded_seat m k
   unfolding decoded_seat
   seat_wide h = rw (less_no h)
 
@@ -144,8 +143,8 @@ reply_is e = ap coded_of (sym e)
 -- ---- the places that a code wants are lent
 
 abbrev LendsFor : Places → Decoded → Type 0
-LendsFor m (Meant o p q s) = Lends m (places p q s)
-LendsFor m Meaningless = Unit {0}
+LendsFor m (Some p) = Lends m (counted_places p.1)
+LendsFor m None = Unit {0}
 
 pub lends_none : (m : Places) → Lends m (places 0 0 0)
 lends_none m = record { addresses = zero-le; values = zero-le; owners = zero-le }
@@ -174,7 +173,7 @@ scan_lends : (m : Places) (k : Code) → LendsFor m (decoded_scan m k)
 unfolding decoded_scan
 scan_lends m k = go (less k.c addresses) (places_lent m k) refl
   where
-    go : (x y : Bool) → places_lent m k ≡ y → LendsFor m (pick (both x y) (scan_in k) Meaningless)
+    go : (x y : Bool) → places_lent m k ≡ y → LendsFor m (pick (both x y) (scan_in k) None)
     go true true e = lent_lends m k e
     go true false e = tt
     go false y e = tt
@@ -215,5 +214,5 @@ lends : (m : Places) (k : Code) → LendsFor m (decoded m k)
 unfolding decoded
 lends m k = pick_lends m (same k.kind 10) _ _ (lends_none m) (numbered_lends m k)
 
-pub meant_lends : (m : Places) (k : Code) {d : Decoded} {o : Op} {p q s : ℕ} → d ≡ decoded m k → d ≡ Meant o p q s → Lends m (places p q s)
+pub meant_lends : (m : Places) (k : Code) {d : Decoded} {o : Op} {w : PlaceCounts} → d ≡ decoded m k → d ≡ Some (o, w) → Lends m (counted_places w)
 meant_lends m k e f = subst (LendsFor m) (sym e ∙ f) (lends m k)

@@ -16,15 +16,17 @@ use Rattle.accesses.specs.declared.reads.ReadValue.{ReadValue}
 use Rattle.engine.specs.declared.steps.Told.{Told}
 use Rattle.engine.specs.declared.steps.Told.TheVariants as told
 use Rattle.codes.specs.declared.Code.{Code}
-use Rattle.codes.specs.declared.decodes.Decoded.{Decoded}
-use Rattle.codes.specs.declared.decodes.Decoded.TheVariants.{Meant, Meaningless}
+use Rattle.buffers.specs.declared.Places.{Places as PlaceCounts}
 use Rattle.codes.specs.declared.Coded.{Coded}
 
 -- ---- steps
 
--- an operation, and the places that it wants
+-- an operation, and the places that it wants; or no meaning
+abbrev pub Decoded : Type 0
+Decoded = Optional (Op × PlaceCounts)
+
 abbrev pub meant_with : Op → Places → Decoded
-meant_with o w = Meant o w.addresses w.values w.owners
+meant_with o w = Some (o, record { addresses = w.addresses; values = w.values; owners = w.owners })
 
 -- ... which are none
 abbrev pub meant_alone : Op → Decoded
@@ -39,11 +41,11 @@ unfoldable pub decoded_scan : Places → Code → Decoded
 decoded_scan m k =
     pick (both (less k.c addresses) (places_lent m k))
     (meant_with (op.Access k.a (access.Scan k.b k.c)) (places k.d k.e k.f))
-    Meaningless
+    None
 
 -- a put: the seat, the address, the value, and the owner, which has 16 bits
 unfoldable pub decoded_put : Code → Decoded
-decoded_put k = pick (less k.d (2 ^ 16)) (meant_alone (op.Access k.a (access.Put k.b k.c k.d))) Meaningless
+decoded_put k = pick (less k.d (2 ^ 16)) (meant_alone (op.Access k.a (access.Put k.b k.c k.d))) None
 
 -- read, scan, put, remove: the seat, and the address or the lower end; all but a scan want no places
 unfoldable pub decoded_access : Places → Code → Decoded
@@ -52,8 +54,8 @@ decoded_access m k =
     (pick (same k.kind 1) (meant_alone (op.Access k.a (access.Read k.b)))
     (pick (same k.kind 2) (decoded_scan m k)
     (pick (same k.kind 3) (decoded_put k)
-    (pick (same k.kind 4) (meant_alone (op.Access k.a (access.Remove k.b))) Meaningless))))
-    Meaningless
+    (pick (same k.kind 4) (meant_alone (op.Access k.a (access.Remove k.b))) None))))
+    None
 
 -- a step with a seat: begin, lock, validate, install, abort, and those above
 unfoldable pub decoded_seat : Places → Code → Decoded
@@ -64,11 +66,11 @@ decoded_seat m k =
     (pick (same k.kind 6) (meant_alone (op.Ending k.a ending.Validate))
     (pick (same k.kind 7) (meant_alone (op.Ending k.a ending.Install))
     (pick (same k.kind 8) (meant_alone (op.Ending k.a ending.Abort)) (decoded_access m k))))))
-    Meaningless
+    None
 
 -- a fold: the address
 unfoldable pub decoded_merge : Code → Decoded
-decoded_merge k = pick (less k.a addresses) (meant_alone (op.Merge k.a)) Meaningless
+decoded_merge k = pick (less k.a addresses) (meant_alone (op.Merge k.a)) None
 
 -- a step with numbers: a fold, or one with a seat
 unfoldable pub decoded_numbered : Places → Code → Decoded

@@ -1,5 +1,5 @@
 -- Codes of export steps by the tests that the code makes, and their answers put into words.
-use Rattle.std.specs.Prelude.{ℕ, ◌<◌, ◌≤◌, ◌≡◌, refl, Bool, true, false, List, [], ◌∷◌, ◌++◌, length, Ok, Err}
+use Rattle.std.specs.Prelude.{ℕ, ◌<◌, ◌≤◌, ◌≡◌, refl, Bool, true, false, List, [], ◌∷◌, ◌++◌, length, Ok, Err, Some, None}
 use Rattle.std.proofs.Common.{zero-le, sym, ◌∙◌, subst, append-nil, length-take-le}
 use Rattle.std.proofs.Math.Path.{ap}
 use Rattle.lists.specs.Tests.{pick, same, at_most}
@@ -8,7 +8,7 @@ use Rattle.lists.specs.Tabulation.{tab, tab_from}
 use Rattle.lists.specs.Texts.{Wrote}
 use Rattle.lists.specs.TextLaws.{wrote_join}
 use Rattle.spec.specs.Steps.{Places, places}
-use Rattle.buffers.specs.Buffers.{Buffers, places_of, rows_in, Lends}
+use Rattle.buffers.specs.Buffers.{Buffers, places_of, counted_places, rows_in, Lends}
 use Rattle.buffers.specs.BufferLaws.{length_rows}
 use Rattle.exports.specs.declared.ExportTold.TheVariants as export
 use Rattle.exports.specs.declared.ops.ExportOp.{ExportOp}
@@ -16,21 +16,20 @@ use Rattle.exports.specs.declared.ops.ExportOp.TheVariants.{Open, Portion, File,
 use Rattle.exports.specs.Exporting.{Space, space, ExportAnswer, export_answer_in, places_written, bytes_written, LendsTo}
 use Rattle.codes.specs.declared.Code.{Code}
 use Rattle.codes.specs.declared.Coded.{Coded}
-use Rattle.codes.specs.declared.decodes.DecodedExport.{DecodedExport}
-use Rattle.codes.specs.declared.decodes.DecodedExport.TheVariants.{Meant, Meaningless}
+use Rattle.buffers.specs.declared.Places.{Places as PlaceCounts}
 use Rattle.codes.specs.Codes.{places_lent, listed_words}
 use Rattle.codes.specs.CodeLaws.{lends_none, lent_lends}
-use Rattle.codes.specs.ExportCodes.{export_meant, decoded_portion, decoded_file, decoded_export, export_coded_of, export_words}
+use Rattle.codes.specs.ExportCodes.{DecodedExport, export_meant, decoded_portion, decoded_file, decoded_export, export_coded_of, export_words}
 use Rattle.codes.specs.Words.{head_words}
 
 -- ---- what a code means
 
 module _ (k : Code) where
-  pub portion_by : (m : Places) (b : Bool) → b ≡ places_lent m k → pick b (export_meant Portion (places k.d k.e k.f)) Meaningless ≡ decoded_portion m k
+  pub portion_by : (m : Places) (b : Bool) → b ≡ places_lent m k → pick b (export_meant Portion (places k.d k.e k.f)) None ≡ decoded_portion m k
   unfolding decoded_portion
-  portion_by m b e = ap (λ (b : Bool). pick b (export_meant Portion (places k.d k.e k.f)) Meaningless) e
+  portion_by m b e = ap (λ (b : Bool). pick b (export_meant Portion (places k.d k.e k.f)) None) e
 
-  pub file_unlent : {n : ℕ} → n < k.d → Meaningless ≡ decoded_file n k
+  pub file_unlent : {n : ℕ} → n < k.d → None ≡ decoded_file n k
   unfolding decoded_file
   file_unlent h = rw (at_most_no h)
 
@@ -44,14 +43,14 @@ export_by x m n k =
     pick (same x 11) (export_meant Open (places 0 0 0))
     (pick (same x 12) (decoded_portion m k)
     (pick (same x 13) (decoded_file n k)
-    (pick (same x 14) (export_meant Close (places 0 0 0)) Meaningless)))
+    (pick (same x 14) (export_meant Close (places 0 0 0)) None)))
 
 module _ (m : Places) (n : ℕ) (k : Code) where
   pub export_kind : (x : ℕ) → k.kind ≡ x → export_by x m n k ≡ decoded_export m n k
   unfolding decoded_export
   export_kind x e = ap (λ (y : ℕ). export_by y m n k) (sym e)
 
-  pub export_other : (k.kind ≡ 11 → ⊥) → (k.kind ≡ 12 → ⊥) → (k.kind ≡ 13 → ⊥) → (k.kind ≡ 14 → ⊥) → Meaningless ≡ decoded_export m n k
+  pub export_other : (k.kind ≡ 11 → ⊥) → (k.kind ≡ 12 → ⊥) → (k.kind ≡ 13 → ⊥) → (k.kind ≡ 14 → ⊥) → None ≡ decoded_export m n k
   unfolding decoded_export
   export_other x y z u = rw (same_no x, same_no y, same_no z, same_no u)
 
@@ -63,8 +62,8 @@ record Lent (m : Places) (n : ℕ) (o : ExportOp) (w : Places) : Type 0 where
   bytes : (j : ℕ) → o ≡ File j → j ≤ n
 
 abbrev LentFor : Places → ℕ → DecodedExport → Type 0
-LentFor m n (Meant o p q s) = Lent m n o (places p q s)
-LentFor m n Meaningless = Unit {0}
+LentFor m n (Some p) = Lent m n p.0 (counted_places p.1)
+LentFor m n None = Unit {0}
 
 pick_lent : (m : Places) (n : ℕ) (b : Bool) (x y : DecodedExport) → LentFor m n x → LentFor m n y → LentFor m n (pick b x y)
 pick_lent m n true x y h k = h
@@ -84,7 +83,7 @@ portion_lent : (m : Places) (n : ℕ) (k : Code) → LentFor m n (decoded_portio
 unfolding decoded_portion
 portion_lent m n k = go (places_lent m k) refl
   where
-    go : (b : Bool) → places_lent m k ≡ b → LentFor m n (pick b (export_meant Portion (places k.d k.e k.f)) Meaningless)
+    go : (b : Bool) → places_lent m k ≡ b → LentFor m n (pick b (export_meant Portion (places k.d k.e k.f)) None)
     go true e = lent_of m n Portion _ (lent_lends m k e) zero-le
     go false e = tt
 
@@ -92,7 +91,7 @@ file_lent : (m : Places) (n : ℕ) (k : Code) → LentFor m n (decoded_file n k)
 unfolding decoded_file
 file_lent m n k = go (at_most k.d n) refl
   where
-    go : (b : Bool) → at_most k.d n ≡ b → LentFor m n (pick b (export_meant (File k.d) (places 0 0 0)) Meaningless)
+    go : (b : Bool) → at_most k.d n ≡ b → LentFor m n (pick b (export_meant (File k.d) (places 0 0 0)) None)
     go true e = lent_of m n (File k.d) _ (lends_none m) (at_most_true k.d n e)
     go false e = tt
 
@@ -104,8 +103,8 @@ all_lent m n k =
     (pick_lent m n (same k.kind 13) _ _ (file_lent m n k)
     (pick_lent m n (same k.kind 14) _ _ (lent_of m n Close _ (lends_none m) zero-le) tt)))
 
-pub export_lends : (s : Space) (k : Code) {d : DecodedExport} {o : ExportOp} {p q t : ℕ} → d ≡ decoded_export (places_of s.portion) (length s.bytes) k
-    → d ≡ Meant o p q t → LendsTo s o (places p q t)
+pub export_lends : (s : Space) (k : Code) {d : DecodedExport} {o : ExportOp} {w : PlaceCounts} → d ≡ decoded_export (places_of s.portion) (length s.bytes) k
+    → d ≡ Some (o, w) → LendsTo s o (counted_places w)
 export_lends s k e f =
     let h = subst (LentFor (places_of s.portion) (length s.bytes)) (sym e ∙ f) (all_lent (places_of s.portion) (length s.bytes) k) in
     record { places = h.places; bytes = h.bytes }

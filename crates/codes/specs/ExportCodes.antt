@@ -1,5 +1,5 @@
 -- Request 107 in numbers: what the code of an export step means, and which numbers its answer is.
-use Rattle.std.specs.Prelude.{ℕ, List, [], ◌∷◌, length, Ok, Err}
+use Rattle.std.specs.Prelude.{ℕ, Option as Optional, Some, None, List, [], ◌∷◌, length, Ok, Err}
 use Rattle.lists.specs.Tests.{pick, same, at_most}
 use Rattle.spec.specs.Refusals.{number_of}
 use Rattle.spec.specs.Steps.{Places, places}
@@ -10,23 +10,25 @@ use Rattle.exports.specs.declared.ops.ExportOp.{ExportOp}
 use Rattle.exports.specs.declared.ops.ExportOp.TheVariants.{Open, Portion, File, Close}
 use Rattle.codes.specs.declared.Code.{Code}
 use Rattle.codes.specs.declared.Coded.{Coded}
-use Rattle.codes.specs.declared.decodes.DecodedExport.{DecodedExport}
-use Rattle.codes.specs.declared.decodes.DecodedExport.TheVariants.{Meant, Meaningless}
+use Rattle.buffers.specs.declared.Places.{Places as PlaceCounts}
 use Rattle.codes.specs.Codes.{places_lent, coded_as, listed_words}
 
 -- ---- steps
 
--- an export step, and the places that it wants
+-- an export step, and the places that it wants; or no meaning
+abbrev pub DecodedExport : Type 0
+DecodedExport = Optional (ExportOp × PlaceCounts)
+
 abbrev pub export_meant : ExportOp → Places → DecodedExport
-export_meant o w = Meant o w.addresses w.values w.owners
+export_meant o w = Some (o, record { addresses = w.addresses; values = w.values; owners = w.owners })
 
 -- a portion: the places that it wants, of lent buffers of m places
 unfoldable pub decoded_portion : Places → Code → DecodedExport
-decoded_portion m k = pick (places_lent m k) (export_meant Portion (places k.d k.e k.f)) Meaningless
+decoded_portion m k = pick (places_lent m k) (export_meant Portion (places k.d k.e k.f)) None
 
 -- a file: the bytes that it wants, of n that are lent
 unfoldable pub decoded_file : ℕ → Code → DecodedExport
-decoded_file n k = pick (at_most k.d n) (export_meant (File k.d) (places 0 0 0)) Meaningless
+decoded_file n k = pick (at_most k.d n) (export_meant (File k.d) (places 0 0 0)) None
 
 -- What the code of an export step means with lent buffers of m places and n bytes; opening and closing have no number.
 unfoldable pub decoded_export : Places → ℕ → Code → DecodedExport
@@ -34,7 +36,7 @@ decoded_export m n k =
     pick (same k.kind 11) (export_meant Open (places 0 0 0))
     (pick (same k.kind 12) (decoded_portion m k)
     (pick (same k.kind 13) (decoded_file n k)
-    (pick (same k.kind 14) (export_meant Close (places 0 0 0)) Meaningless)))
+    (pick (same k.kind 14) (export_meant Close (places 0 0 0)) None)))
 
 -- ---- answers
 

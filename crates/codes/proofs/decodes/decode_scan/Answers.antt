@@ -5,8 +5,8 @@ use Rattle.codes.proofs.decodes.decode_scan.Goals as goal
 pub returns-then-k-ge-ADDRESSES : goal.returns-then-k-ge-ADDRESSES
 returns-then-k-ge-ADDRESSES c = scan_wide _ _ c.if-k-ge-ADDRESSES.true
 
-pub returns-then-places_lent : goal.returns-then-places_lent
-returns-then-places_lent c = scan_meant _ _ c.places_lent.ensures c.if-places_lent.true c.if-k-ge-ADDRESSES.false
+pub returns-then-not-places_lent : goal.returns-then-not-places_lent
+returns-then-not-places_lent c = scan_unlent _ _ c.places_lent.ensures c.if-not-places_lent.true c.if-k-ge-ADDRESSES.false
 
 pub returns : goal.returns
-returns c = scan_unlent _ _ c.places_lent.ensures c.if-places_lent.false c.if-k-ge-ADDRESSES.false
+returns c = rw c.wanted.ensures (scan_meant _ _ c.places_lent.ensures c.if-not-places_lent.false c.if-k-ge-ADDRESSES.false)

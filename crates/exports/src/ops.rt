@@ -2,13 +2,13 @@
 ghost use Rattle.std.specs.Prelude.{List, ℕ, ◌≤◌, length};
 ghost use Rattle.lists.specs.Rows.{Row};
 ghost use Rattle.spec.specs.Records.{limits, Record};
-ghost use Rattle.spec.specs.Steps.{places};
 ghost use Rattle.spec.specs.Exports as model;
 ghost use Rattle.map.specs.Parts.{RecordsHeld, SlotsHeld};
 ghost use Rattle.queries.specs.Contents.{all_records};
-ghost use Rattle.buffers.specs.Buffers.{Buffers, buffers, places_of, Lends};
+ghost use Rattle.buffers.specs.Buffers.{Buffers, buffers, places_of, counted_places, Lends};
 ghost use Rattle.exports.specs.Exporting.{ExportHeld, space, ExportStepped, export_step_in, LendsTo};
 
+use buffers::Places;
 use crate::{Export, ExportDone, Exported};
 use map::{Records, Slots};
 use spec::Address;
@@ -22,27 +22,25 @@ pub enum ExportOp {
     Close,
 }
 
-// A portion to the first m places of the address buffer, the first n of the value buffer and the first q of the owner buffer.
+// A portion to the first places of the buffers, as many of each as it wants.
 fn portion_first(
     addresses: &mut [Address],
     values: &mut [u64],
     owners: &mut [u16],
     exported: &Exported,
     x: Export,
-    m: usize,
-    n: usize,
-    q: usize,
+    wanted: Places,
 ) -> ExportDone
     requires export_held { ExportHeld x }
-    requires lends { Lends (places_of (buffers addresses.old values.old owners.old)) (places m n q) }
-    ensures { (contents : List (Row Record)) (bs : List ℕ) → ExportStepped contents (model.portion (places m n q))
+    requires lends { Lends (places_of (buffers addresses.old values.old owners.old)) (counted_places wanted) }
+    ensures { (contents : List (Row Record)) (bs : List ℕ) → ExportStepped contents (model.portion (counted_places wanted))
         exported.now x (space (buffers addresses.old values.old owners.old) bs)
         exported.now result (space (buffers addresses.new values.new owners.new) bs) }
 {
     crate::portion(
-        &mut addresses[..m],
-        &mut values[..n],
-        &mut owners[..q],
+        &mut addresses[..wanted.addresses],
+        &mut values[..wanted.values],
+        &mut owners[..wanted.owners],
         exported,
         x,
     )
@@ -70,21 +68,19 @@ pub fn perform_export(
     count: usize,
     x: Export,
     op: ExportOp,
-    m: usize,
-    n: usize,
-    q: usize,
+    wanted: Places,
 ) -> ExportDone
     requires records_held { RecordsHeld rows.now count }
     requires slots_held { SlotsHeld slots.now }
     requires slots_len_bound { (length (all_records rows.now count slots.now) ≤ limits.map_limit) × ExportHeld x }
-    requires lends_to { LendsTo (space (buffers addresses.old values.old owners.old) bytes.old) op (places m n q) }
-    ensures { ExportStepped (all_records rows.now count slots.now) (export_step_in op (places m n q))
+    requires lends_to { LendsTo (space (buffers addresses.old values.old owners.old) bytes.old) op (counted_places wanted) }
+    ensures { ExportStepped (all_records rows.now count slots.now) (export_step_in op (counted_places wanted))
         exported.old x (space (buffers addresses.old values.old owners.old) bytes.old)
         exported.new result (space (buffers addresses.new values.new owners.new) bytes.new) }
 {
     match op {
         ExportOp::Open => crate::open_export(exported, rows, slots, count, x),
-        ExportOp::Portion => portion_first(addresses, values, owners, exported, x, m, n, q),
+        ExportOp::Portion => portion_first(addresses, values, owners, exported, x, wanted),
         ExportOp::File(size) => file_first(bytes, exported, x, size),
         ExportOp::Close => crate::close_export(x),
     }

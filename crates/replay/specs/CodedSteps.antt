@@ -1,5 +1,5 @@
 -- What a step in numbers promises: what its code means is done with the first places of the buffers, or nothing.
-use Rattle.std.specs.Prelude.{ℕ, Result, ◌≡◌, List}
+use Rattle.std.specs.Prelude.{ℕ, Result, ◌≡◌, List, None}
 use Rattle.spec.specs.Steps.{Places}
 use Rattle.map.specs.Views.{Lent}
 use Rattle.buffers.specs.Buffers.{Buffers, places_of, first_of, others_of}
@@ -13,7 +13,6 @@ use Rattle.transactions.specs.declared.Globals.{Globals}
 use Rattle.engine.specs.Performs.{Performs}
 use Rattle.codes.specs.declared.Code.{Code}
 use Rattle.codes.specs.declared.Coded.{Coded}
-use Rattle.codes.specs.declared.decodes.Decoded.TheVariants.{Meaningless}
 use Rattle.codes.specs.Codes.{meant_with, decoded, coded_of, no_meaning}
 
 -- A step performed with the first places of the buffers, as many of each as it wants; the others are as they were.
@@ -45,4 +44,4 @@ pub record Unchanged (l : Lent) (g : Logs) (c : Core) (b : Buffers) (l' : Lent) 
 -- A step in coded form: the arrays, the core and the buffers before it, and those after it.
 pub record CodedStep (l : Lent) (g : Logs) (c : Core) (k : Code) (b : Buffers) (l' : Lent) (g' : Logs) (b' : Buffers) (r : StepEnd) : Type 0 where
   pub meant : (o : Op) (w : Places) → decoded (places_of b) k ≡ meant_with o w → CodeTaken l g c o w b l' g' b' r
-  pub meaningless : decoded (places_of b) k ≡ Meaningless → Unchanged l g c b l' g' b' r
+  pub meaningless : decoded (places_of b) k ≡ None → Unchanged l g c b l' g' b' r

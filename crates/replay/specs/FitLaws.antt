@@ -17,25 +17,16 @@ module _ (room : ℕ) (w : Places) where
   enough : longest_answer w ≤ room → true ≡ not (less room (longest_answer w))
   enough h = ap not (sym (less_no {m = room} {n = longest_answer w} h))
 
-  -- the places wanted against a third of the room, less the five words
-  pub fits_addresses : 5 ≤ room → w.addresses ≤ (room - 5) / 3 → true ≡ not (less room (longest_answer w))
-  unfolding shortest
-  fits_addresses h k = enough (let z : longest_answer w ≤ room = omega arith in z)
-
-  pub fits_values : 5 ≤ room → w.values ≤ (room - 5) / 3 → true ≡ not (less room (longest_answer w))
-  unfolding shortest
-  fits_values h k = enough (let z : longest_answer w ≤ room = omega arith in z)
-
-  pub fits_owners : 5 ≤ room → (room - 5) / 3 < w.addresses → (room - 5) / 3 < w.values
-      → leb w.owners ((room - 5) / 3) ≡ not (less room (longest_answer w))
-  unfolding at_most shortest
-  fits_owners h a v =
+  -- the least of the places wanted against a third of the room, less the five words
+  pub fits_least : {n : ℕ} → 5 ≤ room → n ≡ shortest w → leb n ((room - 5) / 3) ≡ not (less room (longest_answer w))
+  unfolding at_most
+  fits_least {n} h e =
       ⊎_elim
-      (λ t. let l : w.owners ≤ (room - 5) / 3 = at_most_true w.owners ((room - 5) / 3) t in
+      (λ t. let l : n ≤ (room - 5) / 3 = at_most_true n ((room - 5) / 3) t in
       t ∙ enough (let z : longest_answer w ≤ room = omega arith in z))
-      (λ t. let l : (room - 5) / 3 < w.owners = at_most_false w.owners ((room - 5) / 3) t in
+      (λ t. let l : (room - 5) / 3 < n = at_most_false n ((room - 5) / 3) t in
       t ∙ ap not (sym (less_yes {m = room} {n = longest_answer w} (let k : room < longest_answer w = omega arith in k))))
-      (cases (at_most w.owners ((room - 5) / 3)))
+      (cases (at_most n ((room - 5) / 3)))
 
   pub fits_yes : {b : Bool} → b ≡ not (less room (longest_answer w)) → not b ≡ false → longest_answer w ≤ room
   fits_yes e t =

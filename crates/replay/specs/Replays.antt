@@ -1,6 +1,6 @@
 -- A list of coded steps, run from a fresh map with no export open: which steps are taken, what is written, and what the run
 -- promises, demand 3 included.
-use Rattle.std.specs.Prelude.{ℕ, ◌+◌, ◌-◌, ◌*◌, ◌≤◌, ◌≡◌, List, [], ◌∷◌, ◌++◌, map, length}
+use Rattle.std.specs.Prelude.{ℕ, ◌+◌, ◌-◌, ◌*◌, ◌≤◌, ◌≡◌, List, [], ◌∷◌, ◌++◌, map, length, Some, None}
 use Rattle.std.proofs.Math.Option.{Option, none, some}
 use Rattle.std.proofs.lemmas.List.Edits.{sets}
 use Rattle.lists.specs.Tests.{pick, maybe, less}
@@ -12,7 +12,7 @@ use Rattle.spec.specs.Steps.{Places, places, shortest, fresh, Answer, refused, d
 use Rattle.spec.specs.Claim.{SerialRun}
 use Rattle.spec.specs.Exports.{ExportAnswer, declined, opened, given, filed, closed, Exporting, Request, job, exporting, Exchange, job_told, export_told, exchange, next_of, starting_at, job_events, records_given}
 use Rattle.map.specs.Views.{Lent, map_of}
-use Rattle.buffers.specs.Buffers.{places_of}
+use Rattle.buffers.specs.Buffers.{counted_places, places_of}
 use Rattle.exports.specs.declared.Export.{Export}
 use Rattle.exports.specs.Exporting.{ExportedRows, export_in, ExportHeld, Space, export_step_in}
 use Rattle.transactions.specs.Cores.{Core}
@@ -20,12 +20,8 @@ use Rattle.transactions.specs.Views.{Logs, state_of, core_of}
 use Rattle.transactions.specs.Ready.{Ready}
 use Rattle.engine.specs.Performs.{step_in}
 use Rattle.codes.specs.declared.Code.{Code}
-use Rattle.codes.specs.declared.decodes.Decoded.{Decoded}
-use Rattle.codes.specs.declared.decodes.Decoded.TheVariants as decoding
-use Rattle.codes.specs.declared.decodes.DecodedExport.{DecodedExport}
-use Rattle.codes.specs.declared.decodes.DecodedExport.TheVariants as export_decoding
-use Rattle.codes.specs.Codes.{decoded, words_of}
-use Rattle.codes.specs.ExportCodes.{decoded_export, export_words}
+use Rattle.codes.specs.Codes.{Decoded, decoded, words_of}
+use Rattle.codes.specs.ExportCodes.{DecodedExport, decoded_export, export_words}
 use Rattle.replay.specs.declared.stops.Stop.{Stop}
 use Rattle.replay.specs.declared.stops.Stop.TheVariants as stop
 use Rattle.replay.specs.declared.runs.Replayed.{Replayed}
@@ -39,12 +35,12 @@ pub record Asked : Type 0 where
   pub wants : Places
 
 abbrev pub asked_job : Decoded → Option Asked
-asked_job (decoding.Meant o p q s) = some (record { request = job (step_in o (places p q s)); wants = places p q s })
-asked_job decoding.Meaningless = none
+asked_job (Some (o, w)) = some (record { request = job (step_in o (counted_places w)); wants = counted_places w })
+asked_job None = none
 
 abbrev pub asked_export : DecodedExport → Option Asked
-asked_export (export_decoding.Meant o p q s) = some (record { request = exporting (export_step_in o (places p q s)); wants = places p q s })
-asked_export export_decoding.Meaningless = none
+asked_export (Some (o, w)) = some (record { request = exporting (export_step_in o (counted_places w)); wants = counted_places w })
+asked_export None = none
 
 -- with lent buffers of m places and n bytes; the kinds of export steps stand behind those of jobs
 unfoldable pub asked : Places → ℕ → Code → Option Asked

@@ -1,7 +1,7 @@
 -- One code of a run: what its words are, and what taking it makes of the run.
 use Prim.Native.Nat.{ℕ, suc, ◌+◌, ◌-◌, ◌*◌, ◌<◌, ◌≤◌, zero-le}
 use Rattle.std.proofs.Common.{arith, le_refl, le_trans, ◌∙◌, subst, drop-cons}
-use Rattle.std.specs.Prelude.{◌≡◌, length, get_or, drop, take}
+use Rattle.std.specs.Prelude.{◌≡◌, length, get_or, drop, take, Some, None}
 use Rattle.std.proofs.Math.Path.{refl, sym, ap}
 use mathlib.Core.List.{List, [], ◌∷◌, ◌++◌, append-nil}
 use Rattle.std.proofs.Math.Option.{Option, none, some}
@@ -16,7 +16,7 @@ use Rattle.spec.specs.Files.{parsed}
 use Rattle.spec.specs.Exports.{Export as ModelExport, ExportStep, ExportAnswer as ModelAnswer, filed, export_of, export_answer, export_next, Exporting, job, exporting, Exchange, job_told, export_told, exchange, next_of, contents_now}
 use Rattle.calls.proofs.CallLaws.{map_in}
 use Rattle.map.specs.Views.{Lent, map_of}
-use Rattle.buffers.specs.Buffers.{Buffers, places_of, Lends}
+use Rattle.buffers.specs.Buffers.{counted_places, Buffers, places_of, Lends}
 use Rattle.buffers.specs.BufferLaws.{unmoved_refl}
 use Rattle.exports.specs.declared.Export.{Export}
 use Rattle.exports.specs.declared.ExportDone.{ExportDone}
@@ -31,13 +31,10 @@ use Rattle.engine.specs.declared.steps.Op.{Op}
 use Rattle.engine.specs.Performs.{Performed}
 use Rattle.engine.specs.Performs.{step_in, reply_in}
 use Rattle.codes.specs.declared.Code.{Code}
-use Rattle.codes.specs.declared.decodes.Decoded.{Decoded}
-use Rattle.codes.specs.declared.decodes.Decoded.TheVariants as decoding
-use Rattle.codes.specs.declared.decodes.DecodedExport.{DecodedExport}
-use Rattle.codes.specs.declared.decodes.DecodedExport.TheVariants as export_decoding
-use Rattle.codes.specs.Codes.{decoded, words_of}
+use Rattle.buffers.specs.declared.Places.{Places as PlaceCounts}
+use Rattle.codes.specs.Codes.{Decoded, decoded, words_of}
 use Rattle.codes.specs.CodeLaws.{meant_lends}
-use Rattle.codes.specs.ExportCodes.{decoded_export, export_words}
+use Rattle.codes.specs.ExportCodes.{DecodedExport, decoded_export, export_words}
 use Rattle.codes.specs.Words.{Roomy, ExportRoomy}
 use Rattle.replay.specs.declared.stops.Stop.{Stop}
 use Rattle.replay.specs.declared.stops.Stop.TheVariants as stop
@@ -106,20 +103,20 @@ abbrev asked_step : ExportOp → Places → Asked
 asked_step o w = record { request = exporting (export_step_in o w); wants = w }
 
 module _ (k : Code) {d : Decoded} (m : Places) (n : ℕ) (j : k.kind < 11) (e : d ≡ decoded m k) where
-  job_none : d ≡ decoding.Meaningless → asked m n k ≡ none
+  job_none : d ≡ None → asked m n k ≡ none
   unfolding asked
   job_none u = rw (less_yes j) (ap asked_job (sym e ∙ u))
 
-  job_some : {o : Op} {p q s : ℕ} → d ≡ decoding.Meant o p q s → asked m n k ≡ some (asked_op o (places p q s))
+  job_some : {o : Op} {w : PlaceCounts} → d ≡ Some (o, w) → asked m n k ≡ some (asked_op o (counted_places w))
   unfolding asked
   job_some u = rw (less_yes j) (ap asked_job (sym e ∙ u))
 
 module _ (k : Code) {d : DecodedExport} (m : Places) (n : ℕ) (j : 11 ≤ k.kind) (e : d ≡ decoded_export m n k) where
-  export_none : d ≡ export_decoding.Meaningless → asked m n k ≡ none
+  export_none : d ≡ None → asked m n k ≡ none
   unfolding asked
   export_none u = rw (less_no j) (ap asked_export (sym e ∙ u))
 
-  export_some : {o : ExportOp} {p q s : ℕ} → d ≡ export_decoding.Meant o p q s → asked m n k ≡ some (asked_step o (places p q s))
+  export_some : {o : ExportOp} {w : PlaceCounts} → d ≡ Some (o, w) → asked m n k ≡ some (asked_step o (counted_places w))
   unfolding asked
   export_some u = rw (less_no j) (ap asked_export (sym e ∙ u))
 
@@ -212,24 +209,24 @@ code_taken {h} {h'} {k} {s} {s'} {out} {out'} {at} {j} q e f r n w b p =
 module _ {l : Lent} {g : Logs} {c : Core} (k : Code) {d : Decoded} (b : Buffers) (out : List ℕ) (at : ℕ) (ready : Ready l g c) (i : at ≤ length out) (small : k.kind < 11)
     (e : d ≡ decoded (places_of b) k)
   where
-    pub job_unmeant : d ≡ decoding.Meaningless → (xs : ExportedRows) (x : Export) (bs : List ℕ) → ExportHeld x
+    pub job_unmeant : d ≡ None → (xs : ExportedRows) (x : Export) (bs : List ℕ) → ExportHeld x
         → TakesCode (whole l g c xs x) k (space b bs) out at (whole l g c xs x) (space b bs) out at stop.Meaningless
     job_unmeant u xs x bs h =
         code_unmeant (space b bs) out at (record { engine = ready; export = h }) i (job_none k (places_of b) (length bs) small e u)
 
-    module _ {o : Op} {m n q : ℕ} (u : d ≡ decoding.Meant o m n q) where
-      pub job_full : length out - at < longest_answer (places m n q) → (xs : ExportedRows) (x : Export) (bs : List ℕ) → ExportHeld x
+    module _ {o : Op} {w : PlaceCounts} (u : d ≡ Some (o, w)) where
+      pub job_full : length out - at < longest_answer (counted_places w) → (xs : ExportedRows) (x : Export) (bs : List ℕ) → ExportHeld x
           → TakesCode (whole l g c xs x) k (space b bs) out at (whole l g c xs x) (space b bs) out at stop.Full
       job_full f xs x bs h =
-          code_full (space b bs) out at (record { engine = ready; export = h }) i (asked_op o (places m n q)) (job_some k (places_of b) (length bs) small e u) f
+          code_full (space b bs) out at (record { engine = ready; export = h }) i (asked_op o (counted_places w)) (job_some k (places_of b) (length bs) small e u) f
 
-      module _ {l' : Lent} {g' : Logs} {b' : Buffers} (p : Performed) (f : longest_answer (places m n q) ≤ length out - at)
-          (z : PerformsFirst l g c o (places m n q) b l' g' b' p)
+      module _ {l' : Lent} {g' : Logs} {b' : Buffers} (p : Performed) (f : longest_answer (counted_places w) ≤ length out - at)
+          (z : PerformsFirst l g c o (counted_places w) b l' g' b' p)
         where
           -- room for the reply
           pub job_roomy : Roomy p.reply b' out at
           job_roomy =
-              let v = places m n q in
+              let v = counted_places w in
               let n = meant_lends (places_of b) k e u in
               let y = performs_with n z in
               record { places = places_kept b b' (places_left v b y.few n) y.beyond; words = room_left v out y.few i f }
@@ -237,8 +234,8 @@ module _ {l : Lent} {g : Logs} {c : Core} (k : Code) {d : Decoded} (b : Buffers)
           pub job_taken : {out' : List ℕ} {j : ℕ} → Wrote out at (words_of (reply_in p.reply b')) out' j → (xs : ExportedRows) (x : Export) (bs : List ℕ) → ExportHeld x
               → TakesCode (whole l g c xs x) k (space b bs) out at (whole l' g' p.core xs x) (space b' bs) out' j stop.Complete
           unfolding exchange next_of told_words shown_by filed_by
-          job_taken {out'} {j} w xs x bs h =
-              let v = places m n q in
+          job_taken {out'} {j} wrote xs x bs h =
+              let v = counted_places w in
               let lends = meant_lends (places_of b) k e u in
               let y = performs_with lends z in
               let σ = state_of l g c in
@@ -246,7 +243,7 @@ module _ {l : Lent} {g : Logs} {c : Core} (k : Code) {d : Decoded} (b : Buffers)
               code_taken (asked_op o v) (job_some k (places_of b) (length bs) small e u) f
               (record { engine = y.refines.ready; export = h })
               (λ i. record { state = y.refines.state i; export = export_in xs x })
-              (subst (λ (r : Answer). Wrote out at (words_of r) out' j) a w)
+              (subst (λ (r : Answer). Wrote out at (words_of r) out' j) a wrote)
               (subst (λ (r : Answer). SpaceBecomes (job_told (record { step = step_in o v; answer = r }) ∷ []) (space b bs) (space b' bs)) a
               (space_shown (job_told (record { step = step_in o v; answer = reply_in p.reply b' })) (space b bs) (space b' bs) _ 0
               (reply_shown p.reply b') refl (places_left v b y.few lends) y.beyond zero-le (unmoved_refl 0 bs)))
@@ -279,24 +276,24 @@ module _ {rs : List (Row Record)} {xs xs' : ExportedRows} {x : Export} {s s' : S
 module _ (k : Code) {d : DecodedExport} {xs : ExportedRows} {x : Export} (rs : List (Row Record)) (s : Space) (out : List ℕ) (at : ℕ) (held : ExportHeld x) (i : at ≤ length out)
     (large : 11 ≤ k.kind) (e : d ≡ decoded_export (places_of s.portion) (length s.bytes) k)
   where
-    pub export_unmeant : d ≡ export_decoding.Meaningless → (l : Lent) (g : Logs) (c : Core) → Ready l g c → contents (map_of l c.sizes) ≡ rs
+    pub export_unmeant : d ≡ None → (l : Lent) (g : Logs) (c : Core) → Ready l g c → contents (map_of l c.sizes) ≡ rs
         → TakesCode (whole l g c xs x) k s out at (whole l g c xs x) s out at stop.Meaningless
     export_unmeant u l g c r q =
         code_unmeant s out at (record { engine = r; export = held }) i (export_none k (places_of s.portion) (length s.bytes) large e u)
 
-    module _ {o : ExportOp} {m n q : ℕ} (u : d ≡ export_decoding.Meant o m n q) where
-      pub export_full : length out - at < longest_answer (places m n q) → (l : Lent) (g : Logs) (c : Core) → Ready l g c → contents (map_of l c.sizes) ≡ rs
+    module _ {o : ExportOp} {w : PlaceCounts} (u : d ≡ Some (o, w)) where
+      pub export_full : length out - at < longest_answer (counted_places w) → (l : Lent) (g : Logs) (c : Core) → Ready l g c → contents (map_of l c.sizes) ≡ rs
           → TakesCode (whole l g c xs x) k s out at (whole l g c xs x) s out at stop.Full
       export_full f l g c r z =
-          code_full s out at (record { engine = r; export = held }) i (asked_step o (places m n q)) (export_some k (places_of s.portion) (length s.bytes) large e u) f
+          code_full s out at (record { engine = r; export = held }) i (asked_step o (counted_places w)) (export_some k (places_of s.portion) (length s.bytes) large e u) f
 
-      module _ {xs' : ExportedRows} {s' : Space} (p : ExportDone) (f : longest_answer (places m n q) ≤ length out - at) (lends : LendsTo s o (places m n q))
-          (z : ExportStepped rs (export_step_in o (places m n q)) xs x s xs' p s')
+      module _ {xs' : ExportedRows} {s' : Space} (p : ExportDone) (f : longest_answer (counted_places w) ≤ length out - at) (lends : LendsTo s o (counted_places w))
+          (z : ExportStepped rs (export_step_in o (counted_places w)) xs x s xs' p s')
         where
           -- room for the answer
           pub export_roomy : ExportRoomy p.answer s'.portion out at
           export_roomy =
-              let v = places m n q in
+              let v = counted_places w in
               let few = few_places o v z in
               record { places = places_kept s.portion s'.portion (places_left v s.portion few lends.places) z.places; words = room_left v out few i f }
 
@@ -311,8 +308,8 @@ module _ (k : Code) {d : DecodedExport} {xs : ExportedRows} {x : Export} (rs : L
               → (l : Lent) (g : Logs) (c : Core) → Ready l g c → contents (map_of l c.sizes) ≡ rs
               → TakesCode (whole l g c xs x) k s out at (whole l g c xs' p.export) s' out' j stop.Complete
           unfolding exchange next_of told_words shown_by filed_by
-          export_taken {out'} {j} w l g c r same =
-              let v = places m n q in
+          export_taken {out'} {j} wrote l g c r same =
+              let v = counted_places w in
               let t = export_step_in o v in
               let now : rs ≡ contents (state_of l g c).map = sym (ap contents (map_in l g c) ∙ same) in
               let a : export_answer_in p.answer s' ≡ export_answer (contents (state_of l g c).map) (export_in xs x) t
@@ -322,7 +319,7 @@ module _ (k : Code) {d : DecodedExport} {xs : ExportedRows} {x : Export} (rs : L
               code_taken (asked_step o v) (export_some k (places_of s.portion) (length s.bytes) large e u) f
               (record { engine = r; export = z.held })
               (λ i. record { state = state_of l g c; export = next i })
-              (subst (λ (y : ModelAnswer). Wrote out at (export_words y) out' j) a (w s'.bytes bytes_left))
+              (subst (λ (y : ModelAnswer). Wrote out at (export_words y) out' j) a (wrote s'.bytes bytes_left))
               (subst (λ (y : ModelAnswer). SpaceBecomes (export_told t y ∷ []) s s') a
               (space_shown (export_told t (export_answer_in p.answer s')) s s' _ _ (export_shown p.answer s') (export_filed p.answer s')
               (places_left v s.portion (few_places o v z) lends.places) z.places (few_bytes o lends z) z.bytes))

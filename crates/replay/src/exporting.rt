@@ -15,7 +15,7 @@ ghost use Rattle.replay.specs.RunLaws.{TakesCode};
 
 use crate::stops;
 use crate::stops::{After, Stop};
-use codes::decodes::DecodedExport;
+use buffers::Places;
 use codes::{Code, decodes, words};
 use exports::{Export, Exported, ops};
 use map::{Records, Slots};
@@ -47,17 +47,21 @@ pub fn take_export(
         (whole l g c exported.new x.new)
         (space (buffers addresses.new values.new owners.new) bytes.new) out.new result.at result.stop }
 {
-    let d = decodes::decode_export(k, addresses.len(), values.len(), owners.len(), bytes.len());
-    match d {
-        DecodedExport::Meant(op, m, n, q) => {
-            if !stops::fits(out.len() - at, m, n, q) {
+    let lent = Places {
+        addresses: addresses.len(),
+        values: values.len(),
+        owners: owners.len(),
+    };
+    match decodes::decode_export(k, lent, bytes.len()) {
+        Some((op, wanted)) => {
+            if !stops::fits(out.len() - at, wanted) {
                 return After {
                     at,
                     stop: Stop::Full,
                 };
             }
             let p = ops::perform_export(
-                addresses, values, owners, bytes, exported, rows, slots, count, *x, op, m, n, q,
+                addresses, values, owners, bytes, exported, rows, slots, count, *x, op, wanted,
             );
             *x = p.export;
             After {
@@ -65,7 +69,7 @@ pub fn take_export(
                 stop: Stop::Complete,
             }
         }
-        DecodedExport::Meaningless => After {
+        None => After {
             at,
             stop: Stop::Meaningless,
         },

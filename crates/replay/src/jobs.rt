@@ -11,7 +11,7 @@ ghost use Rattle.replay.specs.RunLaws.{TakesCode};
 
 use crate::stops::{After, Stop};
 use crate::{parts, stops};
-use codes::decodes::Decoded;
+use buffers::Places;
 use codes::{Code, decodes, words};
 use map::{Leaves, Records, Slots};
 use sets::{LeafSets, ReadSets, WriteSets};
@@ -46,10 +46,14 @@ pub fn take_job(
         (logs reads.new leafsets.new writes.new) (core_of workers.new c.new) xs x)
         (space (buffers addresses.new values.new owners.new) bs) out.new result.at result.stop }
 {
-    let d = decodes::decode(k, addresses.len(), values.len(), owners.len());
-    match d {
-        Decoded::Meant(op, m, n, q) => {
-            if !stops::fits(out.len() - at, m, n, q) {
+    let lent = Places {
+        addresses: addresses.len(),
+        values: values.len(),
+        owners: owners.len(),
+    };
+    match decodes::decode(k, lent) {
+        Some((op, wanted)) => {
+            if !stops::fits(out.len() - at, wanted) {
                 return After {
                     at,
                     stop: Stop::Full,
@@ -57,14 +61,14 @@ pub fn take_job(
             }
             let reply = parts::perform_first(
                 addresses, values, owners, rows, leaves, slots, reads, leafsets, writes, workers,
-                c, op, m, n, q,
+                c, op, wanted,
             );
             After {
                 at: words::put_answer_words(out, at, addresses, values, owners, reply),
                 stop: Stop::Complete,
             }
         }
-        Decoded::Meaningless => After {
+        None => After {
             at,
             stop: Stop::Meaningless,
         },

@@ -1,12 +1,12 @@
 // A step with a part of the lent scan buffers.
-ghost use Rattle.spec.specs.Steps.{places};
 ghost use Rattle.map.specs.Views.{lent};
 ghost use Rattle.transactions.specs.Views.{logs, core_of};
 ghost use Rattle.transactions.specs.Ready.{Ready};
-ghost use Rattle.buffers.specs.Buffers.{buffers, places_of, Lends};
+ghost use Rattle.buffers.specs.Buffers.{buffers, places_of, counted_places, Lends};
 ghost use Rattle.engine.specs.Performs.{performed_of};
 ghost use Rattle.replay.specs.CodedSteps.{PerformsFirst};
 
+use buffers::Places;
 use engine::steps;
 use engine::steps::{Op, Reply};
 use map::{Leaves, Records, Slots};
@@ -15,8 +15,7 @@ use spec::Address;
 use transactions::Globals;
 use workers::Workers;
 
-// Performs a step with the first m places of the address buffer, the first n of the value buffer and the first q of the owner
-// buffer.
+// Performs a step with the first places of the buffers, as many of each as it wants.
 pub fn perform_first(
     addresses: &mut [Address],
     values: &mut [u64],
@@ -30,22 +29,20 @@ pub fn perform_first(
     workers: &mut Workers,
     c: &mut Globals,
     op: Op,
-    m: usize,
-    n: usize,
-    q: usize,
+    wanted: Places,
 ) -> Reply
     requires ready { Ready (lent rows.old leaves.old slots.old) (logs reads.old leafsets.old writes.old) (core_of workers.old c.old) }
-    requires lends { Lends (places_of (buffers addresses.old values.old owners.old)) (places m n q) }
+    requires lends { Lends (places_of (buffers addresses.old values.old owners.old)) (counted_places wanted) }
     ensures { PerformsFirst (lent rows.old leaves.old slots.old)
-        (logs reads.old leafsets.old writes.old) (core_of workers.old c.old) op (places m n q)
+        (logs reads.old leafsets.old writes.old) (core_of workers.old c.old) op (counted_places wanted)
         (buffers addresses.old values.old owners.old)
         (lent rows.new leaves.new slots.new) (logs reads.new leafsets.new writes.new)
         (buffers addresses.new values.new owners.new) (performed_of workers.new c.new result) }
 {
     steps::perform(
-        &mut addresses[..m],
-        &mut values[..n],
-        &mut owners[..q],
+        &mut addresses[..wanted.addresses],
+        &mut values[..wanted.values],
+        &mut owners[..wanted.owners],
         rows,
         leaves,
         slots,

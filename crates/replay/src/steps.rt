@@ -6,7 +6,7 @@ ghost use Rattle.buffers.specs.Buffers.{buffers};
 ghost use Rattle.replay.specs.CodedSteps.{step_end_of, CodedStep};
 
 use crate::parts;
-use codes::decodes::Decoded;
+use buffers::Places;
 use codes::{Code, Coded, decodes, words};
 use map::{Leaves, Records, Slots};
 use sets::{LeafSets, ReadSets, WriteSets};
@@ -37,15 +37,19 @@ pub fn step(
         (lent rows.new leaves.new slots.new) (logs reads.new leafsets.new writes.new)
         (buffers addresses.new values.new owners.new) (step_end_of workers.new c.new result) }
 {
-    let d = decodes::decode(k, addresses.len(), values.len(), owners.len());
-    match d {
-        Decoded::Meant(op, m, n, q) => {
+    let lent = Places {
+        addresses: addresses.len(),
+        values: values.len(),
+        owners: owners.len(),
+    };
+    match decodes::decode(k, lent) {
+        Some((op, wanted)) => {
             let reply = parts::perform_first(
                 addresses, values, owners, rows, leaves, slots, reads, leafsets, writes, workers,
-                c, op, m, n, q,
+                c, op, wanted,
             );
             words::encode(reply)
         }
-        Decoded::Meaningless => words::no_meaning(),
+        None => words::no_meaning(),
     }
 }

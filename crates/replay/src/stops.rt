@@ -1,8 +1,10 @@
 // Why a run takes no more steps.
 ghost use Rattle.std.specs.Prelude.{◌≡◌, not};
 ghost use Rattle.lists.specs.Tests.{less};
-ghost use Rattle.spec.specs.Steps.{places};
+ghost use Rattle.buffers.specs.Buffers.{counted_places};
 ghost use Rattle.replay.specs.Replays.{longest_answer};
+
+use buffers::Places;
 
 // There are none; a code has no meaning; the answer buffer has no room for its longest answer.
 #[derive(Clone, Copy)]
@@ -19,19 +21,14 @@ pub struct After {
     pub stop: Stop,
 }
 
-// There is room for the longest answer of a step that wants m, n and q places: one of these numbers is small enough.
-pub fn fits(room: usize, m: usize, n: usize, q: usize) -> bool
-    ensures { result ≡ not (less room (longest_answer (places m n q))) }
+// There is room for the longest answer of a step that wants so many places: the least of these numbers is small enough.
+pub fn fits(room: usize, wanted: Places) -> bool
+    ensures { result ≡ not (less room (longest_answer (counted_places wanted))) }
 {
     if room < 5 {
         return false;
     }
     let third = (room - 5) / 3;
-    if m <= third {
-        return true;
-    }
-    if n <= third {
-        return true;
-    }
-    q <= third
+    let least = wanted.addresses.min(wanted.values).min(wanted.owners);
+    least <= third
 }

@@ -1,5 +1,5 @@
 -- From what the Rattle functions promise to what the entries promise.
-use Rattle.std.specs.Prelude.{ℕ, ◌%◌, ◌≡◌, refl, true, false, List, [], ◌∷◌}
+use Rattle.std.specs.Prelude.{ℕ, ◌%◌, ◌≡◌, refl, true, false, List, [], ◌∷◌, Some, None}
 use Rattle.std.proofs.Common.{sym, ap, ◌∙◌}
 use Rattle.std.proofs.Math.Path.{subst}
 use Rattle.std.proofs.Math.Option.{Option, none, some}
@@ -23,15 +23,13 @@ use Rattle.transactions.specs.declared.Globals.{Globals}
 use Rattle.transactions.specs.Views.{Logs, core_of}
 use Rattle.transactions.specs.Ready.{Ready}
 use Rattle.transactions.specs.Starts.{Fresh}
-use Rattle.buffers.specs.Buffers.{Buffers, places_of}
+use Rattle.buffers.specs.Buffers.{counted_places, Buffers, places_of}
 use Rattle.exports.specs.declared.Export.{Export}
 use Rattle.exports.specs.declared.ExportDone.{ExportDone}
 use Rattle.exports.specs.Exporting.{ExportedRows, export_in, ExportHeld, Space, ExportStepped}
 use Rattle.codes.specs.declared.Code.{Code}
 use Rattle.codes.specs.declared.Coded.{Coded}
-use Rattle.codes.specs.declared.decodes.Decoded.{Decoded}
-use Rattle.codes.specs.declared.decodes.Decoded.TheVariants.{Meant, Meaningless}
-use Rattle.codes.specs.Codes.{decoded}
+use Rattle.codes.specs.Codes.{Decoded, decoded}
 use Rattle.replay.specs.declared.runs.Replayed.{Replayed}
 use Rattle.replay.specs.CodedSteps.{StepEnd, step_end_of, CodedStep}
 use Rattle.replay.specs.Replays.{replay_end_of, Replays}
@@ -53,8 +51,8 @@ ready_loaded {l} {g} workers globals e h = subst (λ (x : Globals). Ready l g (c
 
 module _ {l l' : Lent} {g g' : Logs} {c : Core} {k : Code} {b b' : Buffers} {r : StepEnd} (h : Ready l g c) (s : CodedStep l g c k b l' g' b' r) where
   ready_by : (d : Decoded) → decoded (places_of b) k ≡ d → Ready l' g' r.core
-  ready_by (Meant o m n q) e = (s.meant o (places m n q) e).performs.performs.refines.ready
-  ready_by Meaningless e =
+  ready_by (Some (o, w)) e = (s.meant o (counted_places w) e).performs.performs.refines.ready
+  ready_by None e =
       let u = s.meaningless e in
       subst (λ (x : StepEnd). Ready l' g' x.core) (sym u.outcome)
       (subst (λ (y : Logs). Ready l' y c) (sym u.logs) (subst (λ (x : Lent). Ready x g c) (sym u.map) h))

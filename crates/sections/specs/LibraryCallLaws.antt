@@ -1,5 +1,5 @@
 -- Any calls of the library from a fresh map: they are a serial run, and what requests 101, 102, 103 and 107 say holds of them.
-use Rattle.std.specs.Prelude.{ℕ, ◌≤◌, ◌≡◌, true, false}
+use Rattle.std.specs.Prelude.{ℕ, ◌≤◌, ◌≡◌, true, false, None}
 use Rattle.std.proofs.Math.Path.{refl, sym, ap}
 use Rattle.std.proofs.Common.{◌∙◌, subst}
 use mathlib.Core.List.{List, [], ◌∷◌, ◌++◌}
@@ -27,7 +27,6 @@ use Rattle.calls.proofs.ExaminedCalls.{reached_some}
 use Rattle.engine.specs.declared.steps.Op.{Op}
 use Rattle.engine.specs.Performs.{step_in}
 use Rattle.codes.specs.declared.Code.{Code}
-use Rattle.codes.specs.declared.decodes.Decoded.TheVariants.{Meaningless}
 use Rattle.codes.specs.Codes.{meant_with, decoded}
 use Rattle.codes.specs.CodeLaws.{meant_lends}
 use Rattle.replay.specs.PartLaws.{performs_with}
@@ -70,7 +69,7 @@ module _ (a : Library) {l : Lent} {g : Logs} {workers globals answer : List ℕ}
         = λ i. record { state = y.refines.state i; export = export_in a.exported (saved_export a.export) } in
         told_next q (λ t bs p. job_no_file (read_of a) (step_in o w) t bs (q ∙ p)) (subst (λ (η : Exporting). Tells η h ζ) n t)
 
-    void_same : decoded (places_of b) k ≡ Meaningless → read_of stepped ≡ read_of a
+    void_same : decoded (places_of b) k ≡ None → read_of stepped ≡ read_of a
     void_same e =
         let u = s.step.meaningless e in
         λ i. record { state = state_of (u.map i) (u.logs i) (u.outcome i).core; export = export_in a.exported (saved_export a.export) }

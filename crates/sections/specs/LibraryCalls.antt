@@ -1,7 +1,7 @@
 -- Calls of the library, one after the other, by any caller: each keeps the promise of its entry (`StepEntry`, `ExportEntry`), on
 -- what the call before it left. Each has a step of its own, and buffers and bytes of its own, of any lengths and with any
 -- contents. What was called and what was answered is their history; it has no call of a step with no meaning.
-use Rattle.std.specs.Prelude.{ℕ, ◌≡◌, List, [], ◌∷◌, Result}
+use Rattle.std.specs.Prelude.{ℕ, ◌≡◌, List, [], ◌∷◌, Result, None}
 use Rattle.spec.specs.Records.{Made}
 use Rattle.spec.specs.Steps.{Places, fresh}
 use Rattle.spec.specs.Claim.{SerialRun}
@@ -16,7 +16,6 @@ use Rattle.spec.specs.declared.Refusal.{Refusal}
 use Rattle.engine.specs.declared.steps.Told.{Told}
 use Rattle.engine.specs.Performs.{step_in, reply_in}
 use Rattle.codes.specs.declared.Code.{Code}
-use Rattle.codes.specs.declared.decodes.Decoded.TheVariants.{Meaningless}
 use Rattle.codes.specs.Codes.{meant_with, decoded}
 use Rattle.replay.specs.ToldExports.{requests_of}
 use Rattle.replay.specs.Replays.{Whole, whole, exporting_in, WholeReady, run_of}
@@ -66,7 +65,7 @@ pub data LibraryCalls : Library → List Exchange → Library → Type 0 where
       → LibraryCalls a (step_told o w b' (s.step.meant o w e).reply ∷ h) z
   -- one that means nothing
   void_call : {a z : Library} {l : Lent} {g : Logs} {workers globals answer : List ℕ} {b b' : Buffers} {k : Code} {h : List Exchange}
-      → decoded (places_of b) k ≡ Meaningless → StepEntry a.map a.logs a.workers a.globals k b l g workers globals b' answer
+      → decoded (places_of b) k ≡ None → StepEntry a.map a.logs a.workers a.globals k b l g workers globals b' answer
       → LibraryCalls (library l g workers globals a.exported a.export) h z → LibraryCalls a h z
   -- a step of the export
   export_call : {a z : Library} {rows : ExportedRows} {words told : List ℕ} {h : List Exchange} (step : ExportStep) (s s' : Space)

@@ -9,16 +9,16 @@ use Rattle.std.specs.Prelude.{not}
 use Rattle.std.proofs.Math.Path.{ap}
 
 pub returns-then-not-fits : goal.returns-then-not-fits
-returns-then-not-fits c = job_full _ _ _ _ c.requires.ready c.requires.at_in_bounds.0 c.requires.at_in_bounds.1 c.decode-d.ensures c.in-Meant.is (fits_no _ _ c.fits.ensures (ap not c.if-not-fits.true))
+returns-then-not-fits c = job_full _ _ _ _ c.requires.ready c.requires.at_in_bounds.0 c.requires.at_in_bounds.1 c.decode.ensures c.in-Some.is (fits_no _ _ c.fits.ensures (ap not c.if-not-fits.true))
 
 pub perform_first-reply-requires-clause-lends : goal.perform_first-reply-requires-clause-lends
-perform_first-reply-requires-clause-lends c = meant_lends _ _ c.decode-d.ensures c.in-Meant.is
+perform_first-reply-requires-clause-lends c = meant_lends _ _ c.decode.ensures c.in-Some.is
 
 pub put_answer_words-requires : goal.put_answer_words-requires
-put_answer_words-requires c = job_roomy _ _ _ _ c.requires.ready c.requires.at_in_bounds.0 c.requires.at_in_bounds.1 c.decode-d.ensures c.in-Meant.is (performed_of _ _ c.perform_first-reply.result) (fits_yes _ _ c.fits.ensures (ap not c.if-not-fits.false)) c.perform_first-reply.ensures
+put_answer_words-requires c = job_roomy _ _ _ _ c.requires.ready c.requires.at_in_bounds.0 c.requires.at_in_bounds.1 c.decode.ensures c.in-Some.is (performed_of _ _ c.perform_first-reply.result) (fits_yes _ _ c.fits.ensures (ap not c.if-not-fits.false)) c.perform_first-reply.ensures
 
 pub returns-else-not-fits : goal.returns-else-not-fits
-returns-else-not-fits c = job_taken _ _ _ _ c.requires.ready c.requires.at_in_bounds.0 c.requires.at_in_bounds.1 c.decode-d.ensures c.in-Meant.is (performed_of _ _ c.perform_first-reply.result) (fits_yes _ _ c.fits.ensures (ap not c.if-not-fits.false)) c.perform_first-reply.ensures c.put_answer_words.ensures
+returns-else-not-fits c = job_taken _ _ _ _ c.requires.ready c.requires.at_in_bounds.0 c.requires.at_in_bounds.1 c.decode.ensures c.in-Some.is (performed_of _ _ c.perform_first-reply.result) (fits_yes _ _ c.fits.ensures (ap not c.if-not-fits.false)) c.perform_first-reply.ensures c.put_answer_words.ensures
 
-pub returns-in-Meaningless : goal.returns-in-Meaningless
-returns-in-Meaningless c = job_unmeant _ _ _ _ c.requires.ready c.requires.at_in_bounds.0 c.requires.at_in_bounds.1 c.decode-d.ensures c.in-Meaningless.is
+pub returns-in-None : goal.returns-in-None
+returns-in-None c = job_unmeant _ _ _ _ c.requires.ready c.requires.at_in_bounds.0 c.requires.at_in_bounds.1 c.decode.ensures c.in-None.is

@@ -45,12 +45,14 @@ struct Taken {
 }
 
 // A payload in words, as a read tells it: of the word for the owner, the lowest 16 bits.
-fn told(p: PayloadWords) -> ReadValue
-    ensures { result ≡ told p }
-{
-    ReadValue {
-        value: p.value,
-        owner: (p.owner % OWNERS) as u16,
+impl From<PayloadWords> for ReadValue {
+    ghost from_gives = { λ p v. v ≡ told p };
+
+    fn from(p: PayloadWords) -> ReadValue {
+        ReadValue {
+            value: p.value,
+            owner: (p.owner % OWNERS) as u16,
+        }
     }
 }
 
@@ -59,7 +61,7 @@ fn shown(seen: Option<RecordWords>) -> Option<ReadValue>
     ensures { value_in result ≡ payload_of (record_in seen) }
 {
     match seen {
-        Some(r) => Some(told(r.payload)),
+        Some(r) => Some(r.payload.into()),
         None => None,
     }
 }
@@ -69,7 +71,7 @@ fn own(write: Write) -> Found
     ensures { found_by result ≡ found (own_view (edit_in write)) 0 }
 {
     let value = match write {
-        Write::Put(p) => Some(told(p)),
+        Write::Put(p) => Some(p.into()),
         Write::Deletion => None,
     };
     Found { value, examined: 0 }

@@ -192,45 +192,6 @@ module _ {A : Type 0} where
         let e : length (take n (drop from xs)) ≡ n = length_part xs from n h in
         get_or_over_in xs to (take n (drop from xs)) (omega arith) y d (omega arith) ∙ get_or-take n (drop from xs) y d l ∙ get_or-drop from xs y d
 
-  moved_none : (xs : List A) (from to : ℕ) → moved xs from to 0 ≡ xs
-  unfolding moved
-  moved_none xs from to = over_nil xs to
-
-  -- from the last element on, to higher places: with the elements after the first i moved, the i-th goes next
-  moved_up : (xs : List A) (from to n i : ℕ) (d : A) → from ≤ to → to + n ≤ length xs → i < n
-      → set (moved xs (from + suc i) (to + suc i) (n - suc i)) (to + i) (get_or (moved xs (from + suc i) (to + suc i) (n - suc i)) (from + i) d)
-      ≡ moved xs (from + i) (to + i) (n - i)
-  unfolding moved
-  moved_up xs from to n i d h j l =
-      let ys : List A = take (n - suc i) (drop (from + suc i) xs) in
-      let e : length ys ≡ n - suc i = length_part xs (from + suc i) (n - suc i) (omega arith) in
-      let f : to + suc i ≡ suc (to + i) = omega arith in
-      let g : from + suc i ≡ suc (from + i) = omega arith in
-      let m : n - i ≡ suc (n - suc i) = omega arith in
-      let x : get_or (over xs (to + suc i) ys) (from + i) d ≡ get_or xs (from + i) d = get_or_over_left xs (to + suc i) ys (omega arith) (from + i) d (omega arith) in
-      ap (λ (z : A). set (over xs (to + suc i) ys) (to + i) z) x
-      ∙ ap (λ (k : ℕ). set (over xs k ys) (to + i) (get_or xs (from + i) d)) f
-      ∙ over_cons xs (to + i) (get_or xs (from + i) d) ys (omega arith)
-      ∙ ap (over xs (to + i))
-      (ap (λ (k : ℕ). get_or xs (from + i) d ∷ take (n - suc i) (drop k xs)) g
-      ∙ ap (take (suc (n - suc i))) (sym (drop-cons xs (from + i) d (omega arith)))
-      ∙ ap (λ (k : ℕ). take k (drop (from + i) xs)) (sym m))
-
-  -- from the first element on, to lower places
-  moved_down : (xs : List A) (from to i : ℕ) (d : A) → to ≤ from → from + i < length xs
-      → set (moved xs from to i) (to + i) (get_or (moved xs from to i) (from + i) d) ≡ moved xs from to (suc i)
-  unfolding moved
-  moved_down xs from to i d h j =
-      let ys : List A = take i (drop from xs) in
-      let e : length ys ≡ i = length_part xs from i (omega arith) in
-      let x : get_or (over xs to ys) (from + i) d ≡ get_or xs (from + i) d = get_or_over_right xs to ys (omega arith) (from + i) d (omega arith) in
-      let l : length (drop from xs) ≡ length xs - from = length-drop from xs in
-      ap (λ (z : A). set (over xs to ys) (to + i) z) x
-      ∙ ap (λ (k : ℕ). set (over xs to ys) (to + k) (get_or xs (from + i) d)) (sym e)
-      ∙ over_snoc xs to ys (get_or xs (from + i) d) (omega arith)
-      ∙ ap (λ (z : A). over xs to (ys ++ (z ∷ []))) (sym (get_or-drop from xs i d))
-      ∙ ap (over xs to) (sym (take-suc (drop from xs) i d (omega arith)))
-
   -- ---- filling
 
   pub filled_on : (xs : List A) (at : ℕ) (f : ℕ → A) (i : ℕ) → at + i < length xs → set (over xs at (tab f i)) (at + i) (f i) ≡ over xs at (tab f (suc i))
@@ -250,17 +211,7 @@ module _ {A : Type 0} where
       ∙ over_cons xs at (f 0) (tab g n) (omega arith)
       ∙ ap (over xs at) (sym (tab_cons f g n w))
 
--- ---- the two loops that shift, and the loop that fills
-
--- n elements go from `from` to the higher place `to`, the last one first; i are left
-pub record Raising {A : Type 0} (xs cur : List A) (from to n i : ℕ) : Type 0 where
-  pub left : i ≤ n
-  pub done : cur ≡ moved xs (from + i) (to + i) (n - i)
-
--- they go to the lower place `to`, the first one first; i are there
-pub record Lowering {A : Type 0} (xs cur : List A) (from to n i : ℕ) : Type 0 where
-  pub there : i ≤ n
-  pub done : cur ≡ moved xs from to i
+-- ---- the loop that fills
 
 -- the places from `at` on get the values of f; i have theirs
 pub record Filling {A : Type 0} (xs cur : List A) (at : ℕ) (f : ℕ → A) (n i : ℕ) : Type 0 where
@@ -268,52 +219,6 @@ pub record Filling {A : Type 0} (xs cur : List A) (at : ℕ) (f : ℕ → A) (n 
   pub done : cur ≡ over xs at (tab f i)
 
 module _ {A : Type 0} where
-  pub raising_start : (xs : List A) (from to n : ℕ) → Raising xs xs from to n n
-  raising_start xs from to n =
-      let e : n - n ≡ 0 = omega arith in
-      record { left = le_refl n; done = sym (ap (moved xs (from + n) (to + n)) e ∙ moved_none xs (from + n) (to + n)) }
-
-  pub raising_on : {xs cur : List A} {from to n i : ℕ} (cur' : List A) (d : A) → from ≤ to → to + n ≤ length xs → 0 < i
-      → Raising xs cur from to n i → cur' ≡ set cur (to + (i - 1)) (get_or cur (from + (i - 1)) d) → Raising xs cur' from to n (i - 1)
-  raising_on {xs} {cur} {from} {to} {n} {i} cur' d h j p r e =
-      let q : suc (i - 1) ≡ i = omega arith in
-      record {
-        left = let l : i ≤ n = r.left in omega arith;
-        done =
-            e
-            ∙ ap (λ (zs : List A). set zs (to + (i - 1)) (get_or zs (from + (i - 1)) d))
-            (r.done ∙ ap (λ (k : ℕ). moved xs (from + k) (to + k) (n - k)) (sym q))
-            ∙ moved_up xs from to n (i - 1) d h j (let l : i ≤ n = r.left in omega arith);
-      }
-
-  pub raising_end : {xs cur : List A} {from to n i : ℕ} → Raising xs cur from to n i → i ≤ 0 → cur ≡ moved xs from to n
-  raising_end {xs} {cur} {from} {to} {n} {i} r h =
-      let z : i ≡ 0 = omega arith in
-      let f : from + 0 ≡ from = omega arith in
-      let t : to + 0 ≡ to = omega arith in
-      let m : n - 0 ≡ n = omega arith in
-      r.done ∙ ap (λ (k : ℕ). moved xs (from + k) (to + k) (n - k)) z
-      ∙ ap (λ (k : ℕ). moved xs k (to + 0) (n - 0)) f ∙ ap (λ (k : ℕ). moved xs from k (n - 0)) t ∙ ap (moved xs from to) m
-
-  pub lowering_start : (xs : List A) (from to n : ℕ) → Lowering xs xs from to n 0
-  lowering_start xs from to n = record { there = zero-le; done = sym (moved_none xs from to) }
-
-  pub lowering_on : {xs cur : List A} {from to n i : ℕ} (cur' : List A) (d : A) → to ≤ from → from + n ≤ length xs → i < n
-      → Lowering xs cur from to n i → cur' ≡ set cur (to + i) (get_or cur (from + i) d) → Lowering xs cur' from to n (i + 1)
-  lowering_on {xs} {cur} {from} {to} {n} {i} cur' d h j p r e =
-      let q : suc i ≡ i + 1 = omega arith in
-      record {
-        there = omega arith;
-        done =
-            e ∙ ap (λ (zs : List A). set zs (to + i) (get_or zs (from + i) d)) r.done
-            ∙ moved_down xs from to i d h (omega arith) ∙ ap (moved xs from to) q;
-      }
-
-  pub lowering_end : {xs cur : List A} {from to n i : ℕ} → Lowering xs cur from to n i → n ≤ i → cur ≡ moved xs from to n
-  lowering_end {xs} {cur} {from} {to} {n} {i} r h =
-      let e : i ≡ n = (let l : i ≤ n = r.there in omega arith) in
-      r.done ∙ ap (moved xs from to) e
-
   pub filling_start : (xs : List A) (at : ℕ) (f : ℕ → A) (n : ℕ) → Filling xs xs at f n 0
   unfolding tab tab_from
   filling_start xs at f n = record { there = zero-le; done = sym (over_nil xs at) }

@@ -16,10 +16,6 @@ use Rattle.script.specs.Parsing.{Before, none_before, one_before, two_before, th
 
 -- ---- bytes
 
-pub digit_yes : (b : ℕ) → 48 ≤ b → b ≤ 57 → is_digit b ≡ true
-unfolding is_digit within
-digit_yes b h g = rw (at_most_yes h) (at_most_yes g)
-
 pub digit_from : (b : ℕ) → is_digit b ≡ true → 48 ≤ b
 unfolding is_digit within
 digit_from b e = ⊎_elim (λ t. at_most_true 48 b t) (λ f. clash e (rw f)) (cases (at_most 48 b))

@@ -213,14 +213,6 @@ last_bad c a b g d n x h t =
     blank q true p = rw (p, q) (field_fifth c a b g n)
     blank q false p = field_bad c (three_before a b g) d n x (λ e. p) h t
 
--- ---- the ends of a run of digits
-
-pub digits_stop : {s : List ℕ} {i j : ℕ} {d e : Bool} {n m : ℕ} → Spells s i d n j e m → Stops m (get_or s j 0) → Digits s i d n (record { next = j; digit = e; value = m })
-digits_stop h t = record { spells = h; stops = λ q. t }
-
-pub digits_end : {s : List ℕ} {i j : ℕ} {d e : Bool} {n m : ℕ} → Spells s i d n j e m → length s ≤ j → Digits s i d n (record { next = j; digit = e; value = m })
-digits_end h t = record { spells = h; stops = λ q. absurd (omega arith) }
-
 -- ---- the start of a line of numbers
 
 -- one parser alone has read nothing

@@ -28,47 +28,43 @@ pub struct Worker {
 
 impl Worker {
     // A transaction opens with nothing read and nothing written.
-    pub fn begin(self) -> Worker
+    pub fn begin(mut self) -> Worker
         ensures { result ≡ begun }
     {
-        Worker {
-            stage: Stage::Open,
-            ..self.free()
-        }
+        self = self.free();
+        self.stage = Stage::Open;
+        self
     }
 
     // The addresses of the write set are locked.
-    pub fn lock(self) -> Worker
+    pub fn lock(mut self) -> Worker
         ensures { result ≡ at_lock self }
     {
-        Worker {
-            stage: Stage::Locked,
-            ..self
-        }
+        self.stage = Stage::Locked;
+        self
     }
 
     // The sets are valid, and the commit number is given.
-    pub fn check(self, n: u32) -> Worker
+    pub fn check(mut self, n: u32) -> Worker
         ensures { result ≡ at_check self n }
     {
-        Worker {
-            stage: Stage::Checked,
-            number: n,
-            ..self
-        }
+        self.stage = Stage::Checked;
+        self.number = n;
+        self
     }
 
     // The transaction is over, installed or aborted.
-    pub fn free(self) -> Worker
+    pub fn free(mut self) -> Worker
         ensures { result ≡ freed }
     {
-        Worker {
+        self = Worker {
             stage: Stage::Free,
             number: 0,
             reads: 0,
             leaves: 0,
             writes: 0,
-        }
+        };
+        self
     }
 }
 

@@ -29,7 +29,7 @@ fn wanted(k: Code) -> Places
     }
 }
 
-// As many are lent.
+// As many are lent. Test by test: over one chain of `&&` the proof did not close.
 fn places_lent(k: Code, lent: Places) -> bool
     ensures { result ≡ places_lent (counted_places lent) k }
 {

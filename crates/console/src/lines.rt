@@ -6,7 +6,7 @@ ghost use Rattle.console.specs.Replies.{Asks};
 use engine::steps::{Access, Ending, Op};
 use script::Line;
 
-// The operation that a line asks for.
+// The operation that a line asks for. No `From`: both types are of other crates.
 pub fn op_of(l: Line) -> Op
     ensures { Asks l result }
 {

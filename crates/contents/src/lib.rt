@@ -29,6 +29,7 @@ pub fn copy_contents(copied: &mut CopyRows, rows: &Records, slots: &Slots, n: us
     requires slots_len_bound { length (all_records rows.now n slots.now) ≤ limits.map_limit }
     ensures { Copied (all_records rows.now n slots.now) copied.new result }
 {
+    // How many records there are nothing tells before the walk, so no range gives their rows.
     let mut count = 0;
     let mut from: Address = 0;
     while let Some(next) = queries::next_record(rows, slots, n, from) {

@@ -1,5 +1,5 @@
 // Rows of words: all that touches the words of leaves, and the search among them.
-ghost use Rattle.std.specs.Prelude.{◌≡◌, ◌+◌, ◌/◌, ◌<◌, ◌≤◌, length, take};
+ghost use Rattle.std.specs.Prelude.{◌≡◌, ◌+◌, ◌/◌, ◌<◌, ◌≤◌, take};
 ghost use Rattle.index.specs.Views.{record_places, leaf_places};
 ghost use Rattle.index.specs.Nearing.{Leads};
 ghost use Rattle.index.specs.LeafPlaces.{Listed, AtLeaf, Tells, low_place};
@@ -17,11 +17,6 @@ pub struct LeafWords {
     pub hidden: u64,
     pub pending: u64,
 }
-
-// For crates that cite it: an array has as many rows as its type says.
-pub fn leaf_places(leaves: &Leaves)
-    ensures { length leaves.now ≡ leaf_places }
-{}
 
 // The leaf at place i.
 pub fn leaf_at(leaves: &Leaves, i: usize) -> LeafWords

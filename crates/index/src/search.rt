@@ -36,6 +36,7 @@ pub fn descend<F: Fn(usize) -> bool + Copy>(goes: F, half: usize) -> usize
     requires asked { Asked (F.pre goes) }
     ensures { (p : ℕ) → Steers (F.post goes) p → Nearing p 0 half → result ≡ p }
 {
+    // Steps of a quarter each: no range gives them.
     let mut base = 0;
     let mut step = half;
     while 1 < step {

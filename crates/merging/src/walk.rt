@@ -17,6 +17,7 @@ fn next_in<F: Fn(Slot) -> bool + Copy>(slots: &Slots, stops: F, from: usize, bit
     requires asked { (s : SlotWords) → F.pre stops s }
     ensures { Passed slots.now (F.post stops) from result }
 {
+    // A word's bits that are set: no range gives their places.
     let mut w = bits;
     while w != 0 {
         let j = from + indexlet::lowest_bit(w);
@@ -36,6 +37,7 @@ pub fn next<F: Fn(Slot) -> bool + Copy>(slots: &Slots, stops: F, from: usize) ->
     requires asked { (s : SlotWords) → F.pre stops s }
     ensures { Passed slots.now (F.post stops) from result }
 {
+    // A word's end lies at a multiple of 64 whatever the start, so no range gives the places.
     let mut next = from;
     while next < SLOTS {
         let w = indexlet::bits_from(slots, next);

@@ -130,6 +130,7 @@ fn count_shown(
     requires inside { Inside b from start }
     ensures { result ≡ length (rest (ground (seen_in rows.now n slots.now) writes.now b) from start) }
 {
+    // One of the two places goes on, or both: no range gives them.
     let mut i = from;
     let mut j = start;
     let mut count = 0;
@@ -207,6 +208,7 @@ pub fn fill(
         (rest (ground (log_row reads.now first) writes.now b) 0 start)
         (buffers addresses.new values.new owners.new) result }
 {
+    // One of the two places goes on, or both: no range gives them.
     let mut i = 0;
     let mut j = start;
     let mut at = 0;

@@ -528,6 +528,7 @@ fn begin_line(s: &[u8], i: usize, p: Parser) -> (Parser, usize)
 pub fn parse(s: &[u8], from: usize, p: Parser) -> Parsed
     ensures { (seen : List ℕ) → After seen p → Parses seen s.now from result }
 {
+    // A part of a line goes by at a turn, so no range gives the places.
     let (mut q, mut i) = begin_line(s, from, p);
     while i < s.len() {
         let t = parse_part(s, i, q);

@@ -122,6 +122,7 @@ pub extern "C" fn sections_step(
     put_answer(answer, told);
 }
 
+// The number of a stop in the C interface. No `From`: `Stop` is of another crate.
 fn stop_number(s: Stop) -> u64
     ensures { result ≡ stop_number s }
 {

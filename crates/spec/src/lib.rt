@@ -98,7 +98,7 @@ pub enum Stage {
     Checked,
 }
 
-// The number of a refusal in document 01's table, or in the request's text.
+// The number of a refusal in document 01's table, or in the request's text. No `From`: `u64::from` would not say which number it is.
 pub fn number_of(r: Refusal) -> u64
     ensures { result ≡ number_of r }
 {

@@ -6,7 +6,6 @@ ghost use Rattle.workers.specs.Workers.{workers_of};
 ghost use Rattle.spec.specs.Payloads.{record_in};
 ghost use Rattle.sets.specs.Reads.{ReadSetHeld};
 ghost use Rattle.sets.specs.Writes.{edit_in};
-ghost use Rattle.map.specs.Parts.{RecordsHeld, SlotsHeld};
 ghost use Rattle.map.specs.Views.{lent};
 ghost use Rattle.transactions.specs.Views.{logs, core_of};
 ghost use Rattle.transactions.specs.Ready.{Ready, Refines};
@@ -15,6 +14,7 @@ ghost use Rattle.accesses.specs.ReadSteps.{Loggable, Readable, LogsCurrent, Tell
 ghost use Rattle.accesses.specs.Answers.{told, value_in, found_by, read_answer};
 
 use map::{Leaves, Records, Slots};
+use queries::View;
 use sets::writes::Write;
 use sets::{LeafSets, ReadSet, ReadSets, WriteSets, reads, writes};
 use spec::{Address, OWNERS, PayloadWords, READ_LIMIT, RecordWords, Refusal};
@@ -78,21 +78,12 @@ fn own(write: Write) -> Found
 }
 
 // Logs the current record of an address, after the n rows of a read set.
-fn take(
-    reads: &mut ReadSet,
-    rows: &Records,
-    slots: &Slots,
-    records: usize,
-    n: usize,
-    a: Address,
-) -> Taken
+fn take(reads: &mut ReadSet, view: View, n: usize, a: Address) -> Taken
     requires read_set_held { ReadSetHeld reads.old }
-    requires records_held { RecordsHeld rows.now records }
-    requires slots_held { SlotsHeld slots.now }
     requires n_lt_read_limit { n < limits.read_limit }
-    ensures { LogsCurrent reads.old rows.now slots.now records n a reads.new result }
+    ensures { LogsCurrent reads.old view.entry.rows.now view.entry.slots.now view.entry.records n a reads.new result }
 {
-    let looked = queries::see(rows, slots, records, a);
+    let looked = view.see(a);
     let count = reads::log_read(reads, n, a, looked.current);
     Taken {
         count,
@@ -121,7 +112,12 @@ fn read_current(
     if n >= READ_LIMIT {
         return Err(Refusal::LogFull);
     }
-    let taken = take(&mut reads[v], rows, slots, c.sizes.records, n, a);
+    let view = View {
+        rows,
+        slots,
+        records: c.sizes.records,
+    };
+    let taken = take(&mut reads[v], view, n, a);
     let y = Worker {
         reads: taken.count as u8,
         ..x

@@ -5,7 +5,7 @@ ghost use Rattle.lists.specs.Rows.{any, keys};
 ghost use Rattle.spec.specs.Payloads.{payload_in, record_in};
 ghost use Rattle.spec.specs.Records.{limits, same_payload, same_record};
 ghost use Rattle.spec.specs.Steps as model;
-ghost use Rattle.map.specs.Parts.{RecordsHeld, SlotsHeld};
+ghost use Rattle.map.specs.Parts.{SlotsHeld};
 ghost use Rattle.map.specs.Views.{lent, map_of};
 ghost use Rattle.queries.specs.PhantomViews.{Holding, Owns};
 ghost use Rattle.sets.specs.Reads.{reads_of, ReadSetHeld};
@@ -18,6 +18,7 @@ ghost use Rattle.commits.specs.Answers.{validate_in};
 
 use crate::drops;
 use map::{Leaves, Records, Sizes, Slots, holders};
+use queries::View;
 use sets::{LeafSet, LeafSets, ReadSet, ReadSets, WriteSet, WriteSets, leaves, reads};
 use spec::{LAST_NUMBER, OWNERS, PayloadWords, RecordWords, Refusal};
 use transactions::{Globals, admits};
@@ -43,16 +44,14 @@ fn differs(now: Option<RecordWords>, then: Option<RecordWords>) -> bool
 }
 
 // A logged address now has another record (refusal 12).
-fn changed(rows: &Records, slots: &Slots, reads: &ReadSet, n: usize, k: usize) -> bool
-    requires records_held { RecordsHeld rows.now n }
-    requires slots_held { SlotsHeld slots.now }
+fn changed(view: View, reads: &ReadSet, k: usize) -> bool
     requires read_set_held { ReadSetHeld reads.now }
     requires k_le_read_limit { k ≤ limits.read_limit }
-    ensures { result ≡ any (changed_in rows.now n slots.now) (reads_of reads.now k) }
+    ensures { result ≡ any (changed_in view.entry.rows.now view.entry.records view.entry.slots.now) (reads_of reads.now k) }
 {
     for i in 0..k {
         let l = reads::read_at(reads, i);
-        let now = queries::current_record(rows, slots, n, l.address);
+        let now = view.current_record(l.address);
         if differs(now, l.current) {
             return true;
         }
@@ -119,7 +118,12 @@ fn judge(
     requires { Examinable (lent rows.now leaves.now slots.now) reads.now leafset.now writes.now z x w }
     ensures { refusal_in result ≡ judged (lent rows.now leaves.now slots.now) reads.now leafset.now z x w }
 {
-    if changed(rows, slots, reads, z.records, x.reads as usize) {
+    let view = View {
+        rows,
+        slots,
+        records: z.records,
+    };
+    if changed(view, reads, x.reads as usize) {
         return Err(Refusal::Changed);
     }
     if under_lock(slots, reads, w, x.reads as usize) {

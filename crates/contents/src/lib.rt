@@ -11,6 +11,7 @@ ghost use Rattle.queries.specs.Contents.{all_records};
 ghost use Rattle.contents.specs.Copies.{Copied};
 
 use map::{Records, Slots};
+use queries::View;
 use rows::CopiedRecord;
 use spec::{Address, HIGHEST, MAP_LIMIT, OWNERS};
 
@@ -29,10 +30,15 @@ pub fn copy_contents(copied: &mut CopyRows, rows: &Records, slots: &Slots, n: us
     requires slots_len_bound { length (all_records rows.now n slots.now) ≤ limits.map_limit }
     ensures { Copied (all_records rows.now n slots.now) copied.new result }
 {
+    let view = View {
+        rows,
+        slots,
+        records: n,
+    };
     // How many records there are nothing tells before the walk, so no range gives their rows.
     let mut count = 0;
     let mut from: Address = 0;
-    while let Some(next) = queries::next_record(rows, slots, n, from) {
+    while let Some(next) = view.next_record(from) {
         let payload = next.record.payload;
         let record = CopiedRecord {
             address: next.address,

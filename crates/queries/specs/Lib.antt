@@ -1,3 +1,4 @@
+pub mod Held
 pub mod QueryViews
 pub mod CurrentLaws
 pub mod RangeLaws

@@ -4,15 +4,13 @@
 ghost use Rattle.std.specs.Prelude.{◌≡◌, false, ℕ, ◌<◌, ◌≤◌};
 ghost use Rattle.spec.specs.Slots.{slot_count};
 ghost use Rattle.spec.specs.Maps.{phantom_in};
-ghost use Rattle.lists.specs.Tests.{pick};
 ghost use Rattle.indexlet.specs.Bitmaps.{word_end, BitsFrom};
-ghost use Rattle.indexlet.specs.Promises as indexlet;
-ghost use Rattle.index.specs.Views as index;
 ghost use Rattle.index.specs.LeafPlaces.{Listed};
 ghost use Rattle.map.specs.Views.{lows_of, versions_of, lent, map_of};
 ghost use Rattle.map.specs.Parts.{RecordsHeld, SlotsHeld, LeavesListed, LeafListed};
 ghost use Rattle.sets.specs.Writes.{entry_in};
 ghost use Rattle.map.specs.WriteWalks.{Writing};
+ghost use Rattle.queries.specs.Held.{RecordsHeld-prop};
 ghost use Rattle.queries.specs.QueryViews.{Sees, SeesUnder, Examines, Spans, SeenAt, Meets, LeafAt, LoggedAt};
 ghost use Rattle.queries.specs.NextViews.{IndexFrom, Nearer, Walked, SlotFrom, CandidateFrom, Follows};
 ghost use Rattle.queries.specs.PhantomViews.{Holding, Owns, Logged, own_put, lock_only_count};
@@ -47,89 +45,93 @@ pub struct NextRecord {
     pub record: RecordWords,
 }
 
-// The current record of an address of which the indexlet says c: what a pending write leaves there, else what the index has.
-fn under(rows: &Records, n: usize, a: Address, c: indexlet::Content) -> Option<RecordWords>
-    requires { RecordsHeld rows.now n }
-    ensures { SeesUnder rows.now n a c result }
-{
-    match c.kind {
-        0 => records::find(rows, n, a),
-        1 => Some(RecordWords {
-            payload: c.payload,
-            commit: c.commit,
-        }),
-        _ => None,
-    }
+// The map as it is looked at: the rows of its index, how many of them are records, and its slots, all as they should be.
+#[derive(Clone, Copy)]
+pub struct View<'a> {
+    pub rows: &'a Records,
+    pub slots: &'a Slots,
+    pub records: usize,
+    ghost records_held: { RecordsHeld rows.now records } by { RecordsHeld-prop rows.now records },
+    ghost slots_held: { SlotsHeld slots.now },
 }
 
-// The current record of an address, and how many slots a search for it examines.
-pub fn see(rows: &Records, slots: &Slots, n: usize, a: Address) -> Seen
-    requires records_held { RecordsHeld rows.now n }
-    requires slots_held { SlotsHeld slots.now }
-    ensures { Examines rows.now n slots.now a result }
-{
-    let looked = indexlet::look_up(slots, a);
-    let c = looked.content;
-    let current = under(rows, n, a, c);
-    Seen {
-        current,
-        examined: looked.examined,
+impl<'a> View<'a> {
+    // The current record of an address of which the indexlet says c: what a pending write leaves there, else what the index has.
+    fn under(self, a: Address, c: indexlet::Content) -> Option<RecordWords>
+        ensures { SeesUnder self.entry.rows.now self.entry.records a c result }
+    {
+        match c.kind {
+            0 => records::find(self.rows, self.records, a),
+            1 => Some(RecordWords {
+                payload: c.payload,
+                commit: c.commit,
+            }),
+            _ => None,
+        }
     }
-}
 
-// The current record alone: nothing is counted.
-pub fn current_record(rows: &Records, slots: &Slots, n: usize, a: Address) -> Option<RecordWords>
-    requires records_held { RecordsHeld rows.now n }
-    requires slots_held { SlotsHeld slots.now }
-    ensures { Sees rows.now n slots.now a result }
-{
-    let at = indexlet::find(slots, a);
-    let c = indexlet::content_at(slots, at);
-    under(rows, n, a, c)
-}
-
-// The places of the records from lo to hi.
-pub fn records_between(rows: &Records, n: usize, lo: Address, hi: Address) -> Range
-    requires records_held { RecordsHeld rows.now n }
-    requires lo_le_hi { lo ≤ hi }
-    ensures { Spans rows.now n lo hi result }
-{
-    let from = records::locate(rows, n, lo);
-    let to = records::locate(rows, n, hi);
-    if n <= to {
-        return Range { from, to };
+    // The current record of an address, and how many slots a search for it examines.
+    pub fn see(self, a: Address) -> Seen
+        ensures { Examines self.entry.rows.now self.entry.records self.entry.slots.now a result }
+    {
+        let looked = indexlet::look_up(self.slots, a);
+        let c = looked.content;
+        let current = self.under(a, c);
+        Seen {
+            current,
+            examined: looked.examined,
+        }
     }
-    let last = rows::get(rows, to);
-    if last.address == hi as u64 {
-        return Range { from, to: to + 1 };
-    }
-    Range { from, to }
-}
 
-// The record at place i of the index: its address, and its current record. With nothing pending there it is the row itself,
-// so nothing is searched in the index.
-pub fn seen_at(rows: &Records, slots: &Slots, n: usize, i: usize) -> Observed
-    requires records_held { RecordsHeld rows.now n }
-    requires slots_held { SlotsHeld slots.now }
-    requires i_lt_n { i < n }
-    ensures { SeenAt rows.now n slots.now i result }
-{
-    let there = rows::get(rows, i);
-    let address = there.address as Address;
-    let at = indexlet::find(slots, address);
-    let c = indexlet::content_at(slots, at);
-    let current = match c.kind {
-        0 => Some(RecordWords {
-            payload: there.payload,
-            commit: there.commit,
-        }),
-        1 => Some(RecordWords {
-            payload: c.payload,
-            commit: c.commit,
-        }),
-        _ => None,
-    };
-    Observed { address, current }
+    // The current record alone: nothing is counted.
+    pub fn current_record(self, a: Address) -> Option<RecordWords>
+        ensures { Sees self.entry.rows.now self.entry.records self.entry.slots.now a result }
+    {
+        let at = indexlet::find(self.slots, a);
+        let c = indexlet::content_at(self.slots, at);
+        self.under(a, c)
+    }
+
+    // The places of the records from lo to hi.
+    pub fn records_between(self, lo: Address, hi: Address) -> Range
+        requires lo_le_hi { lo ≤ hi }
+        ensures { Spans self.entry.rows.now self.entry.records lo hi result }
+    {
+        let from = records::locate(self.rows, self.records, lo);
+        let to = records::locate(self.rows, self.records, hi);
+        if self.records <= to {
+            return Range { from, to };
+        }
+        let last = rows::get(self.rows, to);
+        if last.address == hi as u64 {
+            return Range { from, to: to + 1 };
+        }
+        Range { from, to }
+    }
+
+    // The record at place i of the index: its address, and its current record. With nothing pending there it is the row itself,
+    // so nothing is searched in the index.
+    pub fn seen_at(self, i: usize) -> Observed
+        requires i_lt_records { i < self.records }
+        ensures { SeenAt self.entry.rows.now self.entry.records self.entry.slots.now i result }
+    {
+        let there = rows::get(self.rows, i);
+        let address = there.address as Address;
+        let at = indexlet::find(self.slots, address);
+        let c = indexlet::content_at(self.slots, at);
+        let current = match c.kind {
+            0 => Some(RecordWords {
+                payload: there.payload,
+                commit: there.commit,
+            }),
+            1 => Some(RecordWords {
+                payload: c.payload,
+                commit: c.commit,
+            }),
+            _ => None,
+        };
+        Observed { address, current }
+    }
 }
 
 // The places of the leaves that meet lo to hi.
@@ -164,19 +166,9 @@ pub fn leaf(leaves: &Leaves, i: usize) -> LoggedLeaf
 }
 
 // The write is a put in the leaf at place i, at an address that the index lacks and at which no put is pending.
-fn lock_only_at(
-    rows: &Records,
-    leaves: &Leaves,
-    slots: &Slots,
-    n: usize,
-    m: usize,
-    i: usize,
-    e: Entry,
-) -> bool
-    requires records_sorted { index.RecordsSorted rows.now n }
-    requires listed { Listed (lows_of leaves.now) m }
-    requires slots_held { indexlet.SlotsHeld slots.now }
-    ensures { result ≡ own_put rows.now (lows_of leaves.now) slots.now n m i (entry_in e) }
+fn lock_only_at(view: View, leaves: &Leaves, m: usize, i: usize, e: Entry) -> bool
+    requires { Listed (lows_of leaves.now) m }
+    ensures { result ≡ own_put view.entry.rows.now (lows_of leaves.now) view.entry.slots.now view.entry.records m i (entry_in e) }
 {
     let Write::Put(_) = e.write else {
         return false;
@@ -185,32 +177,28 @@ fn lock_only_at(
     if p != i {
         return false;
     }
-    let at = indexlet::find(slots, e.address);
-    let c = indexlet::content_at(slots, at);
-    c.kind != 1 && records::find(rows, n, e.address).is_none()
+    let at = indexlet::find(view.slots, e.address);
+    let c = indexlet::content_at(view.slots, at);
+    c.kind != 1 && records::find(view.rows, view.records, e.address).is_none()
 }
 
 // How many of a write set are so.
 fn count_lock_only(
-    rows: &Records,
+    view: View,
     leaves: &Leaves,
-    slots: &Slots,
     ws: &WriteSet,
-    n: usize,
     m: usize,
     i: usize,
     count: usize,
 ) -> usize
-    requires records_sorted { index.RecordsSorted rows.now n }
     requires listed { Listed (lows_of leaves.now) m }
-    requires slots_held { indexlet.SlotsHeld slots.now }
     requires writing { Writing ws.now count }
-    ensures { result ≡ lock_only_count rows.now (lows_of leaves.now) slots.now n m i ws.now count }
+    ensures { result ≡ lock_only_count view.entry.rows.now (lows_of leaves.now) view.entry.slots.now view.entry.records m i ws.now count }
 {
     let mut own = 0;
     for x in 0..count {
         let e = writes::write_at(ws, x);
-        own += usize::from(lock_only_at(rows, leaves, slots, n, m, i, e));
+        own += usize::from(lock_only_at(view, leaves, m, i, e));
     }
     own
 }
@@ -242,25 +230,17 @@ pub fn phantom(
     if out == 0 {
         return false;
     }
-    let own = count_lock_only(rows, leaves, slots, ws, z.records, z.leaves, i, n);
+    let view = View {
+        rows,
+        slots,
+        records: z.records,
+    };
+    let own = count_lock_only(view, leaves, ws, z.leaves, i, n);
     (own as u64) < out
 }
 
 // The candidates below are addresses at which the next record may stand: the index has them, or the indexlet says something of
 // them.
-
-// The first address of the index from an address on.
-fn index_from(rows: &Records, n: usize, from: Address) -> Option<Address>
-    requires { RecordsHeld rows.now n }
-    ensures { IndexFrom rows.now n from result }
-{
-    let p = records::locate(rows, n, from);
-    if n <= p {
-        return None;
-    }
-    let r = rows::get(rows, p);
-    Some(r.address as Address)
-}
 
 // The key, if it lies from `from` on and before the candidate; else the candidate.
 fn nearer(key: Address, from: Address, best: Option<Address>) -> Option<Address>
@@ -273,70 +253,78 @@ fn nearer(key: Address, from: Address, best: Option<Address>) -> Option<Address>
     }
 }
 
-// The nearest key from `from` on: `best` is that of the slots before `next`, and from there on to the end of the word the slots
-// whose bits these are have an entry.
-fn nearest_in(
-    slots: &Slots,
-    from: Address,
-    best: Option<Address>,
-    next: usize,
-    bits: u64,
-) -> Option<Address>
-    requires slots_held { indexlet.SlotsHeld slots.now }
-    requires next_lt_slot_count { (next < slot_count) × (BitsFrom false slots.now next bits) × (Walked slots.now from next best) }
-    ensures { Walked slots.now from (word_end next) result }
-{
-    let mut nearest = best;
-    let mut w = bits;
-    while w != 0 {
-        let s = indexlet::slot_at(slots, next + indexlet::lowest_bit(w));
-        let key = s.key as Address;
-        nearest = nearer(key, from, nearest);
-        w = indexlet::other_bits(w);
-    }
-    nearest
-}
-
-// The first address from an address on of which the indexlet says something. Slots without an entry are not looked at.
-fn slot_from(slots: &Slots, from: Address) -> Option<Address>
-    requires { indexlet.SlotsHeld slots.now }
-    ensures { SlotFrom slots.now from result }
-{
-    let mut best = None;
-    let mut next = 0;
-    while next < SLOTS {
-        let w = indexlet::bits_from(slots, next);
-        best = nearest_in(slots, from, best, next, w);
-        next = indexlet::word_end(next);
-    }
-    best
-}
-
-// The first candidate from an address on.
-fn candidate_from(rows: &Records, slots: &Slots, n: usize, from: Address) -> Option<Address>
-    requires records_held { RecordsHeld rows.now n }
-    requires slots_held { SlotsHeld slots.now }
-    ensures { CandidateFrom rows.now n slots.now from result }
-{
-    let a = index_from(rows, n, from);
-    match slot_from(slots, from) {
-        Some(b) => nearer(b, from, a),
-        None => a,
-    }
-}
-
-// The first record of the contents from an address on. A candidate without a current record is passed over.
-pub fn next_record(rows: &Records, slots: &Slots, n: usize, from: Address) -> Option<NextRecord>
-    requires records_held { RecordsHeld rows.now n }
-    requires slots_held { SlotsHeld slots.now }
-    ensures { Follows rows.now n slots.now from result }
-{
-    let mut at = from;
-    while let Some(address) = candidate_from(rows, slots, n, at) {
-        if let Some(record) = current_record(rows, slots, n, address) {
-            return Some(NextRecord { address, record });
+impl<'a> View<'a> {
+    // The first address of the index from an address on.
+    fn index_from(self, from: Address) -> Option<Address>
+        ensures { IndexFrom self.entry.rows.now self.entry.records from result }
+    {
+        let p = records::locate(self.rows, self.records, from);
+        if self.records <= p {
+            return None;
         }
-        at = address.checked_add(1)?;
+        let r = rows::get(self.rows, p);
+        Some(r.address as Address)
     }
-    None
+
+    // The nearest key from `from` on: `best` is that of the slots before `next`, and from there on to the end of the word the slots
+    // whose bits these are have an entry.
+    fn nearest_in(
+        self,
+        from: Address,
+        best: Option<Address>,
+        next: usize,
+        bits: u64,
+    ) -> Option<Address>
+        requires { (next < slot_count) × (BitsFrom false self.slots.now next bits) × (Walked self.slots.now from next best) }
+        ensures { Walked self.entry.slots.now from (word_end next) result }
+    {
+        let mut nearest = best;
+        let mut w = bits;
+        while w != 0 {
+            let s = indexlet::slot_at(self.slots, next + indexlet::lowest_bit(w));
+            let key = s.key as Address;
+            nearest = nearer(key, from, nearest);
+            w = indexlet::other_bits(w);
+        }
+        nearest
+    }
+
+    // The first address from an address on of which the indexlet says something. Slots without an entry are not looked at.
+    fn slot_from(self, from: Address) -> Option<Address>
+        ensures { SlotFrom self.entry.slots.now from result }
+    {
+        let mut best = None;
+        let mut next = 0;
+        while next < SLOTS {
+            let w = indexlet::bits_from(self.slots, next);
+            best = self.nearest_in(from, best, next, w);
+            next = indexlet::word_end(next);
+        }
+        best
+    }
+
+    // The first candidate from an address on.
+    fn candidate_from(self, from: Address) -> Option<Address>
+        ensures { CandidateFrom self.entry.rows.now self.entry.records self.entry.slots.now from result }
+    {
+        let a = self.index_from(from);
+        match self.slot_from(from) {
+            Some(b) => nearer(b, from, a),
+            None => a,
+        }
+    }
+
+    // The first record of the contents from an address on. A candidate without a current record is passed over.
+    pub fn next_record(self, from: Address) -> Option<NextRecord>
+        ensures { Follows self.entry.rows.now self.entry.records self.entry.slots.now from result }
+    {
+        let mut at = from;
+        while let Some(address) = self.candidate_from(at) {
+            if let Some(record) = self.current_record(address) {
+                return Some(NextRecord { address, record });
+            }
+            at = address.checked_add(1)?;
+        }
+        None
+    }
 }

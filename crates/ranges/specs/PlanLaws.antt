@@ -16,7 +16,7 @@ use Rattle.ranges.specs.declared.plans.Task.{Task}
 use Rattle.ranges.specs.Parts.{take_rows}
 use Rattle.ranges.specs.Overlays.{rising_first}
 use Rattle.buffers.specs.Buffers.{Buffers, places_of}
-use Rattle.ranges.specs.Walks.{Ground, ground, log_row, rest, Walks, Sees, Keeps, RecordsFit, Fills}
+use Rattle.ranges.specs.Walks.{Ground, ground, log_row, rest, Walks, Keeps, RecordsFit, Fills}
 use Rattle.ranges.specs.WalkLaws.{rising_index}
 use Rattle.ranges.specs.Scanning.{span, seen_in, ReadsRoom, LogsRows, LeavesRoom}
 use Rattle.ranges.specs.LoggedWalks.{logged_walks, logged_rest}
@@ -41,13 +41,10 @@ module _ {rows : RecordRows} {lows : List ℕ} {slots : SlotRows} {ws : WriteRow
         rising = λ i k. rising_index slots to i given.rows_held h k;
       }
 
-  pub sees : (to : ℕ) → to ≤ z.records → Sees rows slots z.records to
-  sees to h = record { rows_held = given.rows_held; slots_held = given.slots_held; within = h }
-
   pub reads_room : (p : Range) → p.from ≤ p.to → p.to ≤ z.records → x.reads + span p ≤ limits.read_limit
-      → ReadsRoom rows slots z.records x.reads p
+      → ReadsRoom z.records x.reads p
   reads_room p o h r =
-      record { rows_held = given.rows_held; slots_held = given.slots_held; ordered = o; within = h; room = r }
+      record { ordered = o; within = h; room = r }
 
   pub leaves_room : (p : Range) → p.from ≤ p.to → p.to ≤ z.leaves → x.leaves + span p ≤ limits.leaf_set_limit → LeavesRoom lows x.leaves p
   leaves_room p o h r =

@@ -13,8 +13,9 @@ use Rattle.sets.specs.Writes.{WriteRows, writes_of}
 use Rattle.map.specs.Views.{leaves_in, SlotRows, RecordRows}
 use Rattle.map.specs.MapHeld.{per_leaf}
 use Rattle.queries.specs.declared.Range.{Range}
+use Rattle.queries.specs.declared.View.{View}
 use Rattle.queries.specs.QueryViews.{map_with, walk, indexed_at, version_in}
-use Rattle.map.specs.Parts.{RecordsHeld, SlotsHeld, LeafListed}
+use Rattle.map.specs.Parts.{LeafListed}
 
 -- the n writes from lo to hi stand at these places
 pub record OwnSpans (ws : WriteRows) (n lo hi : ℕ) (r : Range) : Type 0 where
@@ -36,10 +37,11 @@ across f p = walk f p.from (span p)
 abbrev pub seen_in : RecordRows → ℕ → SlotRows → ℕ → Row (Option Record)
 seen_in rows n slots = indexed_at (map_with rows n slots [])
 
--- the records at these places are there, and the read set has room for them
-pub record ReadsRoom (rows : RecordRows) (slots : SlotRows) (n m : ℕ) (p : Range) : Type 0 where
-  pub rows_held : RecordsHeld rows n
-  pub slots_held : SlotsHeld slots
+abbrev pub seen_by : View → ℕ → Row (Option Record)
+seen_by v = seen_in v.rows.now v.records v.slots.now
+
+-- the index has n records, those at these places too, and the read set has room for them
+pub record ReadsRoom (n m : ℕ) (p : Range) : Type 0 where
   pub ordered : p.from ≤ p.to
   pub within : p.to ≤ n
   pub room : m + span p ≤ limits.read_limit

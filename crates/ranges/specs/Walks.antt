@@ -18,8 +18,6 @@ use Rattle.ranges.specs.declared.walks.Bounds.{Bounds}
 use Rattle.ranges.specs.declared.walks.Shown.{Shown}
 use Rattle.ranges.specs.declared.walks.Turn.{Turn}
 use Rattle.ranges.specs.Overlays.{overlay}
-use Rattle.map.specs.Views.{SlotRows, RecordRows}
-use Rattle.map.specs.Parts.{RecordsHeld, SlotsHeld}
 use Rattle.buffers.specs.Buffers.{Buffers, rows_in, Beyond}
 
 -- What is walked over: the record at each place, the rows of the worker's write set, and where the walk ends.
@@ -56,12 +54,6 @@ pub record Nears (ws : WriteRows) (b : Bounds) : Type 0 where
 pub record Walks (g : Ground) : Type 0 where
   pub nears : Nears g.writes g.bounds
   pub rising : (i : ℕ) → i ≤ g.bounds.to → Rising (walk g.seen i (g.bounds.to - i))
-
--- the index's first records can be looked up
-pub record Sees (rows : RecordRows) (slots : SlotRows) (n to : ℕ) : Type 0 where
-  pub rows_held : RecordsHeld rows n
-  pub slots_held : SlotsHeld slots
-  pub within : to ≤ n
 
 -- the rows from `first` on of a read set can be read
 pub record Keeps (rs : ReadRows) (first to : ℕ) : Type 0 where

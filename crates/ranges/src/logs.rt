@@ -2,29 +2,22 @@
 ghost use Rattle.sets.specs.Reads.{ReadSetHeld};
 ghost use Rattle.sets.specs.Leaves.{LeafSetHeld};
 ghost use Rattle.map.specs.Views.{lows_of, versions_of};
-ghost use Rattle.ranges.specs.Scanning.{ReadsRoom, LogsRows, LeavesRoom, LogsLeaves, seen_in};
+ghost use Rattle.ranges.specs.Scanning.{ReadsRoom, LogsRows, LeavesRoom, LogsLeaves, seen_by};
 
-use map::{Leaves, Records, Slots};
-use queries::Range;
+use map::Leaves;
+use queries::{Range, View};
 use sets::leaves::Scanned;
 use sets::{LeafSet, ReadSet, leaves, reads};
 
 // Appends the index records at these places to the m rows of a read set. Answers how many there are now.
-pub fn log_rows(
-    reads: &mut ReadSet,
-    rows: &Records,
-    slots: &Slots,
-    n: usize,
-    m: usize,
-    p: Range,
-) -> usize
+pub fn log_rows(reads: &mut ReadSet, view: View, m: usize, p: Range) -> usize
     requires read_set_held { ReadSetHeld reads.old }
-    requires reads_room { ReadsRoom rows.now slots.now n m p }
-    ensures { LogsRows reads.old m (seen_in rows.now n slots.now) p reads.new result }
+    requires reads_room { ReadsRoom view.records m p }
+    ensures { LogsRows reads.old m (seen_by view.entry) p reads.new result }
 {
     let mut count = m;
     for i in p.from..p.to {
-        let s = queries::seen_at(rows, slots, n, i);
+        let s = view.seen_at(i);
         count = reads::log_read(reads, count, s.address, s.current);
     }
     count

@@ -12,7 +12,7 @@ ghost use Rattle.ranges.specs.Plans.{Planning, Plans, Planned, Carried};
 use crate::walks::Bounds;
 use crate::{logs, walks};
 use map::{Leaves, Records, Sizes, Slots};
-use queries::Range;
+use queries::{Range, View};
 use sets::leaves::Scanned;
 use sets::{LeafSet, ReadSet, WriteSet, writes};
 use spec::{Address, LEAF_SET_LIMIT, READ_LIMIT, Refusal};
@@ -71,7 +71,12 @@ pub fn measure(
     if hi < lo {
         return Err(Refusal::Backward);
     }
-    let index = queries::records_between(rows, z.records, lo, hi);
+    let view = View {
+        rows,
+        slots,
+        records: z.records,
+    };
+    let index = view.records_between(lo, hi);
     let met = queries::leaves_meeting(leaves, z.leaves, lo, hi);
     if READ_LIMIT < x.reads as usize + (index.to - index.from) {
         return Err(Refusal::LogFull);
@@ -85,9 +90,7 @@ pub fn measure(
         end: own.to,
     };
     let shortest = k.min(m).min(n);
-    if walks::exceeds(
-        rows, slots, writes, z.records, b, index.from, own.from, shortest,
-    ) {
+    if walks::exceeds(view, writes, b, index.from, own.from, shortest) {
         return Err(Refusal::ShortBuffer);
     }
     Ok(Task { index, met, own })
@@ -121,12 +124,19 @@ pub fn carry_out(
     let index = t.index;
     let first = x.reads as usize;
     let passed = index.to - index.from;
-    let logged = logs::log_rows(reads, rows, slots, z.records, first, index);
+    let view = View {
+        rows,
+        slots,
+        records: z.records,
+    };
+    let logged = logs::log_rows(reads, view, first, index);
     let b = Bounds {
         to: passed,
         end: t.own.to,
     };
-    let count = walks::fill(addresses, values, owners, reads, writes, first, b, t.own.from);
+    let count = walks::fill(
+        addresses, values, owners, reads, writes, first, b, t.own.from,
+    );
     let scan = Scanned {
         lo: lo as u64,
         hi: hi as u64,

@@ -1,12 +1,12 @@
 // The walk of a scan: the records of the index and the worker's own writes together, by rising address. At one address
 // the write decides.
-ghost use Rattle.std.specs.Prelude.{◌≡◌, ◌+◌, ◌<◌, length};
+ghost use Rattle.std.specs.Prelude.{◌≡◌, ◌+◌, ◌<◌, ◌≤◌, length};
 ghost use Rattle.lists.specs.Tests.{less};
 ghost use Rattle.buffers.specs.Buffers.{buffers};
-ghost use Rattle.ranges.specs.Scanning.{seen_in};
-ghost use Rattle.ranges.specs.Walks.{ground, log_row, rest, Walks, Nears, Sees, Keeps, Inside, Stands, GoesOn, index_turn, own_turn, Fits, Shows, RecordsFit, Fills};
+ghost use Rattle.ranges.specs.Scanning.{seen_by};
+ghost use Rattle.ranges.specs.Walks.{ground, log_row, rest, Walks, Nears, Keeps, Inside, Stands, GoesOn, index_turn, own_turn, Fits, Shows, RecordsFit, Fills};
 
-use map::{Records, Slots};
+use queries::View;
 use sets::reads::Observed;
 use sets::writes::{Entry, Write};
 use sets::{ReadSet, WriteSet, reads, writes};
@@ -91,16 +91,12 @@ fn nothing() -> Observed {
     }
 }
 
-// The record at place i of the index, which has n, unless that is past the walk's last.
-fn indexed(rows: &Records, slots: &Slots, n: usize, to: usize, i: usize) -> Observed
-    requires { Sees rows.now slots.now n to }
-    ensures { Stands (seen_in rows.now n slots.now) to i result }
+// The record at place i of the index, unless that is past the walk's last.
+fn indexed(view: View, to: usize, i: usize) -> Observed
+    requires { to ≤ view.records }
+    ensures { Stands (seen_by view.entry) to i result }
 {
-    if i < to {
-        queries::seen_at(rows, slots, n, i)
-    } else {
-        nothing()
-    }
+    if i < to { view.seen_at(i) } else { nothing() }
 }
 
 // The record in row first + i of the read set, unless that is past the walk's last.
@@ -115,27 +111,19 @@ fn logged(reads: &ReadSet, first: usize, to: usize, i: usize) -> Observed
     }
 }
 
-// How many records the walk shows from place `from` of the index, which has n, and place `start` of the writes on.
-fn count_shown(
-    rows: &Records,
-    slots: &Slots,
-    writes: &WriteSet,
-    n: usize,
-    b: Bounds,
-    from: usize,
-    start: usize,
-) -> usize
-    requires walks { Walks (ground (seen_in rows.now n slots.now) writes.now b) }
-    requires sees { Sees rows.now slots.now n b.to }
+// How many records the walk shows from place `from` of the index and place `start` of the writes on.
+fn count_shown(view: View, writes: &WriteSet, b: Bounds, from: usize, start: usize) -> usize
+    requires walks { Walks (ground (seen_by view) writes.now b) }
+    requires to_le_records { b.to ≤ view.records }
     requires inside { Inside b from start }
-    ensures { result ≡ length (rest (ground (seen_in rows.now n slots.now) writes.now b) from start) }
+    ensures { result ≡ length (rest (ground (seen_by view.entry) writes.now b) from start) }
 {
     // One of the two places goes on, or both: no range gives them.
     let mut i = from;
     let mut j = start;
     let mut count = 0;
     while i + j < b.to + b.end {
-        let s = indexed(rows, slots, n, b.to, i);
+        let s = indexed(view, b.to, i);
         let x = next(writes, b, s, i, j);
         count += usize::from(x.shown.is_some());
         i = x.i;
@@ -144,27 +132,25 @@ fn count_shown(
     count
 }
 
-// Whether the walk over the index, which has n records, shows more than `most`. Each place of the index and of the writes shows
+// Whether the walk over the index shows more than `most`. Each place of the index and of the writes shows
 // at most one, so they are counted only where the places are more.
 pub fn exceeds(
-    rows: &Records,
-    slots: &Slots,
+    view: View,
     writes: &WriteSet,
-    n: usize,
     b: Bounds,
     from: usize,
     start: usize,
     most: usize,
 ) -> bool
-    requires walks { Walks (ground (seen_in rows.now n slots.now) writes.now b) }
-    requires sees { Sees rows.now slots.now n b.to }
+    requires walks { Walks (ground (seen_by view) writes.now b) }
+    requires to_le_records { b.to ≤ view.records }
     requires inside { Inside b from start }
-    ensures { result ≡ less most (length (rest (ground (seen_in rows.now n slots.now) writes.now b) from start)) }
+    ensures { result ≡ less most (length (rest (ground (seen_by view.entry) writes.now b) from start)) }
 {
     if (b.to - from) + (b.end - start) <= most {
         return false;
     }
-    most < count_shown(rows, slots, writes, n, b, from, start)
+    most < count_shown(view, writes, b, from, start)
 }
 
 // Writes what is shown, if anything is, behind the first `at` places. Answers how many are written now.

@@ -22,6 +22,7 @@ use crate::saved::{ExportWords, GlobalWords};
 use codes::{Code, Coded, StepWords, words};
 use exports::{ExportDone, Exported};
 use map::{Leaves, Records, Slots};
+use queries::View;
 use replay::stops::Stop;
 use replay::{runs, steps};
 use sets::{LeafSets, ReadSets, WriteSets};
@@ -201,7 +202,12 @@ pub extern "C" fn sections_next(
     if from >= ADDRESSES {
         return false;
     }
-    match queries::next_record(rows, slots, c.sizes.records, from as Address) {
+    let view = View {
+        rows,
+        slots,
+        records: c.sizes.records,
+    };
+    match view.next_record(from as Address) {
         Some(next) => {
             let r = next.record;
             *found = [

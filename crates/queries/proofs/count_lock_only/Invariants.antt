@@ -4,4 +4,4 @@ use Rattle.queries.specs.PhantomViews.{Counting}
 use Rattle.queries.proofs.count_lock_only.Given as goal
 
 abbrev pub invariant-loop-x : goal.invariant-loop-x
-invariant-loop-x l = Counting l.rows (lows_of l.leaves) l.slots l.n l.m l.i l.ws l.count l.x l.own
+invariant-loop-x l = Counting l.view.rows.now (lows_of l.leaves) l.view.slots.now l.view.records l.m l.i l.ws l.count l.x l.own

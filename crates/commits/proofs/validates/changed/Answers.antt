@@ -3,7 +3,6 @@ use Rattle.sets.specs.Reads.{read_in, no_read}
 use Rattle.sets.specs.SetLaws.{length_rows}
 use Rattle.commits.specs.Searching.{search_on, search_hit, search_end}
 use Rattle.commits.specs.Validates.{row_changed}
-use Rattle.std.proofs.Common.{true, false}
 use Rattle.commits.proofs.validates.changed.Goals as goal
 
 pub returns-then-differs : goal.returns-then-differs

@@ -1,7 +1,7 @@
--- `queries::under` meets its contract: by what is said of the address.
+-- `View::under` meets its contract: by what is said of the address.
 use native.Mathlib.Omega.{arith}
 use Rattle.queries.specs.CurrentLaws.{sees_indexed, sees_put, sees_deletion}
-use Rattle.queries.proofs.under.Goals as goal
+use Rattle.queries.proofs.View.under.Goals as goal
 
 pub returns-in-0 : goal.returns-in-0
 returns-in-0 c = record { sees = λ slots said. sees_indexed _ _ slots _ c.args.c said _ c.in-0.is c.find.ensures }

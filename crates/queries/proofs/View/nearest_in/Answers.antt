@@ -2,10 +2,10 @@ use Prim.Native.Nat.{◌+◌}
 use native.Mathlib.Omega.{arith}
 use Rattle.indexlet.specs.BitmapLaws.{unseen_inside}
 use Rattle.queries.specs.NextLaws.{walking_start, walking_narrow, walking_on, walking_end}
-use Rattle.queries.proofs.nearest_in.Goals as goal
+use Rattle.queries.proofs.View.nearest_in.Goals as goal
 
 pub loop-w-init : goal.loop-w-init
-loop-w-init c = walking_start _ _ _ _ _ c.requires.next_lt_slot_count.2 c.requires.next_lt_slot_count.1 c.requires.next_lt_slot_count.0 (omega arith)
+loop-w-init c = walking_start _ _ _ _ _ c.requires.2 c.requires.1 c.requires.0 (omega arith)
 
 pub slot_at-s-requires-clause-i_lt_slot_count : goal.slot_at-s-requires-clause-i_lt_slot_count
 slot_at-s-requires-clause-i_lt_slot_count c = omega (arith, unseen_inside c.loop-w.w (omega arith) c.loop-w.invariant.left, c.lowest_bit.ensures)

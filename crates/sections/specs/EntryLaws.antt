@@ -1,19 +1,18 @@
 -- From what the Rattle functions promise to what the entries promise.
-use Rattle.std.specs.Prelude.{ℕ, ◌%◌, ◌≡◌, refl, true, false, List, [], ◌∷◌}
+use Rattle.std.specs.Prelude.{ℕ, Option as Optional, Some, None, ◌%◌, ◌≡◌, refl, true, false, List, [], ◌∷◌}
 use Rattle.std.proofs.Common.{sym, ap, ◌∙◌}
 use Rattle.std.proofs.Math.Path.{subst}
 use Rattle.std.proofs.Math.Option.{Option, none, some}
 use Rattle.lists.specs.Tests.{maybe, present}
 use Rattle.lists.specs.Rows.{Row, row}
 use Rattle.spec.specs.declared.PayloadWords.{PayloadWords}
-use Rattle.spec.specs.Payloads.{owners}
+use Rattle.spec.specs.Payloads.{owners, record_of_words}
 use Rattle.spec.specs.Records.{Made, Record}
 use Rattle.spec.specs.Steps.{places}
 use Rattle.spec.specs.Leaves.{Leaf}
 use Rattle.spec.specs.Maps.{contents}
 use Rattle.spec.specs.Exports as model
-use Rattle.queries.specs.declared.Next.{Next}
-use Rattle.queries.specs.declared.Next.TheVariants.{At, Done}
+use Rattle.queries.specs.declared.NextRecord.{NextRecord as NextWords}
 use Rattle.map.specs.Views.{record_from, RecordRows, SlotRows, Lent, map_of}
 use Rattle.queries.specs.QueryViews.{map_with}
 use Rattle.queries.specs.NextViews.{next_in, Follows}
@@ -28,10 +27,10 @@ use Rattle.exports.specs.declared.Export.{Export}
 use Rattle.exports.specs.declared.ExportDone.{ExportDone}
 use Rattle.exports.specs.Exporting.{ExportedRows, export_in, ExportHeld, Space, ExportStepped}
 use Rattle.codes.specs.declared.Code.{Code}
-use Rattle.codes.specs.declared.Coded.{Coded}
 use Rattle.codes.specs.declared.decodes.Decoded.{Decoded}
 use Rattle.codes.specs.declared.decodes.Decoded.TheVariants.{Meant, Meaningless}
 use Rattle.codes.specs.Codes.{decoded}
+use Rattle.codes.specs.declared.Coded.{Coded}
 use Rattle.replay.specs.declared.runs.Replayed.{Replayed}
 use Rattle.replay.specs.CodedSteps.{StepEnd, step_end_of, CodedStep}
 use Rattle.replay.specs.Replays.{replay_end_of, Replays}
@@ -102,7 +101,7 @@ replayed {made} {words} {s} {s'} {out} {out'} {l} {g} {xs} workers globals expor
 
 -- ---- the contents
 
-module _ (l : Lent) (globals : List ℕ) {c : Globals} {from : ℕ} {r : Next} (e : c ≡ saved_globals globals)
+module _ (l : Lent) (globals : List ℕ) {c : Globals} {from : ℕ} {r : Optional NextWords} (e : c ≡ saved_globals globals)
     (h : Follows l.rows c.sizes.records l.slots from r) where
   first_is : next_in r ≡ first_from from (contents_in l globals)
   first_is = h.next_is (map_of l c.sizes).leaves ∙ ap (λ (x : Globals). first_from from (contents (map_of l x.sizes))) e
@@ -112,10 +111,11 @@ module _ (l : Lent) (globals : List ℕ) {c : Globals} {from : ℕ} {r : Next} (
       let p : o ≡ first_from from (contents_in l globals) = sym q ∙ first_is in
       record { there = ap present p; words = ap (λ (x : Option (Row Record)). maybe x old record_words) p }
 
-  pub next_record_one : {old : List ℕ} {a : ℕ} {v : PayloadWords} {n : ℕ} → r ≡ At a v n → NextRecord l globals from old (a ∷ v.value ∷ v.owner % owners ∷ n ∷ []) true
-  next_record_one {old} {a} {v} {n} q = next_record old (some (row a (record_from v n))) (ap next_in q)
+  pub next_record_one : {old : List ℕ} {n : NextWords} → r ≡ Some n
+      → NextRecord l globals from old (n.address ∷ n.record.payload.value ∷ n.record.payload.owner % owners ∷ n.record.commit ∷ []) true
+  next_record_one {old} {n} q = next_record old (some (row n.address (record_of_words n.record))) (ap next_in q)
 
-  pub next_record_none : {old : List ℕ} → r ≡ Done → NextRecord l globals from old old false
+  pub next_record_none : {old : List ℕ} → r ≡ None → NextRecord l globals from old old false
   next_record_none {old} q = next_record old none (ap next_in q)
 
 -- ---- an export

@@ -1,6 +1,5 @@
 -- `stops::fits` meets its contract: the places wanted against a third of the room.
 use Rattle.replay.specs.FitLaws.{fits_few, fits_addresses, fits_values, fits_owners}
-use Rattle.std.proofs.Common.{true, false}
 use Rattle.replay.proofs.stops.fits.Goals as goal
 
 pub returns-then-room-lt5 : goal.returns-then-room-lt5

@@ -13,7 +13,7 @@ pub const GLOBAL_WORDS: usize = 8;
 
 pub type GlobalWords = [u64; GLOBAL_WORDS];
 
-// Whether an export is open (1 or 0), how many records it has, and how many of them portions have given. With none open all are 0.
+// Whether an export is open (1 or 0), how many records it has, and how many of them portions have given: all 0 if none is open.
 pub const EXPORT_NUMBERS: usize = 3;
 
 pub type ExportWords = [u64; EXPORT_NUMBERS];

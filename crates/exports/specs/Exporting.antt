@@ -1,7 +1,8 @@
--- Request 107: how a lent array and three values are read as the export beside the map, and what each step of one promises.
-use Rattle.std.specs.Prelude.{ℕ, ◌≤◌, ◌≡◌, false, List, length, take, Result, Ok, Err}
+-- Request 107: how a lent array and two numbers, if one is open, are read as the export beside the map, and what each step of one
+-- promises.
+use Rattle.std.specs.Prelude.{ℕ, ◌≤◌, ◌≡◌, List, length, take, Result, Ok, Err, Option as Optional, Some, None}
 use Rattle.std.proofs.Math.Option.{Option, none, some}
-use Rattle.lists.specs.Tests.{pick}
+use Rattle.std.specs.Option.{IfSome}
 use Rattle.lists.specs.Rows.{Row}
 use Rattle.spec.specs.declared.Refusal.{Refusal}
 use Rattle.spec.specs.Records.{limits, Record}
@@ -12,7 +13,6 @@ use Rattle.buffers.specs.Buffers.{Buffers, places_of, rows_in, Unmoved, Beyond, 
 use Rattle.exports.specs.declared.Export.{Export}
 use Rattle.exports.specs.declared.ExportTold.{ExportTold}
 use Rattle.exports.specs.declared.ExportTold.TheVariants.{Opened, Given, Filed, Closed}
-use Rattle.exports.specs.declared.ExportDone.{ExportDone}
 use Rattle.exports.specs.declared.ops.ExportOp.{ExportOp}
 use Rattle.exports.specs.declared.ops.ExportOp.TheVariants.{Open, Portion, File, Close}
 
@@ -22,15 +22,22 @@ use Rattle.exports.specs.declared.ops.ExportOp.TheVariants.{Open, Portion, File,
 abbrev pub ExportedRows : Type 0
 ExportedRows = CopyRows
 
--- the export if it is open, else none
-unfoldable pub export_in : ExportedRows → Export → Option model.Export
-export_in rows x = pick x.open (some (record { records = copied_in rows x.count; taken = x.taken })) none
+-- an open export
+abbrev pub open_in : ExportedRows → Export → model.Export
+open_in rows x = record { records = copied_in rows x.count; taken = x.taken }
 
--- There is room for its records, no more are taken than there are, and one that is not open has none.
-pub record ExportHeld (x : Export) : Type 0 where
+-- the export if one is open, else none
+unfoldable pub export_in : ExportedRows → Optional Export → Option model.Export
+export_in rows (Some x) = some (open_in rows x)
+export_in rows None = none
+
+-- There is room for the records of an open one, and no more are taken than there are.
+pub record OpenHeld (x : Export) : Type 0 where
   pub room : x.count ≤ limits.map_limit
   pub within : x.taken ≤ x.count
-  pub none_closed : x.open ≡ false → x.count ≡ 0
+
+abbrev pub ExportHeld : Optional Export → Type 0
+ExportHeld x = IfSome x OpenHeld
 
 -- ---- answers
 
@@ -46,10 +53,6 @@ space b bs = record { portion = b; bytes = bs }
 -- what a step answers
 abbrev pub ExportAnswer : Type 0
 ExportAnswer = Result ExportTold Refusal
-
--- a refused step leaves the export
-abbrev pub refused : Export → Refusal → ExportDone
-refused x r = record { export = x; answer = Err r }
 
 -- an answer, with what the step left there
 unfoldable pub export_answer_in : ExportAnswer → Space → model.ExportAnswer
@@ -91,15 +94,15 @@ bytes_wanted model.close_export = 0
 
 -- A step of the export in these rows, with these contents of the map: its answer and the export after it are the model's, the
 -- invariant holds again, no more is written than the step has places and bytes, and all past what was written is as it was.
-pub record ExportStepped (contents : List (Row Record)) (step : model.ExportStep) (rows : ExportedRows) (x : Export) (s : Space)
-    (rows' : ExportedRows) (d : ExportDone) (s' : Space) : Type 0 where
-  pub held : ExportHeld d.export
-  pub answer_is : export_answer_in d.answer s' ≡ model.export_answer contents (export_in rows x) step
-  pub next_is : export_in rows' d.export ≡ model.export_next contents (export_in rows x) step
-  pub places : Beyond (places_written d.answer) s.portion s'.portion
-  pub bytes : Unmoved (bytes_written d.answer) s.bytes s'.bytes
-  pub few_places : places_written d.answer ≤ places_wanted step
-  pub few_bytes : bytes_written d.answer ≤ bytes_wanted step
+pub record ExportStepped (contents : List (Row Record)) (step : model.ExportStep) (rows : ExportedRows) (x : Optional Export) (s : Space)
+    (rows' : ExportedRows) (x' : Optional Export) (s' : Space) (a : ExportAnswer) : Type 0 where
+  pub held : ExportHeld x'
+  pub answer_is : export_answer_in a s' ≡ model.export_answer contents (export_in rows x) step
+  pub next_is : export_in rows' x' ≡ model.export_next contents (export_in rows x) step
+  pub places : Beyond (places_written a) s.portion s'.portion
+  pub bytes : Unmoved (bytes_written a) s.bytes s'.bytes
+  pub few_places : places_written a ≤ places_wanted step
+  pub few_bytes : bytes_written a ≤ bytes_wanted step
 
 -- ---- any step, as one operation
 

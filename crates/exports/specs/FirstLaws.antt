@@ -1,5 +1,5 @@
 -- A step with the first places of the lent buffers, or the first of the lent bytes: what it makes of the whole.
-use Rattle.std.specs.Prelude.{ℕ, ◌≤◌, ◌≡◌, refl, List, ◌++◌, length, take, drop, Ok, Err}
+use Rattle.std.specs.Prelude.{ℕ, ◌≤◌, ◌≡◌, refl, List, ◌++◌, length, take, drop, Ok, Err, Option as Optional}
 use Rattle.std.proofs.Common.{sym, ap, ◌∙◌, subst, length-take-le, take_at, drop_at, take-take}
 use Rattle.lists.specs.Rows.{Row}
 use Rattle.spec.specs.Records.{Record}
@@ -9,7 +9,6 @@ use Rattle.buffers.specs.Buffers.{Buffers, places_of, Beyond, Lends, first_of, U
 use Rattle.buffers.specs.FirstPlaces.{first_places, behind, behind_first, behind_others, beyond_part, unmoved_part, rows_part}
 use Rattle.exports.specs.declared.Export.{Export}
 use Rattle.exports.specs.declared.ExportTold.TheVariants.{Opened, Given, Filed, Closed}
-use Rattle.exports.specs.declared.ExportDone.{ExportDone}
 use Rattle.exports.specs.declared.ops.ExportOp.{ExportOp}
 use Rattle.exports.specs.Exporting.{ExportAnswer, ExportedRows, export_in, Space, space, export_answer_in, places_written, bytes_written, places_wanted, bytes_wanted, ExportStepped, export_step_in}
 
@@ -24,26 +23,26 @@ portion_answer (Ok (Filed n)) w b bs h = refl
 portion_answer (Ok Closed) w b bs h = refl
 portion_answer (Err r) w b bs h = refl
 
-pub portion_part : {contents : List (Row Record)} {rows : ExportedRows} {x : Export} {d : ExportDone} {p : Buffers} {bs : List ℕ} (w : Places) (b : Buffers)
+pub portion_part : {contents : List (Row Record)} {rows : ExportedRows} {x x' : Optional Export} {a : ExportAnswer} {p : Buffers} {bs : List ℕ} (w : Places) (b : Buffers)
     → Lends (places_of b) w
-    → ExportStepped contents (model.portion (places_of (first_of w b))) rows x (space (first_of w b) bs) rows d (space p bs)
-    → ExportStepped contents (model.portion w) rows x (space b bs) rows d (space (behind w p b) bs)
+    → ExportStepped contents (model.portion (places_of (first_of w b))) rows x (space (first_of w b) bs) rows x' (space p bs) a
+    → ExportStepped contents (model.portion w) rows x (space b bs) rows x' (space (behind w p b) bs) a
 unfolding places_wanted bytes_wanted
-portion_part {contents} {rows} {x} {d} {p} {bs} w b n h =
+portion_part {contents} {rows} {x} {x'} {a} {p} {bs} w b n h =
     let first : first_of w (behind w p b) ≡ p = behind_first w b n h.places in
     let step : places_of (first_of w b) ≡ w = first_places w b n in
-    let few : places_written d.answer ≤ shortest w = subst (λ (v : Places). places_written d.answer ≤ shortest v) step h.few_places in
+    let few : places_written a ≤ shortest w = subst (λ (v : Places). places_written a ≤ shortest v) step h.few_places in
     record {
       held = h.held;
       answer_is =
-          portion_answer d.answer w (behind w p b) bs few
-          ∙ ap (λ (c : Buffers). export_answer_in d.answer (space c bs)) first
+          portion_answer a w (behind w p b) bs few
+          ∙ ap (λ (c : Buffers). export_answer_in a (space c bs)) first
           ∙ h.answer_is
           ∙ ap (λ (v : Places). model.export_answer contents (export_in rows x) (model.portion v)) step;
       next_is = h.next_is ∙ ap (λ (v : Places). model.export_next contents (export_in rows x) (model.portion v)) step;
       places =
           beyond_part w b (behind w p b) n
-          (subst (λ (c : Buffers). Beyond (places_written d.answer) (first_of w b) c) (sym first) h.places)
+          (subst (λ (c : Buffers). Beyond (places_written a) (first_of w b) c) (sym first) h.places)
           (behind_others w b n h.places);
       bytes = h.bytes;
       few_places = few;
@@ -60,27 +59,27 @@ file_answer (Ok (Filed k)) n b bs h = ap model.filed (sym (take-take k n bs h))
 file_answer (Ok Closed) n b bs h = refl
 file_answer (Err r) n b bs h = refl
 
-pub file_part : {contents : List (Row Record)} {rows : ExportedRows} {x : Export} {d : ExportDone} {b : Buffers} {ps : List ℕ} (n : ℕ) (bs : List ℕ) → n ≤ length bs
-    → ExportStepped contents (model.file (length (take n bs))) rows x (space b (take n bs)) rows d (space b ps)
-    → ExportStepped contents (model.file n) rows x (space b bs) rows d (space b (ps ++ drop n bs))
+pub file_part : {contents : List (Row Record)} {rows : ExportedRows} {x x' : Optional Export} {a : ExportAnswer} {b : Buffers} {ps : List ℕ} (n : ℕ) (bs : List ℕ) → n ≤ length bs
+    → ExportStepped contents (model.file (length (take n bs))) rows x (space b (take n bs)) rows x' (space b ps) a
+    → ExportStepped contents (model.file n) rows x (space b bs) rows x' (space b (ps ++ drop n bs)) a
 unfolding places_wanted bytes_wanted
-file_part {contents} {rows} {x} {d} {b} {ps} n bs i h =
+file_part {contents} {rows} {x} {x'} {a} {b} {ps} n bs i h =
     let size : length (take n bs) ≡ n = length-take-le n bs i in
     let s : length ps ≡ n = h.bytes.size ∙ size in
     let first : take n (ps ++ drop n bs) ≡ ps = take_at ps (drop n bs) n s in
-    let few : bytes_written d.answer ≤ n = subst (λ (k : ℕ). bytes_written d.answer ≤ k) size h.few_bytes in
+    let few : bytes_written a ≤ n = subst (λ (k : ℕ). bytes_written a ≤ k) size h.few_bytes in
     record {
       held = h.held;
       answer_is =
-          file_answer d.answer n b (ps ++ drop n bs) few
-          ∙ ap (λ (cs : List ℕ). export_answer_in d.answer (space b cs)) first
+          file_answer a n b (ps ++ drop n bs) few
+          ∙ ap (λ (cs : List ℕ). export_answer_in a (space b cs)) first
           ∙ h.answer_is
           ∙ ap (λ (k : ℕ). model.export_answer contents (export_in rows x) (model.file k)) size;
       next_is = h.next_is ∙ ap (λ (k : ℕ). model.export_next contents (export_in rows x) (model.file k)) size;
       places = h.places;
       bytes =
-          unmoved_part (bytes_written d.answer) n bs (ps ++ drop n bs) i
-          (subst (λ (cs : List ℕ). Unmoved (bytes_written d.answer) (take n bs) cs) (sym first) h.bytes)
+          unmoved_part (bytes_written a) n bs (ps ++ drop n bs) i
+          (subst (λ (cs : List ℕ). Unmoved (bytes_written a) (take n bs) cs) (sym first) h.bytes)
           (drop_at ps (drop n bs) n s);
       few_places = h.few_places;
       few_bytes = few;
@@ -88,6 +87,6 @@ file_part {contents} {rows} {x} {d} {b} {ps} n bs i h =
 
 -- ---- any step, once it is known which
 
-pub stepped_as : {contents : List (Row Record)} {rows rows' : ExportedRows} {x : Export} {s s' : Space} {d : ExportDone} {o q : ExportOp} (w : Places) → o ≡ q
-    → ExportStepped contents (export_step_in q w) rows x s rows' d s' → ExportStepped contents (export_step_in o w) rows x s rows' d s'
-stepped_as {contents} {rows} {rows'} {x} {s} {s'} {d} w e h = subst (λ (p : ExportOp). ExportStepped contents (export_step_in p w) rows x s rows' d s') (sym e) h
+pub stepped_as : {contents : List (Row Record)} {rows rows' : ExportedRows} {x x' : Optional Export} {s s' : Space} {a : ExportAnswer} {o q : ExportOp} (w : Places) → o ≡ q
+    → ExportStepped contents (export_step_in q w) rows x s rows' x' s' a → ExportStepped contents (export_step_in o w) rows x s rows' x' s' a
+stepped_as {contents} {rows} {rows'} {x} {x'} {s} {s'} {a} w e h = subst (λ (p : ExportOp). ExportStepped contents (export_step_in p w) rows x s rows' x' s' a) (sym e) h

@@ -1,5 +1,5 @@
 -- For the reader: every file that is written is read back as the records of the export.
-use Rattle.std.specs.Prelude.{ℕ, zero, suc, ◌^◌, ◌<◌, ◌≤◌, ◌≡◌, refl, Bool, true, false, List, [], length, take, get_or, Ok}
+use Rattle.std.specs.Prelude.{ℕ, zero, suc, ◌^◌, ◌<◌, ◌≤◌, ◌≡◌, refl, Bool, true, false, List, [], length, take, get_or, Ok, Option as Optional, Some, None}
 use Rattle.std.proofs.Common.{arith, sym, ap, ◌∙◌, ⊎_elim}
 use Rattle.std.proofs.Math.Option.{Option, none, some}
 use Rattle.lists.specs.Tests.{pick, maybe, less}
@@ -19,7 +19,6 @@ use Rattle.contents.specs.Copies.{copy_row, copied_in}
 use Rattle.buffers.specs.Buffers.{Buffers}
 use Rattle.exports.specs.declared.Export.{Export}
 use Rattle.exports.specs.declared.ExportTold.TheVariants.{Filed}
-use Rattle.exports.specs.declared.ExportDone.{ExportDone}
 use Rattle.exports.specs.Exporting.{ExportAnswer, ExportedRows, export_in, ExportHeld, space, export_answer_in, ExportStepped}
 
 -- ---- the records of an export fit a file
@@ -41,16 +40,13 @@ record Fileable (rs : List (Row Payload)) : Type 0 where
   fit : AllFit rs
   few : length rs < 2 ^ 32
 
-fileable : (rows : ExportedRows) (x : Export) → ExportHeld x → Fileable (model.export_of (export_in rows x)).records
+fileable : (rows : ExportedRows) (x : Optional Export) → ExportHeld x → Fileable (model.export_of (export_in rows x)).records
 unfolding export_in model.export_of
-fileable rows x h = by_cases x.open
-  where
-    by_cases : (b : Bool) → Fileable (model.export_of (pick b (some (record { records = copied_in rows x.count; taken = x.taken })) none)).records
-    by_cases true =
-        let l : length (copied_in rows x.count) ≡ x.count = length_rows copy_row rows x.count in
-        let r : x.count ≤ limits.map_limit = h.room in
-        record { fit = exported_fit rows x.count; few = omega arith }
-    by_cases false = record { fit = none_fit; few = omega arith }
+fileable rows (Some e) h =
+    let l : length (copied_in rows e.count) ≡ e.count = length_rows copy_row rows e.count in
+    let r : e.count ≤ limits.map_limit = h.room in
+    record { fit = exported_fit rows e.count; few = omega arith }
+fileable rows None h = record { fit = none_fit; few = omega arith }
 
 -- ---- what is told
 
@@ -90,17 +86,17 @@ told_by_lem contents none model.close_export bs e = both_options (ap bytes_told 
 told_by_lem contents (some x) model.close_export bs e = both_options (ap bytes_told e) refl
 
 -- Bytes that a step tells are read back as the records of the export.
-pub told_read_back : (contents : List (Row Record)) (rows : ExportedRows) (x : Export) (s : model.ExportStep) (bs : List ℕ) → ExportHeld x
+pub told_read_back : (contents : List (Row Record)) (rows : ExportedRows) (x : Optional Export) (s : model.ExportStep) (bs : List ℕ) → ExportHeld x
     → model.export_answer contents (export_in rows x) s ≡ model.filed bs → parsed bs ≡ some (model.export_of (export_in rows x)).records
 told_read_back contents rows x s bs h e =
     let f = fileable rows x h in
     ap parsed (told_by_lem contents (export_in rows x) s bs e) ∙ file_parsed f.fit f.few
 
 -- The bytes that a step of `file` writes are read back as the records of the export.
-pub file_read_back : {contents : List (Row Record)} {rows : ExportedRows} {x : Export} {b : Buffers} {bs bs' : List ℕ} {d : ExportDone} (n : ℕ) → ExportHeld x
-    → ExportStepped contents (model.file (length bs)) rows x (space b bs) rows d (space b bs') → d.answer ≡ Ok (Filed n)
+pub file_read_back : {contents : List (Row Record)} {rows : ExportedRows} {x x' : Optional Export} {b : Buffers} {bs bs' : List ℕ} {a : ExportAnswer} (n : ℕ) → ExportHeld x
+    → ExportStepped contents (model.file (length bs)) rows x (space b bs) rows x' (space b bs') a → a ≡ Ok (Filed n)
     → parsed (take n bs') ≡ some (model.export_of (export_in rows x)).records
 unfolding export_answer_in
-file_read_back {contents} {rows} {x} {b} {bs} {bs'} {d} n h p e =
+file_read_back {contents} {rows} {x} {x'} {b} {bs} {bs'} {a} n h p e =
     told_read_back contents rows x (model.file (length bs)) (take n bs') h
     (sym p.answer_is ∙ ap (λ (a : ExportAnswer). export_answer_in a (space b bs')) e)

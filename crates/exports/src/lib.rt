@@ -1,5 +1,5 @@
 // Request 107: an export beside the map. It is the contents at its opening, copied to an array that the caller lends, with
-// two numbers by value: how many records it has, and how many of them portions have given. No job touches it.
+// two numbers beside it: how many records it has, and how many of them portions have given. No job touches it.
 //
 // Crate `contents` fills the array and reads it; `copies` fills the buffers of a portion; `files` writes the file. `ops` takes
 // any step as one operation.
@@ -13,7 +13,7 @@ ghost use Rattle.spec.specs.Exports as model;
 ghost use Rattle.map.specs.Parts.{RecordsHeld, SlotsHeld};
 ghost use Rattle.queries.specs.Contents.{all_records};
 ghost use Rattle.buffers.specs.Buffers.{Buffers, buffers, places_of};
-ghost use Rattle.exports.specs.Exporting.{ExportedRows, export_in, refused, ExportHeld, Space, space, ExportStepped};
+ghost use Rattle.exports.specs.Exporting.{ExportedRows, export_in, ExportHeld, Space, space, ExportStepped};
 
 use map::{Records, Slots};
 use spec::{Address, Refusal};
@@ -25,10 +25,9 @@ pub mod ops;
 // The records of an export, a row each.
 pub type Exported = contents::CopyRows;
 
-// Whether an export is open, how many records it has, and how many of them portions have given.
+// An open export: how many records it has, and how many of them portions have given.
 #[derive(Clone, Copy)]
 pub struct Export {
-    pub open: bool,
     pub count: usize,
     pub taken: usize,
 }
@@ -46,32 +45,11 @@ pub enum ExportTold {
 // The answer to a step.
 pub type ExportAnswer = Result<ExportTold, Refusal>;
 
-// The export after a step, and the answer.
-#[derive(Clone, Copy)]
-pub struct ExportDone {
-    pub export: Export,
-    pub answer: ExportAnswer,
-}
-
-// A refused step leaves the export.
-fn refused(export: Export, r: Refusal) -> ExportDone
-    ensures { result ≡ refused export r }
-{
-    ExportDone {
-        export,
-        answer: Err(r),
-    }
-}
-
 // None is open.
-pub fn no_export() -> Export
+pub fn no_export() -> Option<Export>
     ensures { ((rows : ExportedRows) → export_in rows result ≡ none) × ExportHeld result }
 {
-    Export {
-        open: false,
-        count: 0,
-        taken: 0,
-    }
+    None
 }
 
 // Opens an export of the contents.
@@ -80,26 +58,20 @@ pub fn open_export(
     rows: &Records,
     slots: &Slots,
     n: usize,
-    x: Export,
-) -> ExportDone
+    x: &mut Option<Export>,
+) -> ExportAnswer
     requires records_held { RecordsHeld rows.now n }
     requires slots_held { SlotsHeld slots.now }
-    requires slots_len_bound { (length (all_records rows.now n slots.now) ≤ limits.map_limit) × ExportHeld x }
+    requires slots_len_bound { (length (all_records rows.now n slots.now) ≤ limits.map_limit) × ExportHeld x.old }
     ensures { (s : Space) → ExportStepped (all_records rows.now n slots.now) model.open_export
-        exported.old x s exported.new result s }
+        exported.old x.old s exported.new x.new s result }
 {
-    if x.open {
-        return refused(x, Refusal::ExportOpen);
+    if x.is_some() {
+        return Err(Refusal::ExportOpen);
     }
     let count = contents::copy_contents(exported, rows, slots, n);
-    ExportDone {
-        export: Export {
-            open: true,
-            count,
-            taken: 0,
-        },
-        answer: Ok(ExportTold::Opened(count)),
-    }
+    *x = Some(Export { count, taken: 0 });
+    Ok(ExportTold::Opened(count))
 }
 
 // Gives the next records, as many as there are and as the shortest buffer holds.
@@ -108,61 +80,52 @@ pub fn portion(
     values: &mut [u64],
     owners: &mut [u16],
     exported: &Exported,
-    x: Export,
-) -> ExportDone
-    requires { ExportHeld x }
+    x: &mut Option<Export>,
+) -> ExportAnswer
+    requires { ExportHeld x.old }
     ensures { (contents : List (Row Record)) (bs : List ℕ) → ExportStepped contents
         (model.portion (places_of (buffers addresses.old values.old owners.old)))
-        exported.now x (space (buffers addresses.old values.old owners.old) bs)
-        exported.now result (space (buffers addresses.new values.new owners.new) bs) }
+        exported.now x.old (space (buffers addresses.old values.old owners.old) bs)
+        exported.now x.new (space (buffers addresses.new values.new owners.new) bs) result }
 {
-    if !x.open {
-        return refused(x, Refusal::NoExport);
-    }
-    let left = x.count - x.taken;
+    let Some(open) = x else {
+        return Err(Refusal::NoExport);
+    };
+    let left = open.count - open.taken;
     let n = left
         .min(addresses.len())
         .min(values.len())
         .min(owners.len());
-    copies::give(addresses, values, owners, exported, x.taken, n);
-    ExportDone {
-        export: Export {
-            taken: x.taken + n,
-            ..x
-        },
-        answer: Ok(ExportTold::Given(n, left - n)),
-    }
+    copies::give(addresses, values, owners, exported, open.taken, n);
+    open.taken += n;
+    Ok(ExportTold::Given(n, left - n))
 }
 
 // Writes the whole export as a file, whatever portions were taken.
-pub fn file(bytes: &mut [u8], exported: &Exported, x: Export) -> ExportDone
+pub fn file(bytes: &mut [u8], exported: &Exported, x: Option<Export>) -> ExportAnswer
     requires { ExportHeld x }
     ensures { (contents : List (Row Record)) (b : Buffers) → ExportStepped contents (model.file (length bytes.old))
-        exported.now x (space b bytes.old) exported.now result (space b bytes.new) }
+        exported.now x (space b bytes.old) exported.now x (space b bytes.new) result }
 {
-    if !x.open {
-        return refused(x, Refusal::NoExport);
+    let Some(open) = x else {
+        return Err(Refusal::NoExport);
+    };
+    if bytes.len() < files::HEADER_BYTES + files::RECORD_BYTES * open.count {
+        return Err(Refusal::ShortBuffer);
     }
-    if bytes.len() < files::HEADER_BYTES + files::RECORD_BYTES * x.count {
-        return refused(x, Refusal::ShortBuffer);
-    }
-    let n = files::put_file(bytes, exported, x.count);
-    ExportDone {
-        export: x,
-        answer: Ok(ExportTold::Filed(n)),
-    }
+    let n = files::put_file(bytes, exported, open.count);
+    Ok(ExportTold::Filed(n))
 }
 
 // Closes the export.
-pub fn close_export(x: Export) -> ExportDone
-    requires { ExportHeld x }
-    ensures { (contents : List (Row Record)) (rows : ExportedRows) (s : Space) → ExportStepped contents model.close_export rows x s rows result s }
+pub fn close_export(x: &mut Option<Export>) -> ExportAnswer
+    requires { ExportHeld x.old }
+    ensures { (contents : List (Row Record)) (rows : ExportedRows) (s : Space) → ExportStepped contents model.close_export
+        rows x.old s rows x.new s result }
 {
-    if !x.open {
-        return refused(x, Refusal::NoExport);
+    if x.is_none() {
+        return Err(Refusal::NoExport);
     }
-    ExportDone {
-        export: no_export(),
-        answer: Ok(ExportTold::Closed),
-    }
+    *x = None;
+    Ok(ExportTold::Closed)
 }

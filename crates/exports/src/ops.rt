@@ -9,7 +9,7 @@ ghost use Rattle.buffers.specs.Buffers.{Buffers, buffers, places_of, counted_pla
 ghost use Rattle.exports.specs.Exporting.{ExportHeld, space, ExportStepped, export_step_in, LendsTo};
 
 use buffers::Places;
-use crate::{Export, ExportDone, Exported};
+use crate::{Export, ExportAnswer, Exported};
 use map::{Records, Slots};
 use spec::Address;
 
@@ -28,14 +28,14 @@ fn portion_first(
     values: &mut [u64],
     owners: &mut [u16],
     exported: &Exported,
-    x: Export,
+    x: &mut Option<Export>,
     wanted: Places,
-) -> ExportDone
-    requires export_held { ExportHeld x }
+) -> ExportAnswer
+    requires export_held { ExportHeld x.old }
     requires lends { Lends (places_of (buffers addresses.old values.old owners.old)) (counted_places wanted) }
     ensures { (contents : List (Row Record)) (bs : List ℕ) → ExportStepped contents (model.portion (counted_places wanted))
-        exported.now x (space (buffers addresses.old values.old owners.old) bs)
-        exported.now result (space (buffers addresses.new values.new owners.new) bs) }
+        exported.now x.old (space (buffers addresses.old values.old owners.old) bs)
+        exported.now x.new (space (buffers addresses.new values.new owners.new) bs) result }
 {
     crate::portion(
         &mut addresses[..wanted.addresses],
@@ -47,11 +47,11 @@ fn portion_first(
 }
 
 // A file to the first n bytes.
-fn file_first(bytes: &mut [u8], exported: &Exported, x: Export, n: usize) -> ExportDone
+fn file_first(bytes: &mut [u8], exported: &Exported, x: Option<Export>, n: usize) -> ExportAnswer
     requires export_held { ExportHeld x }
     requires n_in_bounds { n ≤ length bytes.old }
     ensures { (contents : List (Row Record)) (b : Buffers) → ExportStepped contents (model.file n)
-        exported.now x (space b bytes.old) exported.now result (space b bytes.new) }
+        exported.now x (space b bytes.old) exported.now x (space b bytes.new) result }
 {
     crate::file(&mut bytes[..n], exported, x)
 }
@@ -66,22 +66,22 @@ pub fn perform_export(
     rows: &Records,
     slots: &Slots,
     count: usize,
-    x: Export,
+    x: &mut Option<Export>,
     op: ExportOp,
     wanted: Places,
-) -> ExportDone
+) -> ExportAnswer
     requires records_held { RecordsHeld rows.now count }
     requires slots_held { SlotsHeld slots.now }
-    requires slots_len_bound { (length (all_records rows.now count slots.now) ≤ limits.map_limit) × ExportHeld x }
+    requires slots_len_bound { (length (all_records rows.now count slots.now) ≤ limits.map_limit) × ExportHeld x.old }
     requires lends_to { LendsTo (space (buffers addresses.old values.old owners.old) bytes.old) op (counted_places wanted) }
     ensures { ExportStepped (all_records rows.now count slots.now) (export_step_in op (counted_places wanted))
-        exported.old x (space (buffers addresses.old values.old owners.old) bytes.old)
-        exported.new result (space (buffers addresses.new values.new owners.new) bytes.new) }
+        exported.old x.old (space (buffers addresses.old values.old owners.old) bytes.old)
+        exported.new x.new (space (buffers addresses.new values.new owners.new) bytes.new) result }
 {
     match op {
         ExportOp::Open => crate::open_export(exported, rows, slots, count, x),
         ExportOp::Portion => portion_first(addresses, values, owners, exported, x, wanted),
-        ExportOp::File(size) => file_first(bytes, exported, x, size),
+        ExportOp::File(size) => file_first(bytes, exported, *x, size),
         ExportOp::Close => crate::close_export(x),
     }
 }

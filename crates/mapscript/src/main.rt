@@ -140,10 +140,7 @@ fn close(
     ensures { Closes (lent rows.now leaves.now slots.now)
         (logs reads.now leafsets.now writes.now) workers.now input.now w result }
 {
-    if w.failed {
-        return w.calls;
-    }
-    if w.going {
+    if w.failed || w.going {
         return w.calls;
     }
     let last = closing::finish(

@@ -1,5 +1,5 @@
 -- The loop over all codes: what stands after i of them, and the promise at its end.
-use Rattle.std.specs.Prelude.{◌⊎◌, ℕ, ◌+◌, ◌-◌, ◌*◌, ◌/◌, ◌%◌, ◌<◌, ◌≤◌, ◌≡◌, refl, List, [], ◌∷◌, ◌++◌, length, drop}
+use Rattle.std.specs.Prelude.{◌⊎◌, ℕ, ◌+◌, ◌-◌, ◌*◌, ◌/◌, ◌%◌, ◌<◌, ◌≤◌, ◌≡◌, refl, Option as Optional, List, [], ◌∷◌, ◌++◌, length, drop}
 use Rattle.std.proofs.Common.{le_antisymm, ⊎_elim, zero-le, arith, sym, ap, ◌∙◌, subst, append-nil, append_assoc, length-append, length-drop}
 use Rattle.std.proofs.Math.Option.{none}
 use Rattle.std.proofs.Math.Seq.{length-sets}
@@ -127,11 +127,11 @@ pub record Replaying (x : Made) (words : List ℕ) (s₀ : Space) (out₀ : List
   pub tells : Tells (starting_at (fresh x)) told (exporting_in h)
 
 -- a fresh map, and no export open
-fresh_whole : {l : Lent} {g : Logs} {x : Made} {c : Core} (xs : ExportedRows) (e : Export) → Fresh l g x c → export_in xs e ≡ none
+fresh_whole : {l : Lent} {g : Logs} {x : Made} {c : Core} (xs : ExportedRows) (e : Optional Export) → Fresh l g x c → export_in xs e ≡ none
     → starting_at (fresh x) ≡ exporting_in (whole l g c xs e)
 fresh_whole xs e f o = λ i. record { state = sym f.state i; export = sym o i }
 
-pub replaying_start : {l : Lent} {g : Logs} {c : Core} {xs : ExportedRows} {e : Export} (x : Made) (words : List ℕ) (s : Space) (out : List ℕ) → Fresh l g x c
+pub replaying_start : {l : Lent} {g : Logs} {c : Core} {xs : ExportedRows} {e : Optional Export} (x : Made) (words : List ℕ) (s : Space) (out : List ℕ) → Fresh l g x c
     → (export_in xs e ≡ none) × ExportHeld e → Replaying x words s out (whole l g c xs e) s out 0 0
 unfolding all_words left_in FilesFit
 replaying_start {l} {g} {c} {xs} {e} x words s out f o =

@@ -1,6 +1,6 @@
 -- A list of coded steps, run from a fresh map with no export open: which steps are taken, what is written, and what the run
 -- promises, demand 3 included.
-use Rattle.std.specs.Prelude.{ℕ, ◌+◌, ◌-◌, ◌*◌, ◌≤◌, ◌≡◌, List, [], ◌∷◌, ◌++◌, map, length, Some, None}
+use Rattle.std.specs.Prelude.{ℕ, ◌+◌, ◌-◌, ◌*◌, ◌≤◌, ◌≡◌, Option as Optional, Some, None, List, [], ◌∷◌, ◌++◌, map, length}
 use Rattle.std.proofs.Math.Option.{Option, none, some}
 use Rattle.std.proofs.lemmas.List.Edits.{sets}
 use Rattle.lists.specs.Tests.{pick, maybe, less}
@@ -162,9 +162,9 @@ pub record Whole : Type 0 where
   pub logs : Logs
   pub core : Core
   pub exported : ExportedRows
-  pub export : Export
+  pub export : Optional Export
 
-abbrev pub whole : Lent → Logs → Core → ExportedRows → Export → Whole
+abbrev pub whole : Lent → Logs → Core → ExportedRows → Optional Export → Whole
 whole l g c xs x = record { map = l; logs = g; core = c; exported = xs; export = x }
 
 -- how they are read
@@ -183,7 +183,7 @@ run_of made words s out = ran (places_of s.portion) (length s.bytes) (starting_a
 -- The core and the export's numbers after the steps, how many were taken, how many words were written, and why no more.
 pub record ReplayEnd : Type 0 where
   pub core : Core
-  pub export : Export
+  pub export : Optional Export
   pub taken : ℕ
   pub written : ℕ
   pub stop : Stop

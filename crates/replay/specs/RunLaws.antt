@@ -1,28 +1,26 @@
 -- One code of a run: what its words are, and what taking it makes of the run.
 use Prim.Native.Nat.{ℕ, suc, ◌+◌, ◌-◌, ◌*◌, ◌<◌, ◌≤◌, zero-le}
 use Rattle.std.proofs.Common.{arith, le_refl, le_trans, ◌∙◌, subst, drop-cons}
-use Rattle.std.specs.Prelude.{◌≡◌, length, get_or, drop, take, Some, None}
+use Rattle.std.specs.Prelude.{Option as Optional, ◌≡◌, length, get_or, drop, take, Some, None}
 use Rattle.std.proofs.Math.Path.{refl, sym, ap}
 use mathlib.Core.List.{List, [], ◌∷◌, ◌++◌, append-nil}
 use Rattle.std.proofs.Math.Option.{Option, none, some}
-use Rattle.lists.specs.Tests.{pick}
 use Rattle.lists.specs.TestLaws.{less_yes, less_no}
 use Rattle.lists.specs.Rows.{Row}
 use Rattle.lists.specs.Texts.{Wrote}
 use Rattle.spec.specs.Records.{Record}
-use Rattle.spec.specs.Maps.{MapState, contents}
+use Rattle.spec.specs.Maps.{contents}
 use Rattle.spec.specs.Steps.{Places, places, shortest, Answer, answer}
 use Rattle.spec.specs.Files.{parsed}
-use Rattle.spec.specs.Exports.{Export as ModelExport, ExportStep, ExportAnswer as ModelAnswer, filed, export_of, export_answer, export_next, Exporting, job, exporting, Exchange, job_told, export_told, exchange, next_of, contents_now}
+use Rattle.spec.specs.Exports.{ExportStep, ExportAnswer as ModelAnswer, filed, export_of, export_answer, export_next, Exporting, job, exporting, Exchange, job_told, export_told, exchange, next_of}
 use Rattle.calls.proofs.CallLaws.{map_in}
 use Rattle.map.specs.Views.{Lent, map_of}
 use Rattle.buffers.specs.Buffers.{counted_places, Buffers, places_of, Lends}
 use Rattle.buffers.specs.BufferLaws.{unmoved_refl}
 use Rattle.exports.specs.declared.Export.{Export}
-use Rattle.exports.specs.declared.ExportDone.{ExportDone}
 use Rattle.exports.specs.declared.ops.ExportOp.{ExportOp}
 use Rattle.exports.specs.declared.ops.ExportOp.TheVariants.{Open, Portion, File, Close}
-use Rattle.exports.specs.Exporting.{ExportedRows, export_in, ExportHeld, Space, space, export_answer_in, places_written, bytes_written, places_wanted, bytes_wanted, ExportStepped, export_step_in, LendsTo}
+use Rattle.exports.specs.Exporting.{ExportAnswer as Told, ExportedRows, export_in, ExportHeld, Space, space, export_answer_in, places_written, bytes_written, places_wanted, bytes_wanted, ExportStepped, export_step_in, LendsTo}
 use Rattle.exports.specs.ReadBacks.{told_read_back}
 use Rattle.transactions.specs.Cores.{Core}
 use Rattle.transactions.specs.Views.{Logs, state_of}
@@ -209,13 +207,13 @@ code_taken {h} {h'} {k} {s} {s'} {out} {out'} {at} {j} q e f r n w b p =
 module _ {l : Lent} {g : Logs} {c : Core} (k : Code) {d : Decoded} (b : Buffers) (out : List ℕ) (at : ℕ) (ready : Ready l g c) (i : at ≤ length out) (small : k.kind < 11)
     (e : d ≡ decoded (places_of b) k)
   where
-    pub job_unmeant : d ≡ None → (xs : ExportedRows) (x : Export) (bs : List ℕ) → ExportHeld x
+    pub job_unmeant : d ≡ None → (xs : ExportedRows) (x : Optional Export) (bs : List ℕ) → ExportHeld x
         → TakesCode (whole l g c xs x) k (space b bs) out at (whole l g c xs x) (space b bs) out at stop.Meaningless
     job_unmeant u xs x bs h =
         code_unmeant (space b bs) out at (record { engine = ready; export = h }) i (job_none k (places_of b) (length bs) small e u)
 
     module _ {o : Op} {w : PlaceCounts} (u : d ≡ Some (o, w)) where
-      pub job_full : length out - at < longest_answer (counted_places w) → (xs : ExportedRows) (x : Export) (bs : List ℕ) → ExportHeld x
+      pub job_full : length out - at < longest_answer (counted_places w) → (xs : ExportedRows) (x : Optional Export) (bs : List ℕ) → ExportHeld x
           → TakesCode (whole l g c xs x) k (space b bs) out at (whole l g c xs x) (space b bs) out at stop.Full
       job_full f xs x bs h =
           code_full (space b bs) out at (record { engine = ready; export = h }) i (asked_op o (counted_places w)) (job_some k (places_of b) (length bs) small e u) f
@@ -231,7 +229,7 @@ module _ {l : Lent} {g : Logs} {c : Core} (k : Code) {d : Decoded} (b : Buffers)
               let y = performs_with n z in
               record { places = places_kept b b' (places_left v b y.few n) y.beyond; words = room_left v out y.few i f }
 
-          pub job_taken : {out' : List ℕ} {j : ℕ} → Wrote out at (words_of (reply_in p.reply b')) out' j → (xs : ExportedRows) (x : Export) (bs : List ℕ) → ExportHeld x
+          pub job_taken : {out' : List ℕ} {j : ℕ} → Wrote out at (words_of (reply_in p.reply b')) out' j → (xs : ExportedRows) (x : Optional Export) (bs : List ℕ) → ExportHeld x
               → TakesCode (whole l g c xs x) k (space b bs) out at (whole l' g' p.core xs x) (space b' bs) out' j stop.Complete
           unfolding exchange next_of told_words shown_by filed_by
           job_taken {out'} {j} wrote xs x bs h =
@@ -266,14 +264,14 @@ wanted_bytes s Portion w h = zero-le
 wanted_bytes s (File n) w h = h.bytes n refl
 wanted_bytes s Close w h = zero-le
 
-module _ {rs : List (Row Record)} {xs xs' : ExportedRows} {x : Export} {s s' : Space} {p : ExportDone} (o : ExportOp) where
-  few_places : (w : Places) → ExportStepped rs (export_step_in o w) xs x s xs' p s' → places_written p.answer ≤ shortest w
+module _ {rs : List (Row Record)} {xs xs' : ExportedRows} {x x' : Optional Export} {s s' : Space} {p : Told} (o : ExportOp) where
+  few_places : (w : Places) → ExportStepped rs (export_step_in o w) xs x s xs' x' s' p → places_written p ≤ shortest w
   few_places w z = le_trans z.few_places (wanted_places o w)
 
-  few_bytes : {w : Places} → LendsTo s o w → ExportStepped rs (export_step_in o w) xs x s xs' p s' → bytes_written p.answer ≤ length s.bytes
+  few_bytes : {w : Places} → LendsTo s o w → ExportStepped rs (export_step_in o w) xs x s xs' x' s' p → bytes_written p ≤ length s.bytes
   few_bytes {w} h z = le_trans z.few_bytes (wanted_bytes s o w h)
 
-module _ (k : Code) {d : DecodedExport} {xs : ExportedRows} {x : Export} (rs : List (Row Record)) (s : Space) (out : List ℕ) (at : ℕ) (held : ExportHeld x) (i : at ≤ length out)
+module _ (k : Code) {d : DecodedExport} {xs : ExportedRows} {x : Optional Export} (rs : List (Row Record)) (s : Space) (out : List ℕ) (at : ℕ) (held : ExportHeld x) (i : at ≤ length out)
     (large : 11 ≤ k.kind) (e : d ≡ decoded_export (places_of s.portion) (length s.bytes) k)
   where
     pub export_unmeant : d ≡ None → (l : Lent) (g : Logs) (c : Core) → Ready l g c → contents (map_of l c.sizes) ≡ rs
@@ -287,40 +285,40 @@ module _ (k : Code) {d : DecodedExport} {xs : ExportedRows} {x : Export} (rs : L
       export_full f l g c r z =
           code_full s out at (record { engine = r; export = held }) i (asked_step o (counted_places w)) (export_some k (places_of s.portion) (length s.bytes) large e u) f
 
-      module _ {xs' : ExportedRows} {s' : Space} (p : ExportDone) (f : longest_answer (counted_places w) ≤ length out - at) (lends : LendsTo s o (counted_places w))
-          (z : ExportStepped rs (export_step_in o (counted_places w)) xs x s xs' p s')
+      module _ {xs' : ExportedRows} {x' : Optional Export} {s' : Space} {p : Told} (f : longest_answer (counted_places w) ≤ length out - at) (lends : LendsTo s o (counted_places w))
+          (z : ExportStepped rs (export_step_in o (counted_places w)) xs x s xs' x' s' p)
         where
           -- room for the answer
-          pub export_roomy : ExportRoomy p.answer s'.portion out at
+          pub export_roomy : ExportRoomy p s'.portion out at
           export_roomy =
               let v = counted_places w in
               let few = few_places o v z in
               record { places = places_kept s.portion s'.portion (places_left v s.portion few lends.places) z.places; words = room_left v out few i f }
 
-          bytes_left : bytes_written p.answer ≤ length s'.bytes
+          bytes_left : bytes_written p ≤ length s'.bytes
           bytes_left =
               let n : length s'.bytes ≡ length s.bytes = z.bytes.size in
-              let h : bytes_written p.answer ≤ length s.bytes = few_bytes o lends z in
+              let h : bytes_written p ≤ length s.bytes = few_bytes o lends z in
               omega arith
 
           pub export_taken : {out' : List ℕ} {j : ℕ}
-              → ((bs : List ℕ) → bytes_written p.answer ≤ length bs → Wrote out at (export_words (export_answer_in p.answer (space s'.portion bs))) out' j)
+              → ((bs : List ℕ) → bytes_written p ≤ length bs → Wrote out at (export_words (export_answer_in p (space s'.portion bs))) out' j)
               → (l : Lent) (g : Logs) (c : Core) → Ready l g c → contents (map_of l c.sizes) ≡ rs
-              → TakesCode (whole l g c xs x) k s out at (whole l g c xs' p.export) s' out' j stop.Complete
+              → TakesCode (whole l g c xs x) k s out at (whole l g c xs' x') s' out' j stop.Complete
           unfolding exchange next_of told_words shown_by filed_by
           export_taken {out'} {j} wrote l g c r same =
               let v = counted_places w in
               let t = export_step_in o v in
               let now : rs ≡ contents (state_of l g c).map = sym (ap contents (map_in l g c) ∙ same) in
-              let a : export_answer_in p.answer s' ≡ export_answer (contents (state_of l g c).map) (export_in xs x) t
+              let a : export_answer_in p s' ≡ export_answer (contents (state_of l g c).map) (export_in xs x) t
               = z.answer_is ∙ ap (λ (cs : List (Row Record)). export_answer cs (export_in xs x) t) now in
-              let next : export_in xs' p.export ≡ export_next (contents (state_of l g c).map) (export_in xs x) t
+              let next : export_in xs' x' ≡ export_next (contents (state_of l g c).map) (export_in xs x) t
               = z.next_is ∙ ap (λ (cs : List (Row Record)). export_next cs (export_in xs x) t) now in
               code_taken (asked_step o v) (export_some k (places_of s.portion) (length s.bytes) large e u) f
               (record { engine = r; export = z.held })
               (λ i. record { state = state_of l g c; export = next i })
               (subst (λ (y : ModelAnswer). Wrote out at (export_words y) out' j) a (wrote s'.bytes bytes_left))
               (subst (λ (y : ModelAnswer). SpaceBecomes (export_told t y ∷ []) s s') a
-              (space_shown (export_told t (export_answer_in p.answer s')) s s' _ _ (export_shown p.answer s') (export_filed p.answer s')
+              (space_shown (export_told t (export_answer_in p s')) s s' _ _ (export_shown p s') (export_filed p s')
               (places_left v s.portion (few_places o v z) lends.places) z.places (few_bytes o lends z) z.bytes))
               (λ y bs q. told_read_back (contents (state_of l g c).map) xs x t bs held (export_file (exporting_in (whole l g c xs x)) t y bs q))

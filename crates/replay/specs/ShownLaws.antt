@@ -1,6 +1,6 @@
 -- The lent buffers and bytes after a step: what it wrote in the first places, and the rest as it was.
-use Rattle.std.specs.Prelude.{ℕ, Result, Ok, Err, Some, None, Option as Optional, zero, suc, ◌+◌, ◌-◌, ◌*◌, ◌<◌, ◌≤◌, ◌≡◌, refl, List, [], ◌∷◌, ◌++◌, map, length, get_or, take, drop}
-use Rattle.std.proofs.Common.{zero-le, zero-add, arith, sym, ap, ◌∙◌, take-append-drop, length-drop, ext_get_or, get_or-drop, length-take-le, drop-cons}
+use Rattle.std.specs.Prelude.{ℕ, Result, Ok, Err, zero, suc, ◌+◌, ◌-◌, ◌*◌, ◌<◌, ◌≤◌, ◌≡◌, refl, List, [], ◌∷◌, ◌++◌, map, length, get_or, take, drop}
+use Rattle.std.proofs.Common.{zero-add, arith, sym, ap, ◌∙◌, take-append-drop, length-drop, ext_get_or, get_or-drop, length-take-le, drop-cons}
 use Rattle.std.proofs.lemmas.List.Edits.{sets, sets-eq}
 use Rattle.lists.specs.Tabulation.{tab, tab_from}
 use Rattle.lists.specs.Rows.{Row}
@@ -13,9 +13,6 @@ use Rattle.exports.specs.Exporting.{ExportAnswer, Space, export_answer_in, place
 use Rattle.spec.specs.declared.Refusal.{Refusal}
 use Rattle.engine.specs.declared.steps.Told.{Told}
 use Rattle.engine.specs.declared.steps.Told.TheVariants as told
-use Rattle.accesses.specs.declared.reads.ReadValue.{ReadValue}
-use Rattle.accesses.specs.Answers.{value_in}
-use Rattle.spec.specs.Steps.{found}
 use Rattle.engine.specs.Performs.{reply_in, places_in}
 use Rattle.replay.specs.Replays.{longest_answer, scanned, shown_by, bytes_of, filed_by, left_in, FilesFit, SpaceBecomes}
 

@@ -8,7 +8,7 @@ use Rattle.spec.specs.Records.{limits, standard, standard_map, Record}
 use Rattle.spec.specs.Leaves.{cuts}
 use Rattle.spec.specs.Slots.{home_slot}
 use Rattle.spec.specs.Maps.{contents}
-use Rattle.spec.specs.Steps.{Places, places, shortest, first_cause, State, Step, begin, read, scan, put, remove, lock, validate, install, abort, merge, merge_oldest, Answer, done, numbered, fresh, final, Event, act, beginning, access, read_at, scan_over, put_to, remove_at, locking, validating, installing, aborting}
+use Rattle.spec.specs.Steps.{places, shortest, first_cause, State, Step, begin, put, remove, lock, validate, install, merge, merge_oldest, done, numbered, fresh, final, act, beginning, access, read_at, scan_over, put_to, remove_at, locking, validating, installing, aborting}
 use Rattle.spec.specs.Computing.{model}
 use Rattle.spec.specs.Files.{little_endian, address_bytes, entry_bytes, file_of, file_size}
 use Rattle.spec.specs.Exports.{ExportStep, open_export, portion, file, close_export, declined, opened, given, filed, closed, export_of, export_causes, export_refusal, export_granted, export_effect, export_answer, export_next, Request, job, exporting, Exchange, job_told, export_told, exchange, next_of, starting_at, job_steps}

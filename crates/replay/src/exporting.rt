@@ -32,7 +32,7 @@ pub fn take_export(
     rows: &Records,
     slots: &Slots,
     count: usize,
-    x: &mut Export,
+    x: &mut Option<Export>,
     k: Code,
     at: usize,
 ) -> After
@@ -60,12 +60,11 @@ pub fn take_export(
                     stop: Stop::Full,
                 };
             }
-            let p = ops::perform_export(
-                addresses, values, owners, bytes, exported, rows, slots, count, *x, op, wanted,
+            let told = ops::perform_export(
+                addresses, values, owners, bytes, exported, rows, slots, count, x, op, wanted,
             );
-            *x = p.export;
             After {
-                at: words::put_export_words(out, at, addresses, values, owners, p.answer),
+                at: words::put_export_words(out, at, addresses, values, owners, told),
                 stop: Stop::Complete,
             }
         }

@@ -1,5 +1,5 @@
 // One code of a job's step, in a list of steps.
-ghost use Rattle.std.specs.Prelude.{List, ℕ, ◌<◌, ◌≤◌, length};
+ghost use Rattle.std.specs.Prelude.{List, ℕ, Option, ◌<◌, ◌≤◌, length};
 ghost use Rattle.map.specs.Views.{lent};
 ghost use Rattle.transactions.specs.Views.{logs, core_of};
 ghost use Rattle.transactions.specs.Ready.{Ready};
@@ -38,7 +38,7 @@ pub fn take_job(
 ) -> After
     requires ready { Ready (lent rows.old leaves.old slots.old) (logs reads.old leafsets.old writes.old) (core_of workers.old c.old) }
     requires at_in_bounds { (at ≤ length out.old) × (k.kind < 11) }
-    ensures { (xs : ExportedRows) (x : Export) (bs : List ℕ) → ExportHeld x → TakesCode
+    ensures { (xs : ExportedRows) (x : Option Export) (bs : List ℕ) → ExportHeld x → TakesCode
         (whole (lent rows.old leaves.old slots.old)
         (logs reads.old leafsets.old writes.old) (core_of workers.old c.old) xs x) k
         (space (buffers addresses.old values.old owners.old) bs) out.old at

@@ -1,13 +1,12 @@
 // A list of steps in coded form, run from a fresh map with no export open.
 ghost use Rattle.std.specs.Prelude.{◌≡◌, ◌+◌, ◌*◌, ◌%◌, ◌^◌, ◌<◌, ◌≤◌, length};
-ghost use Rattle.std.proofs.Math.Option.{none};
 ghost use Rattle.spec.specs.Records.{standard_map};
 ghost use Rattle.map.specs.Views.{lent};
 ghost use Rattle.transactions.specs.Views.{logs, core_of, made_of};
 ghost use Rattle.transactions.specs.Ready.{Ready};
 ghost use Rattle.transactions.specs.Starts.{Fresh};
 ghost use Rattle.buffers.specs.Buffers.{buffers};
-ghost use Rattle.exports.specs.Exporting.{export_in, ExportHeld, space};
+ghost use Rattle.exports.specs.Exporting.{ExportHeld, space};
 ghost use Rattle.replay.specs.Replays.{step_words, whole, replay_end_of, Replays};
 ghost use Rattle.replay.specs.RunLaws.{code_at, TakesCode};
 ghost use Rattle.replay.specs.LoopLaws.{rest_stop};
@@ -27,7 +26,7 @@ use workers::Workers;
 #[derive(Clone, Copy)]
 pub struct Replayed {
     pub globals: Globals,
-    pub export: Export,
+    pub export: Option<Export>,
     pub taken: usize,
     pub written: usize,
     pub stop: Stop,
@@ -66,7 +65,7 @@ fn take_code(
     workers: &mut Workers,
     exported: &mut Exported,
     c: &mut Globals,
-    x: &mut Export,
+    x: &mut Option<Export>,
     k: Code,
     at: usize,
 ) -> After
@@ -128,10 +127,8 @@ fn take_all(
     exported: &mut Exported,
     steps: &[u64],
     start: Globals,
-    first: Export,
 ) -> Replayed
-    requires fresh { Fresh (lent rows.old leaves.old slots.old) (logs reads.old leafsets.old writes.old) (made_of (core_of workers.old start)) (core_of workers.old start) }
-    requires first_value { (export_in exported.old first ≡ none) × ExportHeld first }
+    requires { Fresh (lent rows.old leaves.old slots.old) (logs reads.old leafsets.old writes.old) (made_of (core_of workers.old start)) (core_of workers.old start) }
     ensures { Replays (made_of (core_of workers.old start)) steps.now
         (space (buffers addresses.old values.old owners.old) bytes.old) out.old
         (lent rows.new leaves.new slots.new) (logs reads.new leafsets.new writes.new) exported.new
@@ -139,7 +136,7 @@ fn take_all(
 {
     let count = steps.len() / STEP_WORDS;
     let mut globals = start;
-    let mut export = first;
+    let mut export = exports::no_export();
     let mut at = 0;
     for i in 0..count {
         let k = code_at(steps, i);
@@ -211,9 +208,8 @@ pub fn replay(
     let start = starts::fresh_state(
         rows, leaves, slots, reads, leafsets, writes, workers, guarded,
     );
-    let first = exports::no_export();
     take_all(
         out, addresses, values, owners, bytes, rows, leaves, slots, reads, leafsets, writes,
-        workers, exported, steps, start, first,
+        workers, exported, steps, start,
     )
 }

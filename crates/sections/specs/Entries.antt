@@ -1,5 +1,5 @@
 -- What the entries promise: the same as the Rattle functions below them, with the outcome read off the words.
-use Rattle.std.specs.Prelude.{ℕ, ◌≡◌, Bool, List, [], ◌∷◌, get_or}
+use Rattle.std.specs.Prelude.{ℕ, Option as Optional, ◌≡◌, Bool, List, [], ◌∷◌, get_or}
 use Rattle.std.proofs.Math.Option.{none}
 use Rattle.lists.specs.Tests.{maybe, present}
 use Rattle.lists.specs.Rows.{Row}
@@ -11,7 +11,7 @@ use Rattle.queries.specs.Contents.{first_from}
 use Rattle.transactions.specs.Views.{Logs}
 use Rattle.transactions.specs.Ready.{Ready}
 use Rattle.buffers.specs.Buffers.{Buffers}
-use Rattle.exports.specs.declared.ExportDone.{ExportDone}
+use Rattle.exports.specs.declared.Export.{Export}
 use Rattle.exports.specs.Exporting.{ExportAnswer, ExportedRows, export_in, ExportHeld, Space, ExportStepped}
 use Rattle.codes.specs.declared.Code.{Code}
 use Rattle.codes.specs.declared.Coded.{Coded}
@@ -87,14 +87,14 @@ pub record NoneIn (words : List ℕ) : Type 0 where
   pub held : ExportHeld (saved_export words)
 
 -- the export after a step in its words, and the words of its answer
-pub record DoneIn (words told : List ℕ) (d : ExportDone) : Type 0 where
-  pub export_is : words ≡ export_saved d.export
-  pub answer_is : coded_in told ≡ export_coded_of d.answer
+pub record DoneIn (words told : List ℕ) (x : Optional Export) (a : ExportAnswer) : Type 0 where
+  pub export_is : words ≡ export_saved x
+  pub answer_is : coded_in told ≡ export_coded_of a
 
 -- An export step: the rows, the numbers and the space before it, those after it, and the words of its answer.
 pub record ExportEntry (contents : List (Row Record)) (step : model.ExportStep) (rows : ExportedRows) (words : List ℕ) (s : Space)
     (rows' : ExportedRows) (words' : List ℕ) (s' : Space) (told : List ℕ) : Type 0 where
   pub answer : ExportAnswer
-  pub stepped : ExportStepped contents step rows (saved_export words) s rows' (record { export = saved_export words'; answer = answer }) s'
+  pub stepped : ExportStepped contents step rows (saved_export words) s rows' (saved_export words') s' answer
   pub words_are : coded_in told ≡ export_coded_of answer
   pub numbers : words' ≡ export_numbers (model.export_next contents (export_in rows (saved_export words)) step)

@@ -12,7 +12,7 @@ use Rattle.spec.specs.Leaves.{Leaf}
 use Rattle.spec.specs.Maps.{contents}
 use Rattle.spec.specs.Exports as model
 use Rattle.queries.specs.declared.NextRecord.{NextRecord as NextWords}
-use Rattle.map.specs.Views.{record_from, RecordRows, SlotRows, Lent, map_of}
+use Rattle.map.specs.Views.{RecordRows, SlotRows, Lent, map_of}
 use Rattle.queries.specs.QueryViews.{map_with}
 use Rattle.queries.specs.NextViews.{next_in, Follows}
 use Rattle.queries.specs.Contents.{first_from, all_records}
@@ -23,8 +23,7 @@ use Rattle.transactions.specs.Ready.{Ready}
 use Rattle.transactions.specs.Starts.{Fresh}
 use Rattle.buffers.specs.Buffers.{counted_places, Buffers, places_of}
 use Rattle.exports.specs.declared.Export.{Export}
-use Rattle.exports.specs.declared.ExportDone.{ExportDone}
-use Rattle.exports.specs.Exporting.{ExportedRows, export_in, ExportHeld, Space, ExportStepped}
+use Rattle.exports.specs.Exporting.{ExportAnswer, ExportedRows, export_in, ExportHeld, Space, ExportStepped}
 use Rattle.codes.specs.declared.Code.{Code}
 use Rattle.codes.specs.declared.Coded.{Coded}
 use Rattle.codes.specs.Codes.{Decoded, decoded}
@@ -73,7 +72,7 @@ step_entry {l} {l'} {g} {g'} {c} {j} {k} {b} {b'} workers globals workers' globa
 -- ---- a list of steps
 
 -- the words of an export
-export_saved_lem : {x : Export} (words : List ℕ) → words ≡ export_saved x → saved_export words ≡ x
+export_saved_lem : {x : Optional Export} (words : List ℕ) → words ≡ export_saved x → saved_export words ≡ x
 export_saved_lem {x} words e = ap saved_export e ∙ export_put x
 
 pub replayed : {made : Made} {words : List ℕ} {s s' : Space} {out out' : List ℕ} {l : Lent} {g : Logs} {xs : ExportedRows} (workers globals export counts : List ℕ) (n : ℕ) (r : Replayed)
@@ -93,7 +92,7 @@ replayed {made} {words} {s} {s'} {out} {out'} {l} {g} {xs} workers globals expor
           })
           h;
       number = q ∙ ap stop_number h.stop;
-      numbers = x ∙ numbers_are xs r.export h.ready.export ∙ ap (λ (ξ : model.Exporting). export_numbers ξ.export) h.after;
+      numbers = x ∙ numbers_are xs r.export ∙ ap (λ (ξ : model.Exporting). export_numbers ξ.export) h.after;
     }
 
 -- ---- the contents
@@ -118,32 +117,32 @@ module _ (l : Lent) (globals : List ℕ) {c : Globals} {from : ℕ} {r : Optiona
 -- ---- an export
 
 -- none is open
-pub none_saved : {x : Export} (words : List ℕ) → ((rows : ExportedRows) → export_in rows x ≡ none) × ExportHeld x → words ≡ export_saved x → NoneIn words
-none_saved {x} words h e =
+pub none_saved : (x : Optional Export) (words : List ℕ) → ((rows : ExportedRows) → export_in rows x ≡ none) × ExportHeld x → words ≡ export_saved x → NoneIn words
+none_saved x words h e =
     let q = export_saved_lem words e in
     record {
-      numbers = e ∙ numbers_are [] x h.1 ∙ ap export_numbers (h.0 []);
+      numbers = e ∙ numbers_are [] x ∙ ap export_numbers (h.0 []);
       none_open_lem = λ rows. ap (export_in rows) q ∙ h.0 rows;
       held = subst ExportHeld (sym q) h.1;
     }
 
-pub held_loaded : {x : Export} (words : List ℕ) → x ≡ saved_export words → ExportHeld (saved_export words) → ExportHeld x
+pub held_loaded : {x : Optional Export} (words : List ℕ) → x ≡ saved_export words → ExportHeld (saved_export words) → ExportHeld x
 held_loaded words e h = subst ExportHeld (sym e) h
 
 module _ {step : model.ExportStep} {rows rows' : ExportedRows} {s s' : Space} {words words' told : List ℕ} where
-  pub export_entry : {rs : List (Row Record)} {x : Export} (d : ExportDone) → x ≡ saved_export words → ExportStepped rs step rows x s rows' d s' → DoneIn words' told d
-      → ExportEntry rs step rows words s rows' words' s' told
-  export_entry {rs} {x} d e h t =
+  pub export_entry : {rs : List (Row Record)} {x x' : Optional Export} {a : ExportAnswer} → x ≡ saved_export words → ExportStepped rs step rows x s rows' x' s' a
+      → DoneIn words' told x' a → ExportEntry rs step rows words s rows' words' s' told
+  export_entry {rs} {x} {x'} {a} e h t =
       record {
-        answer = d.answer;
+        answer = a;
         stepped =
-            subst (λ (y : Export). ExportStepped rs step rows y s rows' (record { export = saved_export words'; answer = d.answer }) s') e
-            (subst (λ (y : Export). ExportStepped rs step rows x s rows' (record { export = y; answer = d.answer }) s') (sym (export_saved_lem words' t.export_is)) h);
+            subst (λ (y : Optional Export). ExportStepped rs step rows y s rows' (saved_export words') s' a) e
+            (subst (λ (y : Optional Export). ExportStepped rs step rows x s rows' y s' a) (sym (export_saved_lem words' t.export_is)) h);
         words_are = t.answer_is;
         numbers =
             t.export_is
-            ∙ numbers_are rows' d.export h.held
-            ∙ ap export_numbers (h.next_is ∙ ap (λ (y : Export). model.export_next rs (export_in rows y) step) e);
+            ∙ numbers_are rows' x'
+            ∙ ap export_numbers (h.next_is ∙ ap (λ (y : Optional Export). model.export_next rs (export_in rows y) step) e);
       }
 
   -- leaves play no part in the contents

@@ -1,9 +1,8 @@
 -- What goes by value, in words: of the globals 1 if the map is guarded, the four sizes, the three counters; of an export its
 -- three numbers.
-use Rattle.std.specs.Prelude.{ℕ, List, [], ◌∷◌, eqb, length, get_or}
+use Rattle.std.specs.Prelude.{ℕ, Option as Optional, Some, None, List, [], ◌∷◌, eqb, length, get_or}
 use Rattle.std.proofs.Math.Option.{Option}
-use mir.Val.{bool_byte}
-use Rattle.lists.specs.Tests.{maybe}
+use Rattle.lists.specs.Tests.{pick, maybe}
 use Rattle.spec.specs.Exports as model
 use Rattle.exports.specs.declared.Export.{Export}
 use Rattle.transactions.specs.declared.Globals.{Globals}
@@ -23,12 +22,13 @@ abbrev pub saved_core : List ℕ → List ℕ → Core
 saved_core workers globals = core_of workers (saved_globals globals)
 
 -- an export: 1 if it is open, how many records it has, how many of them portions have given
-unfoldable pub saved_export : List ℕ → Export
-saved_export ws = record { «open» = eqb (get_or ws 0 0) 1; count = get_or ws 1 0; taken = get_or ws 2 0 }
+unfoldable pub saved_export : List ℕ → Optional Export
+saved_export ws = pick (eqb (get_or ws 0 0) 1) (Some (record { count = get_or ws 1 0; taken = get_or ws 2 0 })) None
 
 -- ... and put into words
-abbrev pub export_saved : Export → List ℕ
-export_saved x = bool_byte x.open ∷ x.count ∷ x.taken ∷ []
+abbrev pub export_saved : Optional Export → List ℕ
+export_saved (Some x) = 1 ∷ x.count ∷ x.taken ∷ []
+export_saved None = 0 ∷ 0 ∷ 0 ∷ []
 
 -- the words of the model's export: with none open all are 0
 unfoldable pub export_numbers : Option model.Export → List ℕ

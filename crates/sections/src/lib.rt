@@ -20,7 +20,7 @@ ghost use Rattle.sections.specs.Entries.{code_in, coded_in, StepEntry, stop_numb
 
 use crate::saved::{ExportWords, GlobalWords};
 use codes::{Code, Coded, StepWords, words};
-use exports::{ExportDone, Exported};
+use exports::{Export, ExportAnswer, Exported};
 use map::{Leaves, Records, Slots};
 use queries::View;
 use replay::stops::Stop;
@@ -223,11 +223,16 @@ pub extern "C" fn sections_next(
 }
 
 // Keeps the numbers of the export after a step, and tells its answer in five numbers (`Coded`).
-fn put_done(answer: &mut AnswerWords, export: &mut ExportWords, d: ExportDone)
-    ensures { DoneIn export.new answer.new d }
+fn put_done(
+    answer: &mut AnswerWords,
+    export: &mut ExportWords,
+    x: Option<Export>,
+    told: ExportAnswer,
+)
+    ensures { DoneIn export.new answer.new x told }
 {
-    saved::store_export(export, d.export);
-    put_answer(answer, words::encode_export(d.answer));
+    saved::store_export(export, x);
+    put_answer(answer, words::encode_export(told));
 }
 
 // Opens an export of the contents (request 107): its records go to `exported`, which no step of a job touches.
@@ -251,9 +256,9 @@ pub extern "C" fn sections_open_export(
         exported.old export.old s exported.new export.new s answer.new }
 {
     let c = saved::load(globals);
-    let x = saved::load_export(export);
-    let d = exports::open_export(exported, rows, slots, c.sizes.records, x);
-    put_done(answer, export, d);
+    let mut x = saved::load_export(export);
+    let told = exports::open_export(exported, rows, slots, c.sizes.records, &mut x);
+    put_done(answer, export, x, told);
 }
 
 // Gives the next records of the export in the first places of the buffers, as many as there are and as the shortest holds.
@@ -272,9 +277,9 @@ pub extern "C" fn sections_portion(
         exported.now export.old (space (buffers addresses.old values.old owners.old) bs)
         exported.now export.new (space (buffers addresses.new values.new owners.new) bs) answer.new }
 {
-    let x = saved::load_export(export);
-    let d = exports::portion(addresses, values, owners, exported, x);
-    put_done(answer, export, d);
+    let mut x = saved::load_export(export);
+    let told = exports::portion(addresses, values, owners, exported, &mut x);
+    put_done(answer, export, x, told);
 }
 
 // Writes the whole export as a file into the first bytes, whatever portions were taken.
@@ -291,8 +296,8 @@ pub extern "C" fn sections_file(
         exported.now export.new (space b bytes.new) answer.new }
 {
     let x = saved::load_export(export);
-    let d = exports::file(bytes, exported, x);
-    put_done(answer, export, d);
+    let told = exports::file(bytes, exported, x);
+    put_done(answer, export, x, told);
 }
 
 // Closes the export.
@@ -302,7 +307,7 @@ pub extern "C" fn sections_close_export(answer: &mut AnswerWords, export: &mut E
     ensures { (contents : List (Row Record)) (rows : ExportedRows) (s : Space) → ExportEntry contents model.close_export
         rows export.old s rows export.new s answer.new }
 {
-    let x = saved::load_export(export);
-    let d = exports::close_export(x);
-    put_done(answer, export, d);
+    let mut x = saved::load_export(export);
+    let told = exports::close_export(&mut x);
+    put_done(answer, export, x, told);
 }

@@ -13,7 +13,7 @@ pub const GLOBAL_WORDS: usize = 8;
 
 pub type GlobalWords = [u64; GLOBAL_WORDS];
 
-// Whether an export is open (1 or 0), how many records it has, and how many of them portions have given.
+// Whether an export is open (1 or 0), how many records it has, and how many of them portions have given: all 0 if none is open.
 pub const EXPORT_NUMBERS: usize = 3;
 
 pub type ExportWords = [u64; EXPORT_NUMBERS];
@@ -57,19 +57,24 @@ pub fn store(words: &mut GlobalWords, c: Globals)
 
 // The export whose numbers the words hold.
 #[tactic(auto, unfolding(crate::specs::Saved::saved_export))]
-pub fn load_export(words: &ExportWords) -> Export
+pub fn load_export(words: &ExportWords) -> Option<Export>
     ensures { result ≡ saved_export words.now }
 {
-    Export {
-        open: words[0] == 1,
+    if words[0] != 1 {
+        return None;
+    }
+    Some(Export {
         count: words[1] as usize,
         taken: words[2] as usize,
-    }
+    })
 }
 
 // Puts the numbers of an export into the words.
-pub fn store_export(words: &mut ExportWords, x: Export)
+pub fn store_export(words: &mut ExportWords, x: Option<Export>)
     ensures { words.new ≡ export_saved x }
 {
-    *words = [x.open as u64, x.count as u64, x.taken as u64];
+    *words = match x {
+        Some(open) => [1, open.count as u64, open.taken as u64],
+        None => [0, 0, 0],
+    };
 }

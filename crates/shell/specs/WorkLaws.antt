@@ -1,17 +1,15 @@
 -- The parts of a run put together, call by call: from a fresh session on, whatever the system answers, what was read and what was
 -- handed over stand to each other as `Stands` says.
-use Rattle.std.specs.Prelude.{ℕ, zero, suc, ◌+◌, ◌<◌, ◌≤◌, min, ◌≡◌, ◌⊎◌, Bool, T, ℤ, pos, negsuc, length, take, drop}
+use Rattle.std.specs.Prelude.{ℕ, zero, suc, ◌+◌, ◌<◌, ◌≤◌, min, ◌≡◌, ◌⊎◌, Bool, T, Option as Optional, Some, None, length, take, drop}
 use Rattle.std.proofs.Common.{arith, sym, ◌∙◌, subst, inl, inr, ⊎_elim, lt→ltb, length-append, take_at, length-take-le}
 use Rattle.std.proofs.Math.Path.{refl, ap}
 use Rattle.std.proofs.Math.Bool.{true, false, not}
 use mathlib.Core.List.{List, [], ◌++◌, append_assoc, append-nil}
 use Rattle.std.proofs.lemmas.List.Edits.{sets-eq}
-use Rattle.std.specs.Int.Signed.{lt_z}
 use Rattle.lists.specs.Tests.{both, at_most}
 use Rattle.lists.specs.TestLaws.{at_most_true, at_most_false, cases, clash}
 use Rattle.lists.specs.Texts.{Wrote}
 use Rattle.lists.specs.TextLaws.{wrote_length}
-use Rattle.io.specs.Counts.{clamp_len}
 use Rattle.map.specs.Views.{Lent}
 use Rattle.transactions.specs.Views.{Logs, state_of, core_of}
 use Rattle.console.specs.declared.session.Session.{Session}
@@ -21,7 +19,7 @@ use Rattle.console.specs.Finishes.{Finishes}
 use Rattle.console.specs.WholeRuns.{told_start, told_fed, told_taken, told_piece, told_end, told_stopped}
 use Rattle.shell.specs.declared.Work.{Work}
 use Rattle.shell.specs.declared.system.Calls.{Calls}
-use Rattle.shell.specs.Works.{brought, broken, no_calls, read_call, write_answer, with_read, with_write, after_read, after_write, with_session, Stands, Rests, Reads, Owed, ReadMade, WriteMade, ReadDone, WriteDone, Turns, Closes, most_turns, Ran}
+use Rattle.shell.specs.Works.{bytes_moved, brought, broken, no_calls, write_answer, with_read, with_write, after_read, after_write, with_session, Stands, Rests, Reads, Owed, ReadMade, WriteMade, ReadDone, WriteDone, Turns, Closes, most_turns, Ran}
 
 -- ---- texts
 
@@ -34,31 +32,6 @@ text_there {old} {new} {text} {next} h =
 
 -- ---- the work after a call
 
-pub read_work : (w : Work) (c : Calls) (size : ℕ) {x : Session} {n : ℕ} {z : ℤ} → x ≡ with_places w.session 0 0 → n ≡ clamp_len z size → z ≡ c.answer
-    → record { session = x; count = n; going = lt_z (pos 0) z; failed = lt_z z (pos 0); calls = c } ≡ with_read w c size
-read_work w c size {n = n} e f q =
-    let k : n ≡ clamp_len c.answer size = f ∙ ap (λ (y : ℤ). clamp_len y size) q in
-    λ i. record { session = e i; count = k i; going = lt_z (pos 0) (q i); failed = lt_z (q i) (pos 0); calls = c }
-
--- a read is counted with what it brought
-pub read_counted : (c : Calls) (got : ℤ) (size : ℕ) {n : ℕ} {z : ℤ} → n ≡ clamp_len z size → z ≡ got
-    → record { made = c.made + 1; fed = c.fed + n; told = c.told; answer = z } ≡ read_call c got size
-read_counted c got size {n} e q =
-    let k : n ≡ clamp_len got size = e ∙ ap (λ (y : ℤ). clamp_len y size) q in
-    λ i. record { made = c.made + 1; fed = c.fed + k i; told = c.told; answer = q i }
-
-abbrev settled : Work → Session → Bool → Bool → Calls → Work
-settled w x going failed c = record { session = x; count = w.count; going = going; failed = failed; calls = c }
-
-pub write_failed : (w : Work) (c : Calls) {x : Session} → x ≡ with_places w.session w.session.next 0 → broken c.answer ≡ true
-    → settled w x false true c ≡ with_write w c
-write_failed w c e q = λ i. settled w (e i) (both (not (sym q i)) (not w.session.stopped)) (sym q i) c
-
-pub write_worked : (w : Work) (c : Calls) {x : Session} → x ≡ with_places w.session w.session.next 0 → broken c.answer ≡ false
-    → settled w x (not w.session.stopped) false c ≡ with_write w c
-write_worked w c e q = λ i. settled w (e i) (both (not (sym q i)) (not w.session.stopped)) (sym q i) c
-
--- a call made, and the work with it
 pub read_done : {w r : Work} {c : Calls} {size : ℕ} → ReadMade w.calls size c → r ≡ with_read w c size → ReadDone w size r
 read_done {w} {size = size} m e = record { got = m.got; moved = m.moved; after = e ∙ ap (λ (c : Calls). with_read w c size) m.after }
 
@@ -107,10 +80,10 @@ module _ {l : Lent} {g : Logs} {ws input : List ℕ} {w : Work} (h : Reads l g w
       (sym (append_assoc before.fed more future))
       (told_piece ws w.session more 0 (before.tells (more ++ future)) all_run)
 
-  stands_read : (new : List ℕ) (got : ℤ) → Stands l g ws new [] (after_read w got (length new))
+  stands_read : (new : List ℕ) (got : Optional ℕ) → Stands l g ws new [] (after_read w got (length new))
   stands_read new got =
-      let n = clamp_len got (length new) in
-      let few : n ≤ length new = clamped_most got (length new) in
+      let n = bytes_moved got (length new) in
+      let few : n ≤ length new = omega arith in
       record {
         ready = before.ready;
         started = record { seen = before.started.seen; after = before.started.after; opening = before.started.opening };
@@ -127,23 +100,19 @@ module _ {l : Lent} {g : Logs} {ws input : List ℕ} {w : Work} (h : Reads l g w
         line = before.line;
         tells = told_next (take n new);
       }
-    where
-      clamped_most : (z : ℤ) (m : ℕ) → clamp_len z m ≤ m
-      clamped_most (pos k) m = omega arith
-      clamped_most (negsuc k) m = omega arith
 
   -- at the end of the input it brought none, and only the end is missing
-  end_read : (new : List ℕ) (got : ℤ) → brought got ≡ false → broken got ≡ false
+  end_read : (new : List ℕ) (got : Optional ℕ) → brought got ≡ false → broken got ≡ false
       → before.told ++ due (state_of l g (core_of ws w.session.globals)) w.session.first before.line w.session.stopped [] 0 []
-      ≡ output (before.fed ++ take (clamp_len got (length new)) new)
-  end_read new (pos zero) e f =
+      ≡ output (before.fed ++ take (bytes_moved got (length new)) new)
+  end_read new (Some zero) e f =
       ap (λ (t : List ℕ). t ++ due (state_of l g (core_of ws w.session.globals)) w.session.first before.line w.session.stopped [] 0 []) (sym (append-nil before.told))
       ∙ told_end (before.tells []) all_run
       ∙ ap (λ (n : ℕ). output (before.fed ++ take n new)) (let e : 0 ≡ min 0 (length new) = omega arith in e)
-  end_read new (pos (suc k)) e f = absurd (subst T e (lt→ltb 0 (suc k) (omega arith)))
-  end_read new (negsuc k) e f = clash refl f
+  end_read new (Some (suc k)) e f = absurd (subst T e (lt→ltb 0 (suc k) (omega arith)))
+  end_read new None e f = clash refl f
 
-  rests_read : (new : List ℕ) (got : ℤ) → Rests l g ws new (after_read w got (length new))
+  rests_read : (new : List ℕ) (got : Optional ℕ) → Rests l g ws new (after_read w got (length new))
   unfolding stands_read
   rests_read new got = record { stands = stands_read new got; goes = λ e. h.rests.goes h.goes; ends = end_read new got; fails = refl }
 
@@ -275,11 +244,7 @@ pub record Grows (w : Work) (size room : ℕ) (r : Work) : Type 0 where
   pub told : r.calls.told ≤ w.calls.told + room
 
 grown_read : {w r : Work} (size room : ℕ) → ReadDone w size r → Grows w size room r
-grown_read {w} {r} size room d = subst (Grows w size room) (sym d.after) (record { made = refl; fed = let m = most d.got in omega arith; told = omega arith })
-  where
-    most : (z : ℤ) → clamp_len z size ≤ size
-    most (pos k) = omega arith
-    most (negsuc k) = omega arith
+grown_read {w} {r} size room d = subst (Grows w size room) (sym d.after) (record { made = refl; fed = omega arith; told = omega arith })
 
 grown_write : {w r : Work} (size room : ℕ) → w.session.at ≤ room → WriteDone w r → Grows w size room r
 grown_write {w} size room h d = subst (Grows w size room) (sym d.after) (record { made = refl; fed = omega arith; told = omega arith })

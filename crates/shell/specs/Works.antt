@@ -1,10 +1,9 @@
 -- What the program keeps from turn to turn, what it asks of the system and when, and what it makes of each answer. What the
 -- system reads and writes no contract can say. All that lies between two calls is said here: the bytes that a read brought,
 -- those that were handed to a write, and that what is missing of `output` is due.
-use Rattle.std.specs.Prelude.{ℕ, ◌+◌, ◌^◌, ◌<◌, ◌≤◌, ◌≡◌, Bool, true, false, not, List, [], ◌++◌, ℤ, pos, negsuc, length, take}
-use Rattle.std.specs.Int.Signed.{lt_z}
+use Rattle.std.specs.Prelude.{ℕ, ◌+◌, ◌^◌, ◌<◌, ◌≤◌, ◌≡◌, Bool, true, false, not, List, [], ◌++◌, Option as Optional, Some, None, is_none, IfSome, min, ltb, length, take}
+use Rattle.std.specs.Option.{unwrap_or}
 use Rattle.lists.specs.Tests.{both}
-use Rattle.io.specs.Counts.{clamp_len}
 use Rattle.map.specs.Views.{Lent}
 use Rattle.transactions.specs.Views.{Logs, state_of, core_of}
 use Rattle.transactions.specs.Ready.{Ready}
@@ -16,31 +15,34 @@ use Rattle.shell.specs.declared.system.Calls.{Calls}
 
 -- ---- what is made of an answer of the system
 
--- what a call that is handed n bytes may answer: -1, or how many bytes it moved, at most n
-abbrev pub Moved : ℕ → ℤ → Type 0
-Moved n (pos k) = k ≤ n
-Moved n (negsuc k) = k ≡ 0
+-- what a call that is handed n bytes may answer: how many bytes it moved, at most n, or none where it failed
+abbrev pub Moved : ℕ → Optional ℕ → Type 0
+Moved n got = IfSome got (λ (k : ℕ). k ≤ n)
 
--- whether a read brought bytes
-abbrev pub brought : ℤ → Bool
-brought got = lt_z (pos 0) got
+-- the bytes that a read brought, into so many
+abbrev pub bytes_moved : Optional ℕ → ℕ → ℕ
+bytes_moved got size = min (unwrap_or got 0) size
+
+-- whether it brought any
+abbrev pub brought : Optional ℕ → Bool
+brought got = ltb 0 (unwrap_or got 0)
 
 -- whether it failed
-abbrev pub broken : ℤ → Bool
-broken got = lt_z got (pos 0)
+abbrev pub broken : Optional ℕ → Bool
+broken got = is_none got
 
 -- before the first call
 abbrev pub no_calls : Calls
-no_calls = record { made = 0; fed = 0; told = 0; answer = pos 0 }
+no_calls = record { made = 0; fed = 0; told = 0; answer = Some 0 }
 
 -- the calls with one more: a read into so many bytes
-abbrev pub read_call : Calls → ℤ → ℕ → Calls
-read_call c got size = record { made = c.made + 1; fed = c.fed + clamp_len got size; told = c.told; answer = got }
+abbrev pub read_call : Calls → Optional ℕ → ℕ → Calls
+read_call c got size = record { made = c.made + 1; fed = c.fed + bytes_moved got size; told = c.told; answer = got }
 
--- how a write is answered, as a number
-abbrev pub write_answer : Bool → ℤ
-write_answer true = pos 0
-write_answer false = negsuc 0
+-- how a write is answered: it brings no bytes
+abbrev pub write_answer : Bool → Optional ℕ
+write_answer true = Some 0
+write_answer false = None
 
 -- the calls with one more: a write of so many bytes
 abbrev pub write_call : Calls → ℕ → Bool → Calls
@@ -52,7 +54,7 @@ abbrev pub with_read : Work → Calls → ℕ → Work
 with_read w c size =
     record {
       session = with_places w.session 0 0;
-      count = clamp_len c.answer size;
+      count = bytes_moved c.answer size;
       going = brought c.answer;
       failed = broken c.answer;
       calls = c;
@@ -70,7 +72,7 @@ with_write w c =
       calls = c;
     }
 
-abbrev pub after_read : Work → ℤ → ℕ → Work
+abbrev pub after_read : Work → Optional ℕ → ℕ → Work
 after_read w got size = with_read w (read_call w.calls got size) size
 
 abbrev pub after_write : Work → Bool → Work
@@ -131,7 +133,7 @@ pub record Owed (l : Lent) (g : Logs) (ws input : List ℕ) (w : Work) (text : L
 -- ---- calls made, whatever they answered
 
 pub record ReadMade (c : Calls) (size : ℕ) (r : Calls) : Type 0 where
-  pub got : ℤ
+  pub got : Optional ℕ
   pub moved : Moved size got
   pub after : r ≡ read_call c got size
 
@@ -143,7 +145,7 @@ pub record WriteMade (c : Calls) (n : ℕ) (r : Calls) : Type 0 where
 
 -- a read
 pub record ReadDone (w : Work) (size : ℕ) (r : Work) : Type 0 where
-  pub got : ℤ
+  pub got : Optional ℕ
   pub moved : Moved size got
   pub after : r ≡ after_read w got size
 

@@ -27,11 +27,12 @@ pub fn after_read(calls: Calls, input: &[u8], w: Work) -> Work
     ensures { result ≡ with_read w calls (length input.now) }
 {
     let got = system::answer(calls);
+    let bytes = got.unwrap_or(0);
     Work {
         session: session::at_places(w.session, 0, 0),
-        count: io::count(got, input),
-        going: got > 0,
-        failed: got < 0,
+        count: bytes.min(input.len()),
+        going: bytes > 0,
+        failed: got.is_none(),
         calls,
     }
 }
@@ -41,7 +42,7 @@ pub fn after_write(calls: Calls, w: Work) -> Work
     ensures { result ≡ with_write w calls }
 {
     let x = w.session;
-    let failed = system::answer(calls) < 0;
+    let failed = system::answer(calls).is_none();
     Work {
         session: session::at_places(x, x.next, 0),
         going: !failed && !x.stopped,

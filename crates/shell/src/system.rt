@@ -11,14 +11,14 @@ use sets::{LeafSets, ReadSets, WriteSets};
 use std::io::{Read, Stdin, Stdout, Write};
 use workers::Workers;
 
-// How many calls were made, how many bytes they read, how many they were handed to write, and what the last one answered: the
-// bytes that a read brought, or less than 0 where it failed; 0 for a write, or less where it failed.
+// How many calls were made, how many bytes they read, how many they were handed to write, and what the last one answered: how
+// many bytes it brought, of which a write brings 0, or none where it failed.
 #[derive(Clone, Copy)]
 pub struct Calls {
     made: u64,
     fed: u64,
     told: u64,
-    answer: isize,
+    answer: Option<usize>,
 }
 
 // Before the first call.
@@ -29,12 +29,12 @@ pub fn none() -> Calls
         made: 0,
         fed: 0,
         told: 0,
-        answer: 0,
+        answer: Some(0),
     }
 }
 
 // What the last call answered.
-pub fn answer(calls: Calls) -> isize
+pub fn answer(calls: Calls) -> Option<usize>
     ensures { result ≡ calls.answer }
 {
     calls.answer
@@ -42,7 +42,7 @@ pub fn answer(calls: Calls) -> isize
 
 // Asks the system for more input. The arrays are lent for the contract alone: it says when there is something to ask for.
 pub fn read_next(
-    from: Stdin,
+    mut from: Stdin,
     input: &mut [u8],
     rows: &Records,
     leaves: &Leaves,
@@ -58,14 +58,10 @@ pub fn read_next(
     ensures { ReadMade w.calls (length input.new) result }
 {
     let c = w.calls;
-    let mut from = from;
-    let got = match from.read(input) {
-        Ok(n) => n as isize,
-        Err(_) => -1,
-    };
+    let got = from.read(input).ok();
     Calls {
         made: c.made + 1,
-        fed: c.fed + io::count(got, input) as u64,
+        fed: c.fed + got.unwrap_or(0) as u64,
         answer: got,
         ..c
     }
@@ -73,7 +69,7 @@ pub fn read_next(
 
 // Asks the system to write the first n bytes. The arrays are lent for the contract alone: it says that these bytes are due.
 pub fn write_due(
-    to: Stdout,
+    mut to: Stdout,
     out: &[u8],
     n: usize,
     rows: &Records,
@@ -92,10 +88,9 @@ pub fn write_due(
     ensures { WriteMade w.calls n result }
 {
     let c = w.calls;
-    let mut to = to;
     let answer = match to.write_all(&out[..n]) {
-        Ok(()) => 0,
-        Err(_) => -1,
+        Ok(()) => Some(0),
+        Err(_) => None,
     };
     Calls {
         made: c.made + 1,

@@ -1,10 +1,11 @@
 -- `close_export` meets its contract.
-use Rattle.exports.specs.StepLaws.{closes, no_close}
-use Rattle.std.proofs.lemmas.Bool.{not-true, not-false}
+use Rattle.std.specs.Prelude.{not}
+use Rattle.std.proofs.Common.{ap, ◌∙◌}
+use Rattle.exports.specs.StepLaws.{none_by, some_by, no_close, closes}
 use Rattle.exports.proofs.close_export.Goals as goal
 
-pub returns-then-not-x : goal.returns-then-not-x
-returns-then-not-x c = λ contents rows s. rw c.refused.ensures (no_close contents rows _ s c.requires (not-true _ c.if-not-x.true))
+pub returns-then-is_none : goal.returns-then-is_none
+returns-then-is_none c = λ contents rows s. no_close contents rows s c.requires (none_by _ (c.is_none.ensures ∙ ap not c.if-is_none.true))
 
 pub returns : goal.returns
-returns c = λ contents rows s. closes contents rows _ s (not-false _ c.if-not-x.false) c.no_export.ensures
+returns c = λ contents rows s. closes contents rows (some_by _ (c.is_none.ensures ∙ ap not c.if-is_none.false)).1 s

@@ -1,7 +1,6 @@
 -- `no_export` meets its contract.
-use mathlib.Core.Path.{refl}
 use Rattle.exports.specs.StepLaws.{none_held}
 use Rattle.exports.proofs.no_export.Goals as goal
 
 pub returns : goal.returns
-returns c = none_held _ refl refl refl
+returns c = none_held

@@ -1,6 +1,5 @@
 -- `advance` meets its contract: a turn is a read, or the lines of what there is and a write, and between two turns nothing waits.
 use Rattle.shell.specs.WorkLaws.{stands_run, rests_turned, rests_settled}
-use Rattle.std.proofs.Common.{true}
 use Rattle.mapscript.proofs.advance.Goals as goal
 
 pub returns-then-count-x-clause-rests_2 : goal.returns-then-count-x-clause-rests_2

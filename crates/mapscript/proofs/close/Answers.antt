@@ -1,6 +1,5 @@
 -- `close` is safe: what it writes at last is the rest of the output.
 use Rattle.shell.specs.WorkLaws.{finish_within, owed_last, closes_ended}
-use Rattle.std.proofs.Common.{false}
 use Rattle.mapscript.proofs.close.Goals as goal
 
 pub write_due-requires-clause-owed : goal.write_due-requires-clause-owed

@@ -3,7 +3,6 @@ use mathlib.Core.Path.{ap}
 use Rattle.lists.specs.TestLaws.{clash}
 use Rattle.shell.specs.declared.system.Calls.{Calls}
 use Rattle.shell.specs.WorkLaws.{rests_start, ran}
-use Rattle.std.proofs.Common.{false}
 use Rattle.mapscript.proofs.run.Goals as goal
 use Rattle.mapscript.proofs.run.Goals.{then-loop-turns-test+else-w, else-loop-turns-test}
 

@@ -3,4 +3,4 @@ use Rattle.sections.specs.EntryLaws.{export_entry}
 use Rattle.sections.proofs.sections_close_export.Goals as goal
 
 pub returns : goal.returns
-returns c = λ contents rows s. export_entry c.close_export-d.result c.load_export-x.ensures (c.close_export-d.ensures contents rows s) c.put_done.ensures
+returns c = λ contents rows s. export_entry c.load_export-x.ensures (c.close_export-told.ensures contents rows s) c.put_done.ensures

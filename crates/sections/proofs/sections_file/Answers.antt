@@ -3,4 +3,4 @@ use Rattle.sections.specs.EntryLaws.{export_entry}
 use Rattle.sections.proofs.sections_file.Goals as goal
 
 pub returns : goal.returns
-returns c = λ contents b. export_entry c.file-d.result c.load_export-x.ensures (c.file-d.ensures contents b) c.put_done.ensures
+returns c = λ contents b. export_entry c.load_export-x.ensures (c.file-told.ensures contents b) c.put_done.ensures

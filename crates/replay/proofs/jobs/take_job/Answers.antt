@@ -3,7 +3,6 @@ use Rattle.codes.specs.CodeLaws.{meant_lends}
 use Rattle.replay.specs.FitLaws.{fits_yes, fits_no}
 use Rattle.replay.specs.RunLaws.{job_unmeant, job_full, job_roomy, job_taken}
 use Rattle.engine.specs.Performs.{performed_of}
-use Rattle.std.proofs.Common.{true, false}
 use Rattle.replay.proofs.jobs.take_job.Goals as goal
 use Rattle.std.specs.Prelude.{not}
 use Rattle.std.proofs.Math.Path.{ap}

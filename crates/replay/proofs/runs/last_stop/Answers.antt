@@ -4,7 +4,6 @@ use mathlib.Core.Bool.{Bool}
 use Rattle.lists.specs.Tests.{pick}
 use Rattle.lists.specs.TestLaws.{same_yes, same_no}
 use Rattle.replay.specs.declared.stops.Stop.TheVariants as stop
-use Rattle.std.proofs.Common.{true, false}
 use Rattle.replay.proofs.runs.last_stop.Goals as goal
 
 pub returns-then-steps-eq0 : goal.returns-then-steps-eq0

@@ -2,8 +2,8 @@
 use Rattle.replay.specs.LoopLaws.{fresh_as, replays_as}
 use Rattle.replay.proofs.runs.replay.Goals as goal
 
-pub take_all-requires-clause-fresh : goal.take_all-requires-clause-fresh
-take_all-requires-clause-fresh c = fresh_as c.fresh_state-start.ensures
+pub take_all-requires : goal.take_all-requires
+take_all-requires c = fresh_as c.fresh_state-start.ensures
 
 pub returns : goal.returns
 returns c = replays_as c.fresh_state-start.ensures c.take_all.ensures

@@ -1,5 +1,4 @@
 -- `runs::take_all` meets its contract. The invariant: the run of all words is that of the codes taken, and then of the rest.
-use Prim.Native.Nat.{◌-◌}
 use Rattle.map.specs.Views.{lent}
 use Rattle.buffers.specs.Buffers.{buffers}
 use Rattle.exports.specs.Exporting.{space}

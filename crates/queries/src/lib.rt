@@ -92,23 +92,6 @@ impl<'a> View<'a> {
         self.under(a, c)
     }
 
-    // The places of the records from lo to hi.
-    pub fn records_between(self, lo: Address, hi: Address) -> Range
-        requires lo_le_hi { lo ≤ hi }
-        ensures { Spans self.entry.rows.now self.entry.records lo hi result }
-    {
-        let from = records::locate(self.rows, self.records, lo);
-        let to = records::locate(self.rows, self.records, hi);
-        if self.records <= to {
-            return Range { from, to };
-        }
-        let last = rows::get(self.rows, to);
-        if last.address == hi as u64 {
-            return Range { from, to: to + 1 };
-        }
-        Range { from, to }
-    }
-
     // The record at place i of the index: its address, and its current record. With nothing pending there it is the row itself,
     // so nothing is searched in the index.
     pub fn seen_at(self, i: usize) -> Observed
@@ -132,6 +115,24 @@ impl<'a> View<'a> {
         };
         Observed { address, current }
     }
+}
+
+// The places of the records from lo to hi. No method of `View`: it asks nothing of the slots.
+pub fn records_between(rows: &Records, n: usize, lo: Address, hi: Address) -> Range
+    requires records_held { RecordsHeld rows.now n }
+    requires lo_le_hi { lo ≤ hi }
+    ensures { Spans rows.now n lo hi result }
+{
+    let from = records::locate(rows, n, lo);
+    let to = records::locate(rows, n, hi);
+    if n <= to {
+        return Range { from, to };
+    }
+    let last = rows::get(rows, to);
+    if last.address == hi as u64 {
+        return Range { from, to: to + 1 };
+    }
+    Range { from, to }
 }
 
 // The places of the leaves that meet lo to hi.

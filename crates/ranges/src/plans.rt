@@ -71,12 +71,7 @@ pub fn measure(
     if hi < lo {
         return Err(Refusal::Backward);
     }
-    let view = View {
-        rows,
-        slots,
-        records: z.records,
-    };
-    let index = view.records_between(lo, hi);
+    let index = queries::records_between(rows, z.records, lo, hi);
     let met = queries::leaves_meeting(leaves, z.leaves, lo, hi);
     if READ_LIMIT < x.reads as usize + (index.to - index.from) {
         return Err(Refusal::LogFull);
@@ -90,6 +85,11 @@ pub fn measure(
         end: own.to,
     };
     let shortest = k.min(m).min(n);
+    let view = View {
+        rows,
+        slots,
+        records: z.records,
+    };
     if walks::exceeds(view, writes, b, index.from, own.from, shortest) {
         return Err(Refusal::ShortBuffer);
     }

@@ -181,9 +181,11 @@ fn run(from: Stdin, to: Stdout) -> Calls
         failed: false,
         calls: system::none(),
     };
-    // A proved loop ends: it counts its turns down from a number that no run uses up, and by which the bytes can be counted.
-    let mut turns = MOST_TURNS;
-    while turns > 0 && w.going {
+    // A proved loop ends: its turns are a number that no run uses up, and by which the bytes can be counted.
+    for _ in 0..MOST_TURNS {
+        if !w.going {
+            break;
+        }
         w = advance(
             from,
             to,
@@ -198,7 +200,6 @@ fn run(from: Stdin, to: Stdout) -> Calls
             &mut workers,
             w,
         );
-        turns -= 1;
     }
     close(
         to,

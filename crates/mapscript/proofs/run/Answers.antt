@@ -1,13 +1,16 @@
 use native.Mathlib.Omega.{arith}
 use mathlib.Core.Path.{ap}
+use Rattle.std.specs.Prelude.{not}
+use Rattle.std.proofs.Common.{sym, ◌∙◌}
+use Rattle.std.proofs.Math.Bool.{not-not}
 use Rattle.lists.specs.TestLaws.{clash}
 use Rattle.shell.specs.declared.system.Calls.{Calls}
 use Rattle.shell.specs.WorkLaws.{rests_start, ran}
 use Rattle.mapscript.proofs.run.Goals as goal
-use Rattle.mapscript.proofs.run.Goals.{then-loop-turns-test+else-w, else-loop-turns-test}
+use Rattle.mapscript.proofs.run.Goals.{else-loop-test, then-loop-test+then-not-w}
 
-pub loop-turns-init : goal.loop-turns-init
-loop-turns-init c =
+pub loop-init : goal.loop-init
+loop-init c =
     let n = c.none.ensures in
     let made = ap (λ (k : Calls). k.made) n in
     let fed = ap (λ (k : Calls). k.fed) n in
@@ -16,10 +19,10 @@ loop-turns-init c =
 
 pub returns : goal.returns
 returns c =
-    let i = c.loop-turns.invariant in
+    let i = c.loop.invariant in
     let made = i.3 in
     ran i.0 c.close.ensures
-    (elim c.loop-turns-test.branch [
-      | then-loop-turns-test+else-w w ↦ (λ g. clash g w.if-w.false)
-      | else-loop-turns-test w ↦ (λ g. omega (arith, made, w.loop-turns-test.false))
+    (elim c.loop-test.branch [
+      | else-loop-test w ↦ (λ g. omega (arith, made, w.loop-test.false))
+      | then-loop-test+then-not-w w ↦ (λ g. clash g (sym (not-not c.loop.w.going) ∙ ap not w.if-not-w.true))
     ])

@@ -40,7 +40,7 @@ seen_in rows n slots = indexed_at (map_with rows n slots [])
 abbrev pub seen_by : View → ℕ → Row (Option Record)
 seen_by v = seen_in v.rows.now v.records v.slots.now
 
--- the index has n records, those at these places too, and the read set has room for them
+-- at these places stand records, of which there are n, and the read set has room for them
 pub record ReadsRoom (n m : ℕ) (p : Range) : Type 0 where
   pub ordered : p.from ≤ p.to
   pub within : p.to ≤ n

@@ -6,8 +6,7 @@ use Rattle.std.proofs.Math.Option.{Option, none, some}
 use Rattle.lists.specs.Tests.{both, maybe, present, less}
 use Rattle.lists.specs.TestLaws.{less_yes, less_no}
 use Rattle.lists.specs.Rows.{look, any}
-use Rattle.spec.specs.declared.PayloadWords.{PayloadWords}
-use Rattle.spec.specs.Payloads.{owners, no_payload}
+use Rattle.spec.specs.Payloads.{owners}
 use Rattle.spec.specs.declared.Refusal.{Refusal}
 use Rattle.spec.specs.declared.Refusal.TheVariants.{WritesFull}
 use Rattle.spec.specs.Refusals.{ends}

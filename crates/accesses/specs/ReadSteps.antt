@@ -1,5 +1,5 @@
 -- Read, as it goes: refused by 1, 2, 4 or 6, or it tells the worker's own write, or the current record, which is logged.
-use Rattle.std.specs.Prelude.{ℕ, Result, Ok, Err, Some, None, Option as Optional, ◌+◌, ◌%◌, ◌<◌, ◌≤◌, ◌≡◌, Bool, true, false, get_or, set}
+use Rattle.std.specs.Prelude.{ℕ, Result, Ok, Err, Some, None, Option as Optional, ◌+◌, ◌%◌, ◌<◌, ◌≤◌, ◌≡◌, Bool, false, get_or, set}
 use Rattle.std.proofs.Common.{arith, sym, ◌∙◌}
 use Rattle.std.proofs.Math.Path.{refl, ap, subst}
 use Rattle.std.proofs.Math.Bool.{not}
@@ -7,16 +7,16 @@ use mathlib.Core.List.{List, [], ◌∷◌, append-nil}
 use Rattle.std.proofs.Math.Option.{Option, none, some}
 use Rattle.std.proofs.Math.ListN.{length}
 use Rattle.std.proofs.lemmas.List.{set-get_or}
-use Rattle.lists.specs.Tests.{pick, both, maybe, present, less}
+use Rattle.lists.specs.Tests.{both, maybe, present, less}
 use Rattle.lists.specs.TestLaws.{less_yes, less_no}
 use Rattle.lists.specs.Rows.{row, look, any}
-use Rattle.spec.specs.Payloads.{owners, payload_in, record_in}
+use Rattle.spec.specs.Payloads.{record_in}
 use Rattle.spec.specs.declared.PayloadWords.{PayloadWords}
 use Rattle.spec.specs.declared.RecordWords.{RecordWords}
 use Rattle.spec.specs.declared.Refusal.{Refusal}
 use Rattle.spec.specs.declared.Refusal.TheVariants.{LogFull}
 use Rattle.spec.specs.Refusals.{ends}
-use Rattle.spec.specs.Records.{limits, Payload, Record, Write, written, deleted, own_view, payload_of}
+use Rattle.spec.specs.Records.{limits, Payload, Record, Write, own_view, payload_of}
 use Rattle.spec.specs.Slots.{search}
 use Rattle.spec.specs.Maps.{current}
 use Rattle.spec.specs.Steps as model

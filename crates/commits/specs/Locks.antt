@@ -5,8 +5,8 @@ use Rattle.std.proofs.Common.{arith, ◌∙◌, subst, inl}
 use Rattle.std.proofs.Math.Path.{sym, ap}
 use mathlib.Core.List.{List, [], ◌∷◌}
 use Rattle.std.proofs.Math.Option.{Option, none, some}
-use Rattle.lists.specs.Tests.{pick, both, maybe, present, less}
-use Rattle.lists.specs.TestLaws.{clash, less_false}
+use Rattle.lists.specs.Tests.{pick, both, maybe, less}
+use Rattle.lists.specs.TestLaws.{less_false}
 use Rattle.lists.specs.Rows.{Row, keys, any, Rising}
 use Rattle.lists.specs.RowLaws.{rising_different}
 use Rattle.spec.specs.declared.Refusal.{Refusal}

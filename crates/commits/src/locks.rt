@@ -23,7 +23,14 @@ use workers;
 use workers::{Worker, Workers};
 
 // The tests of a write set before its addresses are locked: refusals 9, 10 and 11.
-fn lock_tests(rows: &Records, slots: &Slots, ws: &WriteSet, z: Sizes, n: usize, w: u64) -> Result<(), Refusal>
+fn lock_tests(
+    rows: &Records,
+    slots: &Slots,
+    ws: &WriteSet,
+    z: Sizes,
+    n: usize,
+    w: u64,
+) -> Result<(), Refusal>
     requires counted { Counted rows.now slots.now z }
     requires entries_value { z.entries ≡ length (entries (slots_in slots.now)) }
     requires write_set_ordered { WriteSetOrdered ws.now n }

@@ -6,8 +6,6 @@ use Rattle.spec.specs.Steps as model
 use Rattle.spec.specs.Steps.{Places, Step, Answer}
 use Rattle.map.specs.Views.{Lent}
 use Rattle.transactions.specs.Cores.{Core}
-use Rattle.accesses.specs.declared.reads.Found.{Found}
-use Rattle.accesses.specs.Answers.{found_by}
 use Rattle.engine.specs.declared.steps.Access.TheVariants as access
 use Rattle.engine.specs.declared.steps.Op.{Op}
 use Rattle.engine.specs.declared.steps.Op.TheVariants as op
@@ -15,7 +13,6 @@ use Rattle.engine.specs.declared.steps.Told.{Told}
 use Rattle.engine.specs.declared.steps.Told.TheVariants as told
 use Rattle.buffers.specs.Buffers.{Buffers, places_of, Beyond}
 use Rattle.buffers.specs.BufferLaws.{beyond_refl}
-use Rattle.accesses.specs.Scans.{Scans}
 use Rattle.transactions.specs.Views.{Logs}
 use Rattle.transactions.specs.Ready.{Refines}
 use Rattle.engine.specs.Performs.{Performed, Performs, Quiet, places_in, reply_in, step_in}

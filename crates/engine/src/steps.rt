@@ -181,15 +181,11 @@ pub fn perform(
             leaves, slots, workers, rows, reads, leafsets, writes, c, w, x,
         ),
         Op::Merge(a) => {
-            let n = merges::merge_at(
-                rows, leaves, slots, reads, leafsets, writes, workers, c, a,
-            );
+            let n = merges::merge_at(rows, leaves, slots, reads, leafsets, writes, workers, c, a);
             Ok(Told::Counted(n))
         }
         Op::MergeOldest => {
-            let n = merges::merge_oldest(
-                rows, leaves, slots, reads, leafsets, writes, workers, c,
-            );
+            let n = merges::merge_oldest(rows, leaves, slots, reads, leafsets, writes, workers, c);
             Ok(Told::Counted(n))
         }
     }

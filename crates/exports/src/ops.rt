@@ -8,8 +8,8 @@ ghost use Rattle.queries.specs.Contents.{all_records};
 ghost use Rattle.buffers.specs.Buffers.{Buffers, buffers, places_of, counted_places, Lends};
 ghost use Rattle.exports.specs.Exporting.{ExportHeld, space, ExportStepped, export_step_in, LendsTo};
 
-use buffers::Places;
 use crate::{Export, ExportAnswer, Exported};
+use buffers::Places;
 use map::{Records, Slots};
 use spec::Address;
 

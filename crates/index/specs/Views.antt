@@ -1,6 +1,5 @@
 -- How the lent rows of records are read, and leaves of their lows and their versions.
 use Rattle.std.specs.Prelude.{ℕ, ◌+◌, ◌-◌, ◌≤◌, ◌≡◌, List, [], ◌∷◌, take, drop, get_or, set}
-use Rattle.std.proofs.Math.Option.{Option, none, some}
 use Rattle.lists.specs.Rows.{Row, row, keys, Rising}
 use Rattle.lists.specs.Tabulation.{tab}
 use Rattle.spec.specs.Records.{limits, Record}

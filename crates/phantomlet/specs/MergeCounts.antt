@@ -5,7 +5,7 @@ use Rattle.std.proofs.Common.{zero-le, arith, ◌∙◌, subst, ⊎_elim}
 use Rattle.std.proofs.Math.Path.{sym, ap}
 use Rattle.std.proofs.Math.Option.{none, some}
 use Rattle.lists.specs.Tests.{pick, both, either, maybe, present, same, at_most}
-use Rattle.lists.specs.TestLaws.{cases, clash, same_true, same_yes, same_no, at_most_true}
+use Rattle.lists.specs.TestLaws.{cases, clash, same_true, same_no, at_most_true}
 use Rattle.lists.specs.Rows.{Row, row, look}
 use Rattle.spec.specs.Records.{is_put}
 use Rattle.spec.specs.Slots.{slot_count, Pending, Content, is_idle, Slot, kept}

@@ -8,7 +8,7 @@ use Rattle.lists.specs.Rows.{Row}
 use Rattle.lists.specs.Texts.{Wrote}
 use Rattle.spec.specs.Records.{Made, Payload}
 use Rattle.spec.specs.Maps.{contents}
-use Rattle.spec.specs.Steps.{Places, places, shortest, fresh, Answer, refused, done, found, listed, numbered, counted}
+use Rattle.spec.specs.Steps.{Places, shortest, fresh, Answer, refused, done, found, listed, numbered, counted}
 use Rattle.spec.specs.Claim.{SerialRun}
 use Rattle.spec.specs.Exports.{ExportAnswer, declined, opened, given, filed, closed, Exporting, Request, job, exporting, Exchange, job_told, export_told, exchange, next_of, starting_at, job_events, records_given}
 use Rattle.map.specs.Views.{Lent, map_of}

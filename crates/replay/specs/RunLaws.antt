@@ -1,7 +1,7 @@
 -- One code of a run: what its words are, and what taking it makes of the run.
 use Prim.Native.Nat.{ℕ, suc, ◌+◌, ◌-◌, ◌*◌, ◌<◌, ◌≤◌, zero-le}
 use Rattle.std.proofs.Common.{arith, le_refl, le_trans, ◌∙◌, subst, drop-cons}
-use Rattle.std.specs.Prelude.{Option as Optional, ◌≡◌, length, get_or, drop, take, Some, None}
+use Rattle.std.specs.Prelude.{Option as Optional, ◌≡◌, length, get_or, drop, Some, None}
 use Rattle.std.proofs.Math.Path.{refl, sym, ap}
 use mathlib.Core.List.{List, [], ◌∷◌, ◌++◌, append-nil}
 use Rattle.std.proofs.Math.Option.{Option, none, some}
@@ -15,7 +15,7 @@ use Rattle.spec.specs.Files.{parsed}
 use Rattle.spec.specs.Exports.{ExportStep, ExportAnswer as ModelAnswer, filed, export_of, export_answer, export_next, Exporting, job, exporting, Exchange, job_told, export_told, exchange, next_of}
 use Rattle.calls.proofs.CallLaws.{map_in}
 use Rattle.map.specs.Views.{Lent, map_of}
-use Rattle.buffers.specs.Buffers.{counted_places, Buffers, places_of, Lends}
+use Rattle.buffers.specs.Buffers.{counted_places, Buffers, places_of}
 use Rattle.buffers.specs.BufferLaws.{unmoved_refl}
 use Rattle.exports.specs.declared.Export.{Export}
 use Rattle.exports.specs.declared.ops.ExportOp.{ExportOp}

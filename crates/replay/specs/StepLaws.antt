@@ -1,7 +1,7 @@
 -- A coded step by what its code means.
-use Rattle.std.specs.Prelude.{ℕ, ◌≡◌, refl, Some, None}
+use Rattle.std.specs.Prelude.{◌≡◌, refl, Some, None}
 use Rattle.std.proofs.Common.{sym, ◌∙◌, subst}
-use Rattle.spec.specs.Steps.{Places, places}
+use Rattle.spec.specs.Steps.{Places}
 use Rattle.map.specs.Views.{Lent}
 use Rattle.buffers.specs.Buffers.{Buffers, places_of, counted_places}
 use Rattle.transactions.specs.Cores.{Core}

@@ -6,7 +6,7 @@ use Rattle.std.proofs.Math.Bool.{false}
 use mathlib.Core.List.{List, [], ◌∷◌, ◌++◌}
 use Rattle.std.proofs.Math.Option.{Option, none, some}
 use Rattle.lists.specs.Tests.{pick, both, maybe, same, less, within, at_most}
-use Rattle.lists.specs.TestLaws.{cases, clash, same_no, same_refl, less_no, at_most_yes, at_most_true}
+use Rattle.lists.specs.TestLaws.{cases, clash, same_no, same_refl, less_no, at_most_true}
 use Rattle.std.proofs.Math.Seq.{append_snoc}
 use Rattle.spec.specs.Widths.{addresses, worker_names}
 use Rattle.script.specs.declared.Line.{Line}

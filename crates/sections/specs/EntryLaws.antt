@@ -7,7 +7,6 @@ use Rattle.lists.specs.Tests.{maybe, present}
 use Rattle.lists.specs.Rows.{Row, row}
 use Rattle.spec.specs.Payloads.{owners, record_of_words}
 use Rattle.spec.specs.Records.{Made, Record}
-use Rattle.spec.specs.Steps.{places}
 use Rattle.spec.specs.Leaves.{Leaf}
 use Rattle.spec.specs.Maps.{contents}
 use Rattle.spec.specs.Exports as model

@@ -12,7 +12,7 @@ returns c =
     let low = low_of ls c.args.from c.leaf_at-low.ensures in
     let places = column_places 0 ls c.told-leaves in (
       elim c.if-to-m.branch [
-        then-to-m w ↦ range_next (lows_of ls) c.args.m c.args.from c.args.to places c.requires _ _ _ _ low
+        | then-to-m w ↦ range_next (lows_of ls) c.args.m c.args.from c.args.to places c.requires _ _ _ _ low
             (low_of ls c.args.to w.leaf_at.ensures) (w.last-is ∙ w.saturating_sub-last.ensures) c.saturating_sub.ensures (search rules) w.if-to-m.true
         | else-to-m w ↦ range_last (lows_of ls) c.args.m c.args.from c.args.to places c.requires _ _ low
             (c.saturating_sub.ensures ∙ ap (λ x. x - c.leaf_at-low.result.low) w.last-is) (search rules) w.if-to-m.false

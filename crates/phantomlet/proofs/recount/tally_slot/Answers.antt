@@ -15,7 +15,7 @@ pub returns-then-not-reaches : goal.returns-then-not-reaches
 returns-then-not-reaches c =
     let r = c.slot_at-s in
     tallied_same (elim c.then-not-reaches.branch [
-      then-not-reaches-via-then-not-reaches w ↦ tally_outside c.requires.tallying c.requires.j_lt_slot_count r.result r.ensures (reaches_no _ c.args.r r.result.key c.reaches.ensures (ap not w.if-not-reaches.true))
+      | then-not-reaches-via-then-not-reaches w ↦ tally_outside c.requires.tallying c.requires.j_lt_slot_count r.result r.ensures (reaches_no _ c.args.r r.result.key c.reaches.ensures (ap not w.if-not-reaches.true))
       | then-not-reaches-via-else-not-reaches+then-idle w ↦ tally_none c.requires.tallying c.requires.j_lt_slot_count r.result r.ensures (sym w.idle.ensures ∙ w.if-idle.true)
     ])
 

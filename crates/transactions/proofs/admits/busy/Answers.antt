@@ -1,4 +1,4 @@
-use Rattle.std.proofs.Common.{sym, ◌∙◌, refl}
+use Rattle.std.proofs.Common.{sym, ◌∙◌}
 use Rattle.spec.specs.declared.Stage.TheVariants.{Free}
 use Rattle.transactions.specs.Admits.{any_stage, stage_eq, turned_none, turned_free, entered}
 use Rattle.transactions.proofs.admits.busy.Goals as goal

@@ -69,8 +69,8 @@ ready_readable k =
 
 -- The current record is the one that was seen, so many slots were examined, and it is logged.
 pub record LogsCurrent (rs : ReadRows) (rows : RecordRows) (slots : SlotRows) (records n a : ℕ) (us : ReadRows) (r : Taken) : Type 0 where
-  pub logs : LogsRead rs n a r.seen us r.count
-  pub examines : Examines rows records slots a (record { current = r.seen; examined = r.examined })
+  pub logs : LogsRead rs n a r.seen.current us r.count
+  pub examines : Examines rows records slots a r.seen
 
 -- The step, whatever the other arrays hold: rs are the read sets before it, us those after it, and c' is the core after it.
 pub record Tells (rs : List ReadRows) (rows : RecordRows) (slots : SlotRows) (ws : List WriteRows) (c : Core) (w a : ℕ) (us : List ReadRows) (c' : Core) (r : Result Found Refusal) : Type 0 where
@@ -232,8 +232,8 @@ read_nothing {ws = ws} e q k = k.tells ws (sym q ∙ ap found_in e)
 
 pub read_logged : {rs : List ReadRows} {rows : RecordRows} {slots : SlotRows} {us : ReadRows} {c c' : Core} {w a : ℕ} {x : Worker} {r : Taken} {o : Optional ReadValue}
     → Entered is_open c.workers w x → x.reads < limits.read_limit → LogsCurrent (get_or rs w []) rows slots c.sizes.records x.reads a us r
-    → c' ≡ core_with c w (with_reads x r.count) → value_in o ≡ payload_of (record_in r.seen)
-    → TellsCurrent rs rows slots c w x a (set rs w us) c' (Ok (record { value = o; examined = r.examined }))
+    → c' ≡ core_with c w (with_reads x r.count) → value_in o ≡ payload_of (record_in r.seen.current)
+    → TellsCurrent rs rows slots c w x a (set rs w us) c' (Ok (record { value = o; examined = r.seen.examined }))
 unfolding first_cause
 read_logged {rs} {rows} {slots} {us} {c} {c'} {w} {a} {x} {r} {o} t h p m s =
     record {
@@ -242,21 +242,21 @@ read_logged {rs} {rows} {slots} {us} {c} {c'} {w} {a} {x} {r} {o} t h p m s =
             let l = by_columns rows lows versions hidden pending slots in
             let g = logs rs ls ws in
             let σ = state_of l g c in
-            let seen : record_in r.seen ≡ current σ.map a = unfold state_of in p.examines.sees.record_is (leaves_in lows versions c.sizes.leaves) in
-            let examined : r.examined ≡ (search limits.bytes σ.map.slots a).examined = unfold state_of in p.examines.examined in
+            let seen : record_in r.seen.current ≡ current σ.map a = unfold state_of in p.examines.sees.record_is (leaves_in lows versions c.sizes.leaves) in
+            let examined : r.seen.examined ≡ (search limits.bytes σ.map.slots a).examined = unfold state_of in p.examines.examined in
             let room : refusal σ (read w a) ≡ none
             = refusal_is l g c w x k t a none q
             ∙ cause_fails (not (less x.reads limits.read_limit)) LogFull [] (ap not (less_yes {m = x.reads} {n = limits.read_limit} h)) in
             let count : r.count ≡ x.reads + 1 = p.logs.count in
             let b : Within x = within is_open l g c w x k t in
-            subst (λ (z : Core). Refines l g c (read w a) l (logs (set rs w us) ls ws) z (found (value_in o) r.examined)) (sym m)
+            subst (λ (z : Core). Refines l g c (read w a) l (logs (set rs w us) ls ws) z (found (value_in o) r.seen.examined)) (sym m)
             (subst (Refines l g c (read w a) l (logs (set rs w us) ls ws) (core_with c w (with_reads x r.count)))
-            (sym (ap (λ (p : Option Payload). found p r.examined) s ∙ ap (λ (z : Option Record). found (payload_of z) r.examined) seen ∙ ap (found (payload_of (current σ.map a))) examined))
+            (sym (ap (λ (p : Option Payload). found p r.seen.examined) s ∙ ap (λ (z : Option Record). found (payload_of z) r.seen.examined) seen ∙ ap (found (payload_of (current σ.map a))) examined))
             (refines k (yields_read σ w a none (own_is l g c w x k t a ∙ q) room)
             (state_with l g (logs (set rs w us) ls ws) c w (with_reads x r.count)
             (record { reads = λ u m d. other_set (λ (z : ReadRows). reads_of z m) rs w us u d; leaves = λ u m d. refl; scans = λ u m d. refl; writes = λ u m d. refl })
             ∙ ap (with_worker σ w)
-            (read_in_lem rs ls ws w x us r.count a r.seen k.stored.reads t.inside p.logs
+            (read_in_lem rs ls ws w x us r.count a r.seen.current k.stored.reads t.inside p.logs
             ∙ ap (λ (o : Option Record). logged (row a o ∷ []) [] [] (worker_in x rs ls ws w)) seen
             ∙ ap (logged (row a (current σ.map a) ∷ []) [] []) (sym (worker_is is_open l g c w x k t))))
             (stored_worker l rs ls ws (set rs w us) ws c w (with_reads x r.count) t.inside k.stored

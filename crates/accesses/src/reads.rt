@@ -14,7 +14,7 @@ ghost use Rattle.accesses.specs.ReadSteps.{Loggable, Readable, LogsCurrent, Tell
 ghost use Rattle.accesses.specs.Answers.{told, value_in, found_by, read_answer};
 
 use map::{Leaves, Records, Slots};
-use queries::View;
+use queries::{Seen, View};
 use sets::writes::Write;
 use sets::{LeafSets, ReadSet, ReadSets, WriteSets, reads, writes};
 use spec::{Address, OWNERS, PayloadWords, READ_LIMIT, RecordWords, Refusal};
@@ -36,12 +36,11 @@ pub struct Found {
     pub examined: usize,
 }
 
-// How many reads are logged now, what the last one saw, and how many slots it examined.
+// How many reads are logged now, and what the last one saw.
 #[derive(Clone, Copy)]
 struct Taken {
     count: usize,
-    seen: Option<RecordWords>,
-    examined: usize,
+    seen: Seen,
 }
 
 // A payload in words, as a read tells it: of the word for the owner, the lowest 16 bits.
@@ -83,13 +82,9 @@ fn take(reads: &mut ReadSet, view: View, n: usize, a: Address) -> Taken
     requires n_lt_read_limit { n < limits.read_limit }
     ensures { LogsCurrent reads.old view.entry.rows.now view.entry.slots.now view.entry.records n a reads.new result }
 {
-    let looked = view.see(a);
-    let count = reads::log_read(reads, n, a, looked.current);
-    Taken {
-        count,
-        seen: looked.current,
-        examined: looked.examined,
-    }
+    let seen = view.see(a);
+    let count = reads::log_read(reads, n, a, seen.current, seen.kept);
+    Taken { count, seen }
 }
 
 // The read of a worker that has no write at the address.
@@ -124,8 +119,8 @@ fn read_current(
     };
     workers::put_worker(workers, v, y);
     Ok(Found {
-        value: shown(taken.seen),
-        examined: taken.examined,
+        value: shown(taken.seen.current),
+        examined: taken.seen.examined,
     })
 }
 

@@ -19,6 +19,7 @@ const NONE: Places = Places {
 };
 
 // How many places a scan or a portion wants.
+#[inline(always)]
 fn wanted(k: Code) -> Places
     ensures { result ≡ record { addresses = k.d; values = k.e; owners = k.f } }
 {
@@ -30,6 +31,7 @@ fn wanted(k: Code) -> Places
 }
 
 // As many are lent. Test by test: over one chain of `&&` the proof did not close.
+#[inline(always)]
 fn places_lent(k: Code, lent: Places) -> bool
     ensures { result ≡ places_lent (counted_places lent) k }
 {
@@ -46,6 +48,7 @@ fn places_lent(k: Code, lent: Places) -> bool
 }
 
 // A scan, if the lent buffers have as many places as it wants.
+#[inline(always)]
 fn decode_scan(k: Code, lent: Places) -> Option<(Op, Places)>
     requires { (k.a < worker_names) × (k.b < addresses) }
     ensures { result ≡ decoded_scan (counted_places lent) k }
@@ -61,6 +64,7 @@ fn decode_scan(k: Code, lent: Places) -> Option<(Op, Places)>
 }
 
 // A put, if its owner has 16 bits.
+#[inline(always)]
 fn decode_put(k: Code) -> Option<(Op, Places)>
     requires { (k.a < worker_names) × (k.b < addresses) }
     ensures { result ≡ decoded_put k }
@@ -72,6 +76,7 @@ fn decode_put(k: Code) -> Option<(Op, Places)>
     Some((Op::Access(k.a as u32, put), NONE))
 }
 
+#[inline(always)]
 fn decode_access(k: Code, lent: Places) -> Option<(Op, Places)>
     requires { k.a < worker_names }
     ensures { result ≡ decoded_access (counted_places lent) k }
@@ -91,6 +96,7 @@ fn decode_access(k: Code, lent: Places) -> Option<(Op, Places)>
 }
 
 // A step with a seat.
+#[inline(always)]
 fn decode_seat(k: Code, lent: Places) -> Option<(Op, Places)>
     ensures { result ≡ decoded_seat (counted_places lent) k }
 {
@@ -109,6 +115,7 @@ fn decode_seat(k: Code, lent: Places) -> Option<(Op, Places)>
 }
 
 // A fold.
+#[inline(always)]
 fn decode_merge(k: Code) -> Option<(Op, Places)>
     ensures { result ≡ decoded_merge k }
 {
@@ -119,6 +126,7 @@ fn decode_merge(k: Code) -> Option<(Op, Places)>
 }
 
 // A step whose first number is an address or a seat.
+#[inline(always)]
 fn decode_numbered(k: Code, lent: Places) -> Option<(Op, Places)>
     ensures { result ≡ decoded_numbered (counted_places lent) k }
 {
@@ -129,7 +137,9 @@ fn decode_numbered(k: Code, lent: Places) -> Option<(Op, Places)>
 }
 
 // The step that a code means, if it means one with the lent places, and how many of these it wants. A fold of the oldest has no
-// number.
+// number. It and what it calls are put where they are called: what they take and give
+// would go through memory at each step.
+#[inline(always)]
 pub fn decode(k: Code, lent: Places) -> Option<(Op, Places)>
     ensures { result ≡ decoded (counted_places lent) k }
 {

@@ -211,6 +211,7 @@ pub fn feed(
     let mut addresses: [Address; SCAN_PLACES] = [0; SCAN_PLACES];
     let mut values = [0u64; SCAN_PLACES];
     let mut owners = [0u16; SCAN_PLACES];
+    // A line goes by at a turn, so no range gives the places.
     let mut x = start;
     while can_go_on(x.stopped, x.next, input.len(), x.at, out.len()) {
         x = run_line(

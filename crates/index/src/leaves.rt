@@ -1,4 +1,4 @@
-// Rows of words: all that touches the words of leaves, and the search among them.
+// Rows of words: all that tells what the words of a leaf mean, and the search among leaves.
 ghost use Rattle.std.specs.Prelude.{◌≡◌, ◌+◌, ◌/◌, ◌<◌, ◌≤◌, take};
 ghost use Rattle.index.specs.Views.{record_places, leaf_places};
 ghost use Rattle.index.specs.Nearing.{Leads};

@@ -1,8 +1,8 @@
 // The index: sorted records, cut into leaves, in arrays of rows that the caller lends.
 //
-// `rows` reads and writes the records' words, and nothing else touches them; `records` looks up, puts and drops. `leaves`
-// reads and writes the leaves' words, and nothing else touches them, moves leaves, and finds the leaf of an address;
-// `settles` settles leaves after a merge.
+// `rows` reads and writes the records' words, and nothing else touches them, and moves rows of either kind; `records` looks up,
+// puts and drops. `leaves` reads and writes the leaves' words, and nothing else tells what they mean, and finds the leaf of an
+// address; `settles` settles leaves after a merge.
 #![tactic(auto)]
 
 use spec::MAP_LIMIT;

@@ -96,14 +96,14 @@ module _ (rows : RecordRows) (n lo hi p : ℕ) (held : RecordsSorted rows n) (fi
 pub narrow_address : (rows : RecordRows) (n i : ℕ) (r : RecordRow) → RecordsHeld rows n → i < n → row_of r ≡ row_at rows i → r.address < addresses
 narrow_address rows n i r f h e = subst (λ (x : Row Record). x.key < addresses) (sym e) (f.narrow i h)
 
-pub seen_there : (rows : RecordRows) (n : ℕ) (slots : SlotRows) (i : ℕ) (r : RecordRow) (s : Optional RecordWords) → RecordsSorted rows n → i < n → row_of r ≡ row_at rows i
-    → Sees rows n slots r.address s → SeenAt rows n slots i (record { address = r.address; current = s })
+pub seen_there : (rows : RecordRows) (n : ℕ) (slots : SlotRows) (i : ℕ) (r : RecordRow) (s : Optional RecordWords) (k : RecordWords) → RecordsSorted rows n → i < n → row_of r ≡ row_at rows i
+    → Sees rows n slots r.address s → SeenAt rows n slots i (record { address = r.address; current = s; kept = k })
 unfolding indexed_at
-seen_there rows n slots i r s g h e f =
+seen_there rows n slots i r s k g h e f =
     record {
       seen_is = λ ls.
           ap (λ (o : Option Record). row r.address o) (f.record_is ls)
-          ∙ ap (λ (k : ℕ). row k (current (map_with rows n slots ls) k)) (ap (λ (x : Row Record). x.key) (e ∙ sym (record_at rows n i g.room h)));
+          ∙ ap (λ (a : ℕ). row a (current (map_with rows n slots ls) a)) (ap (λ (x : Row Record). x.key) (e ∙ sym (record_at rows n i g.room h)));
     }
 
 -- in a sorted list a look-up of a row's key finds the row

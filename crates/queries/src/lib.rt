@@ -22,7 +22,7 @@ use sets::leaves::LoggedLeaf;
 use sets::reads::Observed;
 use sets::writes::{Entry, Write};
 use sets::{WriteSet, writes};
-use spec::{Address, RecordWords};
+use spec::{Address, PayloadWords, RecordWords};
 
 // Places from one up to, not including, another.
 #[derive(Clone, Copy)]
@@ -31,10 +31,12 @@ pub struct Range {
     pub to: usize,
 }
 
-// The current record of an address, if it has one, and how many slots of the indexlet the look-up examined (request 103).
+// The current record of an address, if it has one, what a log keeps of it if not (`Observed`), and how many slots of the indexlet
+// the look-up examined (request 103).
 #[derive(Clone, Copy)]
 pub struct Seen {
     pub current: Option<RecordWords>,
+    pub kept: RecordWords,
     pub examined: usize,
 }
 
@@ -53,6 +55,20 @@ pub struct View<'a> {
     pub records: usize,
     ghost records_held: { RecordsHeld rows.now records } by { RecordsHeld-prop rows.now records },
     ghost slots_held: { SlotsHeld slots.now },
+}
+
+// What a log keeps of an address without a record: the words of the deletion that waits there, or of nothing.
+fn kept_of(c: indexlet::Content) -> RecordWords {
+    if c.kind == 0 {
+        return RecordWords {
+            payload: PayloadWords { value: 0, owner: 0 },
+            commit: 0,
+        };
+    }
+    RecordWords {
+        payload: c.payload,
+        commit: c.commit,
+    }
 }
 
 impl<'a> View<'a> {
@@ -79,6 +95,7 @@ impl<'a> View<'a> {
         let current = self.under(a, c);
         Seen {
             current,
+            kept: kept_of(c),
             examined: looked.examined,
         }
     }
@@ -102,6 +119,7 @@ impl<'a> View<'a> {
         let address = there.address as Address;
         let at = indexlet::find(self.slots, address);
         let c = indexlet::content_at(self.slots, at);
+        let kept = kept_of(c);
         let current = match c.kind {
             0 => Some(RecordWords {
                 payload: there.payload,
@@ -113,7 +131,11 @@ impl<'a> View<'a> {
             }),
             _ => None,
         };
-        Observed { address, current }
+        Observed {
+            address,
+            current,
+            kept,
+        }
     }
 }
 
@@ -279,6 +301,7 @@ impl<'a> View<'a> {
         requires { (next < slot_count) × (BitsFrom false self.slots.now next bits) × (Walked self.slots.now from next best) }
         ensures { Walked self.entry.slots.now from (word_end next) result }
     {
+        // A word's bits that are set: no range gives their places.
         let mut nearest = best;
         let mut w = bits;
         while w != 0 {
@@ -294,6 +317,7 @@ impl<'a> View<'a> {
     fn slot_from(self, from: Address) -> Option<Address>
         ensures { SlotFrom self.entry.slots.now from result }
     {
+        // A word of bits goes by at a turn.
         let mut best = None;
         let mut next = 0;
         while next < SLOTS {
@@ -319,6 +343,7 @@ impl<'a> View<'a> {
     pub fn next_record(self, from: Address) -> Option<NextRecord>
         ensures { Follows self.entry.rows.now self.entry.records self.entry.slots.now from result }
     {
+        // Nothing tells before the walk how many candidates there are.
         let mut at = from;
         while let Some(address) = self.candidate_from(at) {
             if let Some(record) = self.current_record(address) {

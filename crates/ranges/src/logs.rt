@@ -18,7 +18,7 @@ pub fn log_rows(reads: &mut ReadSet, view: View, m: usize, p: Range) -> usize
     let mut count = m;
     for i in p.from..p.to {
         let s = view.seen_at(i);
-        count = reads::log_read(reads, count, s.address, s.current);
+        count = reads::log_read(reads, count, s.address, s.current, s.kept);
     }
     count
 }

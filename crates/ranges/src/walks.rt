@@ -10,7 +10,7 @@ use queries::View;
 use sets::reads::Observed;
 use sets::writes::{Entry, Write};
 use sets::{ReadSet, WriteSet, reads, writes};
-use spec::{Address, OWNERS, PayloadWords};
+use spec::{Address, OWNERS, PayloadWords, RecordWords};
 
 // Where the walk ends: places of the records and of the worker's writes.
 #[derive(Clone, Copy)]
@@ -88,6 +88,10 @@ fn nothing() -> Observed {
     Observed {
         address: 0,
         current: None,
+        kept: RecordWords {
+            payload: PayloadWords { value: 0, owner: 0 },
+            commit: 0,
+        },
     }
 }
 

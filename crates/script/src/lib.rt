@@ -111,20 +111,25 @@ pub fn at_line_start(p: Parser) -> bool
     matches!(p, Parser::Start)
 }
 
-// A line of one number: the address of a fold, or a seat.
+// A line of one number: the address of a fold, or a seat. Each is as wide as its own type.
 fn one(letter: u8, a: u64) -> Event
     ensures { result ≡ told (line_of letter (a ∷ [])) }
 {
-    let Ok(n) = u32::try_from(a) else {
+    if letter == b'M' {
+        let Ok(k) = Address::try_from(a) else {
+            return Event::Malformed;
+        };
+        return Event::Line(Line::Merge(k));
+    }
+    let Ok(w) = u32::try_from(a) else {
         return Event::Malformed;
     };
     match letter {
-        b'B' => Event::Line(Line::Begin(n)),
-        b'L' => Event::Line(Line::Lock(n)),
-        b'V' => Event::Line(Line::Validate(n)),
-        b'I' => Event::Line(Line::Install(n)),
-        b'A' => Event::Line(Line::Abort(n)),
-        b'M' => Event::Line(Line::Merge(n)),
+        b'B' => Event::Line(Line::Begin(w)),
+        b'L' => Event::Line(Line::Lock(w)),
+        b'V' => Event::Line(Line::Validate(w)),
+        b'I' => Event::Line(Line::Install(w)),
+        b'A' => Event::Line(Line::Abort(w)),
         _ => Event::Malformed,
     }
 }

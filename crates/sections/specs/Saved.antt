@@ -1,5 +1,5 @@
--- What goes by value, in words: of the globals 1 if the map is guarded, the four sizes, the three counters; of an export its
--- three numbers.
+-- What is a struct to the code, in words: of the globals 1 if the map is guarded, the four sizes, the three counters; of an
+-- export its three numbers.
 use Rattle.std.specs.Prelude.{ℕ, Option as Optional, Some, None, List, [], ◌∷◌, eqb, length, get_or}
 use Rattle.std.proofs.Math.Option.{Option}
 use Rattle.lists.specs.Tests.{pick, maybe}

@@ -1,4 +1,4 @@
-// What goes by value between Rattle functions, in lent words, since another language can only lend: the globals, and the
+// What is a struct between Rattle functions, in lent words, since another language can only lend those: the globals, and the
 // numbers of an export.
 ghost use Rattle.std.specs.Prelude.{◌≡◌};
 ghost use Rattle.sections.specs.Saved.{saved_globals, saved_export, export_saved};

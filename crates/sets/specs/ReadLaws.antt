@@ -27,8 +27,9 @@ read_appended rs n a s w held h l e =
     }
 
 -- a row says that no record is present, or which one is
-pub read_absent : (rs : ReadRows) (i : ℕ) → (get_or (get_or rs i []) 1 0 ≡ 1 → ⊥) → GivesRead rs i (record { address = get_or (get_or rs i []) 0 0; current = None })
-read_absent rs i h =
+pub read_absent : (rs : ReadRows) (i : ℕ) (k : RecordWords) → (get_or (get_or rs i []) 1 0 ≡ 1 → ⊥)
+    → GivesRead rs i (record { address = get_or (get_or rs i []) 0 0; current = None; kept = k })
+read_absent rs i k h =
     let r = get_or rs i [] in
     record {
       at = λ n l.
@@ -37,13 +38,14 @@ read_absent rs i h =
           ∙ ap (λ (b : Bool). row (get_or r 0 0) (record_of b (record { value = get_or r 2 0; owner = get_or r 3 0 }) (get_or r 4 0))) (ne_eqb (get_or r 1 0) 1 h));
     }
 
-pub read_present : (rs : ReadRows) (i : ℕ) → get_or (get_or rs i []) 1 0 ≡ 1
+pub read_present : (rs : ReadRows) (i : ℕ) (k : RecordWords) → get_or (get_or rs i []) 1 0 ≡ 1
     → GivesRead rs i
     (record {
       address = get_or (get_or rs i []) 0 0;
       current = Some (record { payload = record { value = get_or (get_or rs i []) 2 0; owner = get_or (get_or rs i []) 3 0 }; commit = get_or (get_or rs i []) 4 0 });
+      kept = k;
     })
-read_present rs i e =
+read_present rs i k e =
     let r = get_or rs i [] in
     record {
       at = λ n l.

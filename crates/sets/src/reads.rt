@@ -7,22 +7,36 @@ ghost use Rattle.sets.specs.Reads.{ReadSetHeld, LogsRead, GivesRead};
 use crate::ReadSet;
 use spec::{Address, PayloadWords, RecordWords};
 
-// A row of a read set: an address, with the record that a read or a scan found there.
+// A row of a read set: an address, with the record that a read or a scan found there. Where it found none, the row keeps in the
+// record's words those of the deletion that waits there; nothing is told of them.
 #[derive(Clone, Copy)]
 pub struct Observed {
     pub address: Address,
     pub current: Option<RecordWords>,
+    pub kept: RecordWords,
 }
 
 // Appends a row to the first n. Answers how many there are now.
-pub fn log_read(reads: &mut ReadSet, n: usize, a: Address, seen: Option<RecordWords>) -> usize
+pub fn log_read(
+    reads: &mut ReadSet,
+    n: usize,
+    a: Address,
+    seen: Option<RecordWords>,
+    kept: RecordWords,
+) -> usize
     requires read_set_held { ReadSetHeld reads.old }
     requires n_lt_read_limit { n < limits.read_limit }
     ensures { LogsRead reads.old n a seen reads.new result }
 {
     let row = match seen {
         Some(r) => [a as u64, 1, r.payload.value, r.payload.owner, r.commit],
-        None => [a as u64, 0, 0, 0, 0],
+        None => [
+            a as u64,
+            0,
+            kept.payload.value,
+            kept.payload.owner,
+            kept.commit,
+        ],
     };
     reads[n] = row;
     n + 1
@@ -36,19 +50,23 @@ pub fn read_at(reads: &ReadSet, i: usize) -> Observed
 {
     let row = reads[i];
     let address = row[0] as Address;
+    let kept = RecordWords {
+        payload: PayloadWords {
+            value: row[2],
+            owner: row[3],
+        },
+        commit: row[4],
+    };
     if row[1] != 1 {
         return Observed {
             address,
             current: None,
+            kept,
         };
     }
-    let payload = PayloadWords {
-        value: row[2],
-        owner: row[3],
-    };
-    let current = Some(RecordWords {
-        payload,
-        commit: row[4],
-    });
-    Observed { address, current }
+    Observed {
+        address,
+        current: Some(kept),
+        kept,
+    }
 }

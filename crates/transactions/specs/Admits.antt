@@ -42,7 +42,6 @@ pub record Turned (right : Stage → Bool) (workers : List Worker) (w : ℕ) (r 
 -- They pass, and x is the worker.
 pub record Entered (right : Stage → Bool) (workers : List Worker) (w : ℕ) (x : Worker) : Type 0 where
   pub inside : w < limits.workers
-  pub size : length workers ≡ limits.workers
   pub is : x ≡ get_or workers w freed
   pub stage : right x.stage ≡ true
   pub front_is : (l : Lent) (g : Logs) (c : Core) → c.workers ≡ workers → front right (state_of l g c) w ≡ none
@@ -116,15 +115,14 @@ module _ {workers : List Worker} {w : ℕ} (x : Worker) (all : length workers �
   here l g c e =
       stage_is l g c workers w e (subst (λ (n : ℕ). w < n) (sym all) h) ∙ ap (λ (y : Worker). y.stage) (sym is)
 
-  pub turned_free : is_free x.stage ≡ true → Turned any_stage workers w WorkerFree
-  turned_free z =
-      record { front_is = λ l g c e. front_free any_stage (state_of l g c) w h (ap is_free (here l g c e) ∙ z) }
+  pub turned_free : (right : Stage → Bool) → is_free x.stage ≡ true → Turned right workers w WorkerFree
+  turned_free right z =
+      record { front_is = λ l g c e. front_free right (state_of l g c) w h (ap is_free (here l g c e) ∙ z) }
 
   pub entered : is_free x.stage ≡ false → Entered any_stage workers w x
   entered f =
       record {
         inside = h;
-        size = all;
         is = is;
         stage = refl;
         front_is =
@@ -141,7 +139,7 @@ turned_first right {workers} {w} {r} t =
           front_last any_stage right σ w refl ∙ ap (λ (o : Option Refusal). maybe o (first_cause (wrong_stage right σ w ∷ [])) some) (t.front_is l g c e);
     }
 
-module _ (right : Stage → Bool) {workers : List Worker} {w : ℕ} {x : Worker} (t : Entered any_stage workers w x) where
+module _ (right : Stage → Bool) {workers : List Worker} {w : ℕ} {x : Worker} (all : length workers ≡ limits.workers) (t : Entered any_stage workers w x) where
   last_test : (b : Bool) → right x.stage ≡ b → (l : Lent) (g : Logs) (c : Core) → c.workers ≡ workers
       → front right (state_of l g c) w ≡ first_cause (cause (not b) WrongStage ∷ [])
   unfolding wrong_stage
@@ -149,7 +147,7 @@ module _ (right : Stage → Bool) {workers : List Worker} {w : ℕ} {x : Worker}
       let σ = state_of l g c in
       front_last any_stage right σ w refl
       ∙ ap (λ (o : Option Refusal). maybe o (first_cause (wrong_stage right σ w ∷ [])) some) (t.front_is l g c e)
-      ∙ ap (λ (b : Bool). first_cause (cause (not b) WrongStage ∷ [])) (ap right (here x t.size t.inside t.is l g c e) ∙ f)
+      ∙ ap (λ (b : Bool). first_cause (cause (not b) WrongStage ∷ [])) (ap right (here x all t.inside t.is l g c e) ∙ f)
 
   pub turned_wrong : right x.stage ≡ false → Turned right workers w WrongStage
   unfolding first_cause
@@ -160,7 +158,6 @@ module _ (right : Stage → Bool) {workers : List Worker} {w : ℕ} {x : Worker}
   admitted f =
       record {
         inside = t.inside;
-        size = t.size;
         is = t.is;
         stage = f;
         front_is = λ l g c e. last_test true f l g c e;
